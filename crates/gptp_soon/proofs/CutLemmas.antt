@@ -1,5 +1,5 @@
 -- A run up to a time begins with the run up to each earlier time.
-use Rattle.std.proofs.Common.{◌≡◌, ◌⊎◌, inl, inr, ◌<◌, ◌≤◌, ◌+◌, ℕ, Bool, true, false, cond, nat_le, List, [], ◌∷◌, ◌++◌, Option, refl, sym, ap, subst, ◌∙◌, arith}
+use Rattle.std.proofs.Common.{◌≡◌, ◌⊎◌, inl, inr, ◌<◌, ◌≤◌, ◌+◌, ℕ, Bool, true, false, cond, nat_le, List, [], ◌∷◌, ◌++◌, Option, refl, sym, ap, subst, arith}
 use Rattle.std.proofs.lemmas.Bool.{cases_lt}
 use Rattle.std.proofs.lemmas.Bool.Decides.{nat_tests}
 use Rattle.std.specs.List.{AllByRecursion}
@@ -19,7 +19,7 @@ use Rattle.gptp_network.specs.Snapshot.{events_by}
 use Rattle.gptp_report.specs.Transitions.{Courses, Makes, Unfolds}
 use Rattle.gptp_kept.proofs.FollowClaimLemmas.{acts_time}
 use Rattle.gptp_kept.proofs.OutlineLemmas.{change_time, starts_are_last}
-use Rattle.gptp_reached.specs.PlayedLaws.{IsMade, IsPlayable}
+use Rattle.gptp_reached.specs.PlayedLaws.{IsMade}
 use Rattle.gptp_reached.proofs.BeginLemmas.{begun_stands}
 use Rattle.gptp_reached.proofs.ClaimedLemmas.{events_made}
 use Rattle.gptp_reached.proofs.PlayedLemmas.{no_change}
@@ -107,10 +107,10 @@ module _ {F : Type 0} (answers : Bounds → ℕ → F → Option ℕ → F → T
   makes_within event ts fate fate_after w w' k u member =
       elim (In-parts u k.first (transition event k.done k.between w' ∷ []) (subst (In u) k.are member)) [
         | inl passed ↦ record {
-            later = passes_later event.at k.first fate k.drawn w k.passes.between k.passes.passes u passed;
-            sooner = passes_sooner event.at k.first fate k.drawn w k.passes.between k.passes.passes u passed;
-          }
-        | inr made ↦ elim made [ | inl same ↦ subst (IsWithin w.time event.at) (sym same) last | inr none ↦ absurd none ]
+          later = passes_later event.at k.first fate k.drawn w k.passes.between k.passes.passes u passed;
+          sooner = passes_sooner event.at k.first fate k.drawn w k.passes.between k.passes.passes u passed;
+        }
+        | inr made ↦ elim made [ inl same ↦ subst (IsWithin w.time event.at) (sym same) last | inr none ↦ absurd none ]
       ]
     where
       now : event.at ≤ event.at
@@ -307,12 +307,12 @@ module _ {F : Type 0} (answers : Bounds → ℕ → F → Option ℕ → F → T
                     (subst (In u) k.are here)) [
                       | inl passed ↦ cut.all u passed by_then
                       | inr made ↦ elim made [
-                          | inl same ↦
-                              let again : event.at ≤ early =
-                              subst (λ (v : Transition). v.told.timed.at ≤ early) same by_then in
-                              absurd (omega (arith, again, late))
-                          | inr nobody ↦ absurd nobody
-                        ]
+                        | inl same ↦
+                            let again : event.at ≤ early =
+                            subst (λ (v : Transition). v.told.timed.at ≤ early) same by_then in
+                            absurd (omega (arith, again, late))
+                        | inr nobody ↦ absurd nobody
+                      ]
                     ]
                 | inr behind ↦
                     let later = courses_later until events rest drawn fate_after between w' is.1 on u behind in

@@ -1,5 +1,5 @@
 -- How exactly, as soon as a world has settled after a start or a gain.
-use Rattle.std.proofs.Common.{◌≡◌, ◌<◌, ◌≤◌, ◌+◌, ◌*◌, ℕ, List, [], ◌∷◌, Option, refl, sym, ap, subst, ◌∙◌, inl, inr, arith}
+use Rattle.std.proofs.Common.{◌≡◌, ◌<◌, ◌≤◌, ◌+◌, ◌*◌, ℕ, List, [], ◌∷◌, Option, refl, sym, ap, subst, inl, inr, arith}
 use Rattle.gptp_links.specs.declared.bounds.Bounds.{Bounds}
 use Rattle.gptp_setup.specs.Intervals.{interval_of}
 use Rattle.gptp_setup.specs.Pace.{Pace, largest_interval}
@@ -14,8 +14,8 @@ use Rattle.gptp_acts.specs.Initial.{initial}
 use Rattle.gptp_acts.specs.World.{WorldState}
 use Rattle.gptp_world.proofs.ClaimedLemmas.{next_octet}
 use Rattle.gptp_world.proofs.InitialLemmas.{initial_sound}
-use Rattle.gptp_kept.specs.NewsCourse.{SettlesFrom, capable_from}
-use Rattle.gptp_kept.specs.NewsWorld.{AreSilentBy, IsNews}
+use Rattle.gptp_kept.specs.NewsCourse.{capable_from}
+use Rattle.gptp_kept.specs.NewsWorld.{AreSilentBy}
 use Rattle.gptp_kept.proofs.CalmKeptLemmas.{KeepsNetwork, acts_keep, delay_kept, keeps_on}
 use Rattle.gptp_kept.proofs.ClaimLemmas.{claim_begins, claim_kept, claim_later}
 use Rattle.gptp_kept.proofs.LinkUpNewsLemmas.{link_up_news}
@@ -141,9 +141,9 @@ module _ {F : Type 0} (answers : Bounds → ℕ → F → Option ℕ → F → T
       let begins : AreSilentBy p start between
       × (between.time + 2 * largest_interval p + 3 * interval_of p.params.pdelay ≤ start) = elim from [
         | inl is ↦ (
-            unanswered_silent p start between claimed.silent (omega (arith, is, last, same)),
-            omega (arith, is, same, requests),
-          )
+          unanswered_silent p start between claimed.silent (omega (arith, is, last, same)),
+          omega (arith, is, same, requests),
+        )
         | inr (live, is) ↦ (none_silent p start between live, omega (arith, is, same))
       ] in
       let news = gain_news p start change then k.draws made between claim_then.world claimed gain octet k.acts

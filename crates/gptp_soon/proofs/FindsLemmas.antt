@@ -1,5 +1,5 @@
 -- From when a document has settled each act of its run finds it so.
-use Rattle.std.proofs.Common.{◌≡◌, inl, inr, ◌<◌, ◌≤◌, ◌+◌, ℕ, List, [], ◌∷◌, ◌++◌, Option, sym, ap, subst, ◌∙◌, append_assoc, append-nil, arith}
+use Rattle.std.proofs.Common.{◌≡◌, inl, inr, ◌<◌, ◌≤◌, ℕ, List, [], ◌∷◌, ◌++◌, Option, sym, ap, subst, ◌∙◌, append_assoc, append-nil, arith}
 use Rattle.std.specs.List.{AllByRecursion}
 use Rattle.gptp_lists.specs.Members.{In}
 use Rattle.gptp_lists.proofs.MemberLemmas.{In-parts}
@@ -77,9 +77,9 @@ module _ {F : Type 0} (answers : Bounds → ℕ → F → Option ℕ → F → T
           (subst (In t) k.are member)) [
             | inl passed ↦ soon t passed
             | inr made ↦ elim made [
-                | inl same ↦ subst (λ (v : Transition). v.told.timed.at ≤ event.at) (sym same) now
-                | inr none ↦ absurd none
-              ]
+              | inl same ↦ subst (λ (v : Transition). v.told.timed.at ≤ event.at) (sym same) now
+              | inr none ↦ absurd none
+            ]
           ]
 
       behind : (t : Transition) → In t ts → settled ≤ t.told.timed.at → In t rest

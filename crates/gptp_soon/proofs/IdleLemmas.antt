@@ -91,10 +91,18 @@ module _ (n : Network) (gone : ℕ) where
   tells_same stations lanes zero v by tells = tells
   tells_same stations lanes (suc d) v by (inl runs) = inl runs
   tells_same stations lanes (suc d) v by (inr (l, follows, (come, comes, soon))) =
-      inr (l, follows, (come, elim comes [
-        | inl on ↦ inl on
-        | inr (sent, tells, early) ↦ inr (sent, tells_same stations lanes d l.clock sent tells, early)
-      ], soon))
+      inr (
+        l,
+        follows,
+        (
+          come,
+          elim comes [
+            | inl on ↦ inl on
+            | inr (sent, tells, early) ↦ inr (sent, tells_same stations lanes d l.clock sent tells, early)
+          ],
+          soon,
+        ),
+      )
 
   expected_same : (w : State) → SyncsAreExpected says_sync n w → SyncsAreExpected says_sync other w
   expected_same w expected i s d due here live near follows late lapse =
@@ -119,6 +127,7 @@ module _ (p : Pace) (start : ℕ) (w : WorldState) (news : IsNews p start w) whe
   live_before place number x = record { station = x.station; here = x.here; live = x.live; named = x.named }
 
   stood : (at : LinkPlace) → StandsAt at changed → StandsAt at w
+  unfolding live_before
   stood at s = record {
     channel = s.channel;
     here = s.here;

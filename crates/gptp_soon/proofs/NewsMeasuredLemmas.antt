@@ -1,5 +1,5 @@
 -- From their start on the ports of a world since news have measured the links of the snapshot.
-use Rattle.std.proofs.Common.{◌≡◌, ◌≤◌, ◌+◌, ◌*◌, ℕ, suc, true, Some, slice_get, refl, sym, ap, subst, ◌∙◌, inl, inr, arith}
+use Rattle.std.proofs.Common.{◌≡◌, ◌≤◌, ℕ, suc, true, Some, slice_get, sym, ap, subst, ◌∙◌, inl, inr, arith}
 use Rattle.gptp_lists.proofs.MappedLemmas.{same_there, some_same}
 use Rattle.gptp_graph.specs.Snapshot.{Joins, PortIdentity, System}
 use Rattle.gptp_vector.specs.declared.port.PortId.{PortId}

@@ -1,5 +1,5 @@
 -- Offsets are exact in a world since news, from when a Sync has come down since it settled.
-use Rattle.std.proofs.Common.{◌≡◌, ◌≤◌, ◌+◌, ◌*◌, ◌^◌, ℕ, suc, ℤ, ◌-ℤ◌, List, Option, Some, length, slice_get, refl, sym, ap, subst, ◌∙◌, arith}
+use Rattle.std.proofs.Common.{◌≡◌, ◌≤◌, ◌+◌, ◌*◌, ◌^◌, ℕ, suc, ℤ, ◌-ℤ◌, List, Option, Some, slice_get, refl, sym, ap, subst, ◌∙◌, arith}
 use Rattle.gptp_graph.specs.Best.{IsBest}
 use Rattle.gptp_graph.specs.Distance.{IsNear}
 use Rattle.gptp_graph.specs.Parent.{IsParent}
@@ -40,7 +40,7 @@ use Rattle.gptp_kept.proofs.CalmKeptLemmas.{acts_keep}
 use Rattle.gptp_kept.proofs.FollowOffsetLemmas.{offsets_are_exact}
 use Rattle.gptp_kept.proofs.FollowWayLemmas.{Follows, follows_parent}
 use Rattle.gptp_kept.proofs.FoundLemmas.{place_is}
-use Rattle.gptp_reached.specs.Headline.{LeavesOffset, UsesFollowUp}
+use Rattle.gptp_reached.specs.Headline.{UsesFollowUp}
 use Rattle.gptp_soon.specs.Exactly.{AreExactFrom}
 use Rattle.gptp_soon.proofs.TimedNewsLemmas.{CanSettle, IsOldBy, IsTimed, can_later, right_from, settled_from, timed_later}
 
