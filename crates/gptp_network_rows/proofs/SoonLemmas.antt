@@ -1,5 +1,5 @@
 -- The world of two systems has settled soon after they began.
-use Rattle.std.proofs.Common.{◌≡◌, ◌≤◌, ◌+◌, ℕ, List, Option, Some, None, refl, sym, ap, subst, ◌∙◌, inl, arith}
+use Rattle.std.proofs.Common.{◌≡◌, ◌≤◌, ◌+◌, ℕ, List, [], Option, Some, None, refl, sym, ap, subst, ◌∙◌, inl, arith}
 use Rattle.std.specs.Prelude.{IfNone, IfSome}
 use Rattle.gptp_acts.specs.Acts.{AtSystem}
 use Rattle.gptp_acts.specs.Advancing.{Advanced, Told}
@@ -100,8 +100,8 @@ followed_soon w number (Some (root, steps, port)) named k some none =
 -- ---- a run of their document
 
 -- it settles by then at each time
-settles : (time : ℕ) → SettlesSoon pair_document time 1000002001 2000002501
-settles time = record {
+settles : (until : ℕ) → SettlesSoon pair_document until 1000002001 2000002501
+settles until = record {
   calm = is_calm;
   gained = inl (record { nothing = tt; begun = 1000002001; first = first_by; capable = refl });
   settles = subst (λ (p : Pace). SettlesBy p (sync_paths pair_network []) 1000002001 2000002501) (sym pace_is)
