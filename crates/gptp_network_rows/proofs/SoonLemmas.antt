@@ -1,5 +1,5 @@
 -- The world of two systems has settled soon after they began.
-use Rattle.std.proofs.Common.{◌≡◌, ◌≤◌, ◌+◌, ℕ, List, [], Option, Some, None, refl, sym, ap, subst, ◌∙◌, inl, arith}
+use Rattle.std.proofs.Common.{◌≡◌, ◌≤◌, ℕ, List, [], Option, Some, None, refl, sym, ap, subst, ◌∙◌, inl, arith}
 use Rattle.std.specs.Prelude.{IfNone, IfSome}
 use Rattle.gptp_acts.specs.Acts.{AtSystem}
 use Rattle.gptp_acts.specs.Advancing.{Advanced, Told}
@@ -11,7 +11,6 @@ use Rattle.gptp_graph.specs.SettledChoice.{IsBestIdentity}
 use Rattle.gptp_kept.specs.Calm.{delay_in}
 use Rattle.gptp_kept.specs.Claimed.{Claimed}
 use Rattle.gptp_kept.specs.NewsCourse.{HasSettledBy, capable_from}
-use Rattle.gptp_kept.specs.Settled.{Settled}
 use Rattle.gptp_kept.specs.Standing.{snapshot_of}
 use Rattle.gptp_links.specs.declared.bounds.Bounds.{Bounds}
 use Rattle.gptp_lists.proofs.MemberLemmas.{slice_get-In}
