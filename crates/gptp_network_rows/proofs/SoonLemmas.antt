@@ -116,4 +116,4 @@ pub runs_settle_soon : {F : Type 0} (answers : Bounds → ℕ → F → Option �
     → RunsOfTwoSettleSoon answers
 runs_settle_soon answers theorem until fate start w ts t network unfolds member on =
     (theorem pair_document until 1000002001 2000002501 fate start w ts t (playable network) unfolds member
-    (settles t.told.timed.at) on).settled
+    (settles t.told.timed.at) on (omega (arith, on))).settled

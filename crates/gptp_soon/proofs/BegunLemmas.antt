@@ -1,5 +1,5 @@
 -- The world of a document begins, or has rested.
-use Rattle.std.proofs.Common.{◌≡◌, ◌<◌, ◌≤◌, ◌+◌, ◌*◌, ℕ, List, [], Option, refl, ap, subst, arith}
+use Rattle.std.proofs.Common.{◌≡◌, ◌≤◌, ◌+◌, ◌*◌, ℕ, List, [], Option, refl, ap, subst, arith}
 use Rattle.gptp_graph.specs.PathBound.{path_bound}
 use Rattle.gptp_links.specs.declared.bounds.Bounds.{Bounds}
 use Rattle.gptp_setup.specs.Pace.{Pace, largest_interval, longest_span}
@@ -52,24 +52,18 @@ module _ {F : Type 0} (answers : Bounds → ℕ → F → Option ℕ → F → T
       slow = begun_none_faster answers n fate fate_after w sound.wired.setups k;
     }
 
-    -- its time is 0
-    pub begun_first : w.time ≡ 0
-    begun_first =
-        let last : w.last_change ≡ w.time = starts_are_last _ (initial n) k.draws w refl k.starts in
-        let none : w.last_change ≡ 0 = begun_keeps.stands.last in
-        omega (arith, last, none)
+    -- it began just now
+    pub begun_last : w.last_change ≡ w.time
+    begun_last = starts_are_last _ (initial n) k.draws w refl k.starts
 
     -- it is one since news, whose ports are capable from one interval between requests and one exchange on
-    pub begun_news : (start : ℕ) → exchanged_from p (sync_paths n []) 0 ≤ start → IsNews p start w × (w.time < start)
+    pub begun_news : (start : ℕ) → exchanged_from p (sync_paths n []) 0 ≤ start → IsNews p start w
     begun_news start late =
         let delay : (sync_paths n []).delay ≡ delay_in w =
         ap (λ (x : SyncPaths). x.delay)
         (paths_stand n [] w playable.network begun_keeps.stands begun_keeps.claim.world.sound) in
-        let first = begun_first in (
-          start_news answers n fate fate_after w start playable.network sound k begun_keeps.claim.world
-              (omega (arith, late, delay)),
-          omega (arith, late, first),
-        )
+        start_news answers n fate fate_after w start playable.network sound k begun_keeps.claim.world
+        (omega (arith, late, delay))
 
 -- ---- a network that has rested holds what is sound
 

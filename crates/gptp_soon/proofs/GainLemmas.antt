@@ -21,7 +21,8 @@ use Rattle.gptp_network.proofs.SnapshotLemmas.{clock_after}
 use Rattle.gptp_kept.specs.NewsWorld.{AllLive}
 use Rattle.gptp_kept.specs.SoundWorld.{IsDownAt, IsGain}
 use Rattle.gptp_reached.specs.Reached.{Shape, StandsAs, shape, shape_after, wire_of}
-use Rattle.gptp_soon.specs.Gains.{AllLiveAfter, IsDownAfter, IsGainAfter, IsNoWorse}
+use Rattle.gptp_soon.specs.Gains.{AllLiveAfter, IsDownAfter, IsGainAfter, IsIdleAfter, IsNoWorse, IsUpAfter}
+use Rattle.gptp_soon.specs.Idle.{IsIdle, IsUpAt}
 
 -- the identity that a system has, or will start with, names its clock
 clock_shape : (station : Station) → IsItsSetup station → clock_of (shape station).identity ≡ clock station.system
@@ -64,6 +65,14 @@ module _ (n : NetworkState) (events : List Timed) (w : WorldState) (so : StandsA
       let end : IsEnd port (wire_of channel) = is.joined in
       let off : (link_after events v).up ≡ false = down place v there (subst (IsEnd port) (sym same) end) in
       sym (ap (λ (x : Wire). x.up) same) ∙ off
+
+  up_so : (port : PortId) → IsUpAfter n events port → IsUpAt port w
+  up_so port up place channel is =
+      let (v, there, same) = alike (link_after events) wire_of n.links w.net.channels (sym so.links) place channel
+      is.here in
+      let end : IsEnd port (wire_of channel) = is.joined in
+      let on : (link_after events v).up ≡ true = up place v there (subst (IsEnd port) (sym same) end) in
+      sym (ap (λ (x : Wire). x.up) same) ∙ on
 
   module _ (sound : IsSound w) where
     named_as : (place number : ℕ) (station : Station) → IsStation number place w station
@@ -128,3 +137,13 @@ module _ (n : NetworkState) (events : List Timed) (w : WorldState) (so : StandsA
     gain_so (Recover number) gain = tt
     gain_so (Priority1 number value) gain = no_worse_so number value gain
     gain_so (Inject number port octets) gain = down_so (port_id number port) gain
+
+    -- and what changes nothing there changes nothing here
+    pub idle_so : (change : Change) → IsIdleAfter n events change → IsIdle change w
+    idle_so (LinkDown number port) idle = down_so (port_id number port) idle
+    idle_so (LinkUp number port) idle = up_so (port_id number port) idle
+    idle_so (LinkSet number port min max loss) idle = absurd idle
+    idle_so (Fail number) idle = failed_so number idle
+    idle_so (Recover number) idle = λ place station k. lives_so number idle place station k
+    idle_so (Priority1 number value) idle = absurd idle
+    idle_so (Inject number port octets) idle = down_so (port_id number port) idle

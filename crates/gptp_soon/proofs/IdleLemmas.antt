@@ -36,7 +36,7 @@ use Rattle.gptp_soon.proofs.TimedNewsLemmas.{CanSettle, has_settled}
 -- ---- nothing is done
 
 -- it is idle whenever the last change was
-idle_now : (change : Change) (w : WorldState) → IsIdle change w → IsIdle change (record w { last_change = w.time })
+pub idle_now : (change : Change) (w : WorldState) → IsIdle change w → IsIdle change (record w { last_change = w.time })
 idle_now (LinkDown number port) w idle = idle
 idle_now (LinkUp number port) w idle = idle
 idle_now (LinkSet number port min max loss) w idle = idle
@@ -46,7 +46,7 @@ idle_now (Priority1 number value) w idle = idle
 idle_now (Inject number port octets) w idle = idle
 
 -- so it leaves the world as it is
-idle_same : (change : Change) (w : WorldState) (draws : List Draw) (w' : WorldState) → IsIdle change w
+pub idle_same : (change : Change) (w : WorldState) (draws : List Draw) (w' : WorldState) → IsIdle change w
     → Changes change w draws w' → w' ≡ w
 idle_same (LinkDown number port) w draws w' idle k =
     (subst (λ up. GoesDownIf up k.place k.channel w draws w') (idle k.place k.channel k.is) k.so).1
@@ -154,7 +154,7 @@ module _ (p : Pace) (start : ℕ) (w : WorldState) (news : IsNews p start w) whe
   ready_still at (inr (gone, since, l, past, late)) =
       inr (gone, since, record { link = l.link; good = l.good; facts = l.facts; inv = l.inv }, past, late)
 
-  news_still : IsWorld p changed → IsMeasured changed → IsNews p start changed
+  pub news_still : IsWorld p changed → IsMeasured changed → IsNews p start changed
   news_still world measured = record {
     pace = news.pace;
     world = world;

@@ -1,6 +1,8 @@
 -- The worlds of a document: what they keep as they go on by themselves.
-use Rattle.std.proofs.Common.{◌≤◌, ℕ, List, Option}
+use Rattle.std.proofs.Common.{◌≤◌, ◌+◌, ℕ, List, Option}
 use Rattle.gptp_links.specs.declared.bounds.Bounds.{Bounds}
+use Rattle.gptp_setup.specs.Pace.{largest_interval}
+use Rattle.gptp_plan.specs.Calm.{last_change}
 use Rattle.gptp_plan.specs.Network.{pace_of}
 use Rattle.gptp_plan.specs.declared.change.Timed.{Timed}
 use Rattle.gptp_acts.specs.Acts.{at}
@@ -37,10 +39,12 @@ pub record IsNewsTo (d : DocumentState) (start : ℕ) (events : List Timed) (w :
   pub keeps : KeepsTo d events w
   pub news : IsNews (pace_of d.network) start w
 
--- where time is carried right from when it has settled
-pub record IsTimedTo (d : DocumentState) (m start settled : ℕ) (events : List Timed) (w : WorldState) : Type 0 where
+-- where time is carried right from when it has settled, if that is an announce interval after the last event
+pub record IsLastTo (d : DocumentState) (m start settled : ℕ) (events : List Timed) (w : WorldState) : Type 0 where
   pub keeps : KeepsTo d events w
-  pub timed : IsTimed (pace_of d.network) m start settled w
+  pub news : IsNews (pace_of d.network) start w
+  pub timed : last_change events + largest_interval (pace_of d.network) ≤ settled
+      → IsTimed (pace_of d.network) m start settled w
 
 module _ (d : DocumentState) (events : List Timed) where
   pub keeps_later : (w : WorldState) (time : ℕ) → w.time ≤ time → NothingBefore time w.net.pending → KeepsTo d events w
@@ -58,12 +62,13 @@ module _ (d : DocumentState) (events : List Timed) where
     news = news_go_on (pace_of d.network) start time w later first so.news;
   }
 
-  pub timed_later_to : (m start settled : ℕ) (w : WorldState) (time : ℕ) → w.time ≤ time
-      → NothingBefore time w.net.pending → IsTimedTo d m start settled events w
-      → IsTimedTo d m start settled events (at time w)
-  timed_later_to m start settled w time later first so = record {
+  pub last_later_to : (m start settled : ℕ) (w : WorldState) (time : ℕ) → w.time ≤ time
+      → NothingBefore time w.net.pending → IsLastTo d m start settled events w
+      → IsLastTo d m start settled events (at time w)
+  last_later_to m start settled w time later first so = record {
     keeps = keeps_later w time later first so.keeps;
-    timed = timed_later (pace_of d.network) m start settled w time later first so.timed;
+    news = news_go_on (pace_of d.network) start time w later first so.news;
+    timed = λ old. timed_later (pace_of d.network) m start settled w time later first (so.timed old);
   }
 
   module _ {F : Type 0} (answers : Bounds → ℕ → F → Option ℕ → F → Type 0) (t : Transition) (fate drawn : F)
@@ -90,11 +95,17 @@ module _ (d : DocumentState) (events : List Timed) where
               (no_change next.item timed.act w next.act) (next_octet next.item timed.act w next.act) was so.news;
         }
 
-    pub timed_act_to : (m start settled : ℕ) → IsTimedTo d m start settled events w
-        → IsTimedTo d m start settled events t.after
-    timed_act_to m start settled so =
-        let timed = t.told.timed in record {
+    pub last_act_to : (m start settled : ℕ) → IsLastTo d m start settled events w
+        → IsLastTo d m start settled events t.after
+    last_act_to m start settled so =
+        let timed = t.told.timed in
+        let still = no_change next.item timed.act w next.act in
+        let octet = next_octet next.item timed.act w next.act in
+        record {
           keeps = keeps_act so.keeps;
-          timed = timed_act (pace_of d.network) m start settled answers timed fate drawn w t.after t.told.done
-              (no_change next.item timed.act w next.act) (next_octet next.item timed.act w next.act) was so.timed;
+          news = news_done answers (pace_of d.network) start timed fate drawn w t.after t.told.done still octet was
+              so.news;
+          timed = λ old.
+              timed_act (pace_of d.network) m start settled answers timed fate drawn w t.after t.told.done still octet
+              was (so.timed old);
         }

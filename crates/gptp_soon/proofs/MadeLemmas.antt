@@ -1,5 +1,5 @@
 -- An event of a document is made: what the world keeps, and from when on it is one since news.
-use Rattle.std.proofs.Common.{◌≡◌, ◌≢◌, ◌∙◌, ◌<◌, ◌≤◌, ◌+◌, ◌*◌, ℕ, List, [], ◌∷◌, ◌++◌, Option, Some, slice_get, refl, inl, inr, sym, ap, subst, arith}
+use Rattle.std.proofs.Common.{◌≡◌, ◌≢◌, ◌∙◌, ◌≤◌, ◌+◌, ◌*◌, ℕ, List, [], ◌∷◌, ◌++◌, Option, Some, slice_get, refl, inl, inr, sym, ap, subst, arith}
 use Rattle.gptp_lists.proofs.MappedLemmas.{alike, same_there}
 use Rattle.gptp_links.specs.declared.bounds.Bounds.{Bounds}
 use Rattle.gptp_links.specs.declared.link.Direction.{Direction}
@@ -27,8 +27,10 @@ use Rattle.gptp_acts.proofs.StayLemmas.{acts_stay, done_stays}
 use Rattle.gptp_network.specs.Document.{DocumentState}
 use Rattle.gptp_kept.specs.Calm.{delay_in}
 use Rattle.gptp_kept.specs.Claimed.{IsClaimed}
+use Rattle.gptp_kept.specs.Holds.{IsWorld}
 use Rattle.gptp_kept.specs.LegibleLaws.{SetsAnOctet}
 use Rattle.gptp_kept.specs.LinkView.{LinkPlace}
+use Rattle.gptp_kept.specs.Measured.{IsMeasured}
 use Rattle.gptp_kept.specs.NewsWorld.{AreReadyBy, AreSilentBy, IsNews}
 use Rattle.gptp_kept.specs.SoundWorld.{IsGain, IsSoundWorld}
 use Rattle.gptp_kept.specs.Unanswered.{StandsUnanswered}
@@ -44,8 +46,9 @@ use Rattle.gptp_reached.proofs.ChangeLemmas.{changes_stand}
 use Rattle.gptp_reached.proofs.ClaimedLemmas.{IsFitEvent, least_of}
 use Rattle.gptp_reached.proofs.KeptLemmas.{time_stands}
 use Rattle.gptp_reached.proofs.SyncPathLemmas.{paths_stand}
-use Rattle.gptp_soon.specs.Gains.{AreCapableAnyway, AreCapableNext, JoinsLive, LeavesCapable, TakesNothing}
-use Rattle.gptp_soon.proofs.GainLemmas.{all_live, gain_so, lives_so}
+use Rattle.gptp_soon.specs.Gains.{AreCapableAnyway, AreCapableNext, AreCapableStill, ChangesNothing, IsIdleAfter, JoinsLive, LeavesCapable, TakesNothing}
+use Rattle.gptp_soon.proofs.GainLemmas.{all_live, gain_so, idle_so, lives_so}
+use Rattle.gptp_soon.proofs.IdleLemmas.{idle_now, idle_same, news_still}
 use Rattle.gptp_soon.proofs.KeptToLemmas.{IsNewsTo, KeepsTo}
 
 -- what is so at both ends of a link is so where it leads to
@@ -113,7 +116,7 @@ module _ {F : Type 0} (answers : Bounds → ℕ → F → Option ℕ → F → T
   pub made_time : w'.time ≡ event.at
   made_time = change_time is.change then k.draws done w' acts
 
-  made_last : w'.last_change ≡ w'.time
+  pub made_last : w'.last_change ≡ w'.time
   made_last = change_is_last is.change then k.draws done w' acts
 
   pub made_keeps : KeepsTo d made w → KeepsTo d more w'
@@ -125,9 +128,9 @@ module _ {F : Type 0} (answers : Bounds → ℕ → F → Option ℕ → F → T
         (done_stays answers event fate fate_after w w' done keeps.claim.world.sound.wired.setups k) keeps.slow;
   }
 
-  -- from a time on it is one since news, which is later
+  -- from a time on it is one since news
   abbrev IsNewsFrom : ℕ → Type 0
-  IsNewsFrom next = IsNews p next w' × (w'.time < next)
+  IsNewsFrom next = IsNews p next w'
 
   module _ (keeps : KeepsTo d made w) (sound : IsSoundWorld w) (nothing : TakesNothing n made event.act) where
     claim_then : IsClaimed p then
@@ -179,12 +182,8 @@ module _ {F : Type 0} (answers : Bounds → ℕ → F → Option ℕ → F → T
     made_anyway : (next : ℕ) → AreCapableAnyway n more next → IsNewsFrom next
     made_anyway next anyway =
         let (ready, silent) = anyway_ready d more next w' after anyway in
-        let late = by anyway in
-        let some = interval_positive p.largest after.claim.pace.largest in (
-          gain_news p next is.change then k.draws done w' claim_then.world after.claim gain octet acts sound_then silent
-              late,
-          omega (arith, late, some),
-        )
+        gain_news p next is.change then k.draws done w' claim_then.world after.claim gain octet acts sound_then silent
+        (by anyway)
       where
         last : w'.time ≡ last_change more
         last = sym made_last ∙ after.stands.last
@@ -205,23 +204,17 @@ module _ {F : Type 0} (answers : Bounds → ℕ → F → Option ℕ → F → T
           let delay : (sync_paths n more).delay ≡ delay_in w' =
           ap (λ (x : SyncPaths). x.delay)
           (paths_stand n more w' playable.network after.stands after.claim.world.sound) in
-          let now = made_time in (
-            link_up_news p next number port then k.draws done w' claim_then.pace claim_then.world after.claim.world
-                claim_then.measured silent sound_then ready
-                (λ place s link channel at_port. apart number port live place s link channel at_port)
-                (omega (arith, late, delay)) came,
-            omega (arith, late, now),
-          )
+          link_up_news p next number port then k.draws done w' claim_then.pace claim_then.world after.claim.world
+          claim_then.measured silent sound_then ready
+          (λ place s link channel at_port. apart number port live place s link channel at_port)
+          (omega (arith, late, delay)) came
       by_change (Priority1 number value) same (live, late) =
           let came : Acts (Changing (Priority1 number value)) then k.draws done w' =
           subst (λ change. Acts (Changing change) then k.draws done w') same acts in
-          let now = made_time in (
-            priority_news p next number value then k.draws done w' claim_then.pace claim_then.world after.claim.world
-                claim_then.measured (all_live n made then stands_then live) sound_then ready
-                (subst (λ change. IsGain change then) same gain)
-                (subst (λ change. SetsAnOctet (Changing change)) same octet) late came,
-            omega (arith, late, now),
-          )
+          priority_news p next number value then k.draws done w' claim_then.pace claim_then.world after.claim.world
+          claim_then.measured (all_live n made then stands_then live) sound_then ready
+          (subst (λ change. IsGain change then) same gain)
+          (subst (λ change. SetsAnOctet (Changing change)) same octet) late came
       by_change (LinkDown number port) same none = absurd none
       by_change (LinkSet number port min max loss) same none = absurd none
       by_change (Fail number) same none = absurd none
@@ -235,12 +228,28 @@ module _ {F : Type 0} (answers : Bounds → ℕ → F → Option ℕ → F → T
         let (ready_then, silent_then) = ready_later p start next then more_than ready silent in
         by_change next ready_then silent_then is.change refl (subst (LeavesCapable n made event next) is.act leaves)
 
+    -- or where the event changes nothing
+    by_idle : (start : ℕ) → IsNews p start then → IsIdleAfter n made is.change → IsNewsFrom start
+    by_idle start news idle_after =
+        let idle = idle_so n made then stands_then claim_then.world.sound is.change idle_after in
+        let now : WorldState = record then { last_change = then.time } in
+        let same : w' ≡ now = idle_same is.change now k.draws w' (idle_now is.change then idle) acts.1 in
+        subst (IsNews p start) (sym same)
+        (news_still p start then news (subst (IsWorld p) same after.claim.world)
+        (subst IsMeasured same after.claim.measured))
+
+    pub made_still : (start next : ℕ) → IsNews p start then → AreCapableStill n made start event next
+        → IsNewsFrom next
+    made_still start next news (inl capable) = made_news start next news.ready news.silent capable
+    made_still start next news (inr (nothing_new, same)) =
+        subst IsNewsFrom (sym same) (by_idle start news (subst (ChangesNothing n made) is.act nothing_new))
+
   -- so it is where it was one since news
   pub news_news : (start next : ℕ) → IsNewsTo d start made w → TakesNothing n made event.act
-      → AreCapableNext n made start event next → IsNewsFrom next
+      → AreCapableStill n made start event next → IsNewsFrom next
   news_news start next so nothing capable =
       let news = news_go_on p start event.at w k.ready.timely.now k.ready.timely.first so.news in
-      made_news so.keeps so.news.sound nothing start next news.ready news.silent capable
+      made_still so.keeps so.news.sound nothing start next news capable
 
   -- or where it only holds what is sound
   pub rest_news : (start next : ℕ) → KeepsTo d made w → IsSoundWorld w → TakesNothing n made event.act

@@ -6,7 +6,7 @@
 -- (`AreCapableFrom`). By `SettlesBy` of that the network has settled: sooner than after a change that takes something
 -- away, since nothing that is held names what isn't there any more. So a document that begins, or that comes to rest
 -- and then gains, settles again by the same few numbers.
-use Rattle.std.specs.Prelude.{◌≤◌, ◌⊎◌, ◌+◌, ◌^◌, ℕ, List, Option}
+use Rattle.std.specs.Prelude.{◌<◌, ◌≤◌, ◌⊎◌, ◌+◌, ◌^◌, ℕ, List, Option}
 use Rattle.gptp_lists.specs.Members.{In}
 use Rattle.gptp_links.specs.declared.bounds.Bounds.{Bounds}
 use Rattle.gptp_setup.specs.Pace.{largest_interval}
@@ -45,12 +45,13 @@ DocumentsSettleSoon {F} answers = (d : DocumentState) (until start settled : ℕ
     → IsPlayable d → Unfolds answers d until fate first ts w → SettlesSoon d until start settled → settled ≤ until
     → IsSettledAs d until w × IsSoundWorld w
 
--- So is the world after each act of a run, at the time of the act: by the events up to then.
+-- So is the world after each act of a run, at the time of the act: by the events up to then, all of which are earlier.
 abbrev pub ActsFindSettled : {F : Type 0} → (Bounds → ℕ → F → Option ℕ → F → Type 0) → Type 0
 ActsFindSettled {F} answers = (d : DocumentState) (until start settled : ℕ) (fate : F) (first w : WorldState)
     (ts : List Transition) (t : Transition)
     → IsPlayable d → Unfolds answers d until fate first ts w → In t ts
     → SettlesSoon d t.told.timed.at start settled → settled ≤ t.told.timed.at
+    → last_change (events_by t.told.timed.at d.events) < t.told.timed.at
     → IsSettledAs d t.told.timed.at t.after
 
 -- And each act leaves offsets that are exact, once a Sync has had the time to come down a way since then, and an

@@ -50,7 +50,28 @@ TakesNothing n events (Deliver link direction) = ⊤
 TakesNothing n events (Expire number timer) = ⊤
 TakesNothing n events (Changing change) = IsGainAfter n events change
 
--- so it is with each event of a list, one after another
+-- after these events the link at the port is up
+abbrev pub IsUpAfter : NetworkState → List Timed → PortId → Type 0
+IsUpAfter n events port = (place : ℕ) (v : Wire) → slice_get n.links place ≡ Some v → IsEnd port (link_after events v)
+    → (link_after events v).up ≡ true
+
+-- The change finds all as it would make it: a link goes down that is down, or comes up that is up; a system fails that
+-- has failed, or recovers that lives; octets are put onto a link that is down. No other change is counted here.
+abbrev pub IsIdleAfter : NetworkState → List Timed → Change → Type 0
+IsIdleAfter n events (LinkDown number port) = IsDownAfter n events (port_id number port)
+IsIdleAfter n events (LinkUp number port) = IsUpAfter n events (port_id number port)
+IsIdleAfter n events (LinkSet number port min max loss) = ⊥
+IsIdleAfter n events (Fail number) = IsLive n.systems events number → ⊥
+IsIdleAfter n events (Recover number) = IsLive n.systems events number
+IsIdleAfter n events (Priority1 number value) = ⊥
+IsIdleAfter n events (Inject number port octets) = IsDownAfter n events (port_id number port)
+
+abbrev pub ChangesNothing : NetworkState → List Timed → Act → Type 0
+ChangesNothing n events (Deliver link direction) = ⊥
+ChangesNothing n events (Expire number timer) = ⊥
+ChangesNothing n events (Changing change) = IsIdleAfter n events change
+
+-- each event of a list takes nothing away, one after another
 abbrev pub AllTakeNothing : NetworkState → List Timed → List Timed → Type 0
 AllTakeNothing n before [] = ⊤
 AllTakeNothing n before (event ∷ events) =
@@ -111,11 +132,16 @@ AreCapableNext n before start event next =
     AreCapableAnyway n (before ++ event ∷ []) next
     ⊎ ((start ≤ next) × LeavesCapable n before event next event.act)
 
+-- an event that changes nothing leaves even the start
+abbrev pub AreCapableStill : NetworkState → List Timed → ℕ → Timed → ℕ → Type 0
+AreCapableStill n before start event next =
+    AreCapableNext n before start event next ⊎ (ChangesNothing n before event.act × (next ≡ start))
+
 -- so it is after all of these events
 abbrev pub AreCapableFrom : NetworkState → List Timed → ℕ → List Timed → ℕ → Type 0
 AreCapableFrom n before start [] last = last ≡ start
 AreCapableFrom n before start (event ∷ events) last =
-    (next : ℕ) × AreCapableNext n before start event next
+    (next : ℕ) × AreCapableStill n before start event next
     × AreCapableFrom n (before ++ event ∷ []) next events last
 
 -- ---- a network that has only gained
@@ -138,4 +164,6 @@ pub record GainsFromRest (n : NetworkState) (events : List Timed) (start : ℕ) 
   pub nothing : AllTakeNothing n before (first ∷ others)
   pub rest : ℕ
   pub anyway : AreCapableAnyway n before rest
-  pub capable : AreCapableFrom n before rest (first ∷ others) start
+  pub next : ℕ
+  pub gain : AreCapableNext n before rest first next
+  pub capable : AreCapableFrom n (before ++ first ∷ []) next others start
