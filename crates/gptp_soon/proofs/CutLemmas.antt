@@ -283,8 +283,8 @@ module _ {F : Type 0} (answers : Bounds → ℕ → F → Option ℕ → F → T
               first = first ++ sub.first;
               drawn = sub.drawn;
               after = sub.after;
-              courses = subst (λ es. Courses answers early es (first ++ sub.first) fate sub.drawn w sub.after) (sym kept)
-                  (first, sub.first, drawn, between, k, sub.courses, refl);
+              courses = subst (λ es. Courses answers early es (first ++ sub.first) fate sub.drawn w sub.after)
+                  (sym kept) (first, sub.first, drawn, between, k, sub.courses, refl);
               all = λ u member by_then. elim (In-parts u first rest (subst (In u) split member)) [
                 | inl here ↦ In-left u first sub.first here
                 | inr behind ↦ In-right u first sub.first (sub.all u behind by_then)

@@ -87,8 +87,8 @@ module _ (n : NetworkState) (events : List Timed) (w : WorldState) (so : StandsA
     pub lives_so : (number : ℕ) → IsLive n.systems events number → (place : ℕ) (station : Station)
         → IsStation number place w station → station.live ≡ true
     lives_so number lives place station k =
-        let (other, here, same) = alike shape (shape_after (pace_of n) events) w.stations n.systems so.systems lives.place
-        lives.system lives.there in
+        let (other, here, same) = alike shape (shape_after (pace_of n) events) w.stations n.systems so.systems
+        lives.place lives.system lives.there in
         let named : clock other.system ≡ number =
         sym (clock_shape other (sound.wired.setups lives.place other here))
         ∙ ap (λ (x : Shape). clock_of x.identity) same

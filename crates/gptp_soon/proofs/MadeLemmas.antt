@@ -165,15 +165,15 @@ module _ {F : Type 0} (answers : Bounds → ℕ → F → Option ℕ → F → T
           | inl a ↦ inl (near.a ∙ sym (ap (λ (c : Channel). c.a) one) ∙ a)
           | inr b ↦ inr (near.b ∙ sym (ap (λ (c : Channel). c.b) one) ∙ b)
         ] in
-        let (v, there, wire) = alike (link_after more) wire_of n.links w'.net.channels (sym after.stands.links) place.link
-        s.channel s.here in
+        let (v, there, wire) = alike (link_after more) wire_of n.links w'.net.channels (sym after.stands.links)
+        place.link s.channel s.here in
         let ends = live place.link v there (subst (IsEnd (port_id number port)) (sym wire) joined) in
         let lives : IsLive n.systems more (receiver place.direction s.channel).clock =
         end_so (IsLive n.systems more) place.direction s.channel
         (subst (λ (x : Wire). IsLive n.systems more x.a.clock) wire ends.0)
         (subst (λ (x : Wire). IsLive n.systems more x.b.clock) wire ends.1) in
-        let on = lives_so n more w' after.stands after.claim.world.sound (receiver place.direction s.channel).clock lives
-        place.answering s.answering.station
+        let on = lives_so n more w' after.stands after.claim.world.sound (receiver place.direction s.channel).clock
+        lives place.answering s.answering.station
         (record { here = s.answering.here; named = s.answering.named }) in
         let both = sym on ∙ s.answering.failed in
         cc
