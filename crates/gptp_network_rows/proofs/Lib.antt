@@ -2,3 +2,4 @@ mod ExactLemmas
 mod ReadingLemmas
 mod HeardLemmas
 mod PairLemmas
+mod SoonLemmas

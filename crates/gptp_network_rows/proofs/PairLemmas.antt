@@ -157,16 +157,16 @@ follows = choice.settled following (inr (inl refl))
 
 -- ---- whatever settles so
 
-root_is : (root : ℕ) → IsBestIdentity pair_snapshot 2 root → root ≡ first
+pub root_is : (root : ℕ) → IsBestIdentity pair_snapshot 2 root → root ≡ first
 root_is root (best, is, same) =
     let (other, also, is_first) : IsBestIdentity pair_snapshot 2 first = follows.root in
     let one = IsBest-unique pair_snapshot 2 best other well_formed is also in
     same ∙ ap (λ (s : System). s.identity) one ∙ sym is_first
 
-steps_are : (steps : ℕ) → IsDistance pair_snapshot 2 steps → steps ≡ 1
+pub steps_are : (steps : ℕ) → IsDistance pair_snapshot 2 steps → steps ≡ 1
 steps_are steps is = IsDistance-unique pair_snapshot 2 steps 1 well_formed is follows.steps
 
-slave_is : (port : Option ℕ) → IsSlaveOf pair_snapshot 2 port → port ≡ Some 1
+pub slave_is : (port : Option ℕ) → IsSlaveOf pair_snapshot 2 port → port ≡ Some 1
 slave_is None none = absurd (none (record { own_port = 1; clock = 1; port = 1 }) (follows.parent refl))
 slave_is (Some n) (l, parent, own) =
     let there : ParentLink = record { own_port = 1; clock = 1; port = 1 } in

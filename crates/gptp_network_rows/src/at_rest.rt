@@ -6,6 +6,7 @@ use crate::drawn::{
     whole,
 };
 use crate::same::same;
+use crate::soon::follow_soon;
 use gptp_links::PcgFate;
 use gptp_roles::Role;
 use gptp_vector::{ClockId, Identity, PortId, Trace};
@@ -64,6 +65,17 @@ fn the_second_follows_by_its_distance_and_by_paths(rt: HostRuntime) -> Result<()
         followed,
     );
     same(&rt, follow_by_paths(rt.alloc(), PcgFate::new(1))?, followed);
+    Ok(())
+}
+
+#[test]
+fn the_second_follows_soon(rt: HostRuntime) -> Result<(), Fail> {
+    let first = Identity::of_octets([246, 248, 254, 0x43, 0x6a, 248, 0, 0, 0, 0, 0, 0, 0, 1]);
+    same(
+        &rt,
+        follow_soon(rt.alloc(), PcgFate::new(1))?,
+        Some((first, 1, Some(1))),
+    );
     Ok(())
 }
 

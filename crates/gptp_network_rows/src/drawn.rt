@@ -102,7 +102,7 @@ fn pair(alloc: Global) -> Result<Network, NetworkFault>
 }
 
 /// Their world as it begins.
-fn begun<F: Fate + Drop>(alloc: Global, fate: F) -> Result<World<F>, NetworkFault>
+pub(crate) fn begun<F: Fate + Drop>(alloc: Global, fate: F) -> Result<World<F>, NetworkFault>
     ensures { IfOk result (λ world. HasBegun F.answers world.fate world.scene) }
 {
     let network = pair(alloc)?;

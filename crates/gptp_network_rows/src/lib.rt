@@ -1,8 +1,8 @@
 //! Worked rows of networks and documents, as an outside caller sees them: also that whatever the order of acts and the
 //! fate of frames, a calm network settles in time.
 //!
-//! What they expect was written down before the code. What is in `drawn` and `readings` is no test: their contracts
-//! follow from those of the crates below.
+//! What they expect was written down before the code. What is in `drawn`, `readings` and `soon` is no test: their
+//! contracts follow from those of the crates below.
 #![tactic(auto)]
 
 #[cfg(test)]
@@ -23,3 +23,4 @@ pub mod readings;
 mod ring;
 #[cfg(test)]
 mod same;
+pub mod soon;

@@ -1,0 +1,13 @@
+pub mod NewsMeasuredLemmas
+pub mod TimedNewsLemmas
+pub mod SoonOffsetLemmas
+pub mod ExactlyLemmas
+pub mod IdleLemmas
+pub mod GainLemmas
+pub mod PassLemmas
+pub mod KeptToLemmas
+pub mod MadeLemmas
+pub mod BegunLemmas
+pub mod FindsLemmas
+pub mod CutLemmas
+pub mod DocumentLemmas

@@ -1,0 +1,4 @@
+pub mod Exactly
+pub mod Gains
+pub mod Documents
+pub mod Idle
