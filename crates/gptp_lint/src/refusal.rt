@@ -118,12 +118,7 @@ fn meant<'a>(
 }
 
 /// The key at a place that was meant, maybe, where the document is refused since one is missing.
-fn near_key<'a>(
-    document: &Table,
-    outline: &'a Outline,
-    place: Place,
-    why: &Why,
-) -> Option<&'a [u8]>
+fn near_key<'a>(document: &Table, outline: &'a Outline, place: Place, why: &Why) -> Option<&'a [u8]>
     ensures { is_missing why.now ≡ false → result ≡ None }
 {
     match why {

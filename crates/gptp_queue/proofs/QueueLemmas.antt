@@ -48,7 +48,8 @@ stands_contained [] d is = absurd (grind (arith, is))
 stands_contained (x ∷ es) d is = by (λ rest. stands_contained es d rest) ((x.number == d.number) && (x.place ==
     d.place)) refl where
       by : (stands es d ≡ true → (e : Entry) × Contains es e × (e.number ≡ d.number)) → (t : Bool)
-          → ((x.number == d.number) && (x.place == d.place)) ≡ t → (e : Entry) × Contains (x ∷ es) e × (e.number ≡ d.number)
+          → ((x.number == d.number) && (x.place == d.place)) ≡ t
+          → (e : Entry) × Contains (x ∷ es) e × (e.number ≡ d.number)
       by ih true h = (x, (0, omega arith, refl), grind (arith, nat_tests))
       by ih false h =
           let rest : stands es d ≡ true = rw h at is in let found = ih rest in
