@@ -54,7 +54,7 @@ pub(crate) fn since_behind(look: Look, system: &Watched, after: &Option<Shown>) 
 }
 
 /// The wait of a system that an act ended which left it as `after`, if it ended one that counts.
-fn wait_behind(look: Look, system: &Watched, after: &Option<Shown>) -> Option<Greatest>
+pub(crate) fn wait_behind(look: Look, system: &Watched, after: &Option<Shown>) -> Option<Greatest>
     ensures { result ≡ wait_behind look system.now after.now }
 {
     match ended_by(
