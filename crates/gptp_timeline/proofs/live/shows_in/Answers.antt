@@ -1,7 +1,7 @@
 use Rattle.std.proofs.Common.{◌∙◌, sym, ap, Some, option_map}
 use Rattle.gptp_timeline.specs.Shown.{shown_of}
 use Rattle.gptp_timeline.proofs.ShownLemmas.{live_shown, none_shown}
-use Rattle.gptp_timeline.proofs.watch.shows_in.Goals as goal
+use Rattle.gptp_timeline.proofs.live.shows_in.Goals as goal
 
 pub returns-in-Some-Some : goal.returns-in-Some-Some
 returns-in-Some-Some g c = λ same.
