@@ -410,14 +410,16 @@ used_shows answers' timed fate fate_after w w' done number k uses = by timed.act
     by : (act : Act) → Acts act (at timed.at w) k.draws done w' → (s : SystemState) × ShowsLive number w' s
     by (Deliver link direction) acts =
         let u = user link direction (at timed.at w) w' k.draws number done acts uses in
-        let same = same_clock (FrameHeard (receiver direction u.channel).port u.octets) timed.at u.station.system u.after
-        u.sends answers.Used u.steps in
-        (u.after, record {
-          place = u.place;
-          station = in_state u.after u.station;
-          is = record { here = u.becomes; named = same ∙ u.named };
-          live = u.live;
-          state = refl;
-        })
+        let heard = FrameHeard (receiver direction u.channel).port u.octets in
+        let same = same_clock heard timed.at u.station.system u.after u.sends answers.Used u.steps in (
+          u.after,
+          record {
+            place = u.place;
+            station = in_state u.after u.station;
+            is = record { here = u.becomes; named = same ∙ u.named };
+            live = u.live;
+            state = refl;
+          },
+        )
     by (Expire name timer) (quiet, rest) = absurd (subst (UsesFollowUp number) quiet uses)
     by (Changing change) (quiet, rest) = absurd (subst (UsesFollowUp number) quiet uses)

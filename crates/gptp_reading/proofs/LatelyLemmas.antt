@@ -27,8 +27,8 @@ runs_read_lately answers d until fate start w acts p earlier steps number port e
     calm above come waited near shows slave can way best =
     let m = path_bound (snapshot_of w) in
     let wait = sync_wait p.params (sync_paths_of w) in
-    let claimed = claimed_alike w (claimed_of w (ends_claimed answers d until fate start w acts playable moment unfolds))
-    p calm shows.place shows.station shows.is.here in
+    let all = ends_claimed answers d until fate start w acts playable moment unfolds in
+    let claimed = claimed_alike w (claimed_of w all) p calm shows.place shows.station shows.is.here in
     let bounded : BoundsPaths (snapshot_of w) m = paths_bound p w claimed.world in
     let heard = runs_hear_in_time answers d until fate start w acts p earlier number port s playable moment unfolds calm
     above (omega (arith, come)) waited near shows slave can in

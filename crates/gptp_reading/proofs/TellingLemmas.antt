@@ -160,7 +160,7 @@ offset_fits k told ingress rate delay held heard is t measured held_at short sho
     (on_way k told t.sent t.came heard is t.carried t.right) measured (omega arith, omega arith) held_at short shown
     shown in
     let same : scaled_by (held +ℤ rate) (passage (bridge info delay rate own))
-        ≡ scaled_by (held +ℤ rate) (link_time delay rate) =
+    ≡ scaled_by (held +ℤ rate) (link_time delay rate) =
     ap (λ x. scaled_by (held +ℤ rate) x) (same_passage own (link_time delay rate)) in
     let scaled : FitsScaled (scaled_by (held +ℤ rate) (link_time delay rate)) = subst FitsScaled same fits.scaled in
     let carries : FitsInterval (told.correction +ℤ scaled_by (held +ℤ rate) (link_time delay rate)) =
