@@ -1,5 +1,5 @@
 -- What is read is exact in every world of a network, once it has been calm for long enough.
-use Rattle.std.proofs.Common.{◌≡◌, ◌≤◌, ◌+◌, ◌*◌, ◌^◌, ℕ, suc, ℤ, true, false, List, ◌∷◌, Option, Some, None, slice_get, sym, ap, subst, ◌∙◌, arith, eqb-true}
+use Rattle.std.proofs.Common.{◌≡◌, ◌≤◌, ◌+◌, ◌*◌, ◌^◌, ℕ, suc, ℤ, true, false, List, ◌∷◌, Option, Some, None, slice_get, refl, sym, ap, subst, ◌∙◌, arith, eqb-true}
 use Rattle.std.specs.Option.{option_map_or}
 use Rattle.std.specs.Prelude.{◌==◌, ◌<◌, IsSome}
 use Rattle.std.proofs.lemmas.Option.{none-some, same_Some}
@@ -23,14 +23,17 @@ use Rattle.gptp_setup.specs.Pace.{Pace}
 use Rattle.gptp_plan.specs.SettlingTime.{settling_span_with}
 use Rattle.gptp_plan.specs.declared.change.Act.{Act}
 use Rattle.gptp_plan.specs.declared.change.Act.TheVariants.{Deliver, Expire, Change as Changing}
+use Rattle.gptp_plan.specs.declared.change.Timed.{Timed}
 use Rattle.gptp_system.specs.declared.answer.Answer.{Answer}
 use Rattle.gptp_system.specs.declared.answer.Answer.TheVariants as answers
 use Rattle.gptp_system.specs.declared.sending.Sending.{Sending}
 use Rattle.gptp_system.specs.Input.{Frame as FrameHeard, Steps}
 use Rattle.gptp_system.specs.State.{SystemState, clock, local_time}
 use Rattle.gptp_acts.proofs.SoundLemmas.{acts_sound}
+use Rattle.gptp_acts.proofs.SteadyLemmas.{same_clock}
 use Rattle.gptp_acts.specs.Act.{Hears, in_state}
 use Rattle.gptp_acts.specs.Acts.{Acts, at}
+use Rattle.gptp_acts.specs.Course.{WasDone}
 use Rattle.gptp_acts.specs.declared.done.Done.{Done}
 use Rattle.gptp_acts.specs.declared.done.Done.TheVariants.{Quiet, Heard}
 use Rattle.gptp_acts.specs.declared.station.Station.{Station}
@@ -395,5 +398,28 @@ worlds_have_readings answers timed fate fate_after w w' done all k moment p m st
         let (claimed, carries) = all_alike (at timed.at w) now p calm.of u.place u.station u.there in
         has_reading_here link direction (at timed.at w) w' k.draws number done p m steps s way phase acts uses shows
         claimed carries (calm_then p w timed.at calm) bounded come (omega (arith, moment)) near leads time
+    by (Expire name timer) (quiet, rest) = absurd (subst (UsesFollowUp number) quiet uses)
+    by (Changing change) (quiet, rest) = absurd (subst (UsesFollowUp number) quiet uses)
+
+-- a system that uses a Follow_Up is live afterwards, with the same clock
+pub used_shows : {F : Type 0} (answers' : Bounds → ℕ → F → Option ℕ → F → Type 0) (timed : Timed) (fate fate_after : F)
+    (w w' : WorldState) (done : Done) (number : ℕ) → WasDone answers' timed fate fate_after w w' done
+    → UsesFollowUp number done → (s : SystemState) × ShowsLive number w' s
+used_shows answers' timed fate fate_after w w' done number k uses = by timed.act k.acts
+  where
+    by : (act : Act) → Acts act (at timed.at w) k.draws done w' → (s : SystemState) × ShowsLive number w' s
+    by (Deliver link direction) acts =
+        let u = user link direction (at timed.at w) w' k.draws number done acts uses in
+        let heard = FrameHeard (receiver direction u.channel).port u.octets in
+        let same = same_clock heard timed.at u.station.system u.after u.sends answers.Used u.steps in (
+          u.after,
+          record {
+            place = u.place;
+            station = in_state u.after u.station;
+            is = record { here = u.becomes; named = same ∙ u.named };
+            live = u.live;
+            state = refl;
+          },
+        )
     by (Expire name timer) (quiet, rest) = absurd (subst (UsesFollowUp number) quiet uses)
     by (Changing change) (quiet, rest) = absurd (subst (UsesFollowUp number) quiet uses)

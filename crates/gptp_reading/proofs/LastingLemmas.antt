@@ -1,5 +1,6 @@
 -- What a system reads where a run ends, by a Follow_Up that it used since the last change.
-use Rattle.std.proofs.Common.{◌≡◌, ◌⊎◌, ◌<◌, ◌≤◌, ◌+◌, ◌-◌, ◌*◌, ℕ, suc, ℤ, List, [], ◌∷◌, ◌++◌, Option, refl, sym, ap, subst, ◌∙◌, inl, inr, arith}
+use Rattle.std.proofs.Common.{◌≡◌, ◌⊎◌, ◌<◌, ◌≤◌, ◌+◌, ◌-◌, ◌*◌, ◌^◌, ℕ, suc, ℤ, List, [], ◌∷◌, ◌++◌, Option, refl, sym, ap, subst, ◌∙◌, inl, inr, arith}
+use Rattle.std.specs.Prelude.{IsSome}
 use Rattle.std.proofs.lemmas.Int.{ints}
 use Rattle.std.proofs.Math.Nat.{mul-le-mul_right}
 use Rattle.gptp_graph.specs.Best.{IsBest}
@@ -26,24 +27,29 @@ use Rattle.gptp_acts.specs.Acts.{Acts, at}
 use Rattle.gptp_acts.specs.declared.done.Done.{Done}
 use Rattle.gptp_acts.specs.declared.station.Station.{Station}
 use Rattle.gptp_acts.specs.Prompt.{HavePace}
+use Rattle.gptp_acts.specs.Views.{ShowsLive}
 use Rattle.gptp_acts.specs.World.{WorldState}
-use Rattle.gptp_report.specs.Transitions.{Transition, transition}
+use Rattle.gptp_network.specs.Document.{DocumentState}
+use Rattle.gptp_report.specs.Transitions.{Transition, Unfolds, transition}
 use Rattle.gptp_timing.specs.Tree.{IsWayTo}
 use Rattle.gptp_kept.specs.Calm.{IsQuietWorld, sync_paths_of}
 use Rattle.gptp_kept.specs.Claimed.{IsClaimed}
 use Rattle.gptp_kept.specs.Followers.{parts_of}
 use Rattle.gptp_kept.specs.Standing.{snapshot_of}
+use Rattle.gptp_kept.specs.TimedClaim.{AllClaimed}
 use Rattle.gptp_kept.proofs.CalmKeptLemmas.{KeepsNetwork, acts_keep, keeps_on, same_paths, same_snapshot, stays_quiet}
 use Rattle.gptp_kept.proofs.ExactLemmas.{claimed_of}
 use Rattle.gptp_kept.proofs.FollowClaimLemmas.{acts_time}
 use Rattle.gptp_kept.proofs.FollowPartLemmas.{clock_shown, same_parts}
 use Rattle.gptp_kept.proofs.OutlineLemmas.{change_is_last, change_time}
 use Rattle.gptp_kept.proofs.SystemLemmas.{live_from}
-use Rattle.gptp_reached.specs.Headline.{HasComeDown, IsCalm}
+use Rattle.gptp_reached.specs.Headline.{HasComeDown, IsCalm, UsesFollowUp}
+use Rattle.gptp_reached.specs.PlayedLaws.{IsPlayable}
 use Rattle.gptp_reached.proofs.HeadlineLemmas.{quiet_as}
-use Rattle.gptp_reading.specs.Reading.{IsBestsTime, held_rates_error_at, reading_error_at}
+use Rattle.gptp_reading.specs.Reading.{IsBestsTime, held_rates_error_at, reading, reading_error_at}
 use Rattle.gptp_reading.specs.Readings.{LeavesReading, RunsReadInTime}
 use Rattle.gptp_reading.proofs.AgeLemmas.{claimed_alike}
+use Rattle.gptp_reading.proofs.ExactLemmas.{worlds_have_readings}
 use Rattle.gptp_reading.proofs.HeardLemmas.{keeps_back}
 use Rattle.gptp_reading.proofs.RunLemmas.{AreKept, IsKeptAct, one_more, runs_keep, runs_read_exactly}
 
@@ -269,3 +275,50 @@ runs_read_in_time answers d until fate start w acts act p m steps number earlier
     subst (λ e. AreWithin e read shown) (sym way.is)
     (wider (reading_error_at way.way steps age) (reading_error_at way.way steps later) read shown
     (grows way.way steps age later (omega (arith, lately))) exact)
+
+-- ---- that there is a reading
+
+-- the world before an act that was done since the network had come down, as it is where the run ends
+pub record IsLikeEnd {F : Type 0} (answers : Bounds → ℕ → F → Option ℕ → F → Type 0) (w : WorldState)
+    (act : Transition) : Type 0 where
+  pub kept : IsKeptAct answers act.told.timed act.told.done act.before act.after
+  pub keeps : KeepsNetwork act.before w
+
+pub runs_have_readings : {F : Type 0} (answers : Bounds → ℕ → F → Option ℕ → F → Type 0) (p : Pace)
+    (m steps earlier number time : ℕ) (w : WorldState) (act : Transition) (s : SystemState) (way : Way)
+    (phase : ℕ → ℕ) → IsLikeEnd answers w act → IsCalm p w → BoundsPaths (snapshot_of w) m
+    → HasComeDown p m (suc steps) earlier w → earlier ≤ act.told.timed.at
+    → UsesFollowUp number act.told.done → ShowsLive number act.after s → IsNear (snapshot_of w) number
+    → IsWayTo (parts_of p.params w) (snapshot_of w) (suc steps) number way phase → IsSome (reading s time)
+runs_have_readings answers p m steps earlier number time w act s way phase is calm bounded come since uses shows near
+    leads =
+    let v = act.before in
+    let k = is.kept in
+    worlds_have_readings answers act.told.timed k.fate k.fate_after v act.after act.told.done k.all k.was k.moment p m
+    steps number s way phase (calm_before p v w is.keeps calm)
+    (subst (λ g. BoundsPaths g m) (same_snapshot v w is.keeps) bounded)
+    (come_before p v w is.keeps calm m (suc steps) earlier act.told.timed.at come since) uses shows
+    (subst (λ g. IsNear g number) (same_snapshot v w is.keeps) near)
+    (leads_before p v w is.keeps calm (suc steps) number way phase leads) time
+
+-- of every world where a run ends all is claimed
+pub ends_claimed : {F : Type 0} (answers : Bounds → ℕ → F → Option ℕ → F → Type 0) (d : DocumentState) (until : ℕ)
+    (fate : F) (start w : WorldState) (acts : List Transition) → IsPlayable d → until ≤ 10 ^ 18
+    → Unfolds answers d until fate start acts w → AllClaimed w
+ends_claimed answers d until fate start w acts playable moment unfolds =
+    let (also, kept) = runs_keep answers (λ us x. AreKept answers us) (one_more answers)
+    (λ us x time later first so. so) d until fate start w acts playable moment unfolds (λ u none. absurd none) in
+    also
+
+pub like_end : {F : Type 0} (answers : Bounds → ℕ → F → Option ℕ → F → Type 0) (d : DocumentState) (until : ℕ)
+    (fate : F) (start w : WorldState) (acts : List Transition) (act : Transition) → IsPlayable d → until ≤ 10 ^ 18
+    → Unfolds answers d until fate start acts w → In act acts → w.last_change < act.told.timed.at
+    → IsLikeEnd answers w act
+like_end answers d until fate start w acts act playable moment unfolds member since =
+    let (all, lasts) = runs_keep answers Lasts
+    (λ us timed done x y k so. lasts_act answers us timed done x y k so)
+    (λ us x time later first so. lasts_later us x time later so) d until fate start w acts playable moment unfolds
+    (record { early = λ t none. absurd none; kept = λ t none after. absurd none }) in
+    let (also, kept) = runs_keep answers (λ us x. AreKept answers us) (one_more answers)
+    (λ us x time later first so. so) d until fate start w acts playable moment unfolds (λ u none. absurd none) in
+    record { kept = kept act member; keeps = lasts.kept act member since }

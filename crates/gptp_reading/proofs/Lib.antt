@@ -9,3 +9,4 @@ pub mod LapseLemmas
 pub mod EachLemmas
 pub mod HeardLemmas
 pub mod LastingLemmas
+pub mod LatelyLemmas

@@ -3,11 +3,12 @@
 --
 -- The Lapse timer of a system runs out a span later than it was started. Each Follow_Up that the system uses starts it
 -- anew, and else only another root or another Slave port does.
-use Rattle.std.specs.Prelude.{◌≡◌, ◌<◌, ◌≤◌, ◌+◌, ◌^◌, ℕ, true, List, Option, Some}
+use Rattle.std.specs.Prelude.{◌≡◌, ◌<◌, ◌≤◌, ◌+◌, ◌^◌, ℕ, suc, ℤ, true, List, Option, Some}
 use Rattle.gptp_lists.specs.Members.{In}
 use Rattle.gptp_graph.specs.Distance.{IsNear}
 use Rattle.gptp_graph.specs.PathBound.{path_bound}
 use Rattle.gptp_links.specs.declared.bounds.Bounds.{Bounds}
+use Rattle.gptp_scaled.specs.Counts.{AreWithin}
 use Rattle.gptp_setup.specs.Pace.{Pace, lapse_span}
 use Rattle.gptp_plan.specs.SyncWait.{sync_wait}
 use Rattle.gptp_system.specs.State.{SystemState, can_lead}
@@ -19,8 +20,10 @@ use Rattle.gptp_report.specs.Transitions.{Transition, Unfolds}
 use Rattle.gptp_kept.specs.Calm.{sync_paths_of}
 use Rattle.gptp_kept.specs.Claimed.{Claimed}
 use Rattle.gptp_kept.specs.Standing.{snapshot_of}
-use Rattle.gptp_reached.specs.Headline.{HasPassed, IsCalm, UsesFollowUp}
+use Rattle.gptp_reached.specs.Headline.{HasComeDown, HasPassed, IsCalm, UsesFollowUp}
 use Rattle.gptp_reached.specs.PlayedLaws.{IsPlayable}
+use Rattle.gptp_reading.specs.Reading.{IsBestsTime, IsReadingErrorOf}
+use Rattle.gptp_reading.specs.Readings.{LeavesReading}
 
 -- In a calm world, once so long has passed since its last change, a Lapse timer of a near system that has a Slave port
 -- was started no longer ago than such a system waits for the next Sync: a sync interval, and for each link of a path a
@@ -53,3 +56,27 @@ RunsHearInTime {F} answers = (d : DocumentState) (until : ℕ) (fate : F) (start
     → earlier + sync_wait p.params (sync_paths_of w) < w.time
     → IsNear (snapshot_of w) number → ShowsLive number w s → s.slave ≡ Some port → can_lead s.root ≡ true
     → HeardWithin acts number (sync_wait p.params (sync_paths_of w)) w.time
+
+-- by one of these acts, no more than a span before a time, the system was left a reading that at the time differs from
+-- this by no more than an error
+pub record ReadsWithin (acts : List Transition) (number span time error : ℕ) (shown : ℤ) : Type 0 where
+  pub act : Transition
+  pub member : In act acts
+  pub lately : time ≤ act.told.timed.at + span
+  pub read : ℤ
+  pub leaves : LeavesReading number act.after act.told.done time read
+  pub exact : AreWithin error read shown
+
+-- So what is read is exact. Where a Sync has had the time to come down the system's way before that wait, each such
+-- system has a reading as the run ends, which a Follow_Up left it no longer ago than the wait. It is within the reading
+-- error for the wait of what the clock of the best shows.
+abbrev pub RunsReadLately : {F : Type 0} → (Bounds → ℕ → F → Option ℕ → F → Type 0) → Type 0
+RunsReadLately {F} answers = (d : DocumentState) (until : ℕ) (fate : F) (start w : WorldState) (acts : List Transition)
+    (p : Pace) (earlier steps number port error : ℕ) (s : SystemState) (shown : ℤ)
+    → IsPlayable d → until ≤ 10 ^ 18 → Unfolds answers d until fate start acts w
+    → IsCalm p w → 0 < p.params.sync_timeout → HasComeDown p (path_bound (snapshot_of w)) (suc steps) earlier w
+    → earlier + sync_wait p.params (sync_paths_of w) < w.time
+    → IsNear (snapshot_of w) number → ShowsLive number w s → s.slave ≡ Some port → can_lead s.root ≡ true
+    → IsReadingErrorOf p.params w number steps (sync_wait p.params (sync_paths_of w)) error
+    → IsBestsTime w number w.time shown
+    → ReadsWithin acts number (sync_wait p.params (sync_paths_of w)) w.time error shown

@@ -1,6 +1,6 @@
 //! How old what is known of time is.
 
-ghost use Rattle.gptp_reading.specs.Age.{RunsHearInTime, WorldsAreRecent};
+ghost use Rattle.gptp_reading.specs.Age.{RunsHearInTime, RunsReadLately, WorldsAreRecent};
 
 use gptp_links::Fate;
 
@@ -15,4 +15,10 @@ pub fn worlds_are_recent()
 /// that wait.
 pub fn runs_hear_in_time<F: Fate>()
     ensures { RunsHearInTime F.answers }
+{}
+
+/// There each such system reads, as the run ends, within its reading error for that wait of what the clock of the best
+/// shows.
+pub fn runs_read_lately<F: Fate>()
+    ensures { RunsReadLately F.answers }
 {}
