@@ -1,5 +1,5 @@
 -- A key that is read, one that is there already, and a new one.
-use Rattle.std.proofs.Common.{◌≡◌, ◌++◌, ◌∷◌, [], ◌∙◌, ℕ, Bool, List, true, false, cond, not, ap, ap₂, arith, refl, subst, sym}
+use Rattle.std.proofs.Common.{◌≡◌, ◌++◌, ◌∷◌, [], ◌∙◌, true, false, cond, ap, ap₂, arith, refl, subst, sym}
 use Rattle.std.specs.BTreeSet.{contains}
 use Rattle.std.specs.Borrow.{Bor}
 use Rattle.std.specs.List.{list_any}
@@ -7,7 +7,7 @@ use Rattle.std.specs.Ordering.{is_eq}
 use Rattle.std.proofs.lemmas.Grind.{common_steps}
 use Rattle.std.proofs.lemmas.List.{map-append}
 use Rattle.toml.specs.View.{table_view}
-use Rattle.gptp_lint.specs.Keys.{is_known, keys_read}
+use Rattle.gptp_lint.specs.Keys.{is_known}
 use Rattle.gptp_lint.specs.Outline.{PlacedKey, entry_view}
 use Rattle.gptp_lint.specs.UnreadKeys.{HaveSeen, SeenKey, as_numbers, compare_keys, found_view, is_same, seen_cmp}
 use Rattle.gptp_lint.specs.declared.outline.Entry.{Entry}
