@@ -149,11 +149,7 @@ fn push_members(
 }
 
 /// Puts the keys of `network = {..}` or `network.key = ..` after others.
-fn push_network(
-    alloc: Global,
-    entries: &mut Vec<Entry>,
-    row: &Row<'_>,
-) -> Result<(), AllocError>
+fn push_network(alloc: Global, entries: &mut Vec<Entry>, row: &Row<'_>) -> Result<(), AllocError>
     ensures { OnOk result (HasValue (shown row.now) → row.now.kind ≡ Pair
         → entries_view entries.new ≡ entries_view entries.old
         ++ network_entries (second_part (key_view row.now.key)) (shown row.now)) }
@@ -184,11 +180,7 @@ fn push_section(
 }
 
 /// Puts the keys in the value of a pair at the top after others.
-fn push_value(
-    alloc: Global,
-    entries: &mut Vec<Entry>,
-    row: &Row<'_>,
-) -> Result<(), AllocError>
+fn push_value(alloc: Global, entries: &mut Vec<Entry>, row: &Row<'_>) -> Result<(), AllocError>
     ensures { OnOk result (HasValue (shown row.now) → row.now.kind ≡ Pair
         → entries_view entries.new ≡ entries_view entries.old ++ value_entries (shown row.now)) }
 {

@@ -146,8 +146,7 @@ values_step whole n text found less is = by (length (skip_blank text) == 0) refl
     more e after other read (Some rest) some =
         let turn = rows_turn whole n text e after other read
         ∙ ap (option_map (λ (rows : List RowState). row_of whole e (skip_blank text) ∷ rows)) some in
-        subst (AllByRecursion HasValue) (same_Some _ _ (sym turn ∙ is))
-        (
+        subst (AllByRecursion HasValue) (same_Some _ _ (sym turn ∙ is)) (
           has_value whole (skip_blank text) e after (line_expression (skip_blank text) e after read),
           less after rest some,
         )

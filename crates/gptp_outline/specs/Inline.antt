@@ -17,9 +17,9 @@ keys_from depth (suc n) text =
     let start = skip_blank text in
     if first start == right_brace then Some []
     else option_and_then
-        (λ pair. option_and_then (λ next. option_map (λ keys. pair.0.0 ∷ keys) (keys_from depth n next))
-        (after_element right_brace pair.1))
-        (keyval (val depth) start)
+    (λ pair. option_and_then (λ next. option_map (λ keys. pair.0.0 ∷ keys) (keys_from depth n next))
+    (after_element right_brace pair.1))
+    (keyval (val depth) start)
 
 -- those of a value that is an inline table; any other has none
 unfoldable pub value_keys : ℕ → List ℕ → List Key
@@ -33,10 +33,10 @@ items_from depth (suc n) text =
     let start = skip_blank text in
     if first start == right_bracket then Some []
     else option_and_then
-        (λ read. option_and_then
-        (λ next. option_map (λ items. value_keys depth start ∷ items) (items_from depth n next))
-        (after_element right_bracket read.1))
-        (val depth start)
+    (λ read. option_and_then
+    (λ next. option_map (λ items. value_keys depth start ∷ items) (items_from depth n next))
+    (after_element right_bracket read.1))
+    (val depth start)
 
 -- those of each item of a value that is an array; any other has none
 unfoldable pub item_keys : ℕ → List ℕ → List (List Key)
