@@ -7,11 +7,12 @@ use Rattle.gptp_network.specs.declared.fault.DocumentFault.{DocumentFault}
 use Rattle.gptp_network.specs.declared.fault.DocumentFault.TheVariants.{TooMany}
 use Rattle.gptp_network.specs.declared.why.Refusal.{Refusal}
 use Rattle.gptp_network.proofs.LawLemmas.{MeansOrFails, means_or_fails}
+use Rattle.gptp_outline.specs.Rows.{table_of}
 use Rattle.gptp_lint.specs.LintText.{calm_line, found_lines, refused_line}
 use Rattle.gptp_lint.specs.Refusal.{TellsPlace, TellsRefusal, no_toml_words, refusal_words}
 use Rattle.gptp_lint.specs.UnreadKeys.{unread_keys}
 use Rattle.gptp_lint.proofs.EveryLemmas.{each_is_found}
-use Rattle.gptp_lint.proofs.UnreadLemmas.{bare, bare_placed}
+use Rattle.gptp_lint.proofs.UnreadLemmas.{bare, bare_near, bare_placed}
 use Rattle.gptp_commands.specs.declared.failure.Status.TheVariants.{Refused}
 use Rattle.gptp_commands.specs.declared.question.Question.TheVariants.{Lint}
 use Rattle.gptp_commands.specs.Documents.{RefusesFault, document_limit}
@@ -37,6 +38,7 @@ findings_told strict input d means =
         text = record {
           unread = unread;
           unread_are = bare_placed (unread_keys input);
+          near_are = bare_near (table_of input) (unread_keys input);
           lines_are = refl;
           found_is = refl;
         };

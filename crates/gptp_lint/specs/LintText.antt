@@ -1,10 +1,11 @@
 -- What `lint` writes for a document (profile).
 use Rattle.std.specs.Prelude.{◌≡◌, ◌==◌, ℕ, not, Bool, codes, List, ◌++◌, length, map, Option, Some, None, option_map}
 use Rattle.std.specs.Fmt.{decimal}
-use Rattle.std.specs.List.{flat_map}
+use Rattle.std.specs.List.{AllByRecursion, flat_map}
 use Rattle.std.specs.Option.{option_to_list}
 use Rattle.gptp_network.specs.Faults as documents
 use Rattle.gptp_network.specs.declared.fault.DocumentFault.{DocumentFault}
+use Rattle.gptp_outline.specs.Rows.{table_of}
 use Rattle.gptp_spelling.specs.Digits.{clock_text, identity_text, or_none}
 use Rattle.gptp_spelling.specs.Lines.{text_of}
 use Rattle.gptp_topology.specs.declared.times.CalmTime.{CalmTime}
@@ -17,7 +18,7 @@ use Rattle.gptp_lint.specs.declared.place.Place.TheVariants.{Member}
 use Rattle.gptp_lint.specs.declared.place.Section.TheVariants.{Link}
 use Rattle.gptp_lint.specs.Outline.{header_line, outline_of_text}
 use Rattle.gptp_lint.specs.Unread.{UnreadKey, line_words, placed, unread_line}
-use Rattle.gptp_lint.specs.UnreadKeys.{unread_keys}
+use Rattle.gptp_lint.specs.UnreadKeys.{NearIsRead, unread_keys}
 
 -- the line of a document that is refused: the fault, and after it where it is and why it is one (`TellsPlace`)
 abbrev pub refused_line : DocumentFault → List ℕ → List ℕ
@@ -83,12 +84,13 @@ found_lines input threshold f unread =
 
 -- The findings of a document of this threshold, which the input spells: the keys that aren't read, the links that are
 -- too long or lose frames, each with the line of its header, the times at which Sync is late, the other findings, and
--- each time; and whether there is a line but the last. There is no other line. Which known key is told to be near one
--- that isn't read is left open here.
+-- each time; and whether there is a line but the last. There is no other line. Which of the keys that are read at the
+-- place of another is near that, if any, is left open here.
 pub record AreLines (input : List ℕ) (threshold : ℕ) (f : Findings) (lines : List (List ℕ)) (found : Bool)
     : Type 0 where
   pub unread : List UnreadKey
   pub unread_are : map placed unread ≡ unread_keys input
+  pub near_are : AllByRecursion (NearIsRead (table_of input)) unread
   pub lines_are : lines ≡ found_lines input threshold f unread ++ map calm_line f.calm.items
   pub found_is : found ≡ not (length (found_lines input threshold f unread) == 0)
 

@@ -3,7 +3,6 @@ use Rattle.std.specs.Prelude.{if◌then◌else◌, ◌≡◌, ◌==◌, ◌&&◌
 use Rattle.std.specs.Fmt.{decimal}
 use Rattle.std.specs.List.{flat_map}
 use Rattle.hex.specs.Hex.{encode_lower}
-use Rattle.gptp_spelling.specs.Lines.{text_of}
 use Rattle.gptp_lint.specs.Outline.{OutlineState, PlacedKey, line_in}
 use Rattle.gptp_lint.specs.declared.place.Place.{Place}
 use Rattle.gptp_lint.specs.declared.place.Place.TheVariants.{Top, Network, Member}
@@ -56,11 +55,3 @@ unread_line o k =
 
 abbrev pub placed : UnreadKey → PlacedKey
 placed k = (k.place, k.key)
-
--- ---- what the code keeps
-
--- lines of these keys
-pub record AppendsUnread (o : OutlineState) (keys : List PlacedKey) (old new : List ℕ) : Type 0 where
-  pub told : List UnreadKey
-  pub keys_are : map placed told ≡ keys
-  pub text_is : new ≡ old ++ text_of (map (unread_line o) told)

@@ -1,15 +1,17 @@
 -- Which keys of a document aren't read (profile).
-use Rattle.std.specs.Prelude.{◌≡◌, ◌==◌, ◌++◌, ℕ, Bool, List, [], ◌∷◌, Option, Some, None, filter, if◌then◌else◌, map}
+use Rattle.std.specs.Prelude.{◌≡◌, ◌==◌, ◌++◌, ℕ, Bool, List, [], ◌∷◌, Option, Some, None, Contains, IfSome, filter, if◌then◌else◌, map}
 use Rattle.std.specs.BTreeSet.{BTreeSet, contains}
 use Rattle.std.specs.Borrow.{Bor}
 use Rattle.std.specs.Cmp.Lexicographic.{slice_cmp}
-use Rattle.std.specs.List.{fold, list_any}
+use Rattle.std.specs.List.{AllByRecursion, fold, list_any}
 use Rattle.std.specs.Ordering.{is_eq, nat_cmp, ordering_then}
 use Rattle.std.specs.declared.cmp.Ordering.{Ordering}
 use Rattle.toml.specs.Data.{Members}
 use Rattle.gptp_outline.specs.Rows.{table_of}
+use Rattle.gptp_spelling.specs.Lines.{text_of}
 use Rattle.gptp_lint.specs.Keys.{is_known, keys_read}
 use Rattle.gptp_lint.specs.Outline.{OutlineState, PlacedKey, entry_view, outline_of_text}
+use Rattle.gptp_lint.specs.Unread.{UnreadKey, placed, unread_line}
 use Rattle.gptp_lint.specs.declared.outline.Entry.{Entry}
 use Rattle.gptp_lint.specs.declared.place.Place.{Place}
 use Rattle.gptp_lint.specs.declared.place.Place.TheVariants.{Member, Network, Top}
@@ -73,7 +75,23 @@ unread_of None o = []
 unfoldable pub unread_keys : List ℕ → List PlacedKey
 unread_keys input = unread_of (table_of input) (outline_of_text input)
 
+-- the key that was meant, where one is told, is read at the place of the other
+abbrev pub keys_in : Option Members → Place → List (List ℕ)
+keys_in (Some t) place = keys_read t place
+keys_in None place = []
+
+abbrev pub NearIsRead : Option Members → UnreadKey → Type 0
+NearIsRead t k = IfSome k.near (Contains (keys_in t k.place))
+
 -- ---- what the code keeps
+
+-- lines of these keys
+pub record AppendsUnread (t : Option Members) (o : OutlineState) (keys : List PlacedKey) (old new : List ℕ)
+    : Type 0 where
+  pub told : List UnreadKey
+  pub keys_are : map placed told ≡ keys
+  pub near_are : AllByRecursion (NearIsRead t) told
+  pub text_is : new ≡ old ++ text_of (map (unread_line o) told)
 
 abbrev pub found_view : List (Bor Entry) → List PlacedKey
 found_view found = map (λ e. entry_view e.now) found

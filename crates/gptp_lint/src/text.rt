@@ -6,8 +6,7 @@ ghost use Rattle.gptp_spelling.specs.Lines.{text_of};
 ghost use Rattle.gptp_lint.specs.LintText.{AppendsFindings, apart_line, calm_line, chance_line, late_line, late_lines, long_line, lossy_line, nobody_line, other_lines, unlinked_line};
 ghost use Rattle.toml.specs.View.{table_view};
 ghost use Rattle.gptp_lint.specs.Outline.{outline_state};
-ghost use Rattle.gptp_lint.specs.Unread.{AppendsUnread};
-ghost use Rattle.gptp_lint.specs.UnreadKeys.{unread_of};
+ghost use Rattle.gptp_lint.specs.UnreadKeys.{AppendsUnread, unread_of};
 
 use crate::components::{Apart, Nobody};
 use crate::findings::Findings;
@@ -250,7 +249,8 @@ fn write_calm_times(text: &mut String, times: &[CalmTime]) -> Result<(), AllocEr
 
 /// Appends the lines of the keys of a text that aren't read.
 fn write_unread(alloc: Global, text: &mut String, source: &Source) -> Result<(), AllocError>
-    ensures { OnOk result (AppendsUnread (outline_state source.now.outline)
+    ensures { OnOk result (AppendsUnread (option_map table_view source.now.document)
+        (outline_state source.now.outline)
         (unread_of (option_map table_view source.now.document) (outline_state source.now.outline))
         (string_bytes text.old) (string_bytes text.new)) }
 {

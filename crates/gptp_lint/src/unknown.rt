@@ -1,10 +1,10 @@
 //! Keys that aren't read.
 
-ghost use Rattle.std.specs.Prelude.{◌≡◌, [], ◌∷◌, ◌++◌, IfOk, OnOk, if◌then◌else◌, map, string_bytes};
+ghost use Rattle.std.specs.Prelude.{◌≡◌, ◌⊎◌, [], ◌∷◌, ◌++◌, Contains, IfOk, IfSome, IsSomeAnd, OnOk, Some, if◌then◌else◌, map, string_bytes};
 ghost use Rattle.toml.specs.View.{table_view};
 ghost use Rattle.gptp_lint.specs.Outline.{entries_view, entry_view, outline_state};
-ghost use Rattle.gptp_lint.specs.Unread.{AppendsUnread};
-ghost use Rattle.gptp_lint.specs.UnreadKeys.{HaveSeen, by_part, first_unread, found_view, in_part, number_of, of_part, part_of, part_of_section, with_key};
+ghost use Rattle.gptp_lint.specs.Keys.{keys_read};
+ghost use Rattle.gptp_lint.specs.UnreadKeys.{AppendsUnread, HaveSeen, by_part, first_unread, found_view, in_part, number_of, of_part, part_of, part_of_section, with_key};
 
 use crate::escaped::Escaped;
 use crate::keys::{is_known, keys_at, table_at};
@@ -91,23 +91,49 @@ fn first_unread<'a>(
     Ok(unread)
 }
 
-/// The key that is read at a place and absent there, and nearest to another, the first of equals, if any is near.
-fn meant(document: &Table, place: Place, key: &[u8]) -> Option<&'static str> {
-    let table = table_at(document, place)?;
-    let mut least = None;
-    let mut found = None;
-    for known in keys_at(document, place) {
-        if table.get(*known).is_some() {
-            continue;
-        }
-        if let Some(far) = near(known.as_bytes(), key) {
-            if is_nearer(far, least) {
-                least = Some(far);
-                found = Some(*known);
+/// The nearest of the keys so far and one more, where that is absent and near; the first of equals. Each has how far it
+/// is from the key that isn't read.
+fn nearer(
+    table: &Table,
+    key: &[u8],
+    known: &'static str,
+    nearest: Option<(u8, &'static str)>,
+) -> Option<(u8, &'static str)>
+    ensures { IfSome result (λ next. (next.1.now ≡ known.now)
+        ⊎ IsSomeAnd nearest.entry (λ before. next.1.now ≡ before.1.now)) }
+{
+    if table.get(known).is_some() {
+        return nearest;
+    }
+    let Some(far) = near(known.as_bytes(), key) else {
+        return nearest;
+    };
+    match nearest {
+        None => Some((far, known)),
+        Some((least, _)) => {
+            if is_nearer(far, Some(least)) {
+                Some((far, known))
+            } else {
+                nearest
             }
         }
     }
-    found
+}
+
+/// The key that is read at a place and absent there, and nearest to another, the first of equals, if any is near.
+fn meant(document: &Table, place: Place, key: &[u8]) -> Option<&'static str>
+    ensures { IfSome result (λ known. Contains (keys_read (table_view document.now) place) known.now) }
+{
+    let table = table_at(document, place)?;
+    let keys = keys_at(document, place);
+    let mut nearest: Option<(u8, &'static str)> = None;
+    for known in keys {
+        nearest = nearer(table, key, *known, nearest);
+    }
+    match nearest {
+        None => None,
+        Some((_, known)) => Some(known),
+    }
 }
 
 /// Appends the line of a key that isn't read.
@@ -117,8 +143,8 @@ fn write_unknown(
     outline: &Outline,
     entry: &Entry,
 ) -> Result<(), AllocError>
-    ensures { OnOk result (AppendsUnread (outline_state outline.now) (entry_view entry.now ∷ [])
-        (string_bytes text.old) (string_bytes text.new)) }
+    ensures { OnOk result (AppendsUnread (Some (table_view document.now)) (outline_state outline.now)
+        (entry_view entry.now ∷ []) (string_bytes text.old) (string_bytes text.new)) }
 {
     let place = PlaceWords {
         place: entry.place,
@@ -142,7 +168,7 @@ fn write_in_part(
     part: u8,
     entry: &Entry,
 ) -> Result<(), AllocError>
-    ensures { OnOk result (AppendsUnread (outline_state outline.now)
+    ensures { OnOk result (AppendsUnread (Some (table_view document.now)) (outline_state outline.now)
         (if in_part part (entry_view entry.now) then entry_view entry.now ∷ [] else [])
         (string_bytes text.old) (string_bytes text.new)) }
 {
@@ -161,8 +187,8 @@ fn write_part(
     part: u8,
     unread: &[&Entry],
 ) -> Result<(), AllocError>
-    ensures { OnOk result (AppendsUnread (outline_state outline.now) (of_part part (found_view unread.now))
-        (string_bytes text.old) (string_bytes text.new)) }
+    ensures { OnOk result (AppendsUnread (Some (table_view document.now)) (outline_state outline.now)
+        (of_part part (found_view unread.now)) (string_bytes text.old) (string_bytes text.new)) }
 {
     for entry in unread {
         write_in_part(text, document, outline, part, *entry)?;
@@ -177,7 +203,7 @@ fn write_head(
     outline: &Outline,
     unread: &[&Entry],
 ) -> Result<(), AllocError>
-    ensures { OnOk result (AppendsUnread (outline_state outline.now)
+    ensures { OnOk result (AppendsUnread (Some (table_view document.now)) (outline_state outline.now)
         (of_part 0 (found_view unread.now) ++ of_part 1 (found_view unread.now))
         (string_bytes text.old) (string_bytes text.new)) }
 {
@@ -192,7 +218,7 @@ fn write_sections(
     outline: &Outline,
     unread: &[&Entry],
 ) -> Result<(), AllocError>
-    ensures { OnOk result (AppendsUnread (outline_state outline.now)
+    ensures { OnOk result (AppendsUnread (Some (table_view document.now)) (outline_state outline.now)
         (of_part 2 (found_view unread.now) ++ (of_part 3 (found_view unread.now) ++ of_part 4 (found_view unread.now)))
         (string_bytes text.old) (string_bytes text.new)) }
 {
@@ -208,7 +234,7 @@ pub(crate) fn write_unknown_keys(
     document: &Table,
     outline: &Outline,
 ) -> Result<(), AllocError>
-    ensures { OnOk result (AppendsUnread (outline_state outline.now)
+    ensures { OnOk result (AppendsUnread (Some (table_view document.now)) (outline_state outline.now)
         (by_part (first_unread (table_view document.now) (entries_view outline.now.entries)))
         (string_bytes text.old) (string_bytes text.new)) }
 {

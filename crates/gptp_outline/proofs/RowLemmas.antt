@@ -88,25 +88,25 @@ closed_table s k rest a b some = rw (a, b, some) refl
 -- a header is no pair
 no_header : (s : List ℕ) (e : Expression) (left : List ℕ) → (first s == 91) ≡ true → expression s ≡ Some (e, left)
     → kind_of e.1 ≡ Pair → ⊥
-no_header s e left open is pair = by (slice_index s 1 == 91) refl
+no_header s e left bracket is pair = by (slice_index s 1 == 91) refl
   where
     member : (k : Key) (rest : List ℕ) (closes : Bool) → (first rest == 93) ≡ closes → (slice_index s 1 == 91) ≡ true
         → header_key (drop 2 s) ≡ Some (k, rest) → ⊥
     member k rest true closed second read =
-        let same = same_Some _ _ (sym (closed_member s k rest open second read closed) ∙ is) in
+        let same = same_Some _ _ (sym (closed_member s k rest bracket second read closed) ∙ is) in
         let kind : ArrayTable ≡ Pair = ap (λ (p : Expression × List ℕ). kind_of p.0.1) same ∙ pair in
         absurd cc
     member k rest false unclosed second read =
-        none-some _ (sym (open_member s k rest open second read unclosed) ∙ is)
+        none-some _ (sym (open_member s k rest bracket second read unclosed) ∙ is)
 
     members : (r : Read Key) → header_key (drop 2 s) ≡ r → (slice_index s 1 == 91) ≡ true → ⊥
-    members None read second = none-some _ (sym (no_member s open second read) ∙ is)
+    members None read second = none-some _ (sym (no_member s bracket second read) ∙ is)
     members (Some (k, rest)) read second = member k rest (first rest == 93) refl second read
 
     tables : (r : Read Key) → header_key (drop 1 s) ≡ r → (slice_index s 1 == 91) ≡ false → ⊥
-    tables None read second = none-some _ (sym (no_table s open second read) ∙ is)
+    tables None read second = none-some _ (sym (no_table s bracket second read) ∙ is)
     tables (Some (k, rest)) read second =
-        let same = same_Some _ _ (sym (closed_table s k rest open second read) ∙ is) in
+        let same = same_Some _ _ (sym (closed_table s k rest bracket second read) ∙ is) in
         let kind : Table ≡ Pair = ap (λ (p : Expression × List ℕ). kind_of p.0.1) same ∙ pair in
         absurd cc
 
@@ -126,6 +126,6 @@ has_value text s e left is = by (first s == 91) refl
         let (d, value, same) = expression_pair s at_value key e left other some is in
         (key, at_value, d, left, some, value)
 
-    by : (open : Bool) → (first s == 91) ≡ open → HasValue (row_of text e s)
-    by true open = λ pair. absurd (no_header s e left open is pair)
+    by : (bracket : Bool) → (first s == 91) ≡ bracket → HasValue (row_of text e s)
+    by true bracket = λ pair. absurd (no_header s e left bracket is pair)
     by false other = λ pair. read (key_equals s) refl other

@@ -1,7 +1,7 @@
 -- The lines of all findings, one kind behind the other.
-use Rattle.std.proofs.Common.{◌≡◌, ◌++◌, ℕ, List, Option, length, map, nat_lt, refl, ap, ap₂, ◌∙◌}
+use Rattle.std.proofs.Common.{◌≡◌, ◌++◌, ℕ, List, Option, length, map, nat_lt, refl, subst, ap, ap₂, ◌∙◌}
 use Rattle.std.specs.Prelude.{string_bytes}
-use Rattle.std.specs.List.{flat_map}
+use Rattle.std.specs.List.{AllByRecursion, flat_map}
 use Rattle.gptp_lint.specs.LintText.{calm_line, found_lines, late_lines, long_line, lossy_line, other_lines}
 use Rattle.gptp_lint.specs.Outline.{OutlineState, header_line, outline_of_text}
 use Rattle.gptp_lint.specs.Unread.{unread_line}
@@ -9,7 +9,7 @@ use Rattle.gptp_lint.specs.declared.place.Place.TheVariants.{Member}
 use Rattle.gptp_lint.specs.declared.place.Section.TheVariants.{Link}
 use Rattle.gptp_lint.specs.declared.trouble.Long.{Long}
 use Rattle.gptp_lint.specs.declared.trouble.Lossy.{Lossy}
-use Rattle.gptp_lint.specs.UnreadKeys.{unread_of}
+use Rattle.gptp_lint.specs.UnreadKeys.{NearIsRead, unread_of}
 use Rattle.gptp_lint.proofs.TextLemmas.{five_kinds, joined, longer}
 use Rattle.gptp_lint.proofs.UnreadLemmas.{unread_is}
 use Rattle.gptp_lint.proofs.text.write_findings.Goals as goal
@@ -39,6 +39,7 @@ returns c =
       lines ++ map calm_line f.calm.items,
       record {
         unread = unread;
+        near_are = subst (λ t. AllByRecursion (NearIsRead t) unread) c.in_ok-source.ensures.document told.near_are;
         unread_are = told.keys_are ∙ ap₂ unread_of c.in_ok-source.ensures.document outline_is ∙ unread_is input;
         lines_are = refl;
         found_is = ap₂ nat_lt (ap length c.as_bytes-before.ensures.value) (ap length c.as_bytes.ensures.value)

@@ -18,5 +18,6 @@ returns c =
     (λ items found d left is.
     let (x, read) = open_array c.args.depth s d left bracket is in
     sym (item_keys_open c.args.depth s _ bracket
-    (rw c.skip.ensures.rest at (found (length s) x left c.skip.ensures.shorter (rw c.skip.ensures.rest read)))))
+    (rw (c.saturating_sub.ensures, c.skip.ensures.rest)
+    at (found (length s) x left c.skip.ensures.shorter (rw (c.saturating_sub.ensures, c.skip.ensures.rest) read)))))
     c.items_after.ensures

@@ -18,5 +18,6 @@ returns c =
     (λ keys found d left is.
     let (x, read) = open_table c.args.depth s d left brace is in
     sym (keys_open c.args.depth s _ brace
-    (rw c.skip.ensures.rest at (found (length s) x left c.skip.ensures.shorter (rw c.skip.ensures.rest read)))))
+    (rw (c.saturating_sub.ensures, c.skip.ensures.rest)
+    at (found (length s) x left c.skip.ensures.shorter (rw (c.saturating_sub.ensures, c.skip.ensures.rest) read)))))
     c.keys_after.ensures
