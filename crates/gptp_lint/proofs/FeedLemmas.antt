@@ -201,11 +201,11 @@ port p = digits_of p.clock then_part part (codes " ") refl then_part natural p.p
 
 timing : (p : Params) (announce : ℤ) → IsPart (timing_words p announce)
 timing p announce =
-    part (codes "threshold ") refl then_part natural p.threshold then_part part (codes " turnaround ") refl
-    then_part natural p.turnaround then_part part (codes " pdelay ") refl then_part natural (nanoseconds p.pdelay)
-    then_part part (codes " announce ") refl then_part natural (nanoseconds announce)
-    then_part part (codes " residence ") refl then_part natural p.residence then_part part (codes " sync ") refl
-    then_part natural (nanoseconds p.sync)
+    part (codes "threshold ") refl then_part (natural p.threshold then_part (part (codes " turnaround ") refl
+    then_part (natural p.turnaround then_part (part (codes " pdelay ") refl then_part (natural (nanoseconds p.pdelay)
+    then_part (part (codes " announce ") refl then_part (natural (nanoseconds announce)
+    then_part (part (codes " residence ") refl then_part (natural p.residence
+    then_part (part (codes " sync ") refl then_part natural (nanoseconds p.sync)))))))))))
 
 reason : (why : Why) → IsPart (why_words why)
 reason (whys.Missing key) = part (codes "key ") refl then_part name key then_part part (codes " missing") refl
@@ -231,17 +231,17 @@ reason (whys.Above least greatest) =
 reason (whys.TooMany count most) =
     part (codes "count ") refl then_part natural count then_part part (codes " most ") refl then_part natural most
 reason (whys.Duplicate own system) =
-    part (codes "clock ") refl then_part digits_of own then_part part (codes " as system ") refl
-    then_part natural system
+    part (codes "clock ") refl then_part (digits_of own then_part (part (codes " as system ") refl
+    then_part natural system))
 reason (whys.BothEnds own) =
-    part (codes "clock ") refl then_part digits_of own then_part part (codes " at both ends") refl
+    part (codes "clock ") refl then_part (digits_of own then_part part (codes " at both ends") refl)
 reason (whys.UnknownClock own) =
     part (codes "clock ") refl then_part digits_of own then_part part (codes " unknown") refl
 reason (whys.Beyond p ports) =
     part (codes "port ") refl then_part port p then_part part (codes " of ") refl then_part natural ports
 reason (whys.Unlinked p) = part (codes "port ") refl then_part port p then_part part (codes " unlinked") refl
 reason (whys.Taken p link) =
-    part (codes "port ") refl then_part port p then_part part (codes " as link ") refl then_part natural link
+    part (codes "port ") refl then_part (port p then_part (part (codes " as link ") refl then_part natural link))
 reason (whys.TooLong greatest most) =
     part (codes "key max value ") refl then_part natural greatest then_part part (codes " most ") refl
     then_part natural most
