@@ -49,7 +49,7 @@ findings_told strict input d means =
 -- nor are the line of a header and a key that is near where a document is refused
 told_of : (read : Result DocumentState Refusal) → (tail : List ℕ) × TellsRefusal read tail
 told_of (Ok d) = ([], refl)
-told_of (Err refusal) = (refusal_words refusal None None, (None, None, λ missing. refl, refl))
+told_of (Err refusal) = (refusal_words refusal None None, (None, None, (λ missing. refl), refl))
 
 told_at : (input : List ℕ) (fault : DocumentFault) → Fails input fault → (tail : List ℕ) × TellsPlace input tail
 told_at input fault (inl (is, no_toml)) = (no_toml_words None, inl (no_toml, (None, refl)))

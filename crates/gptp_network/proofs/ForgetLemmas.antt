@@ -1,5 +1,5 @@
 -- What is read is what is meant, where it is forgotten why and where it is refused.
-use Rattle.std.proofs.Common.{◌≡◌, ◌≤◌, ◌&&◌, ◌==◌, ℕ, suc, ℤ, pos, negsuc, neg_ℤ, Bool, true, false, codes, List, [], ◌∷◌, ◌++◌, length, Option, Some, None, Result, Ok, Err, refl, sym, ap, subst, ◌∙◌}
+use Rattle.std.proofs.Common.{◌≡◌, ◌&&◌, ◌==◌, ℕ, suc, ℤ, pos, negsuc, neg_ℤ, Bool, true, false, codes, List, [], ◌∷◌, ◌++◌, length, replicate, Option, Some, None, Result, Ok, Err, refl, sym, ap, subst, ◌∙◌}
 use Rattle.std.specs.Prelude.{bytes_eq, if◌then◌else◌, int_le, nat_lt}
 use Rattle.hex.specs.Hex.{decode_of, decode_sized}
 use Rattle.hex.specs.declared.error.FromHexError.{FromHexError}
@@ -19,11 +19,11 @@ use Rattle.gptp_network.specs.Members.{count, each_of, limited, needed}
 use Rattle.gptp_network.specs.Params.{network_of, network_of_section, params_of}
 use Rattle.gptp_network.specs.Place.{section_limit, section_name}
 use Rattle.gptp_network.specs.ReadDocument.{read_document, read_version, read_whole_network}
-use Rattle.gptp_network.specs.ReadEvents.{change_why, no_earlier, put_event, read_change, read_event, read_events, read_fail, read_inject, read_link_down, read_link_set, read_link_up, read_priority1, read_recover, read_with_event}
+use Rattle.gptp_network.specs.ReadEvents.{change_why, no_earlier, read_change, read_event, read_events, read_fail, read_inject, read_link_down, read_link_set, read_link_up, read_priority1, read_recover, read_with_event}
 use Rattle.gptp_network.specs.ReadIntervals.{read_array, read_intervals}
-use Rattle.gptp_network.specs.ReadLinks.{link_why, put_link, read_link, read_with_link, read_with_links}
+use Rattle.gptp_network.specs.ReadLinks.{link_why, read_link, read_with_link, read_with_links}
 use Rattle.gptp_network.specs.ReadMembers.{limited_in, needed_in, read_each, section_in}
-use Rattle.gptp_network.specs.ReadParams.{params_why, read_network, read_network_in, read_params, read_section}
+use Rattle.gptp_network.specs.ReadParams.{params_why, read_network, read_params, read_section}
 use Rattle.gptp_network.specs.ReadSystems.{first_shorter, put_system, read_system, read_with_system, read_with_systems, system_why}
 use Rattle.gptp_network.specs.Reading.{NaturalKey, WholeKey, array_in, clock_at, clock_in, clock_of_digits, flag_at, kind_at, natural_at, natural_in, octets_at, octets_in, octets_of_digits, table_in, text_at, value_in, whole_at, whole_in}
 use Rattle.gptp_network.specs.Systems.{member_of, system_of, with_system_of, with_systems}
@@ -35,7 +35,6 @@ use Rattle.gptp_network.specs.declared.fault.DocumentFault.TheVariants as faults
 use Rattle.gptp_network.specs.declared.keys.Name.{Name}
 use Rattle.gptp_network.specs.declared.keys.Name.TheVariants as names
 use Rattle.gptp_network.specs.declared.keys.TheConstants.{ACCURACY, ANNOUNCE, AT, A_PORT, B_PORT, CLASS, DRIFT, LOSS, LOST, MAX, MIN, PDELAY, PHASE, PORT, PORTS, PRIORITY1, PRIORITY2, RESIDENCE, SET_LOSS, SYNC, SYNC_TIMEOUT, THRESHOLD, TIMEOUT, TURNAROUND, VALUE, VARIANCE, VERSION}
-use Rattle.gptp_network.specs.declared.links.Link.{Link}
 use Rattle.gptp_network.specs.declared.place.Place.{Place}
 use Rattle.gptp_network.specs.declared.place.Place.TheVariants as places
 use Rattle.gptp_network.specs.declared.place.Section.{Section}
@@ -231,9 +230,11 @@ intervals_are : (version ports : ℕ) (default : ℤ) (t : Members)
     → forget (read_intervals version ports default t) ≡ intervals version ports default t
 unfolding read_intervals intervals
 intervals_are version ports default t =
-    either (version == 2) _ _ _ _
-    (value_is names.Announce as_array (read_array ports) (intervals_in ports) (array_agrees ports) _
-    (get_member (codes "announce") t))
+    let alike : List ℤ = replicate ports default in
+    let value = get_member (codes "announce") t in
+    either (version == 2) (value_in names.Announce as_array (read_array ports) (Some alike) value) (Ok alike)
+    (key_in as_array (intervals_in ports) (Some alike) value) (Ok alike)
+    (value_is names.Announce as_array (read_array ports) (intervals_in ports) (array_agrees ports) (Some alike) value)
     refl
 
 system_is : (version : ℕ) (announce : ℤ) (t : Members)

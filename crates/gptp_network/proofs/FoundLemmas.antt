@@ -28,30 +28,32 @@ gone (x ∷ xs) (suc place) is within = gone xs place is (omega arith)
 
 -- ---- what is told of a member
 
-pub ports_told : (clock : ℕ) (o : Option Member) (s : ℕ × ℕ × ℕ × ℤ × ArrayVec ℤ)
-    → Some s ≡ option_map (λ (m : Member). (m.identity, m.ports, m.phase, m.drift, m.intervals)) o
+abbrev member_told : Member → ℕ × ℕ × ℕ × ℤ × ArrayVec ℤ
+member_told m = (m.identity, m.ports, m.phase, m.drift, m.intervals)
+
+pub ports_told : (clock : ℕ) (o : Option Member) (s : ℕ × ℕ × ℕ × ℤ × ArrayVec ℤ) → Some s ≡ option_map member_told o
     → ports_by clock s.0 s.1 ≡ option_and_then (ports_if clock) o
 ports_told clock None s is = absurd cc
 ports_told clock (Some m) s is =
-    let same : s ≡ (m.identity, m.ports, m.phase, m.drift, m.intervals) = cc in
+    let same : s ≡ member_told m = cc in
     ap (λ (x : ℕ × ℕ × ℕ × ℤ × ArrayVec ℤ). ports_by clock x.0 x.1) same
 
-pub no_ports : (clock : ℕ) (o : Option Member)
-    → None ≡ option_map (λ (m : Member). (m.identity, m.ports, m.phase, m.drift, m.intervals)) o
-    → None ≡ option_and_then (ports_if clock) o
+pub no_ports : (clock : ℕ) (o : Option Member) → None ≡ option_map member_told o → None ≡ option_and_then (ports_if clock) o
 no_ports clock None is = refl
 no_ports clock (Some m) is = absurd cc
 
 module _ {B : Type 0} (bounds : Wire → B) where
+  abbrev wire_told : Wire → PortId × PortId × B × Bool
+  wire_told w = (w.a, w.b, bounds w, w.up)
+
   pub ends_told : (port : PortId) (o : Option Wire) (l : PortId × PortId × B × Bool)
-      → Some l ≡ option_map (λ (w : Wire). (w.a, w.b, bounds w, w.up)) o → is_either port l.0 l.1 ≡ joins port o
+      → Some l ≡ option_map wire_told o → is_either port l.0 l.1 ≡ joins port o
   ends_told port None l is = absurd cc
   ends_told port (Some w) l is =
-      let same : l ≡ (w.a, w.b, bounds w, w.up) = cc in
+      let same : l ≡ wire_told w = cc in
       ap (λ (x : PortId × PortId × B × Bool). is_either port x.0 x.1) same
 
-  pub no_ends : (port : PortId) (o : Option Wire) → None ≡ option_map (λ (w : Wire). (w.a, w.b, bounds w, w.up)) o
-      → false ≡ joins port o
+  pub no_ends : (port : PortId) (o : Option Wire) → None ≡ option_map wire_told o → false ≡ joins port o
   no_ends port None is = refl
   no_ends port (Some w) is = absurd cc
 

@@ -415,7 +415,8 @@ pub meant_well : (octets : List ℕ) (d : DocumentState) (time : ℕ) (g : Snaps
     → IsWellFormed g
 meant_well octets d time g means stands =
     let network = (meant_document octets d means).0 in
-    let sets = λ t member. in_all (λ (u : Timed). SetsOctets u.act) t d.events (meant_octets octets d means) member in
+    let sets : (t : Timed) → In t d.events → SetsOctets t.act =
+    λ t member. in_all (λ (u : Timed). SetsOctets u.act) t d.events (meant_octets octets d means) member in
     stands_well d.network network (events_by time d.events) g stands (λ s live.
     let (m, at, is) = member_there d.network network (events_by time d.events) g stands s live in
     let (place, there) = slice_get-In m d.network.systems at in

@@ -6,6 +6,7 @@ use Rattle.std.specs.Option.{unwrap_or}
 use Rattle.toml.specs.Data.{Data, Items, as_integer, item, no_items}
 use Rattle.gptp_setup.specs.declared.setup.Params.{Params}
 use Rattle.gptp_vector.specs.declared.port.PortId.{PortId}
+use Rattle.gptp_plan.specs.Faults.{IsRefusal}
 use Rattle.gptp_plan.specs.Network.{NetworkState}
 use Rattle.gptp_plan.specs.Params.{is_log}
 use Rattle.gptp_plan.specs.declared.change.Change.{Change}
@@ -36,6 +37,13 @@ pub told_is : {X : Type 0} (why : NetworkFault → Why) (fault : Option NetworkF
     → ((f : NetworkFault) → fault_of (why f) ≡ document_fault f) → forget (told why fault x) ≡ tested fault x
 told_is why None x same = refl
 told_is why (Some f) x same = ap Err (same f)
+
+-- where a call of the network is refused, why is what is told of its tests
+pub refusal_told : {X : Type 0} (why : NetworkFault → Why) (found : Option NetworkFault) (x : X) (e : NetworkFault)
+    → why networks.OutOfMemory ≡ whys.Memory → IsRefusal found e
+    → (why e ≡ whys.Memory) ⊎ (told why found x ≡ Err (why e))
+refusal_told why found x e memory (inl is) = inr (ap (λ f. told why f x) is)
+refusal_told why found x e memory (inr (none, is)) = inl (ap why is ∙ memory)
 
 -- ---- tests of the network
 

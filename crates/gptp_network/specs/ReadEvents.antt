@@ -1,5 +1,5 @@
 -- The sections `[[event]]`, or why they are refused and where (profile).
-use Rattle.std.specs.Prelude.{ℕ, nat_lt, if◌then◌else◌, bytes_eq, codes, List, [], ◌∷◌, ◌++◌, Option, Some, None, Result, Ok, Err}
+use Rattle.std.specs.Prelude.{ℕ, nat_lt, if◌then◌else◌, bytes_eq, codes, List, [], ◌∷◌, ◌++◌, Result, Ok, Err}
 use Rattle.toml.specs.Data.{Data, Members, as_table}
 use Rattle.gptp_setup.specs.Intervals.{interval_of}
 use Rattle.gptp_vector.specs.declared.port.PortId.{PortId}

@@ -55,5 +55,5 @@ unfoldable pub read_intervals : ℕ → ℕ → ℤ → Members → Result (List
 read_intervals version ports default t =
     if version == 2
     then value_in names.Announce as_array (read_array ports) (Some (replicate ports default))
-        (get_member (name_text names.Announce) t)
+    (get_member (name_text names.Announce) t)
     else Ok (replicate ports default)

@@ -287,19 +287,19 @@ pub(crate) fn push_event(
 }
 
 /// Why no link is at a port: its system isn't there, or has fewer ports, or nothing is joined to it.
-fn unlinked(network: &Network, port: PortId) -> Why
-    ensures { result ≡ unlinked network.now port }
+fn unlinked(network: &Network, port: &PortId) -> Why
+    ensures { result ≡ unlinked network.now port.now }
 {
     if is_there(network, port) {
-        Why::Unlinked { port }
+        Why::Unlinked { port: *port }
     } else {
         no_port(network, port)
     }
 }
 
 /// Why a change can't be made that names this port.
-fn port_why(network: &Network, port: PortId, fault: NetworkFault) -> Why
-    ensures { result ≡ port_why network.now port fault }
+fn port_why(network: &Network, port: &PortId, fault: NetworkFault) -> Why
+    ensures { result ≡ port_why network.now port.now fault }
 {
     match fault {
         NetworkFault::NoSuchPort => unlinked(network, port),
@@ -320,8 +320,8 @@ fn clock_why(clock: ClockId, fault: NetworkFault) -> Why
 }
 
 /// Why a change can't be made that sets these bounds of the link at this port.
-fn bounds_why(network: &Network, port: PortId, min: u64, max: u64, fault: NetworkFault) -> Why
-    ensures { result ≡ bounds_why network.now port min max fault }
+fn bounds_why(network: &Network, port: &PortId, min: u64, max: u64, fault: NetworkFault) -> Why
+    ensures { result ≡ bounds_why network.now port.now min max fault }
 {
     match fault {
         NetworkFault::OutOfRange => Why::Above { min, max },
@@ -340,15 +340,15 @@ fn change_why(network: &Network, change: &Change, fault: NetworkFault) -> Why
     ensures { result ≡ change_why network.now change.now fault }
 {
     match *change {
-        Change::LinkDown { clock, port } => port_why(network, PortId { clock, port }, fault),
-        Change::LinkUp { clock, port } => port_why(network, PortId { clock, port }, fault),
+        Change::LinkDown { clock, port } => port_why(network, &PortId { clock, port }, fault),
+        Change::LinkUp { clock, port } => port_why(network, &PortId { clock, port }, fault),
         Change::LinkSet {
             clock,
             port,
             min,
             max,
             loss: _,
-        } => bounds_why(network, PortId { clock, port }, min, max, fault),
+        } => bounds_why(network, &PortId { clock, port }, min, max, fault),
         Change::Fail { clock } => clock_why(clock, fault),
         Change::Recover { clock } => clock_why(clock, fault),
         Change::Priority1 { clock, value: _ } => clock_why(clock, fault),
@@ -356,7 +356,7 @@ fn change_why(network: &Network, change: &Change, fault: NetworkFault) -> Why
             clock,
             port,
             octets: _,
-        } => port_why(network, PortId { clock, port }, fault),
+        } => port_why(network, &PortId { clock, port }, fault),
     }
 }
 

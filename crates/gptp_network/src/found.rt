@@ -42,26 +42,26 @@ pub(crate) fn system_with(network: &Network, clock: ClockId) -> Option<(usize, u
 }
 
 /// Whether a port is one of these two.
-fn is_either(a: PortId, b: PortId, port: PortId) -> bool
-    ensures { result ≡ is_either port a b }
+fn is_either(a: &PortId, b: &PortId, port: &PortId) -> bool
+    ensures { result ≡ is_either port.now a.now b.now }
 {
     a == port || b == port
 }
 
 /// Whether the link at a place, if there is one, is at a port.
-fn joins(network: &Network, place: usize, port: PortId) -> bool
-    ensures { result ≡ joins port (slice_get network.now.links place) }
+fn joins(network: &Network, place: usize, port: &PortId) -> bool
+    ensures { result ≡ joins port.now (slice_get network.now.links place) }
 {
     match network.link_at(place) {
-        Some(link) => is_either(link.0, link.1, port),
+        Some(link) => is_either(&link.0, &link.1, port),
         None => false,
     }
 }
 
 /// The number of the first link that is at a port.
 #[tactic(auto, using(crate::proofs::FoundLemmas::link_here, crate::proofs::FoundLemmas::link_passed))]
-pub(crate) fn link_with(network: &Network, port: PortId) -> Option<usize>
-    ensures { result ≡ link_from 0 network.now.links port }
+pub(crate) fn link_with(network: &Network, port: &PortId) -> Option<usize>
+    ensures { result ≡ link_from 0 network.now.links port.now }
 {
     for place in 0..network.links() {
         if joins(network, place, port) {

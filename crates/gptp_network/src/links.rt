@@ -1,6 +1,6 @@
 //! The sections `[[link]]`.
 
-ghost use Rattle.std.specs.Prelude.{◌≡◌, Ok, OnOk, IfOk};
+ghost use Rattle.std.specs.Prelude.{◌≡◌, ◌≤◌, Ok, OnOk, IfOk, IfSome};
 ghost use Rattle.toml.specs.View.{view, items_view, table_view};
 ghost use Rattle.gptp_network.specs.Found.{link_from, system_from};
 ghost use Rattle.gptp_network.specs.ReadLinks.{first_taken, first_without, is_there, link_why, no_port, put_link, read_link, read_with_link, read_with_links, taken};
@@ -70,21 +70,21 @@ fn link_of(table: &Table) -> Result<Link, Why>
 }
 
 /// Why a network doesn't have a port: no system has its clock, or the system has fewer ports.
-pub(crate) fn no_port(network: &Network, port: PortId) -> Why
-    ensures { result ≡ no_port port (system_from 0 network.now.systems port.clock) }
+pub(crate) fn no_port(network: &Network, port: &PortId) -> Why
+    ensures { result ≡ no_port port.now (system_from 0 network.now.systems port.now.clock) }
 {
     match system_with(network, port.clock) {
         None => Why::UnknownClock { clock: port.clock },
-        Some((_, ports)) => Why::Beyond { port, ports },
+        Some((_, ports)) => Why::Beyond { port: *port, ports },
     }
 }
 
 /// An earlier link is at the port.
-fn taken(network: &Network, port: PortId) -> Why
-    ensures { result ≡ taken port (link_from 0 network.now.links port) }
+fn taken(network: &Network, port: &PortId) -> Why
+    ensures { result ≡ taken port.now (link_from 0 network.now.links port.now) }
 {
     match link_with(network, port) {
-        Some(link) => Why::Taken { port, link },
+        Some(link) => Why::Taken { port: *port, link },
         None => Why::Other {
             fault: NetworkFault::PortTaken,
         },
@@ -92,8 +92,8 @@ fn taken(network: &Network, port: PortId) -> Why
 }
 
 /// Whether a port is one of its system.
-pub(crate) fn is_there(network: &Network, port: PortId) -> bool
-    ensures { result ≡ is_there port (system_from 0 network.now.systems port.clock) }
+pub(crate) fn is_there(network: &Network, port: &PortId) -> bool
+    ensures { result ≡ is_there port.now (system_from 0 network.now.systems port.now.clock) }
 {
     match system_with(network, port.clock) {
         None => false,
@@ -105,7 +105,7 @@ pub(crate) fn is_there(network: &Network, port: PortId) -> bool
 fn first_without(network: &Network, link: &Link) -> PortId
     ensures { result ≡ first_without network.now.systems link.now }
 {
-    if is_there(network, link.a) {
+    if is_there(network, &link.a) {
         link.b
     } else {
         link.a
@@ -135,8 +135,8 @@ fn link_why(network: &Network, link: &Link, fault: NetworkFault) -> Why
         NetworkFault::SelfLink => Why::BothEnds {
             clock: link.a.clock,
         },
-        NetworkFault::NoSuchPort => no_port(network, first_without(network, link)),
-        NetworkFault::PortTaken => taken(network, first_taken(network, link)),
+        NetworkFault::NoSuchPort => no_port(network, &first_without(network, link)),
+        NetworkFault::PortTaken => taken(network, &first_taken(network, link)),
         NetworkFault::DelayTooLong => Why::TooLong {
             max: link.max,
             most: network.least_interval(),

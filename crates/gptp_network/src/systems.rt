@@ -1,12 +1,15 @@
 //! The sections `[[system]]`.
 
-ghost use Rattle.std.specs.Prelude.{◌≡◌, ◌≤ℤ◌, ◌≤◌, pos, neg_ℤ, Ok, OnOk, IfOk, IfSome};
+ghost use Rattle.std.specs.Prelude.{◌≡◌, ◌≤ℤ◌, ◌≤◌, pos, neg_ℤ, Ok, None, OnErr, OnOk, IfErr, IfOk, IfSome};
 ghost use Rattle.toml.specs.View.{view, items_view, table_view};
+ghost use Rattle.gptp_roles.specs.Selection.{clock_of};
 ghost use Rattle.gptp_network.specs.Found.{system_from};
 ghost use Rattle.gptp_network.specs.ReadMembers.{read_each};
 ghost use Rattle.gptp_network.specs.ReadSystems.{duplicate, first_shorter, put_system, read_system, read_with_system, read_with_systems, system_why};
 ghost use Rattle.gptp_network.specs.Reading.{natural_at, whole_at};
-ghost use Rattle.gptp_network.specs.Systems.{identity_of};
+ghost use Rattle.gptp_plan.specs.Faults.{IsRefusal};
+ghost use Rattle.gptp_plan.specs.Network.{system_fault, with_system};
+ghost use Rattle.gptp_network.specs.Systems.{identity_of, member_of};
 ghost use Rattle.gptp_network.specs.Why.{Stops, StopsAt};
 
 use crate::found::system_with;
@@ -31,6 +34,13 @@ pub(crate) struct System {
     pub phase: u64,
     pub drift: i32,
     pub intervals: ArrayVec<i8, 16>,
+}
+
+/// What is told of a system that can't be added: its clock, and what a port of it announces at.
+#[derive(Clone, Copy)]
+struct Newcomer {
+    clock: ClockId,
+    log: i8,
 }
 
 /// The identity of these parts.
@@ -126,19 +136,46 @@ fn duplicate(network: &Network, clock: ClockId) -> Why
     }
 }
 
-/// Why a system with this clock, one of whose ports announces at this interval, can't be added.
-fn system_why(network: &Network, clock: ClockId, log: i8, fault: NetworkFault) -> Why
-    ensures { result ≡ system_why network.now clock log fault }
+/// What is told of a system, of whose intervals the first that is shorter than that of requests counts.
+fn told_of(network: &Network, system: &System) -> Newcomer
+    ensures clock { result.clock ≡ clock_of system.now.identity }
+    ensures log { result.log ≡ first_shorter network.now.params.pdelay system.now.intervals.items network.now.params.announce }
+{
+    let params = network.params();
+    let clock = system.identity.clock();
+    let log = first_shorter(params.pdelay, system.intervals.as_slice(), params.announce);
+    Newcomer { clock, log }
+}
+
+/// Why a system can't be added.
+fn system_why(network: &Network, newcomer: &Newcomer, fault: NetworkFault) -> Why
+    ensures { result ≡ system_why network.now newcomer.now.clock newcomer.now.log fault }
 {
     match fault {
         NetworkFault::Timing => Why::Timing {
             params: network.params(),
-            announce: log,
+            announce: newcomer.log,
         },
-        NetworkFault::DuplicateClock => duplicate(network, clock),
+        NetworkFault::DuplicateClock => duplicate(network, newcomer.clock),
         NetworkFault::OutOfMemory => Why::Memory,
         _ => Why::Other { fault },
     }
+}
+
+/// Adds a system as a member of the network.
+fn add_member(network: &mut Network, system: System) -> Result<(), NetworkFault>
+    ensures passed { OnOk result (system_fault network.old (member_of system) ≡ None) }
+    ensures refused { IfErr result (IsRefusal (system_fault network.old (member_of system))) }
+    ensures added { OnOk result (network.new ≡ with_system (member_of system) network.old) }
+    ensures kept { OnErr result (network.new ≡ network.old) }
+{
+    network.add_system(
+        system.identity,
+        system.ports,
+        system.phase,
+        system.drift,
+        system.intervals,
+    )
 }
 
 /// Puts a system behind the others.
@@ -146,18 +183,10 @@ fn put_system(network: &mut Network, system: System) -> Result<(), Why>
     ensures network { OnOk result (put_system system network.old ≡ Ok network.new) }
     ensures refused { Stops (put_system system network.old) result }
 {
-    let params = network.params();
-    let clock = system.identity.clock();
-    let log = first_shorter(params.pdelay, system.intervals.as_slice(), params.announce);
-    match network.add_system(
-        system.identity,
-        system.ports,
-        system.phase,
-        system.drift,
-        system.intervals,
-    ) {
+    let newcomer = told_of(network, &system);
+    match add_member(network, system) {
         Ok(()) => Ok(()),
-        Err(fault) => Err(system_why(network, clock, log, fault)),
+        Err(fault) => Err(system_why(network, &newcomer, fault)),
     }
 }
 

@@ -7,9 +7,9 @@ use Rattle.gptp_network.proofs.found.joins.Goals as goal
 pub returns-in-Some : goal.returns-in-Some
 returns-in-Some c =
     c.is_either.ensures
-    ∙ ends_told (λ (w : Wire). w.bounds) c.args.port (slice_get c.args.network.now.links c.args.place) c.in-Some.link
+    ∙ ends_told (λ (w : Wire). w.bounds) c.args.port.now (slice_get c.args.network.now.links c.args.place) c.in-Some.link
     c.in-Some.ensures
 
 pub returns-in-None : goal.returns-in-None
 returns-in-None c =
-    no_ends (λ (w : Wire). w.bounds) c.args.port (slice_get c.args.network.now.links c.args.place) c.in-None.ensures
+    no_ends (λ (w : Wire). w.bounds) c.args.port.now (slice_get c.args.network.now.links c.args.place) c.in-None.ensures

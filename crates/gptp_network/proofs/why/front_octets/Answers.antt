@@ -1,6 +1,6 @@
 -- The front is no longer than what is kept.
-use Rattle.std.proofs.Common.{◌≡◌, ◌≤◌, length, take, ap, sym, subst, ◌∙◌, arith}
-use Rattle.std.proofs.lemmas.List.{length-take, take_min}
+use Rattle.std.proofs.Common.{take, ap, ◌∙◌}
+use Rattle.std.proofs.lemmas.List.{take_min}
 use Rattle.gptp_network.proofs.why.front_octets.Goals as goal
 
 pub returns : goal.returns
