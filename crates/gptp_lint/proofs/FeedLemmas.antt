@@ -106,162 +106,187 @@ word (octet ∷ more) = each_octet (take 64 (octet ∷ more))
 
 -- ---- words
 
-name : (key : Name) → HasNoFeed (name_text key)
-name names.Version = refl
-name names.Network = refl
-name names.System = refl
-name names.Link = refl
-name names.Event = refl
-name names.Announce = refl
-name names.Sync = refl
-name names.Pdelay = refl
-name names.Timeout = refl
-name names.Lost = refl
-name names.Threshold = refl
-name names.Turnaround = refl
-name names.Residence = refl
-name names.SyncTimeout = refl
-name names.Clock = refl
-name names.Priority1 = refl
-name names.Class = refl
-name names.Accuracy = refl
-name names.Variance = refl
-name names.Priority2 = refl
-name names.Phase = refl
-name names.Drift = refl
-name names.Ports = refl
-name names.A = refl
-name names.APort = refl
-name names.B = refl
-name names.BPort = refl
-name names.Min = refl
-name names.Max = refl
-name names.Loss = refl
-name names.Up = refl
-name names.At = refl
-name names.Kind = refl
-name names.Port = refl
-name names.Value = refl
-name names.Octets = refl
+-- a part of a line
+record IsPart (text : List ℕ) : Type 0 where
+  has_no_feed : HasNoFeed text
 
-shape : (s : Shape) → HasNoFeed (shape_word s)
-shape shapes.Text = refl
-shape shapes.Whole = refl
-shape shapes.Float = refl
-shape shapes.Flag = refl
-shape shapes.Date = refl
-shape shapes.Array = refl
-shape shapes.Table = refl
+part : (text : List ℕ) → HasNoFeed text → IsPart text
+part text none = record { has_no_feed = none }
 
-test_name : (fault : NetworkFault) → HasNoFeed (plans.fault_text fault)
-test_name networks.OutOfRange = refl
-test_name networks.DuplicateClock = refl
-test_name networks.SelfLink = refl
-test_name networks.PortTaken = refl
-test_name networks.NoSuchPort = refl
-test_name networks.DelayTooLong = refl
-test_name networks.TooMany = refl
-test_name networks.Timing = refl
-test_name networks.OutOfMemory = refl
+infixl 10 ◌then_part◌
+◌then_part◌ : {a b : List ℕ} → IsPart a → IsPart b → IsPart (a ++ b)
+◌then_part◌ {a} {b} first second = part (a ++ b) (two a b first.has_no_feed second.has_no_feed)
 
--- a text between two others, the first of which is a literal
-three : (first a : List ℕ) → HasNoFeed first → HasNoFeed a → (rest : List ℕ) → HasNoFeed rest
-    → HasNoFeed (first ++ a ++ rest)
-three first a is h rest last = two first (a ++ rest) is (two a rest h last)
+natural : (n : ℕ) → IsPart (decimal n)
+natural n = part (decimal n) (number n)
 
-port : (p : PortId) → HasNoFeed (port_words p)
-port p = three (clock_text p.clock) (codes " ") (clock p.clock) refl (decimal p.port) (number p.port)
+whole : (z : ℤ) → IsPart (signed_decimal z)
+whole z = part (signed_decimal z) (signed z)
 
-timing : (p : Params) (announce : ℤ) → HasNoFeed (timing_words p announce)
+digits_of : (name : ℕ) → IsPart (clock_text name)
+digits_of name = part (clock_text name) (clock name)
+
+escaped_word : (text : List ℕ) → IsPart (escaped text)
+escaped_word text = part (escaped text) (word text)
+
+key_has_none : (key : Name) → HasNoFeed (name_text key)
+key_has_none names.Version = refl
+key_has_none names.Network = refl
+key_has_none names.System = refl
+key_has_none names.Link = refl
+key_has_none names.Event = refl
+key_has_none names.Announce = refl
+key_has_none names.Sync = refl
+key_has_none names.Pdelay = refl
+key_has_none names.Timeout = refl
+key_has_none names.Lost = refl
+key_has_none names.Threshold = refl
+key_has_none names.Turnaround = refl
+key_has_none names.Residence = refl
+key_has_none names.SyncTimeout = refl
+key_has_none names.Clock = refl
+key_has_none names.Priority1 = refl
+key_has_none names.Class = refl
+key_has_none names.Accuracy = refl
+key_has_none names.Variance = refl
+key_has_none names.Priority2 = refl
+key_has_none names.Phase = refl
+key_has_none names.Drift = refl
+key_has_none names.Ports = refl
+key_has_none names.A = refl
+key_has_none names.APort = refl
+key_has_none names.B = refl
+key_has_none names.BPort = refl
+key_has_none names.Min = refl
+key_has_none names.Max = refl
+key_has_none names.Loss = refl
+key_has_none names.Up = refl
+key_has_none names.At = refl
+key_has_none names.Kind = refl
+key_has_none names.Port = refl
+key_has_none names.Value = refl
+key_has_none names.Octets = refl
+
+name : (key : Name) → IsPart (name_text key)
+name key = part (name_text key) (key_has_none key)
+
+shape_has_none : (s : Shape) → HasNoFeed (shape_word s)
+shape_has_none shapes.Text = refl
+shape_has_none shapes.Whole = refl
+shape_has_none shapes.Float = refl
+shape_has_none shapes.Flag = refl
+shape_has_none shapes.Date = refl
+shape_has_none shapes.Array = refl
+shape_has_none shapes.Table = refl
+
+shape : (s : Shape) → IsPart (shape_word s)
+shape s = part (shape_word s) (shape_has_none s)
+
+test_has_none : (fault : NetworkFault) → HasNoFeed (plans.fault_text fault)
+test_has_none networks.OutOfRange = refl
+test_has_none networks.DuplicateClock = refl
+test_has_none networks.SelfLink = refl
+test_has_none networks.PortTaken = refl
+test_has_none networks.NoSuchPort = refl
+test_has_none networks.DelayTooLong = refl
+test_has_none networks.TooMany = refl
+test_has_none networks.Timing = refl
+test_has_none networks.OutOfMemory = refl
+
+test : (fault : NetworkFault) → IsPart (plans.fault_text fault)
+test fault = part (plans.fault_text fault) (test_has_none fault)
+
+port : (p : PortId) → IsPart (port_words p)
+port p = digits_of p.clock then_part part (codes " ") refl then_part natural p.port
+
+timing : (p : Params) (announce : ℤ) → IsPart (timing_words p announce)
 timing p announce =
-    three (codes "threshold ") (decimal p.threshold) refl (number p.threshold) _
-    (three (codes " turnaround ") (decimal p.turnaround) refl (number p.turnaround) _
-    (three (codes " pdelay ") (decimal (nanoseconds p.pdelay)) refl (number (nanoseconds p.pdelay)) _
-    (three (codes " announce ") (decimal (nanoseconds announce)) refl (number (nanoseconds announce)) _
-    (three (codes " residence ") (decimal p.residence) refl (number p.residence) _
-    (two (codes " sync ") (decimal (nanoseconds p.sync)) refl (number (nanoseconds p.sync)))))))
+    part (codes "threshold ") refl then_part (natural p.threshold then_part (part (codes " turnaround ") refl
+    then_part (natural p.turnaround then_part (part (codes " pdelay ") refl then_part (natural (nanoseconds p.pdelay)
+    then_part (part (codes " announce ") refl then_part (natural (nanoseconds announce)
+    then_part (part (codes " residence ") refl then_part (natural p.residence
+    then_part (part (codes " sync ") refl then_part natural (nanoseconds p.sync)))))))))))
 
-reason : (why : Why) → HasNoFeed (why_words why)
-reason (whys.Missing key) = three (codes "key ") (name_text key) refl (name key) (codes " missing") refl
+reason : (why : Why) → IsPart (why_words why)
+reason (whys.Missing key) = part (codes "key ") refl then_part name key then_part part (codes " missing") refl
 reason (whys.Kind key s) =
-    three (codes "key ") (name_text key) refl (name key) _ (two (codes " kind ") (shape_word s) refl (shape s))
+    part (codes "key ") refl then_part name key then_part part (codes " kind ") refl then_part shape s
 reason (whys.Natural key value least most) =
-    three (codes "key ") (name_text key) refl (name key) _
-    (three (codes " value ") (signed_decimal value) refl (signed value) _
-    (three (codes " least ") (decimal least) refl (number least) _
-    (two (codes " most ") (decimal most) refl (number most))))
+    part (codes "key ") refl then_part name key then_part part (codes " value ") refl then_part whole value
+    then_part part (codes " least ") refl then_part natural least then_part part (codes " most ") refl
+    then_part natural most
 reason (whys.Whole key value least most) =
-    three (codes "key ") (name_text key) refl (name key) _
-    (three (codes " value ") (signed_decimal value) refl (signed value) _
-    (three (codes " least ") (signed_decimal least) refl (signed least) _
-    (two (codes " most ") (signed_decimal most) refl (signed most))))
+    part (codes "key ") refl then_part name key then_part part (codes " value ") refl then_part whole value
+    then_part part (codes " least ") refl then_part whole least then_part part (codes " most ") refl
+    then_part whole most
 reason (whys.Intervals count ports) =
-    three (codes "key announce count ") (decimal count) refl (number count) _
-    (two (codes " of ") (decimal ports) refl (number ports))
+    part (codes "key announce count ") refl then_part natural count then_part part (codes " of ") refl
+    then_part natural ports
 reason (whys.Text key front) =
-    three (codes "key ") (name_text key) refl (name key) _
-    (three (codes " value ") (escaped front.octets.items) refl (word front.octets.items) _
-    (two (codes " length ") (decimal front.count) refl (number front.count)))
+    part (codes "key ") refl then_part name key then_part part (codes " value ") refl
+    then_part escaped_word front.octets.items then_part part (codes " length ") refl then_part natural front.count
 reason (whys.Above least greatest) =
-    three (codes "key min value ") (decimal least) refl (number least) _
-    (two (codes " above ") (decimal greatest) refl (number greatest))
+    part (codes "key min value ") refl then_part natural least then_part part (codes " above ") refl
+    then_part natural greatest
 reason (whys.TooMany count most) =
-    three (codes "count ") (decimal count) refl (number count) _ (two (codes " most ") (decimal most) refl (number most))
+    part (codes "count ") refl then_part natural count then_part part (codes " most ") refl then_part natural most
 reason (whys.Duplicate own system) =
-    three (codes "clock ") (clock_text own) refl (clock own) _
-    (two (codes " as system ") (decimal system) refl (number system))
-reason (whys.BothEnds own) = three (codes "clock ") (clock_text own) refl (clock own) (codes " at both ends") refl
-reason (whys.UnknownClock own) = three (codes "clock ") (clock_text own) refl (clock own) (codes " unknown") refl
+    part (codes "clock ") refl then_part (digits_of own then_part (part (codes " as system ") refl
+    then_part natural system))
+reason (whys.BothEnds own) =
+    part (codes "clock ") refl then_part (digits_of own then_part part (codes " at both ends") refl)
+reason (whys.UnknownClock own) =
+    part (codes "clock ") refl then_part digits_of own then_part part (codes " unknown") refl
 reason (whys.Beyond p ports) =
-    three (codes "port ") (port_words p) refl (port p) _ (two (codes " of ") (decimal ports) refl (number ports))
-reason (whys.Unlinked p) = three (codes "port ") (port_words p) refl (port p) (codes " unlinked") refl
+    part (codes "port ") refl then_part port p then_part part (codes " of ") refl then_part natural ports
+reason (whys.Unlinked p) = part (codes "port ") refl then_part port p then_part part (codes " unlinked") refl
 reason (whys.Taken p link) =
-    three (codes "port ") (port_words p) refl (port p) _ (two (codes " as link ") (decimal link) refl (number link))
+    part (codes "port ") refl then_part (port p then_part (part (codes " as link ") refl then_part natural link))
 reason (whys.TooLong greatest most) =
-    three (codes "key max value ") (decimal greatest) refl (number greatest) _
-    (two (codes " most ") (decimal most) refl (number most))
+    part (codes "key max value ") refl then_part natural greatest then_part part (codes " most ") refl
+    then_part natural most
 reason (whys.Before at before) =
-    three (codes "at ") (decimal at) refl (number at) _ (two (codes " before ") (decimal before) refl (number before))
+    part (codes "at ") refl then_part natural at then_part part (codes " before ") refl then_part natural before
 reason (whys.Timing params announce) = timing params announce
-reason (whys.Other fault) = two (codes "fault ") (plans.fault_text fault) refl (test_name fault)
-reason whys.Memory = refl
+reason (whys.Other fault) = part (codes "fault ") refl then_part test fault
+reason whys.Memory = part (codes "memory") refl
 
 -- ---- places
 
-header : (line : Option ℕ) → HasNoFeed (line_words line)
-header None = refl
-header (Some line) = two (codes " line ") (decimal line) refl (number line)
+header : (line : Option ℕ) → IsPart (line_words line)
+header None = part [] refl
+header (Some line) = part (codes " line ") refl then_part natural line
 
-section : (s : Section) → HasNoFeed (section_name s)
-section System = refl
-section Link = refl
-section Event = refl
+section : (s : Section) → IsPart (section_name s)
+section System = part (codes "system") refl
+section Link = part (codes "link") refl
+section Event = part (codes "event") refl
 
-place : (p : Place) (line : Option ℕ) → HasNoFeed (place_words p line)
-place Top line = refl
-place Network line = refl
+place : (p : Place) (line : Option ℕ) → IsPart (place_words p line)
+place Top line = part (codes "top") refl
+place Network line = part (codes "network") refl
 place (Member s count) line =
-    three (section_name s) (codes " ") (section s) refl _ (two (decimal count) (line_words line) (number count) (header line))
+    section s then_part part (codes " ") refl then_part natural count then_part header line
 
-known : (near : Option (List ℕ)) → HasNoFeed (near_words near)
-known None = refl
-known (Some key) = two (codes " near ") (escaped key) refl (word key)
+known : (near : Option (List ℕ)) → IsPart (near_words near)
+known None = part [] refl
+known (Some key) = part (codes " near ") refl then_part escaped_word key
 
-refusal : (r : Refusal) (line : Option ℕ) (near : Option (List ℕ)) → HasNoFeed (refusal_words r line near)
+refusal : (r : Refusal) (line : Option ℕ) (near : Option (List ℕ)) → IsPart (refusal_words r line near)
 refusal r line near =
-    three (codes " ") (place_words (place_of r.place) line) refl (place (place_of r.place) line) _
-    (three (codes " ") (why_words r.why) refl (reason r.why) (near_words near) (known near))
+    part (codes " ") refl then_part place (place_of r.place) line then_part part (codes " ") refl
+    then_part reason r.why then_part known near
 
-no_toml : (at : Option (ℕ × ℕ)) → HasNoFeed (no_toml_words at)
-no_toml None = refl
+no_toml : (at : Option (ℕ × ℕ)) → IsPart (no_toml_words at)
+no_toml None = part (codes " text") refl
 no_toml (Some at) =
-    three (codes " text line ") (decimal at.0) refl (number at.0) _
-    (two (codes " column ") (decimal at.1) refl (number at.1))
+    part (codes " text line ") refl then_part natural at.0 then_part part (codes " column ") refl
+    then_part natural at.1
 
 told : (read : Result DocumentState Refusal) (tail : List ℕ) → TellsRefusal read tail → HasNoFeed tail
 told (Ok d) tail is = subst HasNoFeed (sym is) refl
-told (Err r) tail (line, near, missing, is) = subst HasNoFeed (sym is) (refusal r line near)
+told (Err r) tail (line, near, missing, is) = subst HasNoFeed (sym is) (refusal r line near).has_no_feed
 
 pub in_one_line : (text tail : List ℕ) → TellsPlace text tail → HasNoFeed tail
-in_one_line text tail (inl (none, (at, is))) = subst HasNoFeed (sym is) (no_toml at)
+in_one_line text tail (inl (none, (at, is))) = subst HasNoFeed (sym is) (no_toml at).has_no_feed
 in_one_line text tail (inr (t, parses, tells)) = told (read_document t) tail tells

@@ -1,11 +1,16 @@
--- Members by number.
-use Rattle.std.proofs.Common.{◌≡◌, ℕ, zero, suc, List, [], ◌∷◌, option_map, slice_get, refl}
-use Rattle.toml.specs.Data.{get_item}
-use Rattle.toml.specs.View.{items_view, view}
-use Rattle.toml.specs.declared.value.Value.{Value}
+-- A member that passes a test.
+use Rattle.std.proofs.Common.{◌≡◌, ◌∙◌, ◌||◌, ℕ, zero, suc, Bool, true, false, List, [], ◌∷◌, Some, ap, refl, slice_get}
+use Rattle.std.specs.List.{list_any}
+use Rattle.gptp_lists.proofs.MappedLemmas.{some_same}
 
-pub item_at : (xs : List Value) (n : ℕ) → get_item n (items_view xs) ≡ option_map view (slice_get xs n)
-item_at [] zero = refl
-item_at [] (suc n) = refl
-item_at (x ∷ xs) zero = refl
-item_at (x ∷ xs) (suc n) = item_at xs n
+or_true : (b : Bool) → (b || true) ≡ true
+or_true true = refl
+or_true false = refl
+
+pub any_there : {X : Type 0} (p : X → Bool) (xs : List X) (i : ℕ) (x : X) → slice_get xs i ≡ Some x → p x ≡ true
+    → list_any p xs ≡ true
+any_there p [] i x there passes = absurd cc
+any_there p (y ∷ xs) zero x there passes =
+    let same : p y ≡ true = ap p (some_same y x there) ∙ passes in
+    rw same refl
+any_there p (y ∷ xs) (suc i) x there passes = rw (any_there p xs i x there passes) (or_true (p y))

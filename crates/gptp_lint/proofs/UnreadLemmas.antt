@@ -1,5 +1,5 @@
 -- Keys that aren't read, and their lines, one after another.
-use Rattle.std.proofs.Common.{◌≡◌, ◌++◌, ◌+◌, ◌∷◌, ◌||◌, ◌⊎◌, ℕ, Bool, true, false, cond, List, [], Option, Some, None, Contains, IfSome, IsSomeAnd, append-nil, filter, if◌then◌else◌, map, slice_get, take, inl, inr, refl, subst, sym, ap, ap₂, ◌∙◌}
+use Rattle.std.proofs.Common.{◌≡◌, ◌++◌, ◌+◌, ◌∷◌, ◌||◌, ◌⊎◌, ℕ, Bool, true, false, cond, List, [], Option, Some, None, Contains, IfSome, IsSomeAnd, append-nil, if◌then◌else◌, map, slice_get, take, inl, inr, refl, subst, sym, ap, ap₂, ◌∙◌}
 use Rattle.std.specs.Borrow.{Bor}
 use Rattle.std.specs.List.{AllByRecursion, list_any}
 use Rattle.std.proofs.lemmas.List.{map-append}
@@ -85,9 +85,6 @@ all_append P (x ∷ xs) ys all more = (all.0, all_append P xs ys all.1 more)
 -- ---- their lines
 
 module _ (t : Option Members) (o : OutlineState) where
-  pub none_unread : (text : List ℕ) → AppendsUnread t o [] text text
-  none_unread text = record { told = []; keys_are = refl; near_are = tt; text_is = sym (append-nil text) }
-
   -- the line of one key
   pub one_unread : (old new : List ℕ) (k : UnreadKey) → NearIsRead t k → new ≡ old ++ (unread_line o k ++ 10 ∷ [])
       → AppendsUnread t o (placed k ∷ []) old new

@@ -34,9 +34,9 @@ nanoseconds log = if is_log log then interval_of log else 0
 -- the intervals that don't go together, where those of announcements are at this interval
 abbrev pub timing_words : Params → ℤ → List ℕ
 timing_words p announce =
-    codes "threshold " ++ decimal p.threshold ++ codes " turnaround " ++ decimal p.turnaround ++ codes " pdelay "
-    ++ decimal (nanoseconds p.pdelay) ++ codes " announce " ++ decimal (nanoseconds announce) ++ codes " residence "
-    ++ decimal p.residence ++ codes " sync " ++ decimal (nanoseconds p.sync)
+    codes "threshold " ++ (decimal p.threshold ++ (codes " turnaround " ++ (decimal p.turnaround
+    ++ (codes " pdelay " ++ (decimal (nanoseconds p.pdelay) ++ (codes " announce " ++ (decimal (nanoseconds announce)
+    ++ (codes " residence " ++ (decimal p.residence ++ (codes " sync " ++ decimal (nanoseconds p.sync)))))))))))
 
 abbrev pub why_words : Why → List ℕ
 why_words (whys.Missing key) = codes "key " ++ name_text key ++ codes " missing"
@@ -53,12 +53,12 @@ why_words (whys.Text key front) =
     ++ decimal front.count
 why_words (whys.Above least greatest) = codes "key min value " ++ decimal least ++ codes " above " ++ decimal greatest
 why_words (whys.TooMany count most) = codes "count " ++ decimal count ++ codes " most " ++ decimal most
-why_words (whys.Duplicate clock system) = codes "clock " ++ clock_text clock ++ codes " as system " ++ decimal system
-why_words (whys.BothEnds clock) = codes "clock " ++ clock_text clock ++ codes " at both ends"
+why_words (whys.Duplicate clock system) = codes "clock " ++ (clock_text clock ++ (codes " as system " ++ decimal system))
+why_words (whys.BothEnds clock) = codes "clock " ++ (clock_text clock ++ codes " at both ends")
 why_words (whys.UnknownClock clock) = codes "clock " ++ clock_text clock ++ codes " unknown"
 why_words (whys.Beyond port ports) = codes "port " ++ port_words port ++ codes " of " ++ decimal ports
 why_words (whys.Unlinked port) = codes "port " ++ port_words port ++ codes " unlinked"
-why_words (whys.Taken port link) = codes "port " ++ port_words port ++ codes " as link " ++ decimal link
+why_words (whys.Taken port link) = codes "port " ++ (port_words port ++ (codes " as link " ++ decimal link))
 why_words (whys.TooLong greatest most) = codes "key max value " ++ decimal greatest ++ codes " most " ++ decimal most
 why_words (whys.Before at before) = codes "at " ++ decimal at ++ codes " before " ++ decimal before
 why_words (whys.Timing params announce) = timing_words params announce

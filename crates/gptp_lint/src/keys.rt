@@ -74,6 +74,7 @@ const PRIORITY1: &[&str] = &["at", "kind", "clock", "value"];
 const INJECT: &[&str] = &["at", "kind", "clock", "port", "octets"];
 
 /// Those of an event of this kind.
+#[tactic(auto, unfolding(crate::specs::Keys::event_keys))]
 fn event_keys(kind: &str) -> &'static [&'static str]
     ensures { map (λ key. key.now) result.now ≡ event_keys kind.now }
 {
@@ -105,7 +106,7 @@ fn value_at<'a>(table: &'a Table, key: &str) -> Option<&'a Value>
 
 /// The kind of an event, empty where it has none.
 fn kind_of<'a>(table: Option<&'a Table>) -> &'a str
-    ensures { result.now ≡ kind_text (option_map (λ event. table_view event.now) table) }
+    ensures { result.now ≡ kind_text (option_map (λ event. table_view event.now) table.entry) }
 {
     match table {
         None => "",
@@ -156,9 +157,10 @@ fn members<'a>(document: &'a Table, section: Section) -> &'a [Value]
 fn member_table<'a>(members: &'a [Value], number: usize) -> Option<&'a Table>
     ensures { option_map (λ table. table_view table.now) result ≡ member_at (items_view members.now) number }
 {
-    match members.get(number) {
-        None => None,
-        Some(value) => value.as_table(),
+    if number < members.len() {
+        members[number].as_table()
+    } else {
+        None
     }
 }
 

@@ -103,7 +103,7 @@ fn push_if(
     key: Option<&str>,
 ) -> Result<(), AllocError>
     ensures { OnOk result (entries_view entries.new ≡ entries_view entries.old
-        ++ at_place place (option_to_list (option_map (λ part. part.now) key))) }
+        ++ at_place place (option_to_list (option_map (λ part. part.now) key.entry))) }
 {
     match place {
         None => Ok(()),

@@ -134,7 +134,7 @@ fn write_words(
     line: Option<usize>,
     near: Option<&[u8]>,
 ) -> Result<String, AllocError>
-    ensures { IfOk result (λ tail. string_bytes tail ≡ refusal_words refusal.now line (option_map (λ key. key.now) near)) }
+    ensures { IfOk result (λ tail. string_bytes tail ≡ refusal_words refusal.now line (option_map (λ key. key.now) near.entry)) }
 {
     let mut tail = String::new(alloc);
     let place = PlaceWords {
@@ -171,7 +171,7 @@ fn tell_table(alloc: Global, input: &[u8], document: &Table) -> Result<String, A
     ensures { IfOk result (λ tail. TellsRefusal (read_document (table_view document.now)) (string_bytes tail)) }
 {
     match Document::of_table(alloc, document) {
-        Ok(_) => Ok(String::new(alloc)),
+        Ok(_document) => Ok(String::new(alloc)),
         Err(refusal) => match &refusal.why {
             Why::Memory => Err(AllocError),
             _ => tell_refusal(alloc, input, document, &refusal),

@@ -100,7 +100,7 @@ fn nearer(
     nearest: Option<(u8, &'static str)>,
 ) -> Option<(u8, &'static str)>
     ensures { IfSome result (λ next. (next.1.now ≡ known.now)
-        ⊎ IsSomeAnd nearest (λ before. next.1.now ≡ before.1.now)) }
+        ⊎ IsSomeAnd nearest.entry (λ before. next.1.now ≡ before.1.now)) }
 {
     if table.get(known).is_some() {
         return nearest;

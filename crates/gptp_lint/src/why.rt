@@ -66,7 +66,7 @@ impl fmt::Display for PortWords {
 }
 
 /// An interval by its logarithm, in ns; 0 where it is none of a port.
-fn nanoseconds(log_interval: i8) -> u64
+fn interval_in_nanoseconds(log_interval: i8) -> u64
     ensures { result ≡ nanoseconds log_interval }
 {
     if -4 <= log_interval && log_interval <= 4 {
@@ -76,25 +76,43 @@ fn nanoseconds(log_interval: i8) -> u64
     }
 }
 
+/// An interval by its logarithm, in ns.
+#[derive(Clone, Copy)]
+struct Nanoseconds<'a>(&'a i8);
+
+impl fmt::Display for Nanoseconds<'_> {
+    ghost use Rattle.std.specs.Prelude.{Some};
+    ghost use Rattle.std.specs.Fmt.{decimal};
+    ghost use Rattle.gptp_lint.specs.Why.{nanoseconds};
+
+    ghost output = { λ interval. Some (decimal (nanoseconds interval.0.now)) };
+
+    fn fmt<W: fmt::Write>(&self, f: &mut fmt::Formatter<W>) -> fmt::Result {
+        let nanoseconds = interval_in_nanoseconds(*self.0);
+        write!(f, "{nanoseconds}")
+    }
+}
+
 /// The intervals that don't go together, where those of announcements are at this interval.
 #[derive(Clone, Copy)]
-struct TimingWords(Params, i8);
+struct TimingWords<'a>(&'a Params, &'a i8);
 
-impl fmt::Display for TimingWords {
+impl fmt::Display for TimingWords<'_> {
     ghost use Rattle.std.specs.Prelude.{Some};
     ghost use Rattle.gptp_lint.specs.Why.{timing_words};
 
-    ghost output = { λ words. Some (timing_words words.0 words.1) };
+    ghost output = { λ words. Some (timing_words words.0.now words.1.now) };
 
     fn fmt<W: fmt::Write>(&self, f: &mut fmt::Formatter<W>) -> fmt::Result {
-        let params = self.0;
-        let pdelay = nanoseconds(params.pdelay);
-        let announce = nanoseconds(self.1);
-        let sync = nanoseconds(params.sync);
         write!(
             f,
-            "threshold {} turnaround {} pdelay {pdelay} announce {announce} residence {} sync {sync}",
-            params.threshold, params.turnaround, params.residence
+            "threshold {} turnaround {} pdelay {} announce {} residence {} sync {}",
+            self.0.threshold,
+            self.0.turnaround,
+            Nanoseconds(&self.0.pdelay),
+            Nanoseconds(self.1),
+            self.0.residence,
+            Nanoseconds(&self.0.sync)
         )
     }
 }
@@ -155,7 +173,9 @@ impl fmt::Display for WhyWords<'_> {
             Why::Taken { port, link } => write!(f, "port {} as link {link}", PortWords(*port)),
             Why::TooLong { max, most } => write!(f, "key max value {max} most {most}"),
             Why::Before { at, before } => write!(f, "at {at} before {before}"),
-            Why::Timing { params, announce } => { write!(f, "{}", TimingWords(*params, *announce)) }
+            Why::Timing { params, announce } => {
+                write!(f, "{}", TimingWords(params, announce))
+            }
             Why::Other { fault } => write!(f, "fault {fault}"),
             Why::Memory => f.write_str("memory"),
         }

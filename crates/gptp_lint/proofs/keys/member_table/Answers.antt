@@ -1,20 +1,16 @@
 -- The member of this number, if there is one.
-use Rattle.std.proofs.Common.{◌≡◌, ◌∙◌, None, Some, ap, option_map, rules, slice_get, sym}
+use Rattle.std.proofs.Common.{◌∙◌, Some, ap, arith}
 use Rattle.toml.specs.View.{view}
+use Rattle.toml.proofs.Views.{get_item_past, get_item_within}
 use Rattle.gptp_lint.specs.Keys.{table_in}
-use Rattle.gptp_lint.proofs.KeyLemmas.{item_at}
 use Rattle.gptp_lint.proofs.keys.member_table.Goals as goal
 
-pub returns-in-None : goal.returns-in-None
-returns-in-None c =
-    let xs = c.args.members.now in
-    let n = c.args.number in
-    let none : slice_get xs n ≡ None = search rules in
-    sym (ap table_in (item_at xs n ∙ ap (option_map view) none))
+pub returns-then-number-members : goal.returns-then-number-members
+returns-then-number-members c =
+    let value = c.index-members-number in
+    c.as_table.ensures
+    ∙ ap table_in (ap (λ v. Some (view v)) value.is
+    ∙ get_item_within c.args.members.now c.args.number value.result (omega arith))
 
-pub returns-in-Some : goal.returns-in-Some
-returns-in-Some c =
-    let xs = c.args.members.now in
-    let n = c.args.number in
-    let there : slice_get xs n ≡ Some c.in-Some.value.now = search rules in
-    c.as_table.ensures ∙ sym (ap table_in (item_at xs n ∙ ap (option_map view) there))
+pub returns-else-number-members : goal.returns-else-number-members
+returns-else-number-members c = ap table_in (get_item_past c.args.members.now c.args.number (omega arith))

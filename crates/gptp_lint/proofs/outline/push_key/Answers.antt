@@ -1,5 +1,5 @@
 -- The key is put after the others.
-use Rattle.std.proofs.Common.{◌≡◌, ◌++◌, ◌∷◌, ◌∙◌, [], ap, map}
+use Rattle.std.proofs.Common.{◌++◌, ◌∷◌, ◌∙◌, [], ap, map}
 use Rattle.std.proofs.lemmas.List.{map-append}
 use Rattle.gptp_lint.specs.Outline.{entry_view}
 use Rattle.gptp_lint.specs.declared.outline.Entry.{Entry}

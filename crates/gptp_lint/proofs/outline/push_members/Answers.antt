@@ -19,7 +19,7 @@ loop-keys-preserved c =
     let there : slice_get xs i ≡ Some keys = slice_get-get_or xs i keys below ∙ ap Some (sym c.keys-item.is) in
     let front = map keys_view (take i xs) in
     let count : 0 + length front ≡ c.loop-keys.number =
-    omega (arith, length-map keys_view (take i xs), length-take i xs, c.loop-keys.invariant.0) in
+    omega (arith, length-map (take i xs) keys_view, length-take i xs, c.loop-keys.invariant.0) in
     let pushed = rw c.deref.ensures.value at c.in_ok-push_keys.ensures in (
       omega (arith, c.loop-keys.invariant.0),
       two_pieces (entries_view c.args.entries.now) (entries_view c.loop-keys.entries)

@@ -2,4 +2,4 @@
 use Rattle.gptp_lint.proofs.refusal.tell_no_toml.Goals as goal
 
 pub returns : goal.returns
-returns c = (c.at.result, c.in_ok-write.ensures.bytes)
+returns c = (c.end_of_toml-at.result, c.in_ok-write.ensures.bytes)

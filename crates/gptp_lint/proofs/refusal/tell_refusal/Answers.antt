@@ -5,7 +5,7 @@ use Rattle.gptp_lint.proofs.refusal.tell_refusal.Goals as goal
 pub returns : goal.returns
 returns c = (
   c.line.result,
-  option_map (λ key. key.now) c.near_key.result,
-  (λ other. ap (option_map (λ key. key.now)) (c.near_key.ensures other)),
+  option_map (λ key. key.now) c.near_key-near.result,
+  (λ other. ap (option_map (λ key. key.now)) (c.near_key-near.ensures other)),
   c.in_ok-tail.ensures,
 )

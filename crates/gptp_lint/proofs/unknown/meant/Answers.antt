@@ -1,5 +1,5 @@
 -- One key more.
-use Rattle.std.proofs.Common.{◌≡◌, ◌∙◌, ℕ, List, Some, ap, map, slice_get, sym}
+use Rattle.std.proofs.Common.{◌≡◌, ℕ, List, [], Some, get_or, map, slice_get}
 use Rattle.std.specs.Borrow.{Bor}
 use Rattle.std.proofs.lemmas.Option.{slice_get-get_or}
 use Rattle.gptp_lists.proofs.MappedLemmas.{contains_there, mapped_there}
@@ -10,10 +10,10 @@ pub loop-known-preserved : goal.loop-known-preserved
 loop-known-preserved c =
     let xs = c.keys_at-keys.result.now in
     let i = c.loop-known.known-index in
-    let known = c.known-item.result in
-    let there : slice_get xs i ≡ Some known =
-    slice_get-get_or xs i known c.loop-known-test.true ∙ ap Some (sym c.known-item.is) in
+    let any : Bor (List ℕ) = record { ref_ptr = (0, 0); now = [] } in
+    let known = get_or xs i any in
     let text : Bor (List ℕ) → List ℕ = λ key. key.now in
+    let there : slice_get xs i ≡ Some known = slice_get-get_or xs i any c.loop-known-test.true in
     still_read (map text xs) known.now c.loop-known.nearest c.nearer-nearest.result
     (contains_there (map text xs) i known.now (mapped_there text xs i known there)) c.loop-known.invariant
     c.nearer-nearest.ensures

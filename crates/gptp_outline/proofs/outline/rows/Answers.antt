@@ -1,5 +1,5 @@
 -- The rows so far and those of the rest are the rows of the document.
-use Rattle.std.proofs.Common.{◌≡◌, ◌==◌, ◌-◌, ◌∙◌, ◌++◌, ◌∷◌, ℕ, List, [], Some, false, ap, ap₂, append-nil, arith, length, map, option_map, refl, rules, suc, sym}
+use Rattle.std.proofs.Common.{◌≡◌, ◌==◌, ◌-◌, ◌∙◌, ◌++◌, ◌∷◌, [], Some, false, ap, ap₂, append-nil, arith, length, map, option_map, refl, rules, suc, sym}
 use Rattle.std.proofs.lemmas.Grind.{common_steps}
 use Rattle.std.proofs.lemmas.List.{map-append}
 use Rattle.toml_parser.specs.Lexical.{skip_blank}
