@@ -173,9 +173,7 @@ impl fmt::Display for WhyWords<'_> {
             Why::Taken { port, link } => write!(f, "port {} as link {link}", PortWords(*port)),
             Why::TooLong { max, most } => write!(f, "key max value {max} most {most}"),
             Why::Before { at, before } => write!(f, "at {at} before {before}"),
-            Why::Timing { params, announce } => {
-                write!(f, "{}", TimingWords(params, announce))
-            }
+            Why::Timing { params, announce } => { write!(f, "{}", TimingWords(params, announce)) }
             Why::Other { fault } => write!(f, "fault {fault}"),
             Why::Memory => f.write_str("memory"),
         }
