@@ -15,7 +15,7 @@ use crate::measures::{Greatest, Measures, NOTHING, better_if};
 use crate::receipts::{error_of, received_by, write_offset};
 use crate::shown::Shown;
 use crate::watched::{
-    Look, Watched, error_after, leaves_wait, measures_after, since_behind, wait_behind,
+    Look, Watched, error_after, has_clock, leaves_wait, measures_after, since_behind, wait_behind,
 };
 use gptp_links::Fate;
 use gptp_plan::Change;
@@ -210,14 +210,38 @@ impl Watch {
         self.systems.len()
     }
 
-    /// The place of a system, by its clock.
-    fn place_of(&self, clock: ClockId) -> Option<usize>
+    /// The place of a system, by a search for its clock.
+    fn search(&self, clock: ClockId) -> Option<usize>
         ensures is { result ≡ place_of clock self.now }
         ensures within { IfSome result (λ place. place < length self.now.systems) }
     {
         self.systems
             .binary_search_by_key(&clock, |system| system.clock)
             .ok()
+    }
+
+    /// Whether the system at a place has this clock.
+    fn is_at(&self, place: usize, clock: ClockId) -> bool
+        ensures is { result ≡ true → place_of clock self.now ≡ Some place }
+        ensures within { result ≡ true → place < length self.now.systems }
+    {
+        if self.systems.len() <= place {
+            return false;
+        }
+        let system = &self.systems[place];
+        has_clock(system, clock)
+    }
+
+    /// The place of a system, by its clock. It is its rank in the world that is seen; a search finds it in any case.
+    fn place_of<F: Fate + Drop>(&self, world: &World<F>, clock: ClockId) -> Option<usize>
+        ensures is { result ≡ place_of clock self.now }
+        ensures within { IfSome result (λ place. place < length self.now.systems) }
+    {
+        let rank = world.rank(clock).unwrap_or(0);
+        match self.is_at(rank, clock) {
+            true => Some(rank),
+            false => self.search(clock),
+        }
     }
 
     /// Appends the lines of a system that is left as `after`, where they are asked for.
@@ -503,7 +527,7 @@ impl Watch {
         ensures tells { OnOk result (string_bytes text.new
             ≡ string_bytes text.old ++ text_of (system_lines at world.now.scene clock received self.old)) }
     {
-        match self.place_of(clock) {
+        match self.place_of(world, clock) {
             Some(place) => self.see_placed(text, world, at, clock, received, place),
             None => Ok(()),
         }
@@ -533,7 +557,7 @@ impl Watch {
     fn kept_stays<F: Fate + Drop>(&self, world: &World<F>, clock: ClockId, effect: Effect) -> bool
         ensures { result ≡ true → KeptStays effect clock world.now.scene self.now }
     {
-        match self.place_of(clock) {
+        match self.place_of(world, clock) {
             Some(place) => {
                 let system = &self.systems[place];
                 stays_in(world, clock, effect, &system.shown)
@@ -583,7 +607,7 @@ impl Watch {
         }
     }
 
-    /// Takes up the wait of the system at a place, behind an act that left it as it was shown.
+    /// Takes up the wait of the system at a place, after an act that left it as it was shown.
     fn take_wait(&mut self, look: Look, place: usize)
         requires { place < length self.old.systems }
         ensures { self.new ≡ wait_at look place self.old }
@@ -632,7 +656,7 @@ impl Watch {
         ensures tells { OnOk result (string_bytes text.new
             ≡ string_bytes text.old ++ text_of (received_lines at world.now.scene (Some clock) self.old)) }
     {
-        match self.place_of(clock) {
+        match self.place_of(world, clock) {
             Some(place) => self.receive_placed(text, world, at, clock, place),
             None => Ok(()),
         }
@@ -688,7 +712,7 @@ impl Watch {
         }
     }
 
-    /// Looks at systems behind an act that was done, and writes its lines.
+    /// Looks at systems after an act that was done, and writes its lines.
     fn look<F: Fate + Drop, K: Sink>(
         &mut self,
         alloc: Global,

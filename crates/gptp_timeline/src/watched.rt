@@ -1,6 +1,6 @@
 //! What is kept of each system while a document runs.
 
-ghost use Rattle.std.specs.Prelude.{◌≡◌};
+ghost use Rattle.std.specs.Prelude.{◌≡◌, true};
 ghost use Rattle.gptp_timeline.specs.Watch.{error_after, measures_after, since_behind, wait_behind, leaves_wait};
 
 use crate::measures::{Greatest, Measures, better_if, ended_by, last_if, since_after};
@@ -31,6 +31,13 @@ pub(crate) struct Watched {
     /// The greatest absolute error of its receipts from the time on from which they are promised to be exact, in units of
     /// 2^-16 ns.
     pub error: Option<u128>,
+}
+
+/// Whether a system has this clock.
+pub(crate) fn has_clock(system: &Watched, clock: ClockId) -> bool
+    ensures { result ≡ true → system.now.clock ≡ clock }
+{
+    system.clock == clock
 }
 
 /// Whether an act that leaves a system as it is neither begins nor ends a wait of it.
