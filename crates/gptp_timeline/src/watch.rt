@@ -607,7 +607,7 @@ impl Watch {
         }
     }
 
-    /// Takes up the wait of the system at a place, behind an act that left it as it was shown.
+    /// Takes up the wait of the system at a place, after an act that left it as it was shown.
     fn take_wait(&mut self, look: Look, place: usize)
         requires { place < length self.old.systems }
         ensures { self.new ≡ wait_at look place self.old }
@@ -712,7 +712,7 @@ impl Watch {
         }
     }
 
-    /// Looks at systems behind an act that was done, and writes its lines.
+    /// Looks at systems after an act that was done, and writes its lines.
     fn look<F: Fate + Drop, K: Sink>(
         &mut self,
         alloc: Global,
