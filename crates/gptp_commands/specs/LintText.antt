@@ -11,7 +11,8 @@ use Rattle.gptp_commands.specs.declared.failure.Status.TheVariants.{Refused}
 use Rattle.gptp_commands.specs.Failure.{status_by}
 
 -- the line of an input that is refused by this fault, with where that is and why it is one
-pub record RefusesAtPlace (input : List ℕ) (fault : DocumentFault) (output : List (List ℕ)) (status : Status) : Type 0 where
+pub record RefusesAtPlace (input : List ℕ) (fault : DocumentFault) (output : List (List ℕ)) (status : Status)
+    : Type 0 where
   pub place : List ℕ
   pub told : TellsPlace input place
   pub line : output ≡ refused_line fault place ∷ []

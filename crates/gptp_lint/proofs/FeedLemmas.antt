@@ -94,7 +94,8 @@ one_octet x = by (is_plain x) refl
         → HasNoFeed (if test then x ∷ [] else 92 ∷ codes "x" ++ encode_lower (x ∷ []))
     by true plain = let other : not (x == 10) ≡ true = grind (arith, nat_tests) in cons x [] other refl
     by false plain =
-        cons 92 (codes "x" ++ encode_lower (x ∷ [])) refl (two (codes "x") (encode_lower (x ∷ [])) refl (octets (x ∷ [])))
+        cons 92 (codes "x" ++ encode_lower (x ∷ [])) refl
+        (two (codes "x") (encode_lower (x ∷ [])) refl (octets (x ∷ [])))
 
 each_octet : (xs : List ℕ) → HasNoFeed (flat_map escaped_octet xs)
 each_octet [] = refl

@@ -53,7 +53,8 @@ why_words (whys.Text key front) =
     ++ decimal front.count
 why_words (whys.Above least greatest) = codes "key min value " ++ decimal least ++ codes " above " ++ decimal greatest
 why_words (whys.TooMany count most) = codes "count " ++ decimal count ++ codes " most " ++ decimal most
-why_words (whys.Duplicate clock system) = codes "clock " ++ (clock_text clock ++ (codes " as system " ++ decimal system))
+why_words (whys.Duplicate clock system) =
+    codes "clock " ++ (clock_text clock ++ (codes " as system " ++ decimal system))
 why_words (whys.BothEnds clock) = codes "clock " ++ (clock_text clock ++ codes " at both ends")
 why_words (whys.UnknownClock clock) = codes "clock " ++ clock_text clock ++ codes " unknown"
 why_words (whys.Beyond port ports) = codes "port " ++ port_words port ++ codes " of " ++ decimal ports

@@ -17,4 +17,5 @@ returns-then-eq c =
     let there : slice_get xs i ≡ Some known = slice_get-get_or xs i any c.loop-known-test.true in
     let passes : bytes_eq known.now key ≡ true =
     ap (λ octets. bytes_eq octets key) (sym c.as_bytes.ensures.value) ∙ sym c.eq.ensures ∙ c.if-eq.true in
-    sym (any_there (λ octets. bytes_eq octets key) (map text xs) i known.now (mapped_there text xs i known there) passes)
+    sym
+    (any_there (λ octets. bytes_eq octets key) (map text xs) i known.now (mapped_there text xs i known there) passes)

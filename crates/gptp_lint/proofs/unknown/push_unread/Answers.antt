@@ -48,7 +48,8 @@ returns-clause-pushed c =
     c.requires.seen x ∙ ap (λ q. list_any (λ old. is_eq (compare_keys (as_numbers old) q)) found) x_is in
     let unknown = sym (c.is_known.ensures ∙ ap₂ is_known c.keys_at.ensures c.deref.ensures.value)
     ∙ c.if-is_known.false in
-    let absent : contains seen_cmp c.args.seen.now x ≡ false = grind (arith, common_steps, c.in_ok-added.ensures.added) in
+    let absent : contains seen_cmp c.args.seen.now x ≡ false =
+    grind (arith, common_steps, c.in_ok-added.ensures.added) in
     ap found_view c.in_ok-push.ensures.items
     ∙ map-append (λ (e : Bor Entry). entry_view e.now) c.args.unread.now.items (c.args.entry ∷ [])
     ∙ new_goes t found k unknown (sym member ∙ absent)
