@@ -195,7 +195,7 @@ module _ {F : Type 0} (answers : Bounds → ℕ → F → Option ℕ → F → T
           subst AreInOrder is (filter_in_order (λ (x : Timed). nat_lt from x.at) events order) in
           all_pass count e.at (e ∷ es) ordered (omega (arith, few, many, fewer)))
 
-      -- those of a document
+      -- the events of a document can be passed
       pub document_passes : AreEvents d.network d.events → CanPass 0 (events_by until d.events)
       document_passes events =
           let order = filter_in_order (λ (e : Timed). nat_le e.at until) d.events events.in_order in

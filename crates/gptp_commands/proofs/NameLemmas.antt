@@ -294,7 +294,7 @@ with_name : (words : List Text) → (words ≡ []) ⊎ (words ≡ codes "--" ∷
 with_name words (inl nothing) = inl (rw nothing refl)
 with_name words (inr mark) = inr (rw mark refl)
 
--- so it is `compare` and nothing more, or the mark
+-- the words are `compare` and nothing more, or the mark after it
 pub compares : (words : List Text) → fault words ≡ [] → BeginsWith (codes "compare") words → IsCompare words
 compares words none (others, is) =
     subst IsCompare (sym is) (with_name others (words_behind others (subst (λ ws. fault ws ≡ []) is none)))

@@ -116,7 +116,7 @@ pub number_within : (name : Text) (defaults : List Text) (least most : ℕ) (row
     → IfSome (number_of (name, Number least most, defaults) rows) (λ n. (least ≤ n) × (n ≤ most))
 number_within name defaults least most rows = found_within least most (one_of name rows)
 
--- so it is where a default takes its place
+-- a number is within its range also where a default takes its place
 pub default_within : (found : Option ℕ) (least most default : ℕ) → least ≤ default → default ≤ most
     → IfSome found (λ n. (least ≤ n) × (n ≤ most))
     → (least ≤ unwrap_or found default) × (unwrap_or found default ≤ most)

@@ -171,7 +171,7 @@ lacks_none rows none one all (inl lacks) =
     absurd (omega arith)
 lacks_none rows none one all (inr beyond) = absurd (omega (arith, all, one, beyond))
 
--- so it is where that is found for the command that is entered
+-- there are cases where these words are found for the command that is entered
 has_cases : (at : Option (Text × List Row)) → option_map (λ p. p.0) at ≡ Some (codes "faults")
     → word_of (the ONLY) (found_in at) ≡ None → part_of (found_in at) ≡ 1 → parts_of (found_in at) ≡ 1
     → IfSome at IsRight

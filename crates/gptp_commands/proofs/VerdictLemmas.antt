@@ -23,7 +23,7 @@ use Rattle.gptp_commands.specs.Documents.{document_limit, RefusesFault}
 abbrev pub AreSame : List (List ℕ) → Status → List (List ℕ) → Status → Type 0
 AreSame a s b t = (a ≡ b) × (s ≡ t)
 
--- so it is where both say one line
+-- two outputs of one line are the same where the lines are
 same_line : (line other : List ℕ) (is : Status) (a b : List (List ℕ)) (s t : Status) → line ≡ other
     → Says line is a s → Says other is b t → AreSame a s b t
 same_line line other is a b s t e x y =

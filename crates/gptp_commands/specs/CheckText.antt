@@ -56,7 +56,7 @@ AnswersCertificate d until input output status =
     × IsCertificate c.version c.lines × JudgesAt d until c output status)
     ⊎ ((fault : CertificateFault) × Fails input fault × RefusesCertificate fault output status)
 
--- so it is with one within its size, for a text that is a document
+-- what is answered to a certificate within its size, for a text that is a document
 abbrev pub AnswersBoth : Option ℕ → List ℕ → List ℕ → List (List ℕ) → Status → Type 0
 AnswersBoth until certificate document output status =
     ((d : DocumentState) × Means document d

@@ -19,7 +19,7 @@ pub record ShowsChoice (g : Snapshot) (output : List (List ℕ)) (status : Statu
   pub shown : output ≡ certificate_lines 2 lines
   pub status_is : status ≡ Done
 
--- that of the network as it stands at the time, which is well-formed as every document's is
+-- the choice of the network as it is at the time, which is well-formed as every document's is
 abbrev pub ChoosesAt : DocumentState → Option ℕ → List (List ℕ) → Status → Type 0
 ChoosesAt d until output status =
     (g : Snapshot) × IsSnapshot d (moment_of until d) g × IsWellFormed g × ShowsChoice g output status

@@ -99,7 +99,7 @@ fn place_in(
     }
 }
 
-/// The same for the network of a document.
+/// The place at which a certificate fails for the network of a document.
 fn place_at(
     alloc: Global,
     document: &Document,

@@ -52,7 +52,7 @@ rises (x ∷ xs) by =
         let is : get_or xs i y ≡ y = get_or_from_slice_get xs i y y there in
         omega (arith, low, is)
 
--- So many roots in front are this one, and it is below those behind them.
+-- The first n roots are this one, and it is below those after them.
 record IsRun (root : ℕ) (xs : List ℕ) (n : ℕ) : Type 0 where
   same : (x : ℕ) → In x (take n xs) → x ≡ root
   counted : times (take n xs) root ≡ n

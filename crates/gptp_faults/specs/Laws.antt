@@ -33,7 +33,7 @@ abbrev pub FollowSettled : DocumentState → FaultsOptions → ℕ → List Outc
 FollowSettled d options at outcomes = (o : OutcomeState) (bound : ℕ) (g : Snapshot)
     → options.hold ≡ None → In o outcomes → o.down.bound ≡ Some bound → StandsWithout d at o g → TellsSettled g o
 
--- So it is of every document that is playable.
+-- The lines on followers are settled in every document that is playable.
 abbrev pub FollowLinesSettle : Type 0
 FollowLinesSettle = (d : DocumentState) (options : FaultsOptions) (lines : List (List ℕ)) (exceeded : Bool)
     (f : FaultsOf d options lines exceeded) → IsPlayable d → FollowSettled d options f.times.from f.outcomes

@@ -35,7 +35,7 @@ runs_of t = t.moments * t.seeds
 abbrev pub with_case : ℕ → Planned → DocumentState → DocumentState
 with_case at p d = with_event (at + p.hold) (return_of p.failing) (with_event at (fault_of p.failing) d)
 
--- So end the last two stretches of a run, in which a case is down and is back.
+-- How the last two stretches of a run end, in which a case is down and is back.
 abbrev pub IsRun : DocumentState → Times → Planned → ℕ → EndState × EndState → Type 0
 IsRun d t p run ends = EndsOf draws (with_case (moment_of t run) p d) (moment_of t run + p.hold + t.behind)
     (generator (seed_of t run)) (Some ends)

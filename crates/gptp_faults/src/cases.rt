@@ -29,7 +29,7 @@ pub(crate) struct Planned {
     pub hold: u64,
 }
 
-/// The same case.
+/// A copy of a case.
 fn same(case: &Case) -> Case
     ensures { result ≡ case.now }
 {
@@ -125,7 +125,7 @@ fn used_links(alloc: Global, snapshot: &Snapshot) -> Result<Vec<Case>, AllocErro
     Ok(cases)
 }
 
-/// So it is where links are cases.
+/// The cases of links, where links are cases.
 fn link_cases(
     alloc: Global,
     snapshot: &Snapshot,
@@ -173,7 +173,7 @@ fn live_systems(alloc: Global, document: &Document) -> Result<Vec<Case>, AllocEr
     Ok(cases)
 }
 
-/// So it is where systems are cases.
+/// The cases of systems, where systems are cases.
 fn system_cases(
     alloc: Global,
     document: &Document,

@@ -29,7 +29,7 @@ fn first_fault(document: &Document, times: &Times) -> Option<DocumentFault>
     }
 }
 
-/// So it is where there is a case.
+/// The fault of the first case, if there is a case.
 pub(crate) fn fault_before(
     document: &Document,
     times: &Times,

@@ -45,7 +45,7 @@ apart_at before m =
     if nat_lt 1 (length m.bests.items) && not (length m.bests.items == before)
     then record { at = m.at; components = length m.bests.items } ∷ [] else []
 
--- those of moments, where there were so many components before
+-- the findings of moments, where there were so many components before
 abbrev pub apart_from : ℕ → List Moment → List Apart
 apart_from before [] = []
 apart_from before (m ∷ ms) = apart_at before m ++ apart_from (length m.bests.items) ms
@@ -69,7 +69,7 @@ nobody_if before at id = if is_told before id then record { at = at; best = id }
 abbrev pub nobody_at : List ℕ → Moment → List Nobody
 nobody_at before m = flat_map (nobody_if before m.at) m.bests.items
 
--- those of moments, where these were the bests before
+-- the findings of moments, where these were the bests before
 abbrev pub nobody_from : List ℕ → List Moment → List Nobody
 nobody_from before [] = []
 nobody_from before (m ∷ ms) = nobody_at before m ++ nobody_from m.bests.items ms

@@ -30,13 +30,13 @@ long_line threshold line l =
     codes "long link " ++ decimal l.link ++ line_words line ++ codes " max " ++ decimal l.max ++ codes " needs "
     ++ decimal l.needs ++ codes " threshold " ++ decimal threshold ++ codes " at " ++ decimal l.at
 
--- that of a stretch at which a link loses frames
+-- the line of a stretch at which a link loses frames
 abbrev pub lossy_line : Option ℕ → Lossy → List ℕ
 lossy_line line l =
     codes "lossy link " ++ decimal l.link ++ line_words line ++ codes " loss " ++ decimal l.loss ++ codes " from "
     ++ decimal l.from ++ codes " to " ++ or_none decimal l.to
 
--- that of a time at which Sync is late, and the lines of a time
+-- the line of a time at which Sync is late, and the lines of a time
 abbrev pub late_line : ℕ → ℕ → ℕ → List ℕ
 late_line limit at needs =
     codes "late " ++ decimal at ++ codes " needs " ++ decimal needs ++ codes " limit " ++ decimal limit
@@ -44,7 +44,7 @@ late_line limit at needs =
 abbrev pub late_lines : ℕ → CalmTime → List (List ℕ)
 late_lines limit t = option_to_list (option_map (late_line limit t.at) t.needs)
 
--- that of a time
+-- what is said of a time
 abbrev pub calm_words : Option ℕ → List ℕ
 calm_words (Some bound) = codes " yes bound " ++ decimal bound
 calm_words None = codes " no"
@@ -56,15 +56,15 @@ calm_line t = codes "calm " ++ decimal t.at ++ calm_words t.bound
 abbrev pub unlinked_line : ℕ → List ℕ
 unlinked_line clock = codes "unlinked " ++ clock_text clock
 
--- that of a time after which there are several components
+-- the line of a time after which there are several components
 abbrev pub apart_line : Apart → List ℕ
 apart_line a = codes "apart " ++ decimal a.at ++ codes " components " ++ decimal a.components
 
--- that of two systems between which a clock decides
+-- the line of two systems between which a clock decides
 abbrev pub chance_line : ℕ × ℕ → List ℕ
 chance_line two = codes "chance " ++ identity_text two.0 ++ codes " " ++ identity_text two.1
 
--- that of a best that can't be grandmaster
+-- the line of a best that can't be grandmaster
 abbrev pub nobody_line : Nobody → List ℕ
 nobody_line n = codes "nobody " ++ decimal n.at ++ codes " " ++ identity_text n.best
 

@@ -67,7 +67,7 @@ chance_if best (Some second) = if decides_by_clock best second then (best, secon
 abbrev pub chance_at : List Label → ℕ → List (ℕ × ℕ)
 chance_at ls best = chance_if best (second_in best None ls)
 
--- those of all components, by their bests
+-- the chances of all components, by their bests
 pub record AreChancesOf (g : Graph) (pairs : List (ℕ × ℕ)) : Type 0 where
   pub bests : List ℕ
   pub are : AreSorted g bests

@@ -77,7 +77,7 @@ abbrev pub network_entries : Option (List ℕ) → RowState → List PlacedKey
 network_entries (Some part) row = (Network, part) ∷ []
 network_entries None row = keys_at Network (table_keys row)
 
--- those of the members of an array, from this number on
+-- the keys of the members of an array, from this number on
 abbrev pub numbered : Section → ℕ → List (List Key) → List PlacedKey
 numbered section n [] = []
 numbered section n (keys ∷ more) = keys_at (Member section n) keys ++ numbered section (suc n) more

@@ -42,7 +42,7 @@ stretches link before (s ∷ ss) =
     (if loss_in_use s == before then [] else stretch_of link (loss_in_use s) s.at (next_other (loss_in_use s) ss))
     ++ stretches link (loss_in_use s) ss
 
--- those of the links of a document
+-- the long and the lossy links of a document
 abbrev pub longs_of : DocumentState → List Wire → List Long
 longs_of d = flat_map (λ w. option_to_list (long_of d.network.params (course_of d.events w)))
 

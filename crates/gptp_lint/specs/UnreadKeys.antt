@@ -52,7 +52,7 @@ with_key t found k =
     else if list_any (λ old. is_same old k) found then found
     else found ++ k ∷ []
 
--- those of some keys that aren't read, each where it comes first
+-- which of some keys aren't read, each where it comes first
 abbrev pub first_unread : Members → List PlacedKey → List PlacedKey
 first_unread t keys = fold (with_key t) [] keys
 

@@ -155,7 +155,7 @@ fn push_nobody(
     Ok(())
 }
 
-/// The same for each best of a moment.
+/// Puts a finding for each best of a moment that can't be grandmaster.
 fn push_nobodies(
     nobody: &mut Vec<Nobody>,
     before: &[Identity],
@@ -219,7 +219,7 @@ fn push_chance(
     Ok(())
 }
 
-/// The same for each of these bests.
+/// The chances of the components of these bests.
 fn chances_in(
     alloc: Global,
     labels: &[Label],

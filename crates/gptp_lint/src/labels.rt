@@ -59,7 +59,7 @@ fn relabel(label: &mut Label, old: Identity, new: Identity)
     }
 }
 
-/// The same at each system.
+/// Gives each system with this best another.
 fn relabel_all(labels: &mut [Label], old: Identity, new: Identity)
     ensures { labels.new ≡ map (relabelled old new) labels.old }
 {
@@ -102,7 +102,7 @@ fn join(labels: &mut [Label], edge: &Edge)
     }
 }
 
-/// The same for each of these links.
+/// Joins the systems at the ends of each of these links.
 fn join_all(labels: &mut [Label], edges: &[Edge])
     ensures { labels.new ≡ joined_all edges.now labels.old }
 {

@@ -150,7 +150,7 @@ fn write_words(
     Ok(tail)
 }
 
-/// The same for a text that spells the table.
+/// What follows the fault of a text that spells a table, which is refused.
 fn tell_refusal(
     alloc: Global,
     input: &[u8],

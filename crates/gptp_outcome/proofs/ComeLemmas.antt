@@ -46,7 +46,7 @@ pub record GoesOn (w w' : WorldState) : Type 0 where
   pub stays : Stays w w'
   pub count : length w'.stations ≡ length w.stations
 
--- so it is over two steps
+-- a world goes on over two steps
 goes_on : (u v w : WorldState) → GoesOn u v → GoesOn v w → GoesOn u w
 goes_on u v w first second = record {
   can = second.can;

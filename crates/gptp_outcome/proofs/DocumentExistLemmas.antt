@@ -224,7 +224,7 @@ pub record HasMade {F : Type 0} (answers : Bounds → ℕ → F → Option ℕ �
   pub now : after.time ≡ event.at
   pub octets : AllTellOctets ts
 
--- So are events, one after another, and then all happens that is due by a time.
+-- Events are made one after another, and then all happens that is due by a time.
 pub record HasCourse {F : Type 0} (answers : Bounds → ℕ → F → Option ℕ → F → Type 0) (n : NetworkState)
     (before events : List Timed) (until : ℕ) (fate : F) (w : WorldState) : Type 0 where
   pub ts : List Transition

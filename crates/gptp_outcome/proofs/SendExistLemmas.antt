@@ -178,7 +178,7 @@ module _ {F : Type 0} (answers : Bounds → ℕ → F → Option ℕ → F → T
 abbrev pub HasFrames : Channel → Type 0
 HasFrames channel = (direction : Direction) → AllByRecursion IsOfOctets (queue direction channel)
 
--- so it is on every link
+-- all that is in flight is of octets, on every link
 abbrev pub HaveFrames : List Channel → Type 0
 HaveFrames channels = (link : ℕ) (channel : Channel) → slice_get channels link ≡ Some channel → HasFrames channel
 

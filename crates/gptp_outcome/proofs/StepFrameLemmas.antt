@@ -44,7 +44,7 @@ announces (bodies.PdelayRespFollowUp stamp requester) is = absurd cc
 abbrev IsFine : Sending → Type 0
 IsFine x = IsAnnounce x.body ⊎ FitsSigned w8 x.head.log_interval
 
--- so it is with all that announces, with nothing, with what asks and with what answers
+-- what announces, nothing, what asks and what answers can be written as frames
 announcing_fine : (sends : List Sending) → AllAre Announcing sends → (x : Sending) → In x sends → IsFine x
 announcing_fine sends all x member = inl (announces x.body (all x member))
 
@@ -106,7 +106,7 @@ syncs_logs number log told p (h ∷ hs) (q ∷ qs) x member =
     by true ih (inr (inr later)) = ih later
     by false ih later = ih later
 
--- so it is with what the Sync timer and the Relay timer send
+-- what the Sync timer and the Relay timer send can be written as frames
 telling_fine : (s : SystemState) (told : Relayed) (sends : List Sending) → IsSystem s → sends ≡ told_by told s
     → (x : Sending) → In x sends → IsFine x
 telling_fine s told sends is are x member =
@@ -130,7 +130,7 @@ relaying_fine : (known : Option SyncInfo) (now : ℕ) (s t : SystemState) (sends
 relaying_fine None now s t sends is k = silent_fine sends k.silent
 relaying_fine (Some info) now s t sends is k = relaying_by_fine (has_sync_timeout s.params) info now s t sends is k
 
--- so it is with all that a step sends
+-- all that a step sends can be written as frames
 steps_fine : (input : Input) (now : ℕ) (s t : SystemState) (sends : List Sending) (answer : Answer) → IsSystem s
     → IsTimely s now input → Steps input now s t sends answer → (x : Sending) → In x sends → IsFine x
 steps_fine (PortUp p) now s t sends answer is timely k =

@@ -77,7 +77,7 @@ next_exists e (f ∷ es) = by (next_exists f es)
 abbrev IsNextBy : ℕ → List Entry → Type 0
 IsNextBy time es = (due : ℕ) × (item : Item) × IsNext es due item × (due ≤ time)
 
--- so it is, or nothing is due by then
+-- something is next by a time, or nothing is due by then
 next_by : (time : ℕ) (es : List Entry) → NothingBefore (time + 1) es ⊎ IsNextBy time es
 next_by time [] = inl (All-nil (λ (e : Entry). time + 1 ≤ e.time))
 next_by time (e ∷ es) = by (next_exists e es)

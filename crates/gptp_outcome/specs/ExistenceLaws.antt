@@ -64,7 +64,7 @@ DocumentsUnfold {F} answers = AnswersAll answers → (d : DocumentState) (until 
     → (start : WorldState) × (ts : List Transition) × (w : WorldState) × Unfolds answers d until fate start ts w
     × CanGoOn w
 
--- So it has the lines of its frames, and a report.
+-- A document leads to a world, with the lines of its frames and a report.
 abbrev pub DocumentsLead : {F : Type 0} → (Bounds → ℕ → F → Option ℕ → F → Type 0) → Type 0
 DocumentsLead {F} answers = AnswersAll answers → (d : DocumentState) (until : ℕ) (frames : Bool) (fate : F)
     → IsPlayable d → AllInject d.events → IsMoment until

@@ -29,7 +29,7 @@ use Rattle.gptp_reached.specs.Reached.{StandsAs, shape, wire_of}
 abbrev pub KeepLinks : List Channel → List Channel → Type 0
 KeepLinks before after = map wire_of after ≡ map wire_of before
 
--- so it is where they differ in what is in flight alone
+-- channels that differ in what is in flight alone have the same links
 bare_kept : (before after : List Channel) → DifferInFlight before after → KeepLinks before after
 bare_kept = same_but_flight wire_of (λ channel. refl)
 

@@ -123,7 +123,7 @@ ends_after (t ∷ events) v = ends_after events (link_acted t.act v) ∙ acted_e
 abbrev used_before : (ℕ → Bool) → Bool → PortId × PortId → List Link → List Link
 used_before has up (a, b) rest = if up && (has a.clock && has b.clock) then link_of (a, b) ∷ rest else rest
 
--- those of links
+-- the links in use of some wires
 abbrev used : (ℕ → Bool) → List Wire → List Link
 used has [] = []
 used has (v ∷ wires) = used_before has v.up (v.a, v.b) (used has wires)

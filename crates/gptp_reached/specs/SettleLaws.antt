@@ -22,7 +22,7 @@ DocumentsSettle = (d : DocumentState) (until : ℕ) (w : WorldState) (lines : Li
     → IsSnapshot d until g
     → IsSettledChoice g lines
 
--- so it is whatever is drawn for the frames meanwhile
+-- a document settles whatever is drawn for the frames meanwhile
 abbrev pub PlayedSettle : {F : Type 0} → (Bounds → ℕ → F → Option ℕ → F → Type 0) → Type 0
 PlayedSettle {F} answers = (d : DocumentState) (until : ℕ) (fate : F) (told : List Told) (w : WorldState)
     (lines : List SystemLine) (g : Snapshot)

@@ -27,7 +27,7 @@ pub fn worlds_are_exact<F: Fate>()
     ensures { WorldsAreExact F.answers }
 {}
 
-/// So it is with each act of every run of a document.
+/// Each act of every run of a document that leaves an offset leaves an exact one.
 pub fn runs_are_exact<F: Fate>()
     ensures { RunsAreExact F.answers }
 {}
@@ -37,7 +37,7 @@ pub fn documents_lead_to_settled_worlds<F: Fate>()
     ensures { DocumentsLeadToSettled F.answers }
 {}
 
-/// So it is sooner where nothing lapses in the document for want of Sync.
+/// A document leads to a settled world sooner where nothing lapses in it for want of Sync.
 pub fn documents_settle_at_once<F: Fate>()
     ensures { DocumentsSettleAtOnce F.answers }
 {}

@@ -89,7 +89,7 @@ pub fn documents_settle()
     ensures { DocumentsSettle }
 {}
 
-/// So it is of every document that can be played, whatever is drawn for the frames meanwhile.
+/// Every document that can be played settles, whatever is drawn for the frames meanwhile.
 pub fn played_documents_settle<F: Fate>()
     ensures { PlayedSettle F.answers }
 {}

@@ -13,11 +13,11 @@ pub record ShowsTheSame (t : Transition) : Type 0 where
   pub choice : (name : ℕ) → same_choice (shown name t.before) (shown name t.after) ≡ true
   pub roles : (name : ℕ) → same_roles (shown name t.before) (shown name t.after) ≡ true
 
--- so it is with an act behind a time
+-- an act is at most at a time, or leaves what is shown as it was
 abbrev pub IsStill : ℕ → Transition → Type 0
 IsStill time t = (at_of t ≤ time) ⊎ ShowsTheSame t
 
--- and with all of them
+-- all of some acts are so
 abbrev pub StillBehind : ℕ → List Transition → Type 0
 StillBehind time = AllByRecursion (IsStill time)
 

@@ -68,7 +68,7 @@ module _ {F : Type 0} (answers : Bounds → ℕ → F → Option ℕ → F → T
       (makes_chain e first fate drawn w between makes)
       (courses_chain until es rest drawn fate_after between w' courses))
 
-  -- so it is with what breaks off
+  -- acts that break off are a chain too
   breaks_chain : (until : ℕ) (ts : List Transition) (fate : F) (w : WorldState) → Breaks answers until ts fate w
       → (after : List Station) × Chain ts w.stations after
   breaks_chain until ts fate w b = (b.after.stations, passes_chain until ts fate b.fate_after w b.after b.passes)

@@ -107,7 +107,7 @@ flat_none f [] none = refl
 flat_none f (n ∷ ns) none =
     ap (λ h. h ++ flat_map f ns) (none 0 n refl) ∙ flat_none f ns (λ i m at. none (suc i) m at)
 
--- those of one, where the others have none
+-- where one name has lines and the others have none, all lines are its lines
 pub flat_one : {X : Type 0} (f : ℕ → List X) (names : List ℕ) (place name : ℕ) → slice_get names place ≡ Some name
     → ((i n : ℕ) → slice_get names i ≡ Some n → (i ≡ place → ⊥) → f n ≡ []) → flat_map f names ≡ f name
 flat_one f [] place name there none = absurd cc

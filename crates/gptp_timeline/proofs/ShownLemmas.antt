@@ -88,7 +88,7 @@ live_other name zero (s ∷ ss) old new there before behind =
 live_other name (suc place) (s ∷ ss) old new there before behind =
     live_step name s (slice_set ss place new) ss (live_other name place ss old new there before behind)
 
--- so it is where a system is given an input
+-- a system that is given an input leaves the others as they are
 pub calls_other : (name place : ℕ) (input : Input) (w : WorldState) (draws : List Draw) (answer : Answer)
     (w' : WorldState) → (calls : Calls place input w draws answer w') → (clock calls.station.system ≡ name → ⊥)
     → live_system name w' ≡ live_system name w

@@ -230,7 +230,7 @@ module _ (told own : List Telling) (before after : List ShownPort) where
       (last_both of_system own (port_tellings 0 before after)
       ∙ ap (λ last. option_or last (last_by of_system own)) (ports_of_none 0 before after))
 
-  -- so it is with each port
+  -- the last change of a port that is told is what it shows
   port_last : (place : ℕ) (p : ShownPort) → last_by (of_port place) own ≡ None → slice_get after place ≡ Some p
       → ((r : ShownPort) → slice_get before place ≡ Some r → last_by (of_port place) told ≡ Some r)
       → last_by (of_port place) (told ++ (own ++ port_tellings 0 before after)) ≡ Some p

@@ -71,7 +71,7 @@ module _ (look : Look) (since errors : ℕ → Option ℕ) (w w' : WorldState) w
 -- ---- the lines of several systems
 
 module _ (look : Look) (w : WorldState) where
-  -- those of the systems behind others that were looked at
+  -- the lines of the systems after others that were looked at
   pub each_lines : (front back : List Watched) (o : WatchState) → o.systems ≡ front ++ back
       → lines_each look w (range_with_len (length front) (length back)) o
       ≡ flat_map (λ (x : Watched). unless o.summary (change_lines look.at x.clock x.shown (shown x.clock w))) back
@@ -115,7 +115,7 @@ pub unless_both : (summary : Bool) (xs ys : List (List ℕ)) → unless summary 
 unless_both true xs ys = refl
 unless_both false xs ys = refl
 
--- those of what is kept are those of the names
+-- the lines of what is kept are the lines of the names
 pub kept_lines : (since errors : ℕ → Option ℕ) (w w' : WorldState) (at : ℕ) (summary : Bool) (names : List ℕ)
     → flat_map (λ (x : Watched). unless summary (change_lines at x.clock x.shown (shown x.clock w')))
     (map (kept since errors w) names)

@@ -43,7 +43,7 @@ TimelineUnfolds {F} answers = (d : DocumentState) (until : ℕ) (options : Timel
     (lines : List (List ℕ)) (exceeded : Bool) (t : TimelineOf answers d until options fate lines exceeded)
     → AreEvents d.network d.events → Unfolds answers d until fate t.start (all_acts t.passages) t.after
 
--- So that is the world of which a run of the document to the same time reports.
+-- A timeline ends with the world of which a run of the document to the same time reports.
 abbrev pub TimelineEndsAsRun : {F : Type 0} → (Bounds → ℕ → F → Option ℕ → F → Type 0) → Type 0
 TimelineEndsAsRun {F} answers = (d : DocumentState) (until : ℕ) (options : TimelineOptions) (fate : F)
     (lines : List (List ℕ)) (exceeded : Bool) (t : TimelineOf answers d until options fate lines exceeded)
@@ -119,13 +119,13 @@ AreErrorsWithin passages = (p : Passage) (errors : TimeErrors) (name from bound 
     → ((act : Transition) → In act p.acts → IsWithin name from bound act)
     × IfSome (error_from name (Some from) p.acts) (λ amount. amount ≤ bound)
 
--- So it is as long as clocks can show the time.
+-- The errors of a timeline are within its bounds as long as clocks can show the time.
 abbrev pub ErrorsAreWithin : {F : Type 0} → (Bounds → ℕ → F → Option ℕ → F → Type 0) → Type 0
 ErrorsAreWithin {F} answers = (d : DocumentState) (until : ℕ) (options : TimelineOptions) (fate : F)
     (lines : List (List ℕ)) (exceeded : Bool) (t : TimelineOf answers d until options fate lines exceeded)
     → IsPlayable d → until ≤ 10 ^ 18 → AreErrorsWithin t.passages
 
--- So it is in every run of a document with the time errors of the document as it stands at the end of the run.
+-- The errors in every run of a document are within the time errors of the document as it is at the end of the run.
 abbrev pub RunsAreWithin : {F : Type 0} → (Bounds → ℕ → F → Option ℕ → F → Type 0) → Type 0
 RunsAreWithin {F} answers = (d : DocumentState) (until : ℕ) (fate : F) (start : WorldState) (ts : List Transition)
     (w : WorldState) (errors : TimeErrors) (name from bound : ℕ)
@@ -146,7 +146,7 @@ pub record IsRight {F : Type 0} (answers : Bounds → ℕ → F → Option ℕ �
   pub follow : Follow d t.start t.passages
   pub within : AreErrorsWithin t.passages
 
--- So is every timeline of a document that is playable, as long as clocks can show the time.
+-- Every timeline of a document that is playable is right, as long as clocks can show the time.
 abbrev pub TimelinesAreRight : {F : Type 0} → (Bounds → ℕ → F → Option ℕ → F → Type 0) → Type 0
 TimelinesAreRight {F} answers = (d : DocumentState) (until : ℕ) (options : TimelineOptions) (fate : F)
     (lines : List (List ℕ)) (exceeded : Bool) (t : TimelineOf answers d until options fate lines exceeded)

@@ -11,7 +11,7 @@ use Rattle.gptp_timeline.specs.declared.ports.ShownPort.{ShownPort}
 abbrev pub shown_port : SystemState → ℕ → ShownPort
 shown_port s port = record { role = role_at s port; capable = is_capable_at s port }
 
--- those of all ports, by rising number
+-- what all ports show, by rising number
 abbrev pub shown_ports : SystemState → List ShownPort
 shown_ports s = map (shown_port s) (range_with_len 1 (length s.ports))
 

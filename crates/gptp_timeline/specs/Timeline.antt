@@ -106,7 +106,7 @@ abbrev pub AreErrorsBy : DocumentState → ℕ → ℕ → Option TimeErrors →
 AreErrorsBy d at to None = (t : TimeErrors) → AreTimeErrors d at t → HoldsBy to t → ⊥
 AreErrorsBy d at to (Some t) = AreTimeErrors d at t × HoldsBy to t
 
--- so it is where it is asked how exact systems are, and else there are none
+-- the time errors where it is asked how exact systems are; otherwise there are none
 abbrev pub AreErrorsIf : Bool → DocumentState → ℕ → ℕ → Option TimeErrors → Type 0
 AreErrorsIf true d at to errors = AreErrorsBy d at to errors
 AreErrorsIf false d at to errors = errors ≡ None

@@ -29,7 +29,7 @@ fn goes_without(shown: &Shown) -> bool
     !shown.root.capable() || (shown.slave.is_some() && !shown.known)
 }
 
-/// So it is, and it lives.
+/// Whether a system lives and goes without time.
 fn is_without(shown: &Option<Shown>) -> bool
     ensures { result ≡ is_without shown.now }
 {

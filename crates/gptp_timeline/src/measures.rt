@@ -46,7 +46,7 @@ pub(crate) fn better(best: Option<Greatest>, one: Greatest) -> Option<Greatest>
     }
 }
 
-/// So it is where there is one.
+/// The greater of the best so far and another, if there is another.
 pub fn better_if(best: Option<Greatest>, one: Option<Greatest>) -> Option<Greatest>
     ensures { result ≡ better_if best one }
 {

@@ -93,7 +93,7 @@ pub(crate) fn same_choice(before: &Option<Shown>, after: &Option<Shown>) -> bool
     }
 }
 
-/// So it is as to its ports also.
+/// Whether two looks show the same roots, steps, Slave ports and ports.
 pub(crate) fn same_roles(before: &Option<Shown>, after: &Option<Shown>) -> bool
     ensures { result ≡ same_roles before.now after.now }
 {

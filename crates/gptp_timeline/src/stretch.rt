@@ -296,7 +296,7 @@ fn write_exact(
     write_bound(text, from, bound)
 }
 
-/// So it is where it has such a bound and isn't its own root.
+/// Appends the line on how exact a system is, where it has such a bound and isn't its own root.
 fn write_exact_if(
     text: &mut String,
     from: u64,

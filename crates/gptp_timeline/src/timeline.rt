@@ -126,7 +126,7 @@ fn last_by(events: &[Timed], time: u64) -> u64
     }
 }
 
-/// The same, where a bound says that it may be.
+/// The time errors of a document at a time, where a bound says that it may have them.
 fn errors_if(
     alloc: Global,
     document: &Document,
@@ -146,7 +146,7 @@ fn errors_if(
     }
 }
 
-/// So it is where it is asked how exact systems are, and else there are none.
+/// The time errors where it is asked how exact systems are; otherwise none.
 fn errors_asked(
     alloc: Global,
     document: &Document,

@@ -466,7 +466,7 @@ impl Watch {
         Ok(())
     }
 
-    /// So it is where time was received.
+    /// Sees the receipt of time of the system at a place, where time was received.
     fn see_receipt_if<F: Fate + Drop>(
         &mut self,
         text: &mut String,

@@ -1,4 +1,4 @@
--- So many of the numbers so far belong to the part.
+-- The count is that of the numbers so far which belong to the part.
 use Rattle.std.proofs.Common.{◌≡◌, ◌≤◌, length}
 use Rattle.gptp_faults.specs.Outcomes.{numbers_of}
 use Rattle.gptp_faults.proofs.faults.count_of.Given as goal
