@@ -45,7 +45,7 @@ hears_others place port octets w draws (Some answer) w' station name here named 
     called place _ w draws answer w' station name here named calls
 
 -- the system at the end of a link is that of which is told
-pub hearer_named : (link : ℕ) (direction : Direction) (octets : List ℕ) (w : WorldState) (draws : List Draw)
+hearer_named : (link : ℕ) (direction : Direction) (octets : List ℕ) (w : WorldState) (draws : List Draw)
     (answer : Option Answer) (w' : WorldState) (channel : Channel) (name : ℕ)
     → slice_get w.net.channels link ≡ Some channel → name ≡ (receiver direction channel).clock
     → (delivers : Delivers link direction octets w draws answer w') → clock delivers.station.system ≡ name

@@ -9,8 +9,6 @@ pub mod EachLemmas
 pub mod SameLemmas
 pub mod StillLemmas
 pub mod ActLemmas
-pub mod EffectLemmas
-pub mod SparedLemmas
 pub mod MeasuredLemmas
 pub mod ChainLemmas
 pub mod TrackLemmas
@@ -18,7 +16,6 @@ pub mod StepLemmas
 pub mod OwnLemmas
 pub mod ReceiptLemmas
 pub mod ActStepLemmas
-pub mod StaysLemmas
 pub mod EventLemmas
 pub mod CountLemmas
 pub mod RootLemmas

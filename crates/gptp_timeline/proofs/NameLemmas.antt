@@ -6,7 +6,7 @@ use Rattle.gptp_acts.specs.Acts.{Acts, AtSystem}
 use Rattle.gptp_acts.specs.Sound.{HaveOwnClocks, HaveTheirSetups, IsWired}
 use Rattle.gptp_acts.specs.Views.{rising_clocks}
 use Rattle.gptp_acts.specs.World.{WorldState}
-use Rattle.gptp_acts.proofs.StayLemmas.{acts_stay, stays_clocks, stays_setups}
+use Rattle.gptp_acts.proofs.StayLemmas.{acts_stay, stays_setups}
 use Rattle.gptp_graph.specs.Order.{IsRising}
 use Rattle.gptp_links.specs.Fate.{Draw}
 use Rattle.gptp_lists.specs.Members.{In}
@@ -29,11 +29,10 @@ unseen_rise w own = subst IsRising (sym (unseen_clocks (rising_clocks w))) (cloc
 
 -- ---- the names of systems
 
--- These names rise, each system has one of them, which no other has, and keeps what it starts with.
+-- These names rise, each system has one of them, and keeps what it starts with.
 pub record AreNamed (names : List ℕ) (w : WorldState) : Type 0 where
   pub rising : IsRising names
   pub setups : HaveTheirSetups w
-  pub clocks : HaveOwnClocks w
   pub each : (place : ℕ) (station : Station) → slice_get w.stations place ≡ Some station
       → In (clock station.system) names
 
@@ -41,7 +40,6 @@ pub first_names : (w : WorldState) → IsWired w → AreNamed (rising_clocks w) 
 first_names w wired = record {
   rising = clocks_rise w wired.clocks;
   setups = wired.setups;
-  clocks = wired.clocks;
   each = λ place station there.
       In-rising (clock station.system) (map clock_of_station w.stations)
       (In-map clock_of_station station w.stations (In-slice_get station w.stations place there));
@@ -58,9 +56,6 @@ pub same_named : (names : List ℕ) (w w' : WorldState) → w'.stations ≡ w.st
 same_named names w w' same named = record {
   rising = named.rising;
   setups = λ place station there. named.setups place station (ap (λ xs. slice_get xs place) (sym same) ∙ there);
-  clocks = λ place other station at here there.
-      named.clocks place other station at (ap (λ xs. slice_get xs place) (sym same) ∙ here)
-      (ap (λ xs. slice_get xs other) (sym same) ∙ there);
   each = λ place station there. named.each place station (ap (λ xs. slice_get xs place) (sym same) ∙ there);
 }
 
@@ -72,7 +67,6 @@ acts_named names act w draws done w' acts named =
     record {
       rising = named.rising;
       setups = stays_setups w w' stays;
-      clocks = stays_clocks w w' stays named.clocks;
       each = λ place station there.
           let was = stays.stations place station there in
           subst (λ c. In c names) (sym was.same.named) (named.each place was.old was.here);

@@ -1,5 +1,5 @@
 -- What an observer keeps and tells is what is defined over the acts: as systems start, and stretch by stretch.
-use Rattle.std.proofs.Common.{◌≡◌, inl, inr, ℕ, Bool, false, List, [], ◌∷◌, ◌++◌, map, Option, Some, None, option_map, refl, sym, ap, subst, ◌∙◌, append_assoc, append-nil}
+use Rattle.std.proofs.Common.{◌≡◌, ℕ, Bool, false, List, [], ◌∷◌, ◌++◌, map, Option, Some, None, option_map, refl, sym, ap, subst, ◌∙◌, append_assoc, append-nil}
 use Rattle.std.specs.List.{filter_map, flat_map}
 use Rattle.std.proofs.lemmas.List.Folds.{flat_map-map}
 use Rattle.gptp_acts.specs.declared.station.Station.{Station}
@@ -25,7 +25,7 @@ use Rattle.gptp_timeline.specs.Shown.{is_expecting, live_among, shown, shown_of}
 use Rattle.gptp_timeline.specs.Stretch.{at_of, counted, ended, error_from, roots_of, shown_of_all, under_way, waits}
 use Rattle.gptp_timeline.specs.StretchText.{after_line, ended_stretch, error_among, system_accuracy, wait_of}
 use Rattle.gptp_timeline.specs.Timeline.{Passage, accuracy_at, accuracy_lines, act_lines, end_lines, ended_of, exact_time, is_begun, kept_accuracy, kept_accuracy_at, none_waits, start_lines, stretch_of}
-use Rattle.gptp_timeline.specs.Watch.{WatchState, begun, event_look, lines_all, see_act, see_all, seen_lines, sees_act, tells_changes, unless, unseen, without_error}
+use Rattle.gptp_timeline.specs.Watch.{WatchState, begun, event_look, lines_all, see_act, see_all, seen_lines, tells_changes, unless, unseen, without_error}
 use Rattle.gptp_timeline.specs.declared.counts.Counts.{Counts}
 use Rattle.gptp_timeline.specs.declared.measures.Greatest.{Greatest}
 use Rattle.gptp_timeline.specs.declared.measures.Measures.{Measures}
@@ -43,7 +43,6 @@ use Rattle.gptp_timeline.proofs.ErrorLemmas.{errors_more, errors_stay}
 use Rattle.gptp_timeline.proofs.MeasureLemmas.{greatest_both}
 use Rattle.gptp_timeline.proofs.NameLemmas.{acts_named, AreNamed, first_names, same_named}
 use Rattle.gptp_timeline.proofs.StandLemmas.{kept, map_same, Stands}
-use Rattle.gptp_timeline.proofs.StaysLemmas.{stays_told}
 use Rattle.gptp_timeline.proofs.StepLemmas.{errors_next, measured_by, restand, Tracks}
 use Rattle.gptp_timeline.proofs.TrackLemmas.{all_seen_lines, unless_each}
 
@@ -225,16 +224,6 @@ module _ (options : TimelineOptions) (names : List ℕ) (since : ℕ → Option 
           stepped.1,
         )
 
-    -- what is told of an act is what is told where systems are looked at
-    told_so : (ts : List Transition) (t : Transition) (o o_after : WatchState) (lines : List (List ℕ))
-        → Observes options names since from ts t.before o → IsDone t → tells_changes t.told t.after o o_after lines
-        → sees_act t.told t.after o o_after lines
-    told_so ts t o o_after lines observes done (inl looked) = looked
-    told_so ts t o o_after lines observes done (inr (stays, (is, told))) =
-        let so = stays_told names (waits ts since) (λ name. error_from name from ts) (at_of t) t.before t.after o
-        observes.named observes.tracks.stands t.told.timed.act t.told.done done.draws done.acts stays in
-        (is ∙ sym so.0, told ∙ sym so.1)
-
     -- behind several
     chained : (us ts : List Transition) (w w' : WorldState) (before after : List Station) (o o_after : WatchState)
         (lines : List (List ℕ)) → before ≡ w.stations → Chain us before after → w'.stations ≡ after
@@ -247,10 +236,8 @@ module _ (options : TimelineOptions) (names : List ℕ) (since : ℕ → Option 
       none,
     )
     chained (t ∷ us) ts w w' before after o o_after lines start (first, done, rest) end
-        (between, one, others, seen, tells, are) observes =
-        let stood = moved ts w t.before o (first ∙ start) observes in
-        let step = act_step ts t o stood done in
-        let (is, told) = told_so ts t o between one stood done seen in
+        (between, one, others, (is, told), tells, are) observes =
+        let step = act_step ts t o (moved ts w t.before o (first ∙ start) observes) done in
         let next = chained us (ts ++ t ∷ []) t.after w' t.after.stations after between o_after others refl rest end
         tells
         (subst (Observes options names since from (ts ++ t ∷ []) t.after) (sym is) step.0) in (

@@ -31,19 +31,6 @@ found name (suc place) (s ∷ ss) station there named alone =
     rw test (found name place ss station there named
     (λ other at here is. let e : suc other ≡ suc place = alone (suc other) at here is in omega arith))
 
--- so is a live one that takes its place
-pub found_set : (name place : ℕ) (stations : List Station) (old new : Station) → slice_get stations place ≡ Some old
-    → clock new.system ≡ name → new.live ≡ true
-    → ((other : ℕ) (at : Station) → slice_get stations other ≡ Some at → clock at.system ≡ name → other ≡ place)
-    → live_among name (slice_set stations place new) ≡ Some new.system
-found_set name place [] old new there named live alone = absurd cc
-found_set name zero (s ∷ ss) old new there named live alone =
-    let test : clock new.system == name ≡ true = grind (arith, nat_tests) in rw (test, live) refl
-found_set name (suc place) (s ∷ ss) old new there named live alone =
-    let test : clock s.system == name ≡ false = grind (arith, nat_tests, alone zero s refl) in
-    rw test (found_set name place ss old new there named live
-    (λ other at here is. let e : suc other ≡ suc place = alone (suc other) at here is in omega arith))
-
 -- where none is live with a clock, none is found
 not_first : (name : ℕ) (s : Station) (ss : List Station)
     → ((place : ℕ) (station : Station) → slice_get (s ∷ ss) place ≡ Some station → clock station.system ≡ name

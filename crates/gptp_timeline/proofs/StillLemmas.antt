@@ -3,9 +3,9 @@ use Rattle.std.proofs.Common.{◌≡◌, ◌&&◌, ◌||◌, ℕ, zero, suc, not
 use Rattle.std.proofs.lemmas.Option.{same_Some}
 use Rattle.gptp_acts.specs.World.{WorldState}
 use Rattle.gptp_timeline.specs.Changes.{change_lines}
-use Rattle.gptp_timeline.specs.Measures.{better_if, ended_by, since_after}
+use Rattle.gptp_timeline.specs.Measures.{ended_by, since_after}
 use Rattle.gptp_timeline.specs.Shown.{is_expecting, shown}
-use Rattle.gptp_timeline.specs.Watch.{lines_at, measures_after, one_lines, see_at, see_one, StaysSo, unless, wait_behind, watched_after, WatchState}
+use Rattle.gptp_timeline.specs.Watch.{lines_at, measures_after, one_lines, see_at, see_one, StaysSo, unless, watched_after, WatchState}
 use Rattle.gptp_timeline.specs.declared.measures.Measures.{Measures}
 use Rattle.gptp_timeline.specs.declared.shown.Shown.{Shown}
 use Rattle.gptp_timeline.specs.declared.watched.Look.{Look}
@@ -58,19 +58,12 @@ module _ (look : Look) (w : WorldState) (x : Watched) (so : StaysSo look w x) wh
       }) (set_same o.systems place x there)
       ∙ ap (λ (m : Measures). record o { measures = m }) (measures_stay o.measures)
 
--- no line tells of a system that shows what it did
-module _ (look : Look) (w : WorldState) (x : Watched) (same : shown x.clock w ≡ x.shown) where
   no_lines : (left_out : Bool) → unless left_out (change_lines look.at x.clock x.shown (shown x.clock w)) ≡ []
   no_lines true = refl
   no_lines false =
-      ap (λ (s : Option Shown). change_lines look.at x.clock x.shown s) same
+      ap (λ (s : Option Shown). change_lines look.at x.clock x.shown s) so.shown_so
       ∙ no_change_lines look.at x.clock x.shown
 
   pub tells_none : (place : ℕ) (o : WatchState) → slice_get o.systems place ≡ Some x → lines_at look w place o ≡ []
   tells_none place o there =
       ap (λ (y : Option Watched). unless o.summary (one_lines look w y)) there ∙ no_lines o.summary
-
--- what is measured of one is its wait alone
-pub waited_measures : (look : Look) (x : Watched) (m : Measures)
-    → measures_after look x x.shown m ≡ record m { holdover = better_if m.holdover (wait_behind look x x.shown) }
-waited_measures look x m = rw (choice_itself x.shown, roles_itself x.shown, known_itself x.shown) refl

@@ -12,7 +12,6 @@ pub mod Roots
 pub mod StretchText
 pub mod Limits
 pub mod End
-pub mod Effect
 pub mod Watch
 pub mod Timeline
 pub mod Ends

@@ -1,6 +1,6 @@
 -- What the code keeps of a stretch that passes: what an observer keeps and tells of an act, by what it kept before and
 -- the world after the act. Contracts of private functions alone cite this, but for `WatchState` and `unless`.
-use Rattle.std.specs.Prelude.{◌≡◌, ◌⊎◌, ℕ, ⊤, ◌+◌, ◌==◌, ◌&&◌, ◌||◌, nat_le, nat_lt, not, Bool, true, false, if◌then◌else◌, List, [], ◌∷◌, ◌++◌, length, map, Option, Some, None, is_none, is_some, slice_get, slice_set, ℤ, unsigned_abs}
+use Rattle.std.specs.Prelude.{◌≡◌, ℕ, ◌+◌, ◌==◌, ◌&&◌, ◌||◌, nat_le, nat_lt, not, Bool, true, false, if◌then◌else◌, List, [], ◌∷◌, ◌++◌, length, map, Option, Some, None, is_none, is_some, slice_get, slice_set, ℤ, unsigned_abs}
 use Rattle.std.specs.List.{range_with_len}
 use Rattle.std.specs.Option.{option_map, option_map_or}
 use Rattle.gptp_acts.specs.Advancing.{Told}
@@ -12,14 +12,11 @@ use Rattle.gptp_plan.specs.declared.change.Act.{Act}
 use Rattle.gptp_plan.specs.declared.change.Act.TheVariants.{Change as Changing, Deliver, Expire}
 use Rattle.gptp_system.specs.State.{SystemState}
 use Rattle.gptp_timeline.specs.Changes.{change_lines}
-use Rattle.gptp_timeline.specs.Effect.{frame_effect, Shows, timer_effect}
 use Rattle.gptp_timeline.specs.EventLine.{event_line}
 use Rattle.gptp_timeline.specs.Measures.{better_if, ended_by, last_if, one_at, since_after}
 use Rattle.gptp_timeline.specs.Receipts.{error_of, offset_line, received_by}
 use Rattle.gptp_timeline.specs.Shown.{is_expecting, live_system, same_choice, same_roles, shown}
 use Rattle.gptp_timeline.specs.Stretch.{same_known}
-use Rattle.gptp_timeline.specs.declared.effect.Effect.{Effect}
-use Rattle.gptp_timeline.specs.declared.effect.Effect.TheVariants as effects
 use Rattle.gptp_timeline.specs.declared.measures.Greatest.{Greatest}
 use Rattle.gptp_timeline.specs.declared.measures.Measures.{Measures}
 use Rattle.gptp_timeline.specs.declared.shown.Shown.{Shown}
@@ -234,83 +231,11 @@ seen_lines at (Expire clock timer) done w o = system_lines at w clock false o
 seen_lines at (Changing change) done w o =
     unless o.summary (event_line at change ∷ []) ++ lines_all (event_look at) w o
 
--- what is kept and told of an act where systems are looked at
-abbrev pub sees_act : Told → WorldState → WatchState → WatchState → List (List ℕ) → Type 0
-sees_act told w o o_after lines =
-    (o_after ≡ see_act told.timed.at told.timed.act told.done w o)
-    × (lines ≡ seen_lines told.timed.at told.timed.act told.done w o)
-
--- ---- an act that leaves all that is shown as it was
-
--- The system with a name is live, and as it was shown as to what an act can leave another.
-pub record LiveStays (effect : Effect) (name : ℕ) (w : WorldState) (last : Option Shown) : Type 0 where
-  pub system : SystemState
-  pub live : live_system name w ≡ Some system
-  pub before : Shown
-  pub kept : last ≡ Some before
-  pub shows : Shows effect system before
-
--- so it is by what is kept of it
-pub record KeptStays (effect : Effect) (name : ℕ) (w : WorldState) (o : WatchState) : Type 0 where
-  pub place : ℕ
-  pub x : Watched
-  pub placed : place_of name o ≡ Some place
-  pub there : slice_get o.systems place ≡ Some x
-  pub stays : LiveStays effect name w x.shown
-
--- an act that can leave this another left all that is shown of a system as it was
-abbrev pub Stays : Effect → ℕ → WorldState → WatchState → Type 0
-Stays effects.Nothing name w o = ⊤
-Stays effects.Offset name w o = KeptStays effects.Offset name w o
-Stays (effects.Port p) name w o = KeptStays (effects.Port p) name w o
-Stays effects.Any name w o = ⊥
-
--- so did an act of which this is told
-abbrev pub DeliveryStays : Done → WorldState → WatchState → Type 0
-DeliveryStays Quiet w o = ⊥
-DeliveryStays (Heard clock port answer frame) w o = Stays (frame_effect port answer frame.items) clock w o
-
-abbrev pub ActStays : Act → Done → WorldState → WatchState → Type 0
-ActStays (Deliver link direction) done w o = DeliveryStays done w o
-ActStays (Expire clock timer) done w o = Stays (timer_effect timer) clock w o
-ActStays (Changing change) done w o = ⊥
-
--- then the wait alone is taken up of the system that received time
-abbrev pub wait_one : Look → ℕ → Option Watched → WatchState → WatchState
-wait_one look place None o = o
-wait_one look place (Some x) o = taken look place x x.shown o
-
-abbrev pub wait_at : Look → ℕ → WatchState → WatchState
-wait_at look place o = wait_one look place (slice_get o.systems place) o
-
--- and its receipt
-abbrev pub receive_placed : ℕ → WorldState → ℕ → Option ℕ → WatchState → WatchState
-receive_placed at w clock None o = o
-receive_placed at w clock (Some place) o = see_receipt at w clock place (wait_at (own_look at true) place o)
-
-abbrev pub placed_receipt_lines : ℕ → WorldState → ℕ → Option ℕ → WatchState → List (List ℕ)
-placed_receipt_lines at w clock None o = []
-placed_receipt_lines at w clock (Some place) o = receipt_lines at w clock o
-
--- where one did
-abbrev pub receive : ℕ → WorldState → Option ℕ → WatchState → WatchState
-receive at w None o = o
-receive at w (Some clock) o = receive_placed at w clock (place_of clock o) o
-
-abbrev pub received_lines : ℕ → WorldState → Option ℕ → WatchState → List (List ℕ)
-received_lines at w None o = []
-received_lines at w (Some clock) o = placed_receipt_lines at w clock (place_of clock o) o
-
-abbrev pub keeps_act : Told → WorldState → WatchState → WatchState → List (List ℕ) → Type 0
-keeps_act told w o o_after lines =
-    (o_after ≡ receive told.timed.at w (received_by told.done) o)
-    × (lines ≡ received_lines told.timed.at w (received_by told.done) o)
-
--- what the observer keeps and tells of an act: no system is looked at where it is known that all is shown as it was
+-- what the observer keeps and tells of an act
 abbrev pub tells_changes : Told → WorldState → WatchState → WatchState → List (List ℕ) → Type 0
 tells_changes told w o o_after lines =
-    sees_act told w o o_after lines
-    ⊎ (ActStays told.timed.act told.done w o × keeps_act told w o o_after lines)
+    (o_after ≡ see_act told.timed.at told.timed.act told.done w o)
+    × (lines ≡ seen_lines told.timed.at told.timed.act told.done w o)
 
 -- clocks rise
 abbrev pub RisesByClock : List Watched → Type 0

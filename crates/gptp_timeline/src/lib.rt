@@ -11,13 +11,11 @@
 mod amounts;
 mod changes;
 mod counts;
-mod effect;
 mod end;
 mod ends;
 mod event_line;
 mod laws;
 mod limits;
-mod live;
 mod measures;
 mod ports;
 mod receipts;

@@ -2,7 +2,6 @@
 
 ghost use Rattle.std.specs.Prelude.{◌≡◌, ◌≤◌, true, length};
 ghost use Rattle.gptp_system.specs.Steps.{IsPortOf};
-ghost use Rattle.gptp_timeline.specs.Effect.{ShowsCapable};
 ghost use Rattle.gptp_timeline.specs.Ports.{role_number, same_bool, same_port, same_ports, shown_port, shown_ports};
 
 use arrayvec::ArrayVec;
@@ -121,17 +120,4 @@ pub(crate) fn show_ports(system: &System, ports: &[ShownPort]) -> bool
         }
     }
     true
-}
-
-/// Whether a system has this port, and it is asCapable or not as it was shown.
-pub(crate) fn shows_capable(system: &System, port: u16, ports: &[ShownPort]) -> bool
-    ensures { result ≡ true → ShowsCapable port system.now ports.now }
-{
-    if port == 0 || u16::from(system.ports()) < port {
-        return false;
-    }
-    match ports.get(usize::from(port) - 1) {
-        Some(shown) => system.capable(port as u8) == shown.capable,
-        None => false,
-    }
 }

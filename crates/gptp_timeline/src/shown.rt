@@ -1,11 +1,9 @@
 //! What is shown of a system.
 
 ghost use Rattle.std.specs.Prelude.{◌≡◌, ◌≤◌, true, length};
-ghost use Rattle.gptp_timeline.specs.Effect.{Shows};
 ghost use Rattle.gptp_timeline.specs.Shown.{is_expecting, is_known, same_choice, same_roles, same_slave, same_way, shown_of};
 
-use crate::effect::Effect;
-use crate::ports::{Ports, ports_of, same_ports, show_ports, shows_capable};
+use crate::ports::{Ports, ports_of, same_ports, show_ports};
 use gptp_system::System;
 use gptp_vector::Identity;
 
@@ -68,18 +66,6 @@ pub(crate) fn shows(system: &System, shown: &Shown) -> bool
         && same_slave(slave, shown.slave)
         && system.offset().is_some() == shown.known
         && show_ports(system, shown.ports.as_slice())
-}
-
-/// Whether a live system is as it was shown as to what an act can leave another.
-pub(crate) fn shows_still(system: &System, effect: Effect, shown: &Shown) -> bool
-    ensures { result ≡ true → Shows effect system.now shown.now }
-{
-    match effect {
-        Effect::Nothing => true,
-        Effect::Offset => system.offset().is_some() == shown.known,
-        Effect::Port(port) => shows_capable(system, port, shown.ports.as_slice()),
-        Effect::Any => false,
-    }
 }
 
 /// Whether a system is as before as to whether it lives, root, steps and Slave port.

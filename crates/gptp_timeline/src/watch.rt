@@ -1,22 +1,18 @@
 //! An observer that tells what changes at which system when.
 
-ghost use Rattle.std.specs.Prelude.{◌≡◌, ◌≤◌, ◌<◌, ◌+◌, ◌++◌, IfOk, OnOk, length, map, option_map, string_bytes, take, unsigned_abs};
+ghost use Rattle.std.specs.Prelude.{◌≡◌, ◌≤◌, ◌<◌, ◌+◌, ◌++◌, true, IfOk, OnOk, length, map, option_map, string_bytes, take, unsigned_abs};
 ghost use Rattle.gptp_acts.specs.Views.{rising_clocks};
 ghost use Rattle.gptp_spelling.specs.Lines.{text_of};
 ghost use Rattle.gptp_timeline.specs.Measures.{one_at};
-ghost use Rattle.gptp_timeline.specs.Shown.{live_system};
+ghost use Rattle.gptp_timeline.specs.Shown.{live_system, shown};
 ghost use Rattle.gptp_timeline.specs.Watch.{counts_from, receipt_lines_of, unseen, without_error};
 
 use crate::changes::write_changes;
-use crate::effect::{Effect, frame_effect, timer_effect};
 use crate::event_line::write_event;
-use crate::live::{shown_in, shows_in, stays_in};
 use crate::measures::{Greatest, Measures, NOTHING, better_if};
 use crate::receipts::{error_of, received_by, write_offset};
-use crate::shown::Shown;
-use crate::watched::{
-    Look, Watched, error_after, has_clock, leaves_wait, measures_after, since_behind, wait_behind,
-};
+use crate::shown::{Shown, shown_of, shows};
+use crate::watched::{Look, Watched, error_after, leaves_wait, measures_after, since_behind};
 use gptp_links::Fate;
 use gptp_plan::Change;
 use gptp_report::sink::Sink;
@@ -58,6 +54,29 @@ impl Model for Watch {
     } };
 
     ghost invariant = { λ w. RisesByClock w.systems.items };
+}
+
+/// What the system with a clock shows, where it is live.
+fn shown_in<F: Fate + Drop>(world: &World<F>, clock: ClockId) -> Option<Shown>
+    ensures { result ≡ shown clock world.now.scene }
+{
+    world.well_formed();
+    match world.system(clock) {
+        Some(system) => Some(shown_of(system)),
+        None => None,
+    }
+}
+
+/// Whether the system with a clock shows this, or doesn't live as nothing is shown.
+fn shows_in<F: Fate + Drop>(world: &World<F>, clock: ClockId, last: &Option<Shown>) -> bool
+    ensures { result ≡ true → shown clock world.now.scene ≡ last.now }
+{
+    world.well_formed();
+    match (world.system(clock), last) {
+        (Some(system), Some(last)) => shows(system, last),
+        (None, None) => true,
+        _ => false,
+    }
 }
 
 /// What is kept of a system that hasn't started.
@@ -141,16 +160,12 @@ fn clear_errors(systems: &mut Vec<Watched>)
 }
 
 impl Watch {
-    ghost use Rattle.std.specs.Prelude.{◌≡◌, ◌≢◌, ◌≤◌, ◌<◌, ◌++◌, ◌∷◌, [], None, false, true, IfOk, IfSome, OnOk, length, map, slice_get, Some, string_bytes};
-    ghost use Rattle.std.specs.Io.KnownBytes.{Appends};
+    ghost use Rattle.std.specs.Prelude.{◌≡◌, ◌≤◌, ◌<◌, ◌++◌, ◌∷◌, [], None, false, true, IfOk, IfSome, OnOk, length, map, slice_get, Some, string_bytes};
     ghost use Rattle.gptp_acts.specs.Views.{rising_clocks};
-    ghost use Rattle.gptp_sink.specs.Sink.{AppendsSome};
     ghost use Rattle.gptp_spelling.specs.Lines.{text_of};
-    ghost use Rattle.gptp_world.specs.Observing.{told_of, TellsAct};
     ghost use Rattle.gptp_timeline.specs.Changes.{change_lines};
     ghost use Rattle.gptp_timeline.specs.EventLine.{event_line};
     ghost use Rattle.gptp_timeline.specs.Watch.{RisesByClock, StaysSo, begun, delivery_lines, event_look, lines_all, lines_at, nothing, place_of, placed_lines, receipt_lines, receipt_lines_if, see_act, see_all, see_at, see_delivery, see_placed, see_receipt, see_receipt_if, see_system, seen_lines, system_lines, take_error, taken, unless, unseen};
-    ghost use Rattle.gptp_timeline.specs.Watch.{keeps_act, placed_receipt_lines, receive, receive_placed, received_lines, sees_act, wait_at, ActStays, DeliveryStays, KeptStays, Stays, WatchState};
     ghost use Rattle.gptp_timeline.specs.declared.watched.Watched.{Watched};
 
     /// An observer of a world whose systems start, before it has seen that.
@@ -210,38 +225,14 @@ impl Watch {
         self.systems.len()
     }
 
-    /// The place of a system, by a search for its clock.
-    fn search(&self, clock: ClockId) -> Option<usize>
+    /// The place of a system, by its clock.
+    fn place_of(&self, clock: ClockId) -> Option<usize>
         ensures is { result ≡ place_of clock self.now }
         ensures within { IfSome result (λ place. place < length self.now.systems) }
     {
         self.systems
             .binary_search_by_key(&clock, |system| system.clock)
             .ok()
-    }
-
-    /// Whether the system at a place has this clock.
-    fn is_at(&self, place: usize, clock: ClockId) -> bool
-        ensures is { result ≡ true → place_of clock self.now ≡ Some place }
-        ensures within { result ≡ true → place < length self.now.systems }
-    {
-        if self.systems.len() <= place {
-            return false;
-        }
-        let system = &self.systems[place];
-        has_clock(system, clock)
-    }
-
-    /// The place of a system, by its clock. It is its rank in the world that is seen; a search finds it in any case.
-    fn place_of<F: Fate + Drop>(&self, world: &World<F>, clock: ClockId) -> Option<usize>
-        ensures is { result ≡ place_of clock self.now }
-        ensures within { IfSome result (λ place. place < length self.now.systems) }
-    {
-        let rank = world.rank(clock).unwrap_or(0);
-        match self.is_at(rank, clock) {
-            true => Some(rank),
-            false => self.search(clock),
-        }
     }
 
     /// Appends the lines of a system that is left as `after`, where they are asked for.
@@ -527,7 +518,7 @@ impl Watch {
         ensures tells { OnOk result (string_bytes text.new
             ≡ string_bytes text.old ++ text_of (system_lines at world.now.scene clock received self.old)) }
     {
-        match self.place_of(world, clock) {
+        match self.place_of(clock) {
             Some(place) => self.see_placed(text, world, at, clock, received, place),
             None => Ok(()),
         }
@@ -553,143 +544,6 @@ impl Watch {
         }
     }
 
-    /// Whether the system with a clock is live, and as it was shown as to what an act can leave another.
-    fn kept_stays<F: Fate + Drop>(&self, world: &World<F>, clock: ClockId, effect: Effect) -> bool
-        ensures { result ≡ true → KeptStays effect clock world.now.scene self.now }
-    {
-        match self.place_of(world, clock) {
-            Some(place) => {
-                let system = &self.systems[place];
-                stays_in(world, clock, effect, &system.shown)
-            }
-            None => false,
-        }
-    }
-
-    /// Whether an act that can leave this another is known to have left all that is shown of a system as it was.
-    fn stays<F: Fate + Drop>(&self, world: &World<F>, clock: ClockId, effect: Effect) -> bool
-        ensures { result ≡ true → Stays effect clock world.now.scene self.now }
-    {
-        match effect {
-            Effect::Nothing => true,
-            Effect::Offset => self.kept_stays(world, clock, Effect::Offset),
-            Effect::Port(port) => self.kept_stays(world, clock, Effect::Port(port)),
-            Effect::Any => false,
-        }
-    }
-
-    /// Whether it is known of a delivery of which this is told.
-    fn delivery_stays<F: Fate + Drop>(&self, world: &World<F>, done: &Done) -> bool
-        ensures { result ≡ true → DeliveryStays done.now world.now.scene self.now }
-    {
-        match done {
-            Done::Quiet => false,
-            Done::Heard {
-                clock,
-                port,
-                answer,
-                frame,
-            } => {
-                let effect = frame_effect(*port, *answer, frame.as_slice());
-                self.stays(world, *clock, effect)
-            }
-        }
-    }
-
-    /// Whether it is known of an act of which this is told.
-    fn act_stays<F: Fate + Drop>(&self, world: &World<F>, act: &Act, done: &Done) -> bool
-        ensures { result ≡ true → ActStays act.now done.now world.now.scene self.now }
-    {
-        match act {
-            Act::Change(_) => false,
-            Act::Expire { clock, timer } => self.stays(world, *clock, timer_effect(*timer)),
-            Act::Deliver { .. } => self.delivery_stays(world, done),
-        }
-    }
-
-    /// Takes up the wait of the system at a place, after an act that left it as it was shown.
-    fn take_wait(&mut self, look: Look, place: usize)
-        requires { place < length self.old.systems }
-        ensures { self.new ≡ wait_at look place self.old }
-    {
-        let system = &self.systems[place];
-        let wait = wait_behind(look, system, &system.shown);
-        let since = since_behind(look, system, &system.shown);
-        self.measures.holdover = better_if(self.measures.holdover, wait);
-        self.systems[place].since = since;
-    }
-
-    /// Sees the receipt of time of the system at a place, which is as it was shown.
-    fn receive_placed<F: Fate + Drop>(
-        &mut self,
-        text: &mut String,
-        world: &World<F>,
-        at: u64,
-        clock: ClockId,
-        place: usize,
-    ) -> Result<(), AllocError>
-        requires moment { at ≤ 1000000000000000 }
-        requires place { place < length self.old.systems }
-        ensures sees { OnOk result (self.new ≡ receive_placed at world.now.scene clock (Some place) self.old) }
-        ensures tells { OnOk result (string_bytes text.new
-            ≡ string_bytes text.old ++ text_of (placed_receipt_lines at world.now.scene clock (Some place) self.old)) }
-    {
-        let look = Look {
-            at,
-            by_event: false,
-            received: true,
-        };
-        self.take_wait(look, place);
-        self.see_receipt(text, world, at, clock, place)
-    }
-
-    /// Sees the receipt of time of a system that is as it was shown.
-    fn receive<F: Fate + Drop>(
-        &mut self,
-        text: &mut String,
-        world: &World<F>,
-        at: u64,
-        clock: ClockId,
-    ) -> Result<(), AllocError>
-        requires { at ≤ 1000000000000000 }
-        ensures sees { OnOk result (self.new ≡ receive at world.now.scene (Some clock) self.old) }
-        ensures tells { OnOk result (string_bytes text.new
-            ≡ string_bytes text.old ++ text_of (received_lines at world.now.scene (Some clock) self.old)) }
-    {
-        match self.place_of(world, clock) {
-            Some(place) => self.receive_placed(text, world, at, clock, place),
-            None => Ok(()),
-        }
-    }
-
-    /// Sees an act that left all that is shown as it was: the receipt of time by it alone, if there was one.
-    fn keep<F: Fate + Drop, K: Sink>(
-        &mut self,
-        alloc: Global,
-        world: &World<F>,
-        timed: &Timed,
-        done: &Done,
-        sink: &mut K,
-    ) -> Result<(), Cut>
-        requires { timed.now.at ≤ 1000000000000000 }
-        ensures some { (o_after : WatchState) × TellsAct keeps_act (told_of timed.now done.now) world.now.scene self.old
-            o_after (AppendsSome (K.written sink.old) (K.written sink.new)) }
-        ensures whole { OnOk result (TellsAct keeps_act (told_of timed.now done.now) world.now.scene self.old self.new
-            (Appends (K.written sink.old) (K.written sink.new))) }
-        ensures works { result ≢ Err Cut.Write → K.failures sink.new ≡ K.failures sink.old }
-        ensures fails { result ≡ Err Cut.Write → K.failures sink.new ≢ K.failures sink.old }
-    {
-        match received_by(done) {
-            Some(clock) => {
-                let mut text = String::new(alloc);
-                self.receive(&mut text, world, timed.at, clock)?;
-                write_whole(sink, text.as_bytes())?;
-                Ok(())
-            }
-            None => Ok(()),
-        }
-    }
-
     /// Sees an act that was done.
     fn see<F: Fate + Drop>(
         &mut self,
@@ -710,29 +564,6 @@ impl Watch {
             }
             Act::Deliver { .. } => self.see_delivery(text, world, timed.at, done),
         }
-    }
-
-    /// Looks at systems after an act that was done, and writes its lines.
-    fn look<F: Fate + Drop, K: Sink>(
-        &mut self,
-        alloc: Global,
-        world: &World<F>,
-        timed: &Timed,
-        done: &Done,
-        sink: &mut K,
-    ) -> Result<(), Cut>
-        requires { timed.now.at ≤ 1000000000000000 }
-        ensures some { (o_after : WatchState) × TellsAct sees_act (told_of timed.now done.now) world.now.scene self.old
-            o_after (AppendsSome (K.written sink.old) (K.written sink.new)) }
-        ensures whole { OnOk result (TellsAct sees_act (told_of timed.now done.now) world.now.scene self.old self.new
-            (Appends (K.written sink.old) (K.written sink.new))) }
-        ensures works { result ≢ Err Cut.Write → K.failures sink.new ≡ K.failures sink.old }
-        ensures fails { result ≡ Err Cut.Write → K.failures sink.new ≢ K.failures sink.old }
-    {
-        let mut text = String::new(alloc);
-        self.see(&mut text, world, timed, done)?;
-        write_whole(sink, text.as_bytes())?;
-        Ok(())
     }
 }
 
@@ -773,9 +604,9 @@ impl Observer for Watch {
         done: &Done,
         sink: &mut K,
     ) -> Result<(), Cut> {
-        match self.act_stays(world, &timed.act, done) {
-            true => self.keep(alloc, world, timed, done, sink),
-            false => self.look(alloc, world, timed, done, sink),
-        }
+        let mut text = String::new(alloc);
+        self.see(&mut text, world, timed, done)?;
+        write_whole(sink, text.as_bytes())?;
+        Ok(())
     }
 }

@@ -1,6 +1,6 @@
 //! What is kept of each system while a document runs.
 
-ghost use Rattle.std.specs.Prelude.{◌≡◌, true};
+ghost use Rattle.std.specs.Prelude.{◌≡◌};
 ghost use Rattle.gptp_timeline.specs.Watch.{error_after, measures_after, since_behind, wait_behind, leaves_wait};
 
 use crate::measures::{Greatest, Measures, better_if, ended_by, last_if, since_after};
@@ -33,13 +33,6 @@ pub(crate) struct Watched {
     pub error: Option<u128>,
 }
 
-/// Whether a system has this clock.
-pub(crate) fn has_clock(system: &Watched, clock: ClockId) -> bool
-    ensures { result ≡ true → system.now.clock ≡ clock }
-{
-    system.clock == clock
-}
-
 /// Whether an act that leaves a system as it is neither begins nor ends a wait of it.
 pub(crate) fn leaves_wait(look: Look, system: &Watched) -> bool
     ensures { result ≡ leaves_wait look system.now }
@@ -61,7 +54,7 @@ pub(crate) fn since_behind(look: Look, system: &Watched, after: &Option<Shown>) 
 }
 
 /// The wait of a system that an act ended which left it as `after`, if it ended one that counts.
-pub(crate) fn wait_behind(look: Look, system: &Watched, after: &Option<Shown>) -> Option<Greatest>
+fn wait_behind(look: Look, system: &Watched, after: &Option<Shown>) -> Option<Greatest>
     ensures { result ≡ wait_behind look system.now after.now }
 {
     match ended_by(

@@ -45,7 +45,7 @@ apart-turned (p ∷ ps) qs apart = (
       (λ q differ. differ.1) apart),
 )
 
-pub differ-push : (ps : List ℕ) (place : ℕ) → Differ ps → AllByRecursion (λ p. p ≢ place) ps → Differ (ps ++ place ∷ [])
+differ-push : (ps : List ℕ) (place : ℕ) → Differ ps → AllByRecursion (λ p. p ≢ place) ps → Differ (ps ++ place ∷ [])
 differ-push [] place differ others = (tt, tt)
 differ-push (p ∷ ps) place differ others = (
   all-push (λ other. other ≢ p) ps place differ.0 (λ same. others.0 (sym same)),

@@ -31,6 +31,5 @@ pub mod LaneLemmas
 pub mod SceneLemmas
 pub mod LaterLemmas
 pub mod ViewLemmas
-pub mod NextLemmas
-pub mod PlacesLemmas
+pub mod TakenLemmas
 pub mod UsedLemmas

@@ -4,9 +4,13 @@ use Rattle.std.specs.Prelude.{Result, Ok, Err, OnOk}
 use Rattle.std.proofs.lemmas.List.{get_or-set_same, get_or-set_other, length-map}
 use Rattle.std.proofs.lemmas.Option.{slice_get-get_or}
 use Rattle.gptp_lists.proofs.PlaceLemmas.{read}
+use Rattle.gptp_scheduler.specs.Pending.{Entry as Numbered}
+use Rattle.gptp_acts.specs.declared.item.Item.{Item}
+use Rattle.gptp_acts.specs.Pending.{plain}
 use Rattle.slab.specs.Slab.{Slab, get, slab_len}
 use Rattle.gptp_world.specs.declared.chain.Chain.{Chain}
 use Rattle.gptp_world.specs.declared.chain.Node.{Node}
+use Rattle.gptp_world.specs.declared.filed.Running.{Running}
 use Rattle.gptp_world.specs.Chain.{chain_at, head_of, no_chain, numbers_in, AreChained, ChangesOne}
 use Rattle.gptp_world.specs.Filed.{FiledState, queue_at, with_queue}
 use Rattle.gptp_world.proofs.ChainLemmas.{numbers-changed, numbers_there}
@@ -32,27 +36,32 @@ pub on_ok : {X E : Type 0} (r : Result X E) (P Q : Type 0) → (P → Q) → OnO
 on_ok (Ok x) P Q f p = f p
 on_ok (Err e) P Q f p = p
 
+pub length-plain : (es : List (Numbered Item)) → length (plain es) ≡ length es
+length-plain [] = refl
+length-plain (e ∷ es) = let ih = length-plain es in omega arith
+
 -- ---- the table as it is kept
 
-abbrev table : Slab Node → List Chain → FiledState
-table nodes chains = record {
+abbrev table : List (Option Running) → Slab Node → List Chain → FiledState
+table timers nodes chains = record {
+  timers = timers;
   queues = map (numbers_in (get nodes)) chains;
   room = nodes.capacity - slab_len nodes;
 }
 
-abbrev made : List (List ℕ) → ℕ → FiledState
-made queues room = record { queues = queues; room = room }
+abbrev made : List (Option Running) → List (List ℕ) → ℕ → FiledState
+made timers queues room = record { timers = timers; queues = queues; room = room }
 
 -- the chain at a place changed, so the queue there did
-pub queue_changed : (s t : Slab Node) (chains : List Chain) (place : ℕ) (after : Chain) (change : List ℕ → List ℕ)
-    (room : ℕ) → AreChained s chains → place < length chains
+pub queue_changed : (timers : List (Option Running)) (s t : Slab Node) (chains : List Chain) (place : ℕ)
+    (after : Chain) (change : List ℕ → List ℕ) (room : ℕ) → AreChained s chains → place < length chains
     → ChangesOne (get s) (get t) (chain_at place chains) after
     → numbers_in (get t) after ≡ change (numbers_in (get s) (chain_at place chains)) → t.capacity - slab_len t ≡ room
-    → table t (slice_set chains place after)
-    ≡ with_queue place (change (queue_at place (table s chains))) room (table s chains)
-queue_changed s t chains place after change room are within changes numbers left =
+    → table timers t (slice_set chains place after)
+    ≡ with_queue place (change (queue_at place (table timers s chains))) room (table timers s chains)
+queue_changed timers s t chains place after change room are within changes numbers left =
     let queue = numbers ∙ ap change (sym (numbers_there (get s) chains place)) in
-    ap₂ made
+    ap₂ (made timers)
     (numbers-changed s t chains place after are within changes
     ∙ ap (slice_set (map (numbers_in (get s)) chains) place) queue)
     left

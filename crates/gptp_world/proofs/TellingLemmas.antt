@@ -137,7 +137,7 @@ net_becomes stage net is after directory systems = record {
   moment = is.moment;
 }
 
--- a stage stays one where what is between its systems has no less room
+-- so it is where it has no less room
 pub net_changes : (stage : Stage) (net : Between) → IsStage stage → IsNet net → Uses nothing stage.net net
     → IsStage (record stage { net = net })
 net_changes stage net is after uses = net_becomes stage net is after uses.directory uses.systems

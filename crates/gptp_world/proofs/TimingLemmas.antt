@@ -183,7 +183,7 @@ module _ (place : ℕ) (station : Station) (ts : List Timer) (es : List Entry) w
       sym (set_timers_is place station ts es ∙ one_set (λ t. station_due t station) place timer ts es among set)
 
 module _ (place : ℕ) (station : Station) (ports : List Port) (es : List Entry) where
-  -- setting the timers of which this is true is setting all of them
+  -- those of which this is true
   some_touched : (kept : Timer → Bool) (ts : List Timer) → filter kept (timers_from 1 ports) ≡ ts
       → AreSetBut kept place station es
       → set_timers place station ts es ≡ set_timers place station (timers_from 1 ports) es

@@ -44,7 +44,7 @@ lives_by stations place number station false true own here named lives known =
     absurd cc
 lives_by stations place number station false false own here named lives known = refl
 
--- the system at the end of a lane lives exactly where it is among the live systems
+-- so it is of the system at the end of a lane
 pub lives_there : (stage : Stage) (lane : Lane) (place : ℕ) (cable : Cable) → IsFounded stage
     → slice_get stage.net.cables.items lane.link ≡ Some cable → IsReceiver lane place stage.net.directory
     → (station : Station) → slice_get stage.stations.items place ≡ Some station

@@ -12,7 +12,6 @@ pub mod Net
 pub mod Observing
 pub mod Pending
 pub mod Performing
-pub mod Places
 pub mod Room
 pub mod Scene
 pub mod Stage

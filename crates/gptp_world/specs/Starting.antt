@@ -31,7 +31,7 @@ pub record Replaces (place : ℕ) (new : Station) (stage stage_after : Stage) : 
 abbrev pub for_all_timers : SystemState → Need
 for_all_timers s = for_timers (4 * length s.ports + 3)
 
--- the timers of the system at a place can be set; where it has failed that takes no room
+-- those of the system at a place can be set; where it has failed that takes no room
 pub record CanSetTimers (place : ℕ) (stage : Stage) : Type 0 where
   pub station : Station
   pub here : slice_get stage.stations.items place ≡ Some station

@@ -29,7 +29,7 @@ abbrev pub AreSetAt : (Timer → Bool) → ℕ → Stage → Type 0
 AreSetAt otherwise place stage = (station : Station) → slice_get stage.stations.items place ≡ Some station
     → AreSetBut otherwise place station stage.net.pending.entries
 
--- all timers are set before a step by this input, but for those that count as touched in any case
+-- so it is before a step by this input, but for the timers that count as touched in any case
 abbrev pub AreSetFor : Input → ℕ → Stage → Type 0
 AreSetFor input place stage = AreSetAt (is_always_touched input) place stage
 

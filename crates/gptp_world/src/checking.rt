@@ -23,7 +23,7 @@ fn change_sets_an_octet(change: &Change)
     }
 }
 
-/// The octets that an act sets or injects are octets.
+/// So are those of any act.
 pub(crate) fn sets_an_octet(act: &Act)
     ensures { SetsAnOctet act.now }
 {

@@ -121,7 +121,7 @@ impl Net {
         }
     }
 
-    /// Makes room for the sends of the system at a place, where its call sends at all.
+    /// So it does where a call of the system sends at all.
     fn draw_within(
         &mut self,
         credit: &mut Credit,

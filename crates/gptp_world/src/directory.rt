@@ -32,9 +32,6 @@ pub(crate) struct Ends {
 /// How many places of the table of lanes belong to a system: ports are numbered from 1 to 16.
 const PORT_SPAN: usize = 17;
 
-/// How many slots there are for ranks, by the last ten bits of a clock.
-const SLOTS: usize = 1024;
-
 /// Who is where: the clocks of systems and the ports of links by their places, from 0, in the order in which the network
 /// took them. It doesn't change once it is made, and no call but [`new`](Self::new) takes memory.
 ///
@@ -46,8 +43,6 @@ pub(crate) struct Directory {
     // The clocks in rising order, and the place of each.
     rising: Vec<ClockId>,
     ranked: Vec<usize>,
-    // In each slot the rank of a clock of that slot, if there is one. Nothing rests on it: it is looked up first.
-    slots: Vec<usize>,
     // The lane that begins at each port, at 17 * place + port.
     outs: Vec<Option<Lane>>,
     ends: Vec<Ends>,
@@ -78,13 +73,11 @@ impl Directory {
         let ranked = places_of(alloc, &clocks, &rising)?;
         let ends = list_ends(alloc, &clocks, &joins)?;
         let outs = list_outs(alloc, &clocks, &joins, &ends)?;
-        let slots = list_slots(alloc, &rising)?;
         Ok(Directory {
             clocks,
             joins,
             rising,
             ranked,
-            slots,
             outs,
             ends,
         })
@@ -116,7 +109,7 @@ impl Directory {
         ensures some { IfSome result (λ place. slice_get self.now.clocks place ≡ Some clock) }
         ensures only { (place : ℕ) → slice_get self.now.clocks place ≡ Some clock → result ≡ Some place }
     {
-        let rank = rank_of(&self.rising, &self.slots, clock)?;
+        let rank = rank_of(&self.rising, clock)?;
         Some(self.ranked[rank])
     }
 
@@ -133,14 +126,6 @@ impl Directory {
         ensures { result ≡ slice_get (rising self.now.clocks) rank }
     {
         clock_among(&self.rising, rank)
-    }
-
-    /// The rank of a clock, if there is a system with it.
-    pub(crate) fn rank(&self, clock: ClockId) -> Option<usize>
-        ensures some { IfSome result (λ rank. slice_get (rising self.now.clocks) rank ≡ Some clock) }
-        ensures only { (rank : ℕ) → slice_get (rising self.now.clocks) rank ≡ Some clock → IsSome result }
-    {
-        rank_of(&self.rising, &self.slots, clock)
     }
 
     /// The lane that begins at a port of the system at a place, if there is one.
@@ -261,52 +246,13 @@ fn places_of(
     Ok(places)
 }
 
-/// The slot of a clock.
-fn slot_of(clock: ClockId) -> usize
-    ensures { result < 1024 }
-{
-    (u64::from(clock) % SLOTS as u64) as usize
-}
-
-/// In each slot the rank of one of the clocks, in rising order, that have it, if one does.
-fn list_slots(alloc: Global, rising: &[ClockId]) -> Result<Vec<usize>, AllocError> {
-    let mut slots = vec![in alloc; 0; SLOTS]?;
-    for rank in 0..rising.len() {
-        slots[slot_of(rising[rank])] = rank;
-    }
-    Ok(slots)
-}
-
-/// The rank in the slot of a clock, where that clock has it.
-fn rank_in_slot(rising: &[ClockId], slots: &[usize], clock: ClockId) -> Option<usize>
-    ensures { IfSome result (λ rank. slice_get rising.now rank ≡ Some clock) }
-{
-    let rank = slots.get(slot_of(clock)).copied()?;
-    match clock_among(rising, rank) {
-        Some(one) if one == clock => Some(rank),
-        _ => None,
-    }
-}
-
-/// The rank of a clock among those in rising order, by search.
-fn find_rank(rising: &[ClockId], clock: ClockId) -> Option<usize>
+/// The rank of a clock among those in rising order.
+fn rank_of(rising: &[ClockId], clock: ClockId) -> Option<usize>
     requires { IsNonDecreasing rising.now }
     ensures some { IfSome result (λ rank. slice_get rising.now rank ≡ Some clock) }
     ensures only { Contains rising.now clock → IsSome result }
 {
     rising.binary_search(&clock).ok()
-}
-
-/// The rank of a clock among those in rising order.
-fn rank_of(rising: &[ClockId], slots: &[usize], clock: ClockId) -> Option<usize>
-    requires { IsNonDecreasing rising.now }
-    ensures some { IfSome result (λ rank. slice_get rising.now rank ≡ Some clock) }
-    ensures only { Contains rising.now clock → IsSome result }
-{
-    match rank_in_slot(rising, slots, clock) {
-        Some(rank) => Some(rank),
-        None => find_rank(rising, clock),
-    }
 }
 
 /// The places of the systems at the ends of each link.

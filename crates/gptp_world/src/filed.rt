@@ -1,20 +1,30 @@
-//! Arrivals, filed by the direction of their link.
+//! What is pending, filed by item.
 
-ghost use Rattle.std.specs.Prelude.{◌≡◌, ℕ, ◌+◌, ◌-◌, ◌*◌, ◌<◌, ◌≤◌, [], ◌∷◌, ◌++◌, length, IsOk, IfOk, OnOk};
+ghost use Rattle.std.specs.Prelude.{◌≡◌, ℕ, ◌+◌, ◌-◌, ◌*◌, ◌<◌, ◌≤◌, [], ◌∷◌, ◌++◌, length, IsOk, IfOk, OnOk, None, slice_index_or, slice_set};
+ghost use Rattle.gptp_acts.specs.Item.{timer_kind, timer_port};
 ghost use Rattle.gptp_acts.specs.Pending.{arrival_place};
 ghost use Rattle.gptp_world.specs.Chain.{head_of, rest_of};
-ghost use Rattle.gptp_world.specs.Filed.{queue_at, with_queue};
+ghost use Rattle.gptp_world.specs.Filed.{queue_at, timer_place, with_queue};
 
 use crate::chain::{Chain, Node};
 use gptp_links::Direction;
+use gptp_system::Timer;
 use slab::Slab;
 use std::alloc::{AllocError, Global};
 use std::marker::Model;
 
-/// For each direction of a link, at its place, the numbers of the arrivals: their places in the queue of what is
-/// pending. It is seen as the list of these, and how many more numbers can be put.
+/// A timer that runs: when it is due, in ns, and the number of its entry.
+#[derive(Clone, Copy, Debug, PartialEq, Eq)]
+pub(crate) struct Running {
+    pub due: u64,
+    pub number: u64,
+}
+
+/// The timers that run, and the numbers of the arrivals, each at the place of its item. It is seen as the two lists, and
+/// how many more numbers can be put.
 #[derive(Drop)]
 pub(crate) struct Filed {
+    timers: Vec<Option<Running>>,
     // The numbers of all queues.
     nodes: Slab<Node>,
     queues: Vec<Chain>,
@@ -30,6 +40,7 @@ impl Model for Filed {
     ghost use Rattle.gptp_world.specs.Chain.{numbers_in, AreChained};
 
     ghost view = { λ f. record {
+      timers = f.timers.items;
       queues = map (numbers_in (get f.nodes)) f.queues.items;
       room = f.nodes.capacity - slab_len f.nodes;
     } };
@@ -38,16 +49,36 @@ impl Model for Filed {
 }
 
 impl Filed {
-    /// Nothing filed, with so many queues.
-    pub fn new(alloc: Global, queues: usize) -> Result<Self, AllocError>
-        ensures len { IfOk result (λ filed. length filed.queues ≡ queues) }
+    /// Nothing filed, with places for so many timers and queues.
+    pub fn new(alloc: Global, timers: usize, queues: usize) -> Result<Self, AllocError>
+        ensures timers_len { IfOk result (λ filed. length filed.timers ≡ timers) }
+        ensures queues_len { IfOk result (λ filed. length filed.queues ≡ queues) }
+        ensures timers { IfOk result (λ filed. (place : ℕ) → slice_index_or filed.timers place None ≡ None) }
         ensures queues { IfOk result (λ filed. (place : ℕ) → queue_at place filed ≡ []) }
     {
+        let timers = vec![in alloc; None; timers]?;
         let queues = vec![in alloc; Chain::new(); queues]?;
         Ok(Filed {
+            timers,
             nodes: Slab::new(alloc),
             queues,
         })
+    }
+
+    /// The timer at a place, where it runs.
+    pub fn timer(&self, place: usize) -> Option<Running>
+        requires { place < length self.now.timers }
+        ensures { result ≡ slice_index_or self.now.timers place None }
+    {
+        self.timers[place]
+    }
+
+    /// The timer at a place becomes this.
+    pub fn set_timer(&mut self, place: usize, running: Option<Running>)
+        requires { place < length self.old.timers }
+        ensures { self.new ≡ record self.old { timers = slice_set self.old.timers place running } }
+    {
+        self.timers[place] = running;
     }
 
     /// Makes room for so many more numbers, wherever they are put.
@@ -60,8 +91,8 @@ impl Filed {
         self.nodes.reserve(additional)
     }
 
-    /// Puts a number after the others at a place.
-    pub fn push(&mut self, place: usize, number: usize)
+    /// Puts a number behind the others at a place.
+    pub fn push(&mut self, place: usize, number: u64)
         requires place { place < length self.old.queues }
         requires room { 0 < self.old.room }
         ensures { self.new ≡ with_queue place (queue_at place self.old ++ number ∷ []) (self.old.room - 1) self.old }
@@ -70,13 +101,49 @@ impl Filed {
     }
 
     /// Takes the first number at a place out.
-    pub fn pop(&mut self, place: usize) -> Option<usize>
+    pub fn pop(&mut self, place: usize) -> Option<u64>
         requires { place < length self.old.queues }
         ensures number { result ≡ head_of (queue_at place self.old) }
         ensures rest { self.new ≡ with_queue place (rest_of (queue_at place self.old)) self.new.room self.old }
         ensures room { self.old.room ≤ self.new.room }
     {
         self.queues[place].pop(&mut self.nodes)
+    }
+}
+
+/// The place of a timer.
+pub(crate) fn timer_place(place: usize, timer: Timer) -> usize
+    requires few { place < 512 }
+    requires port { timer_port timer ≤ 16 }
+    ensures { result ≡ timer_place place timer }
+{
+    (place * 7 + timer_kind(timer)) * 17 + timer_port(timer)
+}
+
+/// The kind of a timer.
+fn timer_kind(timer: Timer) -> usize
+    ensures kind { result ≡ timer_kind timer }
+    ensures few { result < 7 }
+{
+    match timer {
+        Timer::Pdelay(_) => 0,
+        Timer::Respond(_) => 1,
+        Timer::Announce(_) => 2,
+        Timer::Age(_) => 3,
+        Timer::Sync => 4,
+        Timer::Relay => 5,
+        Timer::Lapse => 6,
+    }
+}
+
+/// The number of a timer's port, 0 where it belongs to the system.
+fn timer_port(timer: Timer) -> usize
+    ensures { result ≡ timer_port timer }
+{
+    match timer {
+        Timer::Pdelay(port) | Timer::Respond(port) | Timer::Announce(port) | Timer::Age(port) =>
+            usize::from(port),
+        Timer::Sync | Timer::Relay | Timer::Lapse => 0,
     }
 }
 

@@ -25,7 +25,6 @@ mod observer;
 mod octets;
 mod pending;
 mod performing;
-mod places;
 mod pool;
 mod room;
 mod scene;

@@ -1,27 +1,36 @@
 //! What is pending in a world.
 
-ghost use Rattle.std.specs.Prelude.{◌≡◌, ℕ, ◌+◌, ◌^◌, ◌<◌, ◌≤◌, [], length, not, true, false, Option, IsOk, IfOk, OnOk, IfSome, IfNone, IsTrue};
+ghost use Rattle.std.specs.Prelude.{◌≡◌, ℕ, ◌+◌, ◌<◌, ◌≤◌, [], length, not, true, false, Option, IsOk, IfOk, OnOk, IfSome, IfNone, IsTrue};
 ghost use Rattle.std.specs.List.{AllByRecursion};
 ghost use Rattle.gptp_acts.specs.Item.{timer_port};
 ghost use Rattle.gptp_acts.specs.Pending.{listed, put, set_due, times, without, without_first, IsKnown, IsNext};
 ghost use Rattle.gptp_acts.specs.declared.item.Item.TheVariants.{Expiry, Arrival};
 ghost use Rattle.gptp_links.specs.declared.link.Direction.TheVariants.{FromA, FromB};
-ghost use Rattle.gptp_world.specs.Pending.{GrowsTo};
+ghost use Rattle.gptp_scheduler.specs.Pending.{without as without_number};
 
-use crate::filed::{Filed, arrival_place};
-use crate::places::{Places, timer_kind, timer_place};
+use crate::filed::{Filed, Running, arrival_place, timer_place};
 use gptp_acts::Item;
 use gptp_links::Direction;
-use gptp_queue::Queue;
+use gptp_scheduler::Agenda;
 use gptp_system::Timer;
 use std::alloc::{AllocError, Global};
 use std::marker::Model;
 
-/// Timers of one kind are mostly put in order of time, so the queue has a run for each kind. Arrivals are of none.
-const TIMER_KINDS: usize = 7;
-
-/// Room is made for so many entries at least, so that few acts make any.
-const MORE: usize = 1_024;
+/// Takes the entry of a number out of an agenda; the least of all by its time, so that the agenda goes on from there.
+fn take_out(agenda: &mut Agenda<Item>, number: u64)
+    ensures taken { agenda.new.entries ≡ without_number number agenda.old.entries }
+    ensures next { agenda.new.next ≡ agenda.old.next }
+    ensures room { agenda.old.room ≤ agenda.new.room }
+{
+    match agenda.next() {
+        Some((time, least)) if least == number => {
+            agenda.take_due(time);
+        }
+        _ => {
+            agenda.cancel(number);
+        }
+    }
+}
 
 /// What is pending in a world: timers of its systems, each at most once, and arrivals over its links. Systems and links
 /// are named by their places, from 0, and ports by their numbers, up to 16.
@@ -32,13 +41,8 @@ const MORE: usize = 1_024;
 pub struct Pending {
     systems: usize,
     links: usize,
-    // What is pending, each at a place of its own.
-    queue: Queue,
-    places: Places,
-    // The places of the arrivals.
+    agenda: Agenda<Item>,
     filed: Filed,
-    // There is room for so many more entries in each of these.
-    spare: usize,
 }
 
 impl Model for Pending {
@@ -46,17 +50,18 @@ impl Model for Pending {
 
     ghost Value = { PendingState };
 
-    ghost use Rattle.gptp_world.specs.Filed.{IsPending};
-    ghost use Rattle.gptp_world.specs.Places.{item_of, plain};
+    ghost use Rattle.std.specs.Prelude.{min};
+    ghost use Rattle.gptp_acts.specs.Pending.{plain};
+    ghost use Rattle.gptp_world.specs.Filed.{AreFiled};
 
     ghost view = { λ p. record {
       systems = p.systems;
       links = p.links;
-      entries = plain (item_of p.places.items) p.queue.entries;
-      room = p.spare;
+      entries = plain p.agenda.entries;
+      room = min p.agenda.room p.filed.room;
     } };
 
-    ghost invariant = { λ p. IsPending p.systems p.links p.spare p.places p.filed p.queue };
+    ghost invariant = { λ p. AreFiled p.systems p.links p.filed p.agenda.entries };
 }
 
 impl Pending {
@@ -69,16 +74,12 @@ impl Pending {
         ensures links { IfOk result (λ pending. pending.links ≡ links) }
         ensures entries { IfOk result (λ pending. pending.entries ≡ []) }
     {
-        let queue = Queue::new(alloc, systems * 119, TIMER_KINDS)?;
-        let places = Places::new(alloc, systems * 119)?;
-        let filed = Filed::new(alloc, links * 2)?;
+        let filed = Filed::new(alloc, systems * 119, links * 2)?;
         Ok(Pending {
             systems,
             links,
-            queue,
-            places,
+            agenda: Agenda::new(alloc),
             filed,
-            spare: 0,
         })
     }
 
@@ -90,25 +91,8 @@ impl Pending {
         ensures ok { OnOk result (additional ≤ self.new.room) }
         ensures succeeds { additional ≤ self.old.room → IsOk result }
     {
-        if self.spare < additional {
-            return self.make_room(additional);
-        }
-        Ok(())
-    }
-
-    /// The same, where there is less room.
-    #[cold]
-    #[inline(never)]
-    fn make_room(&mut self, additional: usize) -> Result<(), AllocError>
-        requires { self.old.room < additional }
-        ensures kept { self.new ≡ record self.old { room = self.new.room } }
-        ensures room { self.old.room ≤ self.new.room }
-        ensures ok { OnOk result (additional ≤ self.new.room) }
-    {
-        let more = additional.max(MORE);
-        grow(&mut self.queue, &mut self.places, &mut self.filed, more)?;
-        self.spare = more;
-        Ok(())
+        self.agenda.reserve(additional)?;
+        self.filed.reserve(additional)
     }
 
     /// When a timer of a system is due, in ns, where it runs.
@@ -116,8 +100,8 @@ impl Pending {
         requires { IsKnown self.now.systems self.now.links (Expiry place timer) }
         ensures { times (Expiry place timer) self.now.entries ≡ listed result }
     {
-        self.queue.places_differ();
-        self.queue.time(timer_place(place, timer))
+        let running = self.filed.timer(timer_place(place, timer))?;
+        Some(running.due)
     }
 
     /// A timer of a system is to run out at this time, in ns, or doesn't run: where it is pending so, its entry stays;
@@ -128,34 +112,38 @@ impl Pending {
         ensures kept { self.new ≡ record self.old { entries = set_due (Expiry place timer) due self.old.entries; room = self.new.room } }
         ensures room { self.old.room ≤ self.new.room + 1 }
     {
-        self.timers_run_once();
         if self.due(place, timer) == due {
             return;
         }
+        self.stop(place, timer);
         match due {
             Some(time) => self.start(place, timer, time),
-            None => self.stop(place, timer),
+            None => {}
         }
     }
 
-    /// Puts a timer in place of itself, where it runs.
+    /// Puts a timer that doesn't run.
     fn start(&mut self, place: usize, timer: Timer, time: u64)
         requires known { IsKnown self.old.systems self.old.links (Expiry place timer) }
+        requires stopped { times (Expiry place timer) self.old.entries ≡ [] }
         requires room { 0 < self.old.room }
-        ensures kept { self.new ≡ record self.old { entries = put time (Expiry place timer) (without_first (Expiry place timer) self.old.entries); room = self.new.room } }
+        ensures kept { self.new ≡ record self.old { entries = put time (Expiry place timer) self.old.entries; room = self.new.room } }
         ensures room { self.old.room ≤ self.new.room + 1 }
     {
-        self.queue.places_differ();
-        let at = timer_place(place, timer);
-        self.places.set_item(
-            at,
-            Item::Expiry {
-                place: place as u16,
-                timer,
-            },
+        let number = self
+            .agenda
+            .put(
+                time,
+                Item::Expiry {
+                    place: place as u16,
+                    timer,
+                },
+            )
+            .unwrap();
+        self.filed.set_timer(
+            timer_place(place, timer),
+            Some(Running { due: time, number }),
         );
-        self.queue.put(timer_kind(timer), at, time).unwrap();
-        self.spare -= 1;
     }
 
     /// Cancels a timer, where it runs.
@@ -165,8 +153,15 @@ impl Pending {
         ensures room { self.old.room ≤ self.new.room }
         ensures once { length (times (Expiry place timer) self.old.entries) ≤ 1 }
     {
-        self.queue.places_differ();
-        self.queue.take(timer_place(place, timer));
+        self.agenda.numbers_rise();
+        let filed = timer_place(place, timer);
+        match self.filed.timer(filed) {
+            Some(running) => {
+                take_out(&mut self.agenda, running.number);
+                self.filed.set_timer(filed, None);
+            }
+            None => {}
+        }
     }
 
     /// Puts an arrival over a link in a direction, due at this time, in ns. Takes no memory.
@@ -176,17 +171,17 @@ impl Pending {
         ensures kept { self.new ≡ record self.old { entries = put due (Arrival link direction) self.old.entries; room = self.new.room } }
         ensures room { self.old.room ≤ self.new.room + 1 }
     {
-        let place = self.places.take();
-        self.places.set_item(
-            place,
-            Item::Arrival {
-                link: link as u16,
-                direction,
-            },
-        );
-        self.queue.put(TIMER_KINDS, place, due).unwrap();
-        self.filed.push(arrival_place(link, direction), place);
-        self.spare -= 1;
+        let number = self
+            .agenda
+            .put(
+                due,
+                Item::Arrival {
+                    link: link as u16,
+                    direction,
+                },
+            )
+            .unwrap();
+        self.filed.push(arrival_place(link, direction), number);
     }
 
     /// Takes the first arrival over a link in a direction out, and answers whether there was one.
@@ -197,11 +192,10 @@ impl Pending {
         ensures none { result ≡ false → times (Arrival link direction) self.old.entries ≡ [] }
         ensures one { result ≡ true → length self.new.entries < length self.old.entries }
     {
-        self.queue.places_differ();
+        self.agenda.numbers_rise();
         match self.filed.pop(arrival_place(link, direction)) {
-            Some(place) => {
-                self.queue.take(place);
-                self.places.give_back(place);
+            Some(number) => {
+                take_out(&mut self.agenda, number);
                 true
             }
             None => false,
@@ -234,43 +228,22 @@ impl Pending {
         ensures known { IfSome result (λ due. IsKnown self.now.systems self.now.links due.1) }
         ensures empty { IfNone result (self.now.entries ≡ []) }
     {
-        self.queue.numbers_rise();
-        let first = self.queue.next()?;
-        Some((first.time(), self.places.item(first.place())))
+        self.agenda.numbers_rise();
+        let (time, _number, item) = self.agenda.least()?;
+        Some((time, *item))
     }
 
     /// Each timer is pending at most once.
     pub fn timers_run_once(&self)
         ensures { (place : ℕ) (timer : Timer) → IsKnown self.now.systems self.now.links (Expiry place timer) → length (times (Expiry place timer) self.now.entries) ≤ 1 }
     {
-        self.queue.places_differ();
+        let _ = &self.filed;
     }
 
     /// All that is pending is of the systems and links that there are.
     pub fn items_are_known(&self)
         ensures { AllByRecursion (λ e. IsKnown self.now.systems self.now.links e.item) self.now.entries }
     {
-        let _ = &self.queue;
+        let _ = &self.filed;
     }
-}
-
-/// Makes room for so many more entries, with places and items for them. What is pending stays.
-fn grow(
-    queue: &mut Queue,
-    places: &mut Places,
-    filed: &mut Filed,
-    more: usize,
-) -> Result<(), AllocError>
-    ensures grows { GrowsTo queue.old queue.new places.old places.new filed.old filed.new }
-    ensures fits { OnOk result (places.old.used + more < 2 ^ 64) }
-    ensures items { OnOk result (places.old.used + more ≤ length places.new.items) }
-    ensures places { OnOk result (places.old.used + more ≤ queue.new.places) }
-    ensures room { OnOk result (more ≤ queue.new.room) }
-    ensures queues { OnOk result (more ≤ filed.new.room) }
-{
-    queue.reserve(more)?;
-    filed.reserve(more)?;
-    places.reserve(more)?;
-    queue.make_places(places.len())?;
-    Ok(())
 }

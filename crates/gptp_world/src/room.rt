@@ -42,7 +42,7 @@ impl Net {
         }
     }
 
-    /// Makes room at each port up to this one. Nothing changes but the room that there is.
+    /// So it does for each port up to this one. Nothing changes but the room that there is.
     pub(crate) fn make_room_at_ports(
         &mut self,
         place: usize,

@@ -128,7 +128,7 @@ impl Stage {
         self.make_room_for_both(a.place, b.place)
     }
 
-    /// Makes room for a link that goes down, where it is up.
+    /// So it does for a link that goes down, where it is up.
     pub(crate) fn make_room_to_take_down(&mut self, link: usize) -> Result<(), AllocError>
         requires stage { IsStage self.old }
         requires link { link < length self.old.net.cables.items }
@@ -143,7 +143,7 @@ impl Stage {
         }
     }
 
-    /// Makes room for a link that comes up, where it is down.
+    /// So it does for a link that comes up, where it is down.
     pub(crate) fn make_room_to_bring_up(&mut self, link: usize) -> Result<(), AllocError>
         requires stage { IsStage self.old }
         requires link { link < length self.old.net.cables.items }

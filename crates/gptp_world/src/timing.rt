@@ -43,7 +43,7 @@ impl Net {
         self.pending.set_due(place, timer, due_of(station, timer));
     }
 
-    /// Sets the timers of a port as its system says.
+    /// So are the timers of a port.
     fn set_port_timers(&mut self, place: usize, station: &Station, port: u8)
         requires place { place < self.old.pending.systems }
         requires room { station.now.live ≡ true → 4 ≤ self.old.pending.room }
@@ -58,7 +58,7 @@ impl Net {
         self.set_timer(place, station, Timer::Age(port));
     }
 
-    /// Sets the timers that a time over the Slave port changes.
+    /// So are those that time changes which comes over the Slave port.
     fn set_of_time(&mut self, place: usize, station: &Station)
         requires place { place < self.old.pending.systems }
         requires room { station.now.live ≡ true → 2 ≤ self.old.pending.room }
@@ -69,7 +69,7 @@ impl Net {
         self.set_timer(place, station, Timer::Lapse);
     }
 
-    /// Sets all timers of the system: of each port, by rising port, and then those of the system.
+    /// So are all timers of the system: of each port, by rising port, and then those of the system.
     pub(crate) fn set_timers(&mut self, place: usize, station: &Station)
         requires place { place < self.old.pending.systems }
         requires few { length station.now.system.ports ≤ 16 }
@@ -86,7 +86,7 @@ impl Net {
         self.set_of_time(place, station);
     }
 
-    /// Sets the timers of a port that selection can change.
+    /// So are the timers of a port that selection can change.
     fn set_selected_at(&mut self, place: usize, station: &Station, port: u8)
         requires place { place < self.old.pending.systems }
         requires room { 2 ≤ self.old.pending.room }
@@ -99,7 +99,7 @@ impl Net {
         self.set_timer(place, station, Timer::Age(port));
     }
 
-    /// Sets all timers of the system that selection can change: of each port, by rising port, and then its own.
+    /// So are all timers of the system that selection can change: of each port, by rising port, and then its own.
     fn set_selected(&mut self, place: usize, station: &Station)
         requires place { place < self.old.pending.systems }
         requires few { length station.now.system.ports ≤ 16 }
@@ -115,7 +115,7 @@ impl Net {
         self.set_of_time(place, station);
     }
 
-    /// Sets all timers of the system, of which all but these are pending when they are due already.
+    /// So are all timers of the system, of which all but these are pending when they are due already.
     pub(crate) fn set_touched(&mut self, place: usize, station: &Station, touched: Touched)
         requires place { place < self.old.pending.systems }
         requires few { length station.now.system.ports ≤ 16 }

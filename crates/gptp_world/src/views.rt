@@ -17,7 +17,7 @@ use gptp_vector::{ClockId, Identity};
 use std::alloc::Global;
 
 impl Scene {
-    ghost use Rattle.std.specs.Prelude.{◌≡◌, ◌≤◌, ◌↔◌, ℕ, [], IfNone, IfSome, IsSome, IsTrue, length, slice_get, Some, true};
+    ghost use Rattle.std.specs.Prelude.{◌≡◌, ◌≤◌, ◌↔◌, [], IfNone, IfSome, IsTrue, length, slice_get, true};
     ghost use Rattle.gptp_acts.specs.Acts.{AtSystem};
     ghost use Rattle.gptp_plan.specs.Allowed.{IsFitAct};
     ghost use Rattle.gptp_acts.specs.Prompt.{IsPromptIn};
@@ -63,14 +63,6 @@ impl Scene {
         ensures { result ≡ slice_get (rising_clocks self.now) place }
     {
         self.stage.net.directory.clock_at(place)
-    }
-
-    /// The rank of the system with a clock.
-    pub(crate) fn rank(&self, clock: ClockId) -> Option<usize>
-        ensures some { IfSome result (λ rank. slice_get (rising_clocks self.now) rank ≡ Some clock) }
-        ensures only { (rank : ℕ) → slice_get (rising_clocks self.now) rank ≡ Some clock → IsSome result }
-    {
-        self.stage.net.directory.rank(clock)
     }
 
     /// The next that is due: of all that is pending one of least time, and of those the first that was put.

@@ -18,7 +18,7 @@ pub struct World<F> {
 }
 
 impl<F: Fate + Drop> World<F> {
-    ghost use Rattle.std.specs.Prelude.{◌≡◌, ◌≢◌, ◌≤◌, ◌↔◌, ℕ, IsSome, IsTrue, IfErr, IfNone, IfOk, IfSome, List, OnErr, OnOk, length, map, option_map, slice_get, Some, []};
+    ghost use Rattle.std.specs.Prelude.{◌≡◌, ◌≢◌, ◌≤◌, ◌↔◌, IsTrue, IfErr, IfNone, IfOk, IfSome, List, OnErr, OnOk, length, map, option_map, slice_get, []};
     ghost use Rattle.gptp_acts.specs.Acts.{AtSystem, Refuses};
     ghost use Rattle.gptp_acts.specs.declared.done.Refused.TheVariants.{OutOfMemory};
     ghost use Rattle.gptp_plan.specs.Allowed.{IsFitAct};
@@ -171,14 +171,6 @@ impl<F: Fate + Drop> World<F> {
         ensures { result ≡ slice_get (rising_clocks self.now.scene) place }
     {
         self.scene.clock_at(place)
-    }
-
-    /// The rank of the system with a clock, live or not; `None` where there is none. Takes no memory.
-    pub fn rank(&self, clock: ClockId) -> Option<usize>
-        ensures some { IfSome result (λ rank. slice_get (rising_clocks self.now.scene) rank ≡ Some clock) }
-        ensures only { (rank : ℕ) → slice_get (rising_clocks self.now.scene) rank ≡ Some clock → IsSome result }
-    {
-        self.scene.rank(clock)
     }
 
     /// How many links are up between two live systems. Takes no memory.

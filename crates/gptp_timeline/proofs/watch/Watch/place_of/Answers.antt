@@ -1,8 +1,16 @@
-use Rattle.std.proofs.Common.{sym}
+-- The closure gives a system's clock.
+use Rattle.std.proofs.Common.{rules, ◌∙◌, ap, sym, subst}
+use Rattle.std.proofs.lemmas.List.Sorted.{answers_always}
+use Rattle.gptp_timeline.specs.Watch.{place_from, RisesByClock, WatchState}
+use Rattle.gptp_timeline.proofs.PlaceLemmas.{clock_of_watched, searched}
 use Rattle.gptp_timeline.proofs.watch.Watch.place_of.Goals as goal
 
-pub returns-in-true-clause-is : goal.returns-in-true-clause-is
-returns-in-true-clause-is g c = sym (c.is_at.ensures.is c.in-true.is)
-
-pub returns-in-true-clause-within : goal.returns-in-true-clause-within
-returns-in-true-clause-within g c = c.is_at.ensures.within c.in-true.is
+pub returns-clause-is : goal.returns-clause-is
+returns-clause-is c =
+    let facts = c.binary_search_by_key.ensures in
+    let by_clock = facts.position clock_of_watched (answers_always _ _ _ (λ f a r g called. search rules)) in
+    let kept = c.deref.ensures.value in
+    c.ok.ensures.value
+    ∙ searched c.deref.result.now c.args.clock (subst RisesByClock (sym kept) c.self.invariant)
+    c.binary_search_by_key.result facts.bound by_clock
+    ∙ ap (place_from c.args.clock 0) (kept ∙ ap (λ (o : WatchState). o.systems) c.self.view_is)

@@ -4,7 +4,7 @@ use Rattle.gptp_world.specs.Net.{OnlyEntries}
 use Rattle.gptp_world.specs.Timing.{selected_from}
 use Rattle.gptp_world.proofs.net.Net.set_selected.Given as goal
 
--- the timers of the ports so far are set, and those that are left make the same of it as all of what there was
+-- those of the ports so far are set, and those that are left make the same of it as all of what there was
 abbrev pub invariant-loop-port : goal.invariant-loop-port
 invariant-loop-port l = record {
   within : l.port ≤ length l.station.system.ports;

@@ -1,17 +1,20 @@
-use Rattle.gptp_world.specs.Places.{item_of}
-use Rattle.gptp_world.proofs.FiledLemmas.{timer_in_places, times-timer}
+use Rattle.std.proofs.Common.{None, Some, sym, ◌∙◌}
+use Rattle.gptp_world.proofs.FiledLemmas.{times-timer}
 use Rattle.gptp_world.proofs.pending.Pending.due.Goals as goal
 
-pub time-requires : goal.time-requires
-time-requires c =
+pub returns-in_err-running : goal.returns-in_err-running
+returns-in_err-running c =
     let p = c.self.inside in
-    rw c.timer_place.ensures
-    (timer_in_places p.systems p.links p.spare p.places p.filed p.queue c.self.invariant c.args.place c.args.timer
-    (rw (← c.self.view_is) at c.requires))
+    rw (c.from_residual.ensures, ← c.self.view_is)
+    (times-timer p.systems p.links p.filed p.agenda.entries c.self.invariant c.args.place c.args.timer None
+    (rw (← c.self.view_is) at c.requires)
+    (sym c.in_err-running.was ∙ rw c.timer_place.ensures at c.timer.ensures))
 
 pub returns : goal.returns
 returns c =
     let p = c.self.inside in
-    rw (c.time.ensures, c.timer_place.ensures, ← c.self.view_is)
-    (times-timer p.systems p.links (item_of p.places.items) p.filed p.queue.entries c.self.invariant.is_filed
-    c.places_differ.ensures.differ c.args.place c.args.timer (rw (← c.self.view_is) at c.requires))
+    rw (← c.self.view_is)
+    (times-timer p.systems p.links p.filed p.agenda.entries c.self.invariant c.args.place c.args.timer
+    (Some c.in_ok-running.running)
+    (rw (← c.self.view_is) at c.requires)
+    (sym c.in_ok-running.was ∙ rw c.timer_place.ensures at c.timer.ensures))

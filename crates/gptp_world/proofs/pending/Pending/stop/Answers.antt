@@ -1,38 +1,50 @@
-use Rattle.std.proofs.Common.{refl}
-use Rattle.gptp_world.specs.Places.{item_of}
+use Rattle.std.proofs.Common.{refl, sym, ◌∙◌}
 use Rattle.gptp_world.proofs.PendingLemmas.{same_state}
-use Rattle.gptp_world.proofs.FiledLemmas.{pending-stopped, plain-stopped, timer_in_places, times-once}
+use Rattle.gptp_world.proofs.FiledLemmas.{filed-stopped, plain-stopped, plain-not_filed, times-once}
 use Rattle.gptp_world.proofs.pending.Pending.stop.Goals as goal
-
-pub take-requires : goal.take-requires
-take-requires c =
-    let p = c.self.inside in
-    rw c.timer_place.ensures
-    (timer_in_places p.systems p.links p.spare p.places p.filed p.queue c.self.invariant c.args.place c.args.timer
-    (rw (← c.self.view_is) at c.requires))
 
 pub invariant_of-self : goal.invariant_of-self
 invariant_of-self c =
     let p = c.self.inside in
     let known = rw (← c.self.view_is) at c.requires in
-    rw (c.take.ensures, c.timer_place.ensures)
-    (pending-stopped p.systems p.links p.spare p.places p.filed p.queue c.self.invariant c.args.place c.args.timer
-    known)
+    let runs = sym (rw c.timer_place-filed.ensures at c.timer.ensures) ∙ c.in-Some.is in
+    rw (c.set_timer.ensures, c.timer_place-filed.ensures, c.take_out.ensures.taken)
+    (filed-stopped p.systems p.links p.filed p.agenda.entries c.self.invariant c.args.place c.args.timer known
+    c.in-Some.running
+    runs p.agenda.next c.numbers_rise.ensures)
 
-pub returns-clause-kept : goal.returns-clause-kept
-returns-clause-kept c =
+pub returns-in-Some-clause-kept : goal.returns-in-Some-clause-kept
+returns-in-Some-clause-kept c =
     let p = c.self.inside in
     let known = rw (← c.self.view_is) at c.requires in
-    rw (← c.self.view_is, c.take.ensures, c.timer_place.ensures)
+    let runs = sym (rw c.timer_place-filed.ensures at c.timer.ensures) ∙ c.in-Some.is in
+    rw (← c.self.view_is, c.set_timer.ensures, c.take_out.ensures.taken)
     (same_state _ _ refl refl
-    (plain-stopped p.systems p.links (item_of p.places.items) p.filed p.queue.entries c.self.invariant.is_filed
-    c.places_differ.ensures.differ c.args.place c.args.timer known)
-    refl)
+    (plain-stopped p.systems p.links p.filed p.agenda.entries c.self.invariant c.args.place c.args.timer known
+    c.in-Some.running
+    runs p.agenda.next c.numbers_rise.ensures) refl)
 
-pub returns-clause-once : goal.returns-clause-once
-returns-clause-once c =
+pub returns-in-Some-clause-once : goal.returns-in-Some-clause-once
+returns-in-Some-clause-once c =
     let p = c.self.inside in
     let known = rw (← c.self.view_is) at c.requires in
     rw (← c.self.view_is)
-    (times-once p.systems p.links (item_of p.places.items) p.filed p.queue.entries c.self.invariant.is_filed
-    c.places_differ.ensures.differ c.args.place c.args.timer known)
+    (times-once p.systems p.links p.filed p.agenda.entries c.self.invariant c.args.place c.args.timer known)
+
+pub returns-in-None-clause-kept : goal.returns-in-None-clause-kept
+returns-in-None-clause-kept c =
+    let p = c.self.inside in
+    let known = rw (← c.self.view_is) at c.requires in
+    let none = sym c.in-None.is ∙ rw c.timer_place-filed.ensures at c.timer.ensures in
+    rw (← c.self.view_is)
+    (same_state _ _ refl refl
+    (sym (plain-not_filed p.systems p.links p.filed p.agenda.entries c.self.invariant c.args.place c.args.timer known
+    none))
+    refl)
+
+pub returns-in-None-clause-once : goal.returns-in-None-clause-once
+returns-in-None-clause-once c =
+    let p = c.self.inside in
+    let known = rw (← c.self.view_is) at c.requires in
+    rw (← c.self.view_is)
+    (times-once p.systems p.links p.filed p.agenda.entries c.self.invariant c.args.place c.args.timer known)
