@@ -17,7 +17,7 @@ use Rattle.gptp_outcome.proofs.SoFarLemmas.{leads_begin_so}
 use Rattle.gptp_commands.specs.declared.failure.Status.{Status}
 use Rattle.gptp_commands.specs.declared.run.RunOptions.{RunOptions}
 use Rattle.gptp_commands.specs.Documents.{document_limit, AnswersSoFar}
-use Rattle.gptp_commands.specs.RunText.{draws, generator, until_of, BeginsRun, CertifiesIf, LeadsDocument, PlaysDocument, ReportsRun, RunText, RunsDocument}
+use Rattle.gptp_commands.specs.RunText.{draws, generator, until_of, AnswersDocument, BeginsRun, CertifiesIf, LeadsDocument, PlaysDocument, ReportsRun, RunText, RunsDocument}
 use Rattle.gptp_commands.proofs.OneAnswerLemmas.{one_answer}
 use Rattle.gptp_commands.proofs.VerdictLemmas.{AreSame}
 
