@@ -5,7 +5,7 @@ use Rattle.gptp_pdelay.specs.Measured.{AreMeasured, IsCarried, Moments}
 use Rattle.gptp_correction.specs.Carry.{hop_at, neighbour_at, BridgeFitsAt, SlaveFitsAt}
 use Rattle.gptp_accuracy.specs.TimeError.{drift_at, jitter_at, link_at}
 use Rattle.gptp_accuracy.specs.Examples.{two_links_way}
-use Rattle.gptp_accuracy.specs.ExampleSync.{GoesOverTwoLinks, came, phases, sent, two_hops}
+use Rattle.gptp_accuracy.specs.ExampleSync.{GoesOverTwoLinks, sync_came, phases, sent, two_hops}
 use Rattle.gptp_accuracy.specs.WayLaws.{shown_at}
 
 drifts : (i : ℕ) → i ≤ 2 → IsDrift (drift_at two_links_way i)
@@ -14,25 +14,25 @@ drifts (suc zero) h = record { low = omega (arith, ints); high = omega (arith, i
 drifts (suc (suc zero)) h = record { low = omega (arith, ints); high = omega (arith, ints) }
 drifts (suc (suc (suc i))) h = absurd (omega (arith, h))
 
-long : (i : ℕ) → i < 2 → sent i + (link_at two_links_way i).least ≤ came i
+long : (i : ℕ) → i < 2 → sent i + (link_at two_links_way i).least ≤ sync_came i
 long zero h = omega arith
 long (suc zero) h = omega arith
 long (suc (suc i)) h = absurd (omega (arith, h))
 
-short : (i : ℕ) → i < 2 → came i ≤ sent i + (link_at two_links_way i).most
+short : (i : ℕ) → i < 2 → sync_came i ≤ sent i + (link_at two_links_way i).most
 short zero h = omega arith
 short (suc zero) h = omega arith
 short (suc (suc i)) h = absurd (omega (arith, h))
 
-kept_long : (i : ℕ) → suc i < 2 → came i ≤ sent (suc i)
+kept_long : (i : ℕ) → suc i < 2 → sync_came i ≤ sent (suc i)
 kept_long zero h = omega arith
 kept_long (suc i) h = absurd (omega (arith, h))
 
-kept_short : (i : ℕ) → suc i < 2 → sent (suc i) ≤ came i + (1000 + jitter_at two_links_way i)
+kept_short : (i : ℕ) → suc i < 2 → sent (suc i) ≤ sync_came i + (1000 + jitter_at two_links_way i)
 kept_short zero h = omega arith
 kept_short (suc i) h = absurd (omega (arith, h))
 
-ingress : (i : ℕ) → suc i < 2 → (hop_at two_hops i).ingress ≡ shown_at two_links_way phases (suc i) (came i)
+ingress : (i : ℕ) → suc i < 2 → (hop_at two_hops i).ingress ≡ shown_at two_links_way phases (suc i) (sync_came i)
 ingress zero h = refl
 ingress (suc i) h = absurd (omega (arith, h))
 

@@ -8,7 +8,7 @@ use Rattle.gptp_scaled.specs.Rate.{unit, rate_of}
 use Rattle.gptp_pdelay.specs.GoodLink.{ceil_div}
 use Rattle.gptp_pdelay.specs.Measured.{clock_rate}
 use Rattle.gptp_correction.specs.Sum.{sum_below}
-use Rattle.gptp_accuracy.specs.TimeError.{Link, Way, clock_at, drift_at, hop_error, hop_error_at, jitter_at, link_at, rate_error_at, rates_error_at, steady_rate_at, total_below, unlike_at, wait_error_at}
+use Rattle.gptp_accuracy.specs.TimeError.{WayLink, Way, clock_at, drift_at, hop_error, hop_error_at, jitter_at, link_at, rate_error_at, rates_error_at, steady_rate_at, total_below, unlike_at, wait_error_at}
 use Rattle.gptp_accuracy.specs.WayLaws.{IsDocumented, ParentsErrorStays, longer}
 
 -- sums of the same numbers are the same
@@ -26,28 +26,28 @@ sum_same (suc n) f g h =
     (h n (omega arith))
 
 -- the links that a way had stay where they were
-pub link_same : (w : Way) (l : Link) (i : ℕ) → i < length w.links → link_at (longer w l) i ≡ link_at w i
+pub link_same : (w : Way) (l : WayLink) (i : ℕ) → i < length w.links → link_at (longer w l) i ≡ link_at w i
 link_same w l i h = get_or_append_left w.links (l ∷ []) (record { least = 0; most = 0; drift = pos 0 }) i h
 
 -- and so do the clocks behind them
-pub clock_same : (w : Way) (l : Link) (i : ℕ) → i ≤ length w.links → clock_at (longer w l) i ≡ clock_at w i
+pub clock_same : (w : Way) (l : WayLink) (i : ℕ) → i ≤ length w.links → clock_at (longer w l) i ≡ clock_at w i
 clock_same w l zero h = refl
-clock_same w l (suc i) h = ap (λ (k : Link). clock_rate k.drift) (link_same w l i h)
+clock_same w l (suc i) h = ap (λ (k : WayLink). clock_rate k.drift) (link_same w l i h)
 
-pub steady_same : (w : Way) (l : Link) (i : ℕ) → i < length w.links → steady_rate_at (longer w l) i ≡ steady_rate_at w i
+pub steady_same : (w : Way) (l : WayLink) (i : ℕ) → i < length w.links → steady_rate_at (longer w l) i ≡ steady_rate_at w i
 steady_same w l i h =
     ap (λ a. rate_of (pos a) (pos (clock_at (longer w l) (suc i)))) (clock_same w l i (omega (arith, h)))
     ∙ ap (λ b. rate_of (pos (clock_at w i)) (pos b)) (clock_same w l (suc i) h)
 
-pub rate_error_same : (w : Way) (l : Link) (i : ℕ) → i < length w.links
+pub rate_error_same : (w : Way) (l : WayLink) (i : ℕ) → i < length w.links
     → rate_error_at (longer w l) i ≡ rate_error_at w i
 rate_error_same w l i h =
-    ap (λ (k : Link). ceil_div (2202000000000 * (k.most - k.least)) w.interval + 4) (link_same w l i h)
+    ap (λ (k : WayLink). ceil_div (2202000000000 * (k.most - k.least)) w.interval + 4) (link_same w l i h)
 
-hop_same : (w : Way) (l : Link) (i : ℕ) → i < length w.links → hop_error_at (longer w l) i ≡ hop_error_at w i
-hop_same w l i h = ap (λ (k : Link). hop_error (k.most - k.least) k.most w.turnaround) (link_same w l i h)
+hop_same : (w : Way) (l : WayLink) (i : ℕ) → i < length w.links → hop_error_at (longer w l) i ≡ hop_error_at w i
+hop_same w l i h = ap (λ (k : WayLink). hop_error (k.most - k.least) k.most w.turnaround) (link_same w l i h)
 
-unlike_same : (w : Way) (l : Link) (i : ℕ) → i < length w.links → unlike_at (longer w l) i ≡ unlike_at w i
+unlike_same : (w : Way) (l : WayLink) (i : ℕ) → i < length w.links → unlike_at (longer w l) i ≡ unlike_at w i
 unlike_same w l i h =
     let sums = sum_same (suc i) (steady_rate_at (longer w l)) (steady_rate_at w)
     (λ j k. steady_same w l j (omega (arith, h, k))) in
@@ -60,18 +60,18 @@ unlike_same w l i h =
         ap (λ v. unsigned_abs (v -ℤ floor_div ((pos (clock_at w 0) -ℤ pos a) *ℤ unit) (pos a))) e
         ∙ ap (λ v. unsigned_abs (t -ℤ floor_div ((pos (clock_at w 0) -ℤ pos v) *ℤ unit) (pos v))) f
 
-pub rates_same : (w : Way) (l : Link) (i : ℕ) → i < length w.links → rates_error_at (longer w l) i ≡ rates_error_at w i
+pub rates_same : (w : Way) (l : WayLink) (i : ℕ) → i < length w.links → rates_error_at (longer w l) i ≡ rates_error_at w i
 rates_same w l i h =
     let totals = total_same (suc i) (rate_error_at (longer w l)) (rate_error_at w)
     (λ j k. rate_error_same w l j (omega (arith, h, k))) in
     let missed = unlike_same w l i h in
     ap (λ n. n + unlike_at (longer w l) i) totals ∙ ap (λ n. total_below (suc i) (rate_error_at w) + n) missed
 
-wait_same : (w : Way) (l : Link) (i : ℕ) → suc i < length w.links → wait_error_at (longer w l) i ≡ wait_error_at w i
+wait_same : (w : Way) (l : WayLink) (i : ℕ) → suc i < length w.links → wait_error_at (longer w l) i ≡ wait_error_at w i
 wait_same w l i h =
-    ap (λ (k : Link). ceil_div ((w.residence + (k.most - k.least) + (link_at (longer w l) (suc i)).most)
+    ap (λ (k : WayLink). ceil_div ((w.residence + (k.most - k.least) + (link_at (longer w l) (suc i)).most)
     * rates_error_at (longer w l) i) 33550000) (link_same w l i (omega (arith, h)))
-    ∙ ap (λ (k : Link). ceil_div ((w.residence + jitter_at w i + k.most) * rates_error_at (longer w l) i) 33550000)
+    ∙ ap (λ (k : WayLink). ceil_div ((w.residence + jitter_at w i + k.most) * rates_error_at (longer w l) i) 33550000)
     (link_same w l (suc i) h)
     ∙ ap (λ n. ceil_div ((w.residence + jitter_at w i + (link_at w (suc i)).most) * n) 33550000)
     (rates_same w l i (omega (arith, h)))
@@ -87,24 +87,24 @@ parents_error_stays w l h k =
     ∙ ap (λ n. total_below h (hop_error_at w) + n) waits
 
 -- a way that goes on is one link longer, and its last link is that one
-pub longer_length : (w : Way) (l : Link) → length (longer w l).links ≡ suc (length w.links)
+pub longer_length : (w : Way) (l : WayLink) → length (longer w l).links ≡ suc (length w.links)
 longer_length w l = omega (arith, length-append w.links (l ∷ []))
 
-pub link_last : (w : Way) (l : Link) (i : ℕ) → i ≡ length w.links → link_at (longer w l) i ≡ l
+pub link_last : (w : Way) (l : WayLink) (i : ℕ) → i ≡ length w.links → link_at (longer w l) i ≡ l
 link_last w l i e =
     ap (link_at (longer w l)) e ∙ get_or-append_seam w.links l [] (record { least = 0; most = 0; drift = pos 0 })
 
 -- the drifts of a way that goes on
-pub drift_same : (w : Way) (l : Link) (i : ℕ) → i ≤ length w.links → drift_at (longer w l) i ≡ drift_at w i
+pub drift_same : (w : Way) (l : WayLink) (i : ℕ) → i ≤ length w.links → drift_at (longer w l) i ≡ drift_at w i
 drift_same w l zero h = refl
-drift_same w l (suc i) h = ap (λ (k : Link). k.drift) (link_same w l i h)
+drift_same w l (suc i) h = ap (λ (k : WayLink). k.drift) (link_same w l i h)
 
-pub drift_last : (w : Way) (l : Link) (i : ℕ) → i ≡ suc (length w.links) → drift_at (longer w l) i ≡ l.drift
+pub drift_last : (w : Way) (l : WayLink) (i : ℕ) → i ≡ suc (length w.links) → drift_at (longer w l) i ≡ l.drift
 drift_last w l i e =
-    ap (drift_at (longer w l)) e ∙ ap (λ (k : Link). k.drift) (link_last w l (length w.links) refl)
+    ap (drift_at (longer w l)) e ∙ ap (λ (k : WayLink). k.drift) (link_last w l (length w.links) refl)
 
 -- a way that goes on to a clock within its limits is one of a document
-pub documented_longer : (w : Way) (l : Link) → IsDocumented w → IsDrift l.drift → IsDocumented (longer w l)
+pub documented_longer : (w : Way) (l : WayLink) → IsDocumented w → IsDrift l.drift → IsDocumented (longer w l)
 documented_longer w l documented drift = record {
   long = documented.long;
   waits = documented.waits;

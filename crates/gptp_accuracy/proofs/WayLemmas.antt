@@ -10,7 +10,7 @@ use Rattle.gptp_pdelay.specs.Measured.{AreMeasured, IsMeasuredWithin}
 use Rattle.gptp_pdelay.proofs.MeasurementLemmas.{clock_counts, counts_between, measurement_is_within}
 use Rattle.gptp_correction.specs.declared.correction.Hop.{Hop}
 use Rattle.gptp_correction.specs.Sum.{sum_below}
-use Rattle.gptp_correction.specs.Carry.{added_at, carry_of, hop_at, link_at as link_time_at, neighbour_at, rate_at, residence_at, CarryFits}
+use Rattle.gptp_correction.specs.Carry.{added_at, carry_of, hop_at, link_time_at, neighbour_at, rate_at, residence_at, CarryFits}
 use Rattle.gptp_correction.proofs.CarryLemmas.{carry_of-last}
 use Rattle.gptp_accuracy.specs.TimeError.{Way, clock_at, drift_at, hop_error_at, jitter_at, link_at, rate_error_at, rates_error_at, steady_rate_at, time_error, time_error_at, total_below, wait_error_at}
 use Rattle.gptp_accuracy.specs.HopLaws.{IsOverLink, IsRateBehind, IsRateWithin}

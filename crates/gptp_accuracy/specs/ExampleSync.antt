@@ -12,9 +12,9 @@ abbrev pub sent : ℕ → ℕ
 sent zero = 2000000000
 sent (suc i) = 2000001410
 
-abbrev pub came : ℕ → ℕ
-came zero = 2000000390
-came (suc i) = 2000001800
+abbrev pub sync_came : ℕ → ℕ
+sync_came zero = 2000000390
+sync_came (suc i) = 2000001800
 
 -- On each link the last request took 410 ns and its response 390 ns, 1 s after a request that took 390 ns and a
 -- response that took 410 ns: so the neighbour seems to be fast by 20 ns in a second, and the delay to be 400 ns.
@@ -32,8 +32,8 @@ phases i = 0
 -- link seems to be 10 ns longer than it was. The time error of the way is 2622278 units.
 pub record GoesOverTwoLinks : Type 0 where
   pub documented : IsDocumented two_links_way
-  pub goes : GoesOver two_links_way two_hops phases sent came
+  pub goes : GoesOver two_links_way two_hops phases sent sync_came
   pub fits : CarryFits (shown_at two_links_way phases 0 (sent 0)) two_hops
   pub carried : carry_of (shown_at two_links_way phases 0 (sent 0)) two_hops ≡ pos (131072117964800 + 1310722)
-  pub shown : shown_at two_links_way phases 0 (came 1) ≡ pos 131072117964800
+  pub shown : shown_at two_links_way phases 0 (sync_came 1) ≡ pos 131072117964800
   pub error : time_error two_links_way ≡ 2622278

@@ -7,7 +7,7 @@ use Rattle.gptp_scaled.specs.Counts.{AreWithin, IsClockRate, IsCounted}
 use Rattle.gptp_pdelay.specs.Measured.{IsDelayAbove, IsDelayBelow, IsDelayWithin}
 use Rattle.gptp_correction.specs.declared.correction.Hop.{Hop}
 use Rattle.gptp_correction.specs.declared.sync_in.SyncInfo.{SyncInfo}
-use Rattle.gptp_correction.specs.Correction.{relayed, received}
+use Rattle.gptp_correction.specs.Correction.{relayed, sync_received}
 use Rattle.gptp_accuracy.specs.TimeError.{hop_error}
 
 -- a rate is within e of that of the root's clock against this clock: 2^41 root / clock
@@ -94,5 +94,5 @@ OffsetIsWithin = (least most turnaround root up own above delay wait count passe
     IsClockRate own → least ≤ delay → delay ≤ most → wait ≤ most - least → IsCounted own wait count →
     IsCounted root (delay + wait) passed →
     AreWithin (33550000 * hop_error (most - least) most turnaround + above * most)
-    (pos 33550000 *ℤ (received s link_delay neighbour -ℤ (scaled_of s.origin +ℤ s.correction) +ℤ pos count))
+    (pos 33550000 *ℤ (sync_received s link_delay neighbour -ℤ (scaled_of s.origin +ℤ s.correction) +ℤ pos count))
     (pos (33550000 * passed))

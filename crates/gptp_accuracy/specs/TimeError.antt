@@ -7,7 +7,7 @@ use Rattle.gptp_pdelay.specs.Measured.{clock_rate}
 use Rattle.gptp_correction.specs.Sum.{sum_below}
 
 -- A link of the way: its least and its greatest delay, in ns, and the drift of the clock behind it, in units of 2^-41.
-pub record Link : Type 0 where
+pub record WayLink : Type 0 where
   pub least : ℕ
   pub most : ℕ
   pub drift : ℤ
@@ -16,13 +16,13 @@ pub record Link : Type 0 where
 -- between two requests, the turnaround and the residence, in ns.
 pub record Way : Type 0 where
   pub drift : ℤ
-  pub links : List Link
+  pub links : List WayLink
   pub interval : ℕ
   pub turnaround : ℕ
   pub residence : ℕ
 
 -- the link at a place, counted from 0; past the end one that takes no time
-abbrev pub link_at : Way → ℕ → Link
+abbrev pub link_at : Way → ℕ → WayLink
 link_at w i = get_or w.links i (record { least = 0; most = 0; drift = pos 0 })
 
 -- the drift of the clock so many links from the root

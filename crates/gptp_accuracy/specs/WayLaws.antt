@@ -5,7 +5,7 @@ use Rattle.gptp_pdelay.specs.Clock.{IsDrift, local_clock}
 use Rattle.gptp_pdelay.specs.Measured.{AreMeasured}
 use Rattle.gptp_correction.specs.declared.correction.Hop.{Hop}
 use Rattle.gptp_correction.specs.Carry.{carry_of, hop_at, neighbour_at, CarryFits}
-use Rattle.gptp_accuracy.specs.TimeError.{Link, Way, drift_at, hop_error_at, jitter_at, link_at, time_error, time_error_at, wait_error_at}
+use Rattle.gptp_accuracy.specs.TimeError.{WayLink, Way, drift_at, hop_error_at, jitter_at, link_at, time_error, time_error_at, wait_error_at}
 
 -- the time error from the root down: nothing at the root; one link; and a system behind a bridge adds to its parent's
 -- what its own link and the wait before that add
@@ -16,13 +16,13 @@ pub record TimeErrorGoesByHops : Type 0 where
       time_error_at w (suc (suc i)) ≡ time_error_at w (suc i) + (hop_error_at w (suc i) + wait_error_at w i)
 
 -- the way to a system behind the end of this one
-abbrev pub longer : Way → Link → Way
+abbrev pub longer : Way → WayLink → Way
 longer w l = record w { links = w.links ++ (l ∷ []) }
 
 -- The time error of the systems on a way stays as it is where the way goes on: with the law before it, those of all
 -- systems are worked out in one pass from the root down.
 abbrev pub ParentsErrorStays : Type 0
-ParentsErrorStays = (w : Way) (l : Link) (h : ℕ) → h ≤ length w.links → time_error_at (longer w l) h ≡ time_error_at w h
+ParentsErrorStays = (w : Way) (l : WayLink) (h : ℕ) → h ≤ length w.links → time_error_at (longer w l) h ≡ time_error_at w h
 
 -- what the clock so many links from the root shows at a time in ns, where the clocks begin with these phases
 abbrev pub shown_at : Way → (ℕ → ℕ) → ℕ → ℕ → ℤ

@@ -18,11 +18,11 @@ use Rattle.gptp_acts.specs.declared.done.Done.TheVariants.{Quiet}
 use Rattle.gptp_acts.specs.declared.item.Item.{Item}
 use Rattle.gptp_acts.specs.declared.item.Item.TheVariants.{Expiry, Arrival}
 use Rattle.gptp_acts.specs.declared.station.Station.{Station}
-use Rattle.gptp_acts.specs.Act.{Expires, Hears}
+use Rattle.gptp_acts.specs.Act.{TimerRunsOut, Hears}
 use Rattle.gptp_acts.specs.Acts.{at, Acts, AtSystem, Delivery, IsReadyAct, IsTimelyAct}
 use Rattle.gptp_plan.specs.Allowed.{IsFitAct}
 use Rattle.gptp_acts.specs.Ahead.{due_by}
-use Rattle.gptp_acts.specs.Pending.{entry, Entry, IsNext, NothingBefore}
+use Rattle.gptp_acts.specs.Pending.{pending_entry, Entry, IsNext, NothingBefore}
 use Rattle.gptp_acts.specs.Course.{WasDone}
 use Rattle.gptp_acts.specs.Sound.{IsSound}
 use Rattle.gptp_acts.specs.Views.{IsActOf, IsNextAct}
@@ -43,7 +43,7 @@ middle So (x ∷ xs) e after all = middle So xs e after (All-tail So x (xs ++ e 
 pub next_not_before : (from : ℕ) (es : List Entry) (time : ℕ) (item : Item) → IsNext es time item
     → NothingBefore from es → from ≤ time
 next_not_before from es time item next none =
-    middle (λ (e : Entry). from ≤ e.time) next.before (entry time item) next.after
+    middle (λ (e : Entry). from ≤ e.time) next.before (pending_entry time item) next.after
     (subst (λ xs. NothingBefore from xs) next.is none)
 
 -- nothing that is pending is due before an earlier time either
@@ -145,7 +145,7 @@ leaves_less (Arrival link direction) time act w draws done w' sound is acts =
     }
 leaves_less (Expiry place timer) time act w draws done w' sound (station, here, is) acts =
     let k : (done ≡ Quiet)
-    × AtSystem (clock station.system) (at time w) (λ other one. Expires other timer (at time w) draws w') =
+    × AtSystem (clock station.system) (at time w) (λ other one. TimerRunsOut other timer (at time w) draws w') =
     subst (λ a. Acts a (at time w) draws done w') is acts in
     record {
       less = expires_less k.1.place timer (at time w) draws w' sound k.1.so;

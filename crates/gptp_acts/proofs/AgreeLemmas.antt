@@ -11,7 +11,7 @@ use Rattle.gptp_links.specs.Queue.{frame, Frame, due_after}
 use Rattle.gptp_system.specs.declared.answer.Answer.{Answer}
 use Rattle.gptp_system.specs.declared.sending.Sending.{Sending}
 use Rattle.gptp_setup.specs.declared.timer.Timer.{Timer}
-use Rattle.gptp_system.specs.Input.{Input, Frame as FrameHeard, Expires as TimerExpires}
+use Rattle.gptp_system.specs.Input.{Input, Frame as FrameHeard, TimerRunsOut as TimerExpires}
 use Rattle.gptp_system.specs.State.{SystemState, own}
 use Rattle.gptp_system.proofs.FactLemmas.{keeps_length}
 use Rattle.gptp_system.proofs.StepLemmas.{steps_sound}
@@ -19,10 +19,10 @@ use Rattle.gptp_acts.specs.declared.item.Item.{Item}
 use Rattle.gptp_acts.specs.declared.item.Item.TheVariants.{Expiry, Arrival}
 use Rattle.gptp_acts.specs.declared.station.Station.{Station}
 use Rattle.gptp_acts.specs.Item.{same_item}
-use Rattle.gptp_acts.specs.Pending.{Entry, times, put, without_first, listed}
-use Rattle.gptp_acts.specs.World.{Channel, Net, WorldState, receiver, queue, with_queue, timers_from, station_due}
+use Rattle.gptp_acts.specs.Pending.{Entry, times_of_item, put, without_first_entry, timer_time}
+use Rattle.gptp_acts.specs.World.{Channel, Net, WorldState, receiver, world_queue, with_queue, timers_from, station_due}
 use Rattle.gptp_acts.specs.Sends.{entered, written, SendsAll, SendsOne}
-use Rattle.gptp_acts.specs.Act.{all_timers, in_state, set_timers, Calls, Delivers, Expires, Hears, Takes}
+use Rattle.gptp_acts.specs.Act.{all_timers, in_state, set_timers, Calls, Delivers, TimerRunsOut, Hears, TakesFrame}
 use Rattle.gptp_acts.specs.Changing.{with_station, CallsAll, CallsIfLive, TellsEnds}
 use Rattle.gptp_acts.specs.Agrees.{stopped, Agrees, AgreesBut}
 use Rattle.gptp_acts.proofs.OwnTimerLemmas.{only_same_count, only_without_first, set_timers_is, station_timer, timers_agree}
@@ -34,7 +34,7 @@ use Rattle.gptp_acts.proofs.TimerLemmas.{item_is, no_timer, other_system, times-
 
 -- when a timer runs out of what stands at a place, if anything does
 abbrev pub running : Timer → Option Station → List ℕ
-running timer here = option_map_or (λ station. listed (station_due timer station)) here []
+running timer here = option_map_or (λ station. timer_time (station_due timer station)) here []
 
 -- when frames are due
 abbrev pub dues : List Frame → List ℕ
@@ -42,7 +42,7 @@ dues = map (λ (f : Frame). f.due)
 
 -- when the frames in flight are due, on what stands at a place
 abbrev pub arriving : Direction → Option Channel → List ℕ
-arriving direction here = option_map_or (λ channel. dues (queue direction channel)) here []
+arriving direction here = option_map_or (λ channel. dues (world_queue direction channel)) here []
 
 -- only the systems and what is between them matter
 pub agrees_same : (v w : WorldState) → w.stations ≡ v.stations → w.net ≡ v.net → Agrees v → Agrees w
@@ -62,7 +62,7 @@ agrees_but place w agrees = record {
   others = λ other timer apart. agrees (Expiry other timer);
   only = λ station here timer. elim (station_timer timer station) [
     | inl among ↦ inl among
-    | inr none ↦ inr (agrees (Expiry place timer) ∙ ap (running timer) here ∙ ap listed none)
+    | inr none ↦ inr (agrees (Expiry place timer) ∙ ap (running timer) here ∙ ap timer_time none)
   ];
 }
 
@@ -72,18 +72,18 @@ agrees_but place w agrees = record {
 abbrev pub replaced : ℕ → Station → WorldState → WorldState
 replaced place station w = record (with_station place station w) { net = all_timers place station w.net }
 
--- it has as many ports as the one before, whose timers may have been pending at any times
+-- it has as many ports as the one before, whose timers may have been pending at any times_of_item
 pub replaced_agrees : (place : ℕ) (w : WorldState) (old new : Station) → slice_get w.stations place ≡ Some old
     → length new.system.ports ≡ length old.system.ports → AgreesBut place w → Agrees (replaced place new w)
 replaced_agrees place w old new here count but (Arrival link direction) =
     let ts = timers_from 1 new.system.ports in
-    ap (times (Arrival link direction)) (set_timers_is place new ts w.net.pending)
+    ap (times_of_item (Arrival link direction)) (set_timers_is place new ts w.net.pending)
     ∙ times-set_all_arrival (λ t. station_due t new) place link direction ts w.net.pending
     ∙ but.arrivals link direction
 replaced_agrees place w old new here count but (Expiry other timer) = by (same_place other place)
   where
     by : (other ≡ place) ⊎ (other ≢ place)
-        → times (Expiry other timer) (set_timers place new (timers_from 1 new.system.ports) w.net.pending)
+        → times_of_item (Expiry other timer) (set_timers place new (timers_from 1 new.system.ports) w.net.pending)
         ≡ running timer (slice_get (slice_set w.stations place new) other)
     by (inl same) =
         let there = get-set_same w.stations place old new here in
@@ -91,7 +91,7 @@ replaced_agrees place w old new here count but (Expiry other timer) = by (same_p
         rw (same, there) (timers_agree place new w.net.pending timer only)
     by (inr apart) =
         let ts = timers_from 1 new.system.ports in
-        ap (times (Expiry other timer)) (set_timers_is place new ts w.net.pending)
+        ap (times_of_item (Expiry other timer)) (set_timers_is place new ts w.net.pending)
         ∙ times-set_all_elsewhere (λ t. station_due t new) place other timer ts w.net.pending apart
         ∙ but.others other timer apart
         ∙ sym (ap (running timer) (get-set_other w.stations place other new apart))
@@ -100,9 +100,9 @@ replaced_agrees place w old new here count but (Expiry other timer) = by (same_p
 
 -- nothing changes but the arrivals of one link
 pub record OnlyArrivals (place : ℕ) (es es' : List Entry) : Type 0 where
-  pub timers : (other : ℕ) (timer : Timer) → times (Expiry other timer) es' ≡ times (Expiry other timer) es
+  pub timers : (other : ℕ) (timer : Timer) → times_of_item (Expiry other timer) es' ≡ times_of_item (Expiry other timer) es
   pub arrivals : (link : ℕ) (direction : Direction) → link ≢ place
-      → times (Arrival link direction) es' ≡ times (Arrival link direction) es
+      → times_of_item (Arrival link direction) es' ≡ times_of_item (Arrival link direction) es
 
 -- a timer is no arrival, and arrivals on different links or in different directions differ
 pub no_arrival : (p : ℕ) (timer : Timer) (link : ℕ) (direction : Direction)
@@ -125,7 +125,7 @@ back_way l = grind (arith, nat_tests)
 
 -- where all other items are pending as before
 pub only_arrivals : (place : ℕ) (direction : Direction) (es es' : List Entry)
-    → ((i : Item) → same_item i (Arrival place direction) ≡ false → times i es' ≡ times i es)
+    → ((i : Item) → same_item i (Arrival place direction) ≡ false → times_of_item i es' ≡ times_of_item i es)
     → OnlyArrivals place es es'
 only_arrivals place direction es es' others = record {
   timers = λ other timer. others (Expiry other timer) (no_arrival other timer place direction);
@@ -135,7 +135,7 @@ only_arrivals place direction es es' others = record {
 -- a link becomes another, and what is pending of it follows
 pub relinked_agrees : (place : ℕ) (w : WorldState) (old new : Channel) (es : List Entry)
     → slice_get w.net.channels place ≡ Some old
-    → ((direction : Direction) → times (Arrival place direction) es ≡ dues (queue direction new))
+    → ((direction : Direction) → times_of_item (Arrival place direction) es ≡ dues (world_queue direction new))
     → OnlyArrivals place w.net.pending es → Agrees w
     → Agrees (record w { net = record { channels = slice_set w.net.channels place new; pending = es } })
 relinked_agrees place w old new es here own only agrees (Expiry other timer) =
@@ -143,18 +143,18 @@ relinked_agrees place w old new es here own only agrees (Expiry other timer) =
 relinked_agrees place w old new es here own only agrees (Arrival link direction) = by (same_place link place)
   where
     by : (link ≡ place) ⊎ (link ≢ place)
-        → times (Arrival link direction) es ≡ arriving direction (slice_get (slice_set w.net.channels place new) link)
+        → times_of_item (Arrival link direction) es ≡ arriving direction (slice_get (slice_set w.net.channels place new) link)
     by (inl same) = let there = get-set_same w.net.channels place old new here in rw (same, there) (own direction)
     by (inr apart) =
         only.arrivals link direction apart ∙ agrees (Arrival link direction)
         ∙ sym (ap (arriving direction) (get-set_other w.net.channels place link new apart))
 
--- what is pending in both directions where the queue of one has changed
+-- what is pending in both directions where the world_queue of one has changed
 both_ways : (place : ℕ) (direction way : Direction) (channel : Channel) (frames : List Frame) (es es' : List Entry)
-    → times (Arrival place direction) es' ≡ dues frames
-    → ((i : Item) → same_item i (Arrival place direction) ≡ false → times i es' ≡ times i es)
-    → ((d : Direction) → times (Arrival place d) es ≡ dues (queue d channel))
-    → times (Arrival place way) es' ≡ dues (queue way (with_queue direction frames channel))
+    → times_of_item (Arrival place direction) es' ≡ dues frames
+    → ((i : Item) → same_item i (Arrival place direction) ≡ false → times_of_item i es' ≡ times_of_item i es)
+    → ((d : Direction) → times_of_item (Arrival place d) es ≡ dues (world_queue d channel))
+    → times_of_item (Arrival place way) es' ≡ dues (world_queue way (with_queue direction frames channel))
 both_ways place FromA FromA channel frames es es' own others before = own
 both_ways place FromA FromB channel frames es es' own others before =
     others (Arrival place FromB) (back_way place) ∙ before FromB
@@ -164,8 +164,8 @@ both_ways place FromB FromB channel frames es es' own others before = own
 
 -- the frames in flight in one direction of a link become others, and what is pending of them follows
 pub queue_agrees : (place : ℕ) (direction : Direction) (w : WorldState) (channel : Channel) (frames : List Frame)
-    (es : List Entry) → slice_get w.net.channels place ≡ Some channel → times (Arrival place direction) es ≡ dues frames
-    → ((i : Item) → same_item i (Arrival place direction) ≡ false → times i es ≡ times i w.net.pending) → Agrees w
+    (es : List Entry) → slice_get w.net.channels place ≡ Some channel → times_of_item (Arrival place direction) es ≡ dues frames
+    → ((i : Item) → same_item i (Arrival place direction) ≡ false → times_of_item i es ≡ times_of_item i w.net.pending) → Agrees w
     → Agrees (record w {
       net = record {
         channels = slice_set w.net.channels place (with_queue direction frames channel);
@@ -186,14 +186,14 @@ pub entered_agrees : (place : ℕ) (direction : Direction) (channel : Channel) (
     → Agrees (record w { net = entered place direction channel now octets answer w.net })
 entered_agrees place direction channel now octets None w here agrees = agrees
 entered_agrees place direction channel now octets (Some delay) w here agrees =
-    let at : ℕ = due_after (queue direction channel) now delay in
+    let at : ℕ = due_after (world_queue direction channel) now delay in
     let sent : Frame = frame at octets in
     let i : Item = Arrival place direction in
-    let before : times i w.net.pending ≡ dues (queue direction channel) = agrees i ∙ ap (arriving direction) here in
-    let after : times i (put at i w.net.pending) ≡ dues (queue direction channel ++ sent ∷ []) =
+    let before : times_of_item i w.net.pending ≡ dues (world_queue direction channel) = agrees i ∙ ap (arriving direction) here in
+    let after : times_of_item i (put at i w.net.pending) ≡ dues (world_queue direction channel ++ sent ∷ []) =
     times-put_same i at w.net.pending ∙ ap (λ ts. ts ++ at ∷ []) before
-    ∙ sym (map-append (λ (f : Frame). f.due) (queue direction channel) (sent ∷ [])) in
-    queue_agrees place direction w channel (queue direction channel ++ sent ∷ []) (put at i w.net.pending) here after
+    ∙ sym (map-append (λ (f : Frame). f.due) (world_queue direction channel) (sent ∷ [])) in
+    queue_agrees place direction w channel (world_queue direction channel ++ sent ∷ []) (put at i w.net.pending) here after
     (λ j differ. times-put_other i j at w.net.pending differ) agrees
 
 pub sends_one_agrees : (now : ℕ) (from : PortId) (octets : List ℕ) (draw : Draw) (w : WorldState) (net' : Net)
@@ -228,15 +228,15 @@ calls_agree place input w draws answer w' calls but =
 
 -- the oldest frame leaves
 pub takes_agree : (place : ℕ) (direction : Direction) (now : ℕ) (octets : List ℕ) (channel : Channel) (w : WorldState)
-    (net' : Net) → Agrees w → Takes place direction now octets channel w.net net' → Agrees (record w { net = net' })
+    (net' : Net) → Agrees w → TakesFrame place direction now octets channel w.net net' → Agrees (record w { net = net' })
 takes_agree place direction now octets channel w net' agrees takes =
     let i : Item = Arrival place direction in
-    let before : times i w.net.pending ≡ dues (frame now octets ∷ takes.rest) =
+    let before : times_of_item i w.net.pending ≡ dues (frame now octets ∷ takes.rest) =
     agrees i ∙ ap (arriving direction) takes.here ∙ ap dues takes.front in
-    let after : times i (without_first i w.net.pending) ≡ dues takes.rest =
+    let after : times_of_item i (without_first_entry i w.net.pending) ≡ dues takes.rest =
     times-without_first_same i w.net.pending ∙ ap (drop 1) before in
     subst (λ n. Agrees (record w { net = n })) (sym takes.is)
-    (queue_agrees place direction w channel takes.rest (without_first i w.net.pending) takes.here after
+    (queue_agrees place direction w channel takes.rest (without_first_entry i w.net.pending) takes.here after
     (λ j differ. times-without_first_other i j w.net.pending differ) agrees)
 
 -- the receiver answers, or is silent
@@ -272,7 +272,7 @@ stopped_agrees_but place timer w agrees =
 
 -- and its system is called
 pub expires_agree : (place : ℕ) (timer : Timer) (w : WorldState) (draws : List Draw) (w' : WorldState)
-    → Agrees w → Expires place timer w draws w' → Agrees w'
+    → Agrees w → TimerRunsOut place timer w draws w' → Agrees w'
 expires_agree place timer w draws w' agrees expires =
     calls_agree place (TimerExpires timer) (stopped place timer w) draws expires.answer w' expires.calls
     (stopped_agrees_but place timer w agrees)

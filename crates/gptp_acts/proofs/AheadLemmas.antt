@@ -22,9 +22,9 @@ use Rattle.gptp_acts.specs.declared.station.Station.{Station}
 use Rattle.gptp_acts.specs.Act.{Calls, all_timers, in_state, set_timers}
 use Rattle.gptp_acts.specs.Ahead.{AreFit, ArePending, HasPorts, IsOnTime, IsSteady, IsWorldOnTime, NoneLate, due_by}
 use Rattle.gptp_acts.specs.Item.{same_item}
-use Rattle.gptp_acts.specs.Pending.{Entry, NothingBefore, listed, set_due, times}
+use Rattle.gptp_acts.specs.Pending.{Entry, NothingBefore, timer_time, set_due, times_of_item}
 use Rattle.gptp_acts.specs.Sends.{SendsAll, SendsOne, entered, written}
-use Rattle.gptp_acts.specs.World.{Channel, Net, WorldState, queue, station_due, timers_from, with_queue}
+use Rattle.gptp_acts.specs.World.{Channel, Net, WorldState, world_queue, station_due, timers_from, with_queue}
 use Rattle.gptp_acts.proofs.DueByLemmas.{AreKeptOrLater, due_by-put, due_by-set_timers}
 use Rattle.gptp_acts.proofs.MomentLemmas.{IsNotBefore, nothing_before-put, nothing_before-set_due, times-all}
 use Rattle.gptp_acts.proofs.PendingLemmas.{same_itself}
@@ -36,15 +36,15 @@ use Rattle.gptp_acts.proofs.TimerLemmas.{same_timer}
 
 -- where nothing is pending before a time, what is pending at one time alone isn't before it
 first_late : (time place : ℕ) (timer : Timer) (es : List Entry) (t : ℕ) → NothingBefore time es
-    → times (Expiry place timer) es ≡ t ∷ [] → time ≤ t
+    → times_of_item (Expiry place timer) es ≡ t ∷ [] → time ≤ t
 first_late time place timer es t none is =
     (subst (AllByRecursion (λ u. time ≤ u)) is (times-all (λ u. time ≤ u) (Expiry place timer) es none)).0
 
 -- so timers that are pending when they are due aren't late
 pub pending_none_late : (time place : ℕ) (s : SystemState) (es : List Entry) → NothingBefore time es
-    → ((timer : Timer) → times (Expiry place timer) es ≡ listed (due timer s)) → NoneLate time s
+    → ((timer : Timer) → times_of_item (Expiry place timer) es ≡ timer_time (due timer s)) → NoneLate time s
 pending_none_late time place s es none agree timer t is =
-    first_late time place timer es t none (agree timer ∙ ap listed is)
+    first_late time place timer es t none (agree timer ∙ ap timer_time is)
 
 -- a timer of a live system is due when it is due in its state
 pub live_due : (station : Station) (timer : Timer) → station.live ≡ true
@@ -78,7 +78,7 @@ pub queue_bounds : (direction : Direction) (frames : List Frame) (channel : Chan
 queue_bounds FromA frames channel = refl
 queue_bounds FromB frames channel = refl
 
--- the queue of a link becomes another
+-- the world_queue of a link becomes another
 pub requeued_fit : (channels : List Channel) (place : ℕ) (direction : Direction) (frames : List Frame)
     (channel : Channel)
     → slice_get channels place ≡ Some channel → AreFit channels
@@ -101,14 +101,14 @@ entered_later : (now place : ℕ) (direction : Direction) (channel : Channel) (o
     → SendsLater now net (entered place direction channel now octets answer net)
 entered_later now place direction channel octets None net fit here lawful = nothing_sent now net fit
 entered_later now place direction channel octets (Some delay) net fit here lawful =
-    let time : ℕ = due_after (queue direction channel) now delay in
+    let time : ℕ = due_after (world_queue direction channel) now delay in
     let positive = (fit place channel here).positive in
     let least = lawful.0 in
-    let most = le-max_left (now + delay) (newest_due (queue direction channel)) in
+    let most = le-max_left (now + delay) (newest_due (world_queue direction channel)) in
     let later : now < time = omega arith in
     let late : now ≤ time = omega arith in
     record {
-      links = requeued_fit net.channels place direction (queue direction channel ++ frame time octets ∷ []) channel
+      links = requeued_fit net.channels place direction (world_queue direction channel ++ frame time octets ∷ []) channel
           here fit;
       pending = nothing_before-put now time (Arrival place direction) net.pending late;
       due = due_by-put now time (Arrival place direction) net.pending later;
@@ -150,20 +150,20 @@ module _ (place now : ℕ) (s s' : SystemState) (sends : List Sending) (answer :
     (steady : IsSteady s) where
   other_ahead : (input : Input) → IsTimely s now input → Steps input now s s' sends answer
       → ArePending place input s es → (timer : Timer) → input ≢ Expires timer → (t : ℕ) → due timer s' ≡ Some t
-      → (times (Expiry place timer) es ≡ t ∷ []) ⊎ (now < t)
+      → (times_of_item (Expiry place timer) es ≡ t ∷ []) ⊎ (now < t)
   other_ahead input timely k pending timer other t is =
       by (started_later input now s s' sends answer steady.params steady.largest steady.logs timely steady.shown
       steady.rest k timer t
       is)
     where
-      by : (due timer s ≡ Some t) ⊎ (now < t) → (times (Expiry place timer) es ≡ t ∷ []) ⊎ (now < t)
-      by (inl before) = inl (pending timer other ∙ ap listed before)
+      by : (due timer s ≡ Some t) ⊎ (now < t) → (times_of_item (Expiry place timer) es ≡ t ∷ []) ⊎ (now < t)
+      by (inl before) = inl (pending timer other ∙ ap timer_time before)
       by (inr later) = inr later
 
   out_ahead : (out : Timer) → IsTimely s now (Expires out) → Steps (Expires out) now s s' sends answer
       → ArePending place (Expires out) s es → (timer : Timer) → (b : Bool)
       → same_item (Expiry place timer) (Expiry place out) ≡ b → (t : ℕ) → due timer s' ≡ Some t
-      → (times (Expiry place timer) es ≡ t ∷ []) ⊎ (now < t)
+      → (times_of_item (Expiry place timer) es ≡ t ∷ []) ⊎ (now < t)
   out_ahead out timely k pending timer true b t is =
       let both = same_timer place place timer out b in
       inr (ran_out_later out now s s' sends answer steady.params steady.logs timely steady.shown steady.rest k t
@@ -174,7 +174,7 @@ module _ (place now : ℕ) (s s' : SystemState) (sends : List Sending) (answer :
   -- each timer that runs after the step was pending at its time before it, or is due later
   pub step_ahead : (input : Input) → IsTimely s now input → Steps input now s s' sends answer
       → ArePending place input s es → (timer : Timer) (t : ℕ) → due timer s' ≡ Some t
-      → (times (Expiry place timer) es ≡ t ∷ []) ⊎ (now < t)
+      → (times_of_item (Expiry place timer) es ≡ t ∷ []) ⊎ (now < t)
   step_ahead (PortUp p) timely k pending timer t is =
       other_ahead (PortUp p) timely k pending timer (λ e. absurd cc) t is
   step_ahead (PortDown p) timely k pending timer t is =
@@ -217,7 +217,7 @@ module _ (place : ℕ) (input : Input) (w : WorldState) (draws : List Draw) (ans
           by (step_ahead place w.time k.station.system k.after k.sends answer w.net.pending steady input timely k.steps
           pending timer t is)
         where
-          by : (times (Expiry place timer) w.net.pending ≡ t ∷ []) ⊎ (w.time < t) → w.time ≤ t
+          by : (times_of_item (Expiry place timer) w.net.pending ≡ t ∷ []) ⊎ (w.time < t) → w.time ≤ t
           by (inl kept) = first_late w.time place timer w.net.pending t none kept
           by (inr later) = omega arith
 

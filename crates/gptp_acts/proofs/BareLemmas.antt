@@ -9,7 +9,7 @@ use Rattle.gptp_system.specs.declared.answer.Answer.{Answer}
 use Rattle.gptp_system.specs.declared.sending.Sending.{Sending}
 use Rattle.gptp_system.specs.Input.{Input}
 use Rattle.gptp_system.specs.State.{SystemState, own}
-use Rattle.gptp_acts.specs.Act.{all_timers, in_state, Calls, Takes}
+use Rattle.gptp_acts.specs.Act.{all_timers, in_state, Calls, TakesFrame}
 use Rattle.gptp_acts.specs.Sends.{entered, written, SendsAll, SendsOne}
 use Rattle.gptp_acts.specs.World.{Channel, Net, WorldState, with_queue}
 use Rattle.gptp_lists.proofs.PlaceLemmas.{map-set_same}
@@ -54,7 +54,7 @@ sends_bare now s (x ∷ xs) draws net net' (inl (draw, rest, between, is, one, s
 sends_bare now s (x ∷ xs) draws net net' (inr (unlinked, sends)) = sends_bare now s xs draws net net' sends
 
 pub takes_bare : (place : ℕ) (direction : Direction) (now : ℕ) (octets : List ℕ) (channel : Channel) (net net' : Net)
-    → Takes place direction now octets channel net net' → DifferInFlight net.channels net'.channels
+    → TakesFrame place direction now octets channel net net' → DifferInFlight net.channels net'.channels
 takes_bare place direction now octets channel net net' takes =
     subst (λ (n : Net). DifferInFlight net.channels n.channels) (sym takes.is)
     (queue_bare net.channels place direction channel takes.rest takes.here)

@@ -12,8 +12,8 @@ use Rattle.gptp_system.specs.Input.{PortUp, PortDown}
 use Rattle.gptp_system.proofs.StartLemmas.{length-new_ports}
 use Rattle.gptp_acts.specs.declared.item.Item.TheVariants.{Expiry, Arrival}
 use Rattle.gptp_acts.specs.declared.station.Station.{Station}
-use Rattle.gptp_acts.specs.Pending.{Entry, times, without, listed}
-use Rattle.gptp_acts.specs.World.{Channel, WorldState, queue, station_due}
+use Rattle.gptp_acts.specs.Pending.{Entry, times_of_item, without, timer_time}
+use Rattle.gptp_acts.specs.World.{Channel, WorldState, world_queue, station_due}
 use Rattle.gptp_acts.specs.Changing.{brought_up, failed, fresh, lost, taken_down, up_ports, with_bounds, with_channel, with_setup, with_station, ComesUpIf, FailsIf, GoesDownIf, RecoversIf, Starts, StartsAll}
 use Rattle.gptp_acts.specs.Agrees.{Agrees, AgreesBut, HasItsPorts, HaveTheirPorts}
 use Rattle.gptp_acts.proofs.AgreeLemmas.{agrees_but, calls_all_agree, dues, arriving, only_arrivals, other_way, relinked_agrees, replaced, replaced_agrees, running, tells_ends_agree, OnlyArrivals}
@@ -46,13 +46,13 @@ only_arrivals-on place first second third a b = record {
 
 -- nothing of a link that goes down is pending
 none_arrives : (place : ℕ) (direction : Direction) (es : List Entry)
-    → times (Arrival place direction) (without (Arrival place FromB) (without (Arrival place FromA) es)) ≡ []
+    → times_of_item (Arrival place direction) (without (Arrival place FromB) (without (Arrival place FromA) es)) ≡ []
 none_arrives place FromA es =
     times-without_other (Arrival place FromB) (Arrival place FromA) (without (Arrival place FromA) es) (other_way place)
     ∙ times-without_same (Arrival place FromA) es
 none_arrives place FromB es = times-without_same (Arrival place FromB) (without (Arrival place FromA) es)
 
-none_in_flight : (direction : Direction) (channel : Channel) → dues (queue direction (lost channel)) ≡ []
+none_in_flight : (direction : Direction) (channel : Channel) → dues (world_queue direction (lost channel)) ≡ []
 none_in_flight FromA channel = refl
 none_in_flight FromB channel = refl
 
@@ -70,7 +70,7 @@ taken_down_agrees place channel w here agrees =
 
 -- a link changes, and what is in flight stays
 pub with_channel_agrees : (place : ℕ) (w : WorldState) (old new : Channel) → slice_get w.net.channels place ≡ Some old
-    → ((direction : Direction) → queue direction new ≡ queue direction old) → Agrees w
+    → ((direction : Direction) → world_queue direction new ≡ world_queue direction old) → Agrees w
     → Agrees (record w { net = with_channel place new w.net })
 with_channel_agrees place w old new here same agrees =
     relinked_agrees place w old new w.net.pending here
@@ -78,8 +78,8 @@ with_channel_agrees place w old new here same agrees =
     (record { timers = λ other timer. refl; arrivals = λ link direction apart. refl }) agrees
 
 same_queues : (a b : PortId) (bounds other : Bounds) (up down : Bool) (x y : List Frame) (direction : Direction)
-    → queue direction (record { a = a; b = b; bounds = bounds; up = up; from_a = x; from_b = y })
-    ≡ queue direction (record { a = a; b = b; bounds = other; up = down; from_a = x; from_b = y })
+    → world_queue direction (record { a = a; b = b; bounds = bounds; up = up; from_a = x; from_b = y })
+    ≡ world_queue direction (record { a = a; b = b; bounds = other; up = down; from_a = x; from_b = y })
 same_queues a b bounds other up down x y FromA = refl
 same_queues a b bounds other up down x y FromB = refl
 
@@ -143,34 +143,34 @@ starts_all_agree (place ∷ places) w draws w' have agrees (first, rest, between
 pub silent_agrees : (w : WorldState)
     → ((place : ℕ) (station : Station) → slice_get w.stations place ≡ Some station → station.live ≡ false)
     → ((link : ℕ) (direction : Direction) (channel : Channel) → slice_get w.net.channels link ≡ Some channel
-    → queue direction channel ≡ [])
+    → world_queue direction channel ≡ [])
     → w.net.pending ≡ [] → Agrees w
 silent_agrees w failed idle none (Expiry place timer) = by (slice_get w.stations place) refl
   where
     by : (here : Option Station) → slice_get w.stations place ≡ here
-        → times (Expiry place timer) w.net.pending ≡ running timer (slice_get w.stations place)
+        → times_of_item (Expiry place timer) w.net.pending ≡ running timer (slice_get w.stations place)
     by None is = rw (none, is) refl
     by (Some station) is = let off = failed place station is in rw (none, is, off) refl
 silent_agrees w failed idle none (Arrival link direction) = by (slice_get w.net.channels link) refl
   where
     by : (here : Option Channel) → slice_get w.net.channels link ≡ here
-        → times (Arrival link direction) w.net.pending ≡ arriving direction (slice_get w.net.channels link)
+        → times_of_item (Arrival link direction) w.net.pending ≡ arriving direction (slice_get w.net.channels link)
     by None is = rw (none, is) refl
     by (Some channel) is = let empty = idle link direction channel is in rw (none, is, empty) refl
 
 -- ---- what a system starts with
 
--- another stands for a system, with the same timers at the same times
+-- another stands for a system, with the same timers at the same times_of_item
 pub same_due_agrees : (place : ℕ) (w : WorldState) (old new : Station) → slice_get w.stations place ≡ Some old
     → ((timer : Timer) → station_due timer new ≡ station_due timer old) → Agrees w → Agrees (with_station place new w)
 same_due_agrees place w old new here same agrees (Arrival link direction) = agrees (Arrival link direction)
 same_due_agrees place w old new here same agrees (Expiry other timer) = by (same_place other place)
   where
     by : (other ≡ place) ⊎ (other ≢ place)
-        → times (Expiry other timer) w.net.pending ≡ running timer (slice_get (slice_set w.stations place new) other)
+        → times_of_item (Expiry other timer) w.net.pending ≡ running timer (slice_get (slice_set w.stations place new) other)
     by (inl there) =
         let now_here = get-set_same w.stations place old new here in
-        rw (there, now_here) (agrees (Expiry place timer) ∙ ap (running timer) here ∙ ap listed (sym (same timer)))
+        rw (there, now_here) (agrees (Expiry place timer) ∙ ap (running timer) here ∙ ap timer_time (sym (same timer)))
     by (inr apart) =
         agrees (Expiry other timer) ∙ sym (ap (running timer) (get-set_other w.stations place other new apart))
 

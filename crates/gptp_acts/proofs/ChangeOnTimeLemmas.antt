@@ -9,7 +9,7 @@ use Rattle.gptp_links.specs.Bounds.{Fit}
 use Rattle.gptp_links.specs.Fate.{Draw}
 use Rattle.gptp_system.specs.Input.{Input, IsTimely, PortUp, PortDown}
 use Rattle.gptp_system.specs.State.{SystemState, clock}
-use Rattle.gptp_system.specs.Steps.{IsPortOf}
+use Rattle.gptp_system.specs.Steps.{HasPortNumber}
 use Rattle.gptp_acts.specs.declared.item.Item.TheVariants.{Arrival}
 use Rattle.gptp_acts.specs.declared.station.Station.{Station}
 use Rattle.gptp_acts.specs.Act.{all_timers}
@@ -45,7 +45,7 @@ calls_if_live_ports place input w draws w' (inr (failed, none, is)) other ports 
 
 -- an input that is timely at every port of a system
 abbrev pub IsOfPort : (ℕ → Input) → Type 0
-IsOfPort input = (s : SystemState) (now p : ℕ) → IsPortOf s p → IsTimely s now (input p)
+IsOfPort input = (s : SystemState) (now p : ℕ) → HasPortNumber s p → IsTimely s now (input p)
 
 pub tells_on_time : (input : ℕ → Input) (channel : Channel) (w : WorldState) (draws : List Draw) (w' : WorldState)
     → IsOfPort input → IsWorldOnTime w → IsPortAmong channel.a w.stations → IsPortAmong channel.b w.stations
@@ -62,7 +62,7 @@ tells_on_time input channel w draws w' timely on port_a port_b k =
         ∙ k.is_a.named)))
         k.at_a
 
-    old : IsPortOf k.station_b.system channel.b.port
+    old : HasPortNumber k.station_b.system channel.b.port
     old = port_b k.place_b k.station_b k.is_b.here k.is_b.named
 
     ports : HasPorts k.place_b (length k.station_b.system.ports) k.between
@@ -86,7 +86,7 @@ calls_all_on_time place ports [] w draws w' on has among (none, is) = subst IsWo
 calls_all_on_time place ports (p ∷ ps) w draws w' on has among (first, rest, between, answer, is, k, more) =
     let (here, others) = among in
     let count = has k.station k.here in
-    let of : IsPortOf k.station.system p = record { least = here.0; most = rw count here.1 } in
+    let of : HasPortNumber k.station.system p = record { least = here.0; most = rw count here.1 } in
     calls_all_on_time place ports ps between rest w' (calls_on_time place (PortUp p) w first answer between k on of)
     (calls_ports place (PortUp p) w first answer between k place ports has) others more
 

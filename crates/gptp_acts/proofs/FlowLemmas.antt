@@ -10,12 +10,12 @@ use Rattle.gptp_links.proofs.FlightLemmas.{in_order-push, in_order-tail}
 use Rattle.gptp_system.specs.declared.answer.Answer.{Answer}
 use Rattle.gptp_system.specs.declared.sending.Sending.{Sending}
 use Rattle.gptp_setup.specs.declared.timer.Timer.{Timer}
-use Rattle.gptp_system.specs.Input.{Input, PortUp, PortDown, Frame as FrameHeard, Expires as TimerExpires}
+use Rattle.gptp_system.specs.Input.{Input, PortUp, PortDown, Frame as FrameHeard, TimerRunsOut as TimerExpires}
 use Rattle.gptp_system.specs.State.{SystemState, own}
 use Rattle.gptp_acts.specs.declared.station.Station.{Station}
-use Rattle.gptp_acts.specs.World.{Channel, Net, WorldState, receiver, queue, with_queue}
+use Rattle.gptp_acts.specs.World.{Channel, Net, WorldState, receiver, world_queue, with_queue}
 use Rattle.gptp_acts.specs.Sends.{entered, written, SendsAll, SendsOne}
-use Rattle.gptp_acts.specs.Act.{in_state, Calls, Delivers, Expires, Hears, Takes}
+use Rattle.gptp_acts.specs.Act.{in_state, Calls, Delivers, TimerRunsOut, Hears, TakesFrame}
 use Rattle.gptp_acts.specs.Agrees.{stopped}
 use Rattle.gptp_acts.specs.Changing.{brought_up, failed, fresh, lost, taken_down, up_ports, with_bounds, CallsAll, CallsIfLive, ComesUpIf, FailsIf, GoesDownIf, RecoversIf, Starts, StartsAll, TellsEnds}
 use Rattle.gptp_acts.specs.Sound.{AllFlow, Flows}
@@ -49,7 +49,7 @@ entered_flow : (place : ℕ) (direction : Direction) (channel : Channel) (now : 
     → AllFlow (record w { net = entered place direction channel now octets answer w.net })
 entered_flow place direction channel now octets None w here up flow = flow
 entered_flow place direction channel now octets (Some delay) w here up flow =
-    let before : List Frame = queue direction channel in
+    let before : List Frame = world_queue direction channel in
     let at : ℕ = due_after before now delay in
     let frames : List Frame = before ++ frame at octets ∷ [] in
     let late : newest_due before ≤ at = omega arith in
@@ -83,7 +83,7 @@ calls_flow place input w draws answer w' flow calls =
 
 -- the oldest frame leaves
 takes_flow : (place : ℕ) (direction : Direction) (now : ℕ) (octets : List ℕ) (channel : Channel) (w : WorldState)
-    (net' : Net) → AllFlow w → Takes place direction now octets channel w.net net' → AllFlow (record w { net = net' })
+    (net' : Net) → AllFlow w → TakesFrame place direction now octets channel w.net net' → AllFlow (record w { net = net' })
 takes_flow place direction now octets channel w net' flow takes =
     let flows = flow place direction channel takes.here in
     let front : AreDueInOrder (frame now octets ∷ takes.rest) = subst AreDueInOrder takes.front flows.order in
@@ -109,7 +109,7 @@ delivers_flow link direction octets w draws answer w' flow delivers =
     delivers.hears
 
 pub expires_flow : (place : ℕ) (timer : Timer) (w : WorldState) (draws : List Draw) (w' : WorldState)
-    → AllFlow w → Expires place timer w draws w' → AllFlow w'
+    → AllFlow w → TimerRunsOut place timer w draws w' → AllFlow w'
 expires_flow place timer w draws w' flow expires =
     calls_flow place (TimerExpires timer) (stopped place timer w) draws expires.answer w' flow expires.calls
 

@@ -8,12 +8,12 @@ use Rattle.gptp_links.specs.declared.link.Direction.TheVariants.{FromA, FromB}
 use Rattle.gptp_links.specs.Fate.{Draw}
 use Rattle.gptp_system.specs.declared.answer.Answer.{Answer}
 use Rattle.gptp_setup.specs.declared.timer.Timer.{Timer}
-use Rattle.gptp_system.specs.Input.{Input, PortUp, PortDown, Frame as FrameHeard, Expires as TimerExpires}
+use Rattle.gptp_system.specs.Input.{Input, PortUp, PortDown, Frame as FrameHeard, TimerRunsOut as TimerExpires}
 use Rattle.gptp_system.specs.State.{clock}
-use Rattle.gptp_system.specs.Steps.{IsPortOf, IsUp}
+use Rattle.gptp_system.specs.Steps.{HasPortNumber, IsUp}
 use Rattle.gptp_acts.specs.declared.station.Station.{Station}
 use Rattle.gptp_acts.specs.World.{Channel, Net, WorldState, sender, receiver}
-use Rattle.gptp_acts.specs.Act.{all_timers, in_state, Calls, Delivers, Expires, Hears, HasFailed}
+use Rattle.gptp_acts.specs.Act.{all_timers, in_state, Calls, Delivers, TimerRunsOut, Hears, HasFailed}
 use Rattle.gptp_acts.specs.Agrees.{stopped}
 use Rattle.gptp_acts.specs.Changing.{brought_up, failed, fresh, lost, taken_down, up_ports, with_bounds, with_setup, with_station, CallsAll, CallsIfLive, ComesUpIf, FailsIf, GoesDownIf, Injects, RecoversIf, Starts, StartsAll, TellsEnds}
 use Rattle.gptp_acts.specs.World.{port_id}
@@ -147,7 +147,7 @@ calls_kept Excepted place input w draws answer w' calls downs but =
 -- the port is one of the system at a place
 abbrev pub HasPort : ℕ → PortId → WorldState → Type 0
 HasPort place port w = (station : Station) → slice_get w.stations place ≡ Some station
-    → (clock station.system ≡ port.clock) × IsPortOf station.system port.port
+    → (clock station.system ≡ port.clock) × HasPortNumber station.system port.port
 
 pub stays_has_port : (place : ℕ) (port : PortId) (w w' : WorldState) → Stays w w' → HasPort place port w
     → HasPort place port w'
@@ -181,7 +181,7 @@ pub calls_up : (Before After : PortId → Type 0) (place : ℕ) (port : PortId) 
 calls_up Before After place port w draws answer w' clocks has less but calls =
     calls_but Before After place (PortUp port.port) w draws answer w' calls own others but
   where
-    at : (clock calls.station.system ≡ port.clock) × IsPortOf calls.station.system port.port
+    at : (clock calls.station.system ≡ port.clock) × HasPortNumber calls.station.system port.port
     at = has calls.station calls.here
 
     runs_now : (q : PortId) → After q ⊎ (q ≡ port) → After q ⊎ IsUp calls.after q.port
@@ -270,7 +270,7 @@ delivers_linked link direction octets w draws answer w' linked delivers =
     delivers.hears
 
 pub expires_linked : (place : ℕ) (timer : Timer) (w : WorldState) (draws : List Draw) (w' : WorldState)
-    → AreLinked w → Expires place timer w draws w' → AreLinked w'
+    → AreLinked w → TimerRunsOut place timer w draws w' → AreLinked w'
 expires_linked place timer w draws w' linked expires =
     calls_linked place (TimerExpires timer) (stopped place timer w) draws expires.answer w' (λ p same. absurd cc) linked
     expires.calls
@@ -288,7 +288,7 @@ joined_has : (place link : ℕ) (direction : Direction) (channel : Channel) (sta
 joined_has place link direction channel station w ports here there named other at =
     let one : station ≡ other = same_there w.stations place station other there at in
     subst (λ (s : Station). (clock s.system ≡ (sender direction channel).clock)
-    × IsPortOf s.system (sender direction channel).port) one
+    × HasPortNumber s.system (sender direction channel).port) one
     (named, ports link place direction channel station here there named)
 
 -- A link goes down: no link that is up is at its ports any more.
@@ -481,7 +481,7 @@ starts_linked place w draws w' setups clocks ports linked starts =
 
     has : (p : ℕ) → In p (up_ports new w.net) → HasPort place (port_id (clock new.system) p) begun
     has p among station there =
-        subst (λ (s : Station). (clock s.system ≡ clock new.system) × IsPortOf s.system p)
+        subst (λ (s : Station). (clock s.system ≡ clock new.system) × HasPortNumber s.system p)
         (same_there begun.stations place new station now_here there) (refl, brought_ports new w.net p among)
 
     Asked : PortId → Type 0

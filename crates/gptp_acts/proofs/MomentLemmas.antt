@@ -4,14 +4,14 @@ use Rattle.std.specs.List.{All, AllByRecursion}
 use Rattle.std.proofs.lemmas.List.Elements.{All-append, All-cons, All-filter, All-head, All-push, All-tail, All-weaker}
 use Rattle.gptp_acts.specs.declared.item.Item.{Item}
 use Rattle.gptp_acts.specs.Item.{same_item}
-use Rattle.gptp_acts.specs.Pending.{Entry, entry, times, put, put_if, without, without_first, listed, same_times, set_due, IsNext, NothingBefore}
+use Rattle.gptp_acts.specs.Pending.{Entry, pending_entry, times_of_item, put, put_if, without, without_first_entry, timer_time, same_times, set_due, IsNext, NothingBefore}
 use Rattle.gptp_acts.proofs.PendingLemmas.{same_itself, times-append}
 
 -- ---- nothing before a time
 
 pub nothing_before-put : (time due : ℕ) (i : Item) (es : List Entry) → time ≤ due → NothingBefore time es
     → NothingBefore time (put due i es)
-nothing_before-put time due i es late none = All-push (λ (e : Entry). time ≤ e.time) es (entry due i) none late
+nothing_before-put time due i es late none = All-push (λ (e : Entry). time ≤ e.time) es (pending_entry due i) none late
 
 pub nothing_before-without : (time : ℕ) (i : Item) (es : List Entry) → NothingBefore time es
     → NothingBefore time (without i es)
@@ -19,15 +19,15 @@ nothing_before-without time i es none =
     All-filter (λ (e : Entry). not (same_item i e.item)) (λ (e : Entry). time ≤ e.time) es none
 
 without_first-step : (time : ℕ) (i : Item) (e : Entry) (es : List Entry) → NothingBefore time (e ∷ es)
-    → NothingBefore time (without_first i es) → (t : Bool) → same_item i e.item ≡ t
-    → NothingBefore time (without_first i (e ∷ es))
+    → NothingBefore time (without_first_entry i es) → (t : Bool) → same_item i e.item ≡ t
+    → NothingBefore time (without_first_entry i (e ∷ es))
 without_first-step time i e es none ih true t = rw t (All-tail (λ (x : Entry). time ≤ x.time) e es none)
 without_first-step time i e es none ih false t =
-    rw t (All-cons (λ (x : Entry). time ≤ x.time) e (without_first i es)
+    rw t (All-cons (λ (x : Entry). time ≤ x.time) e (without_first_entry i es)
     (All-head (λ (x : Entry). time ≤ x.time) e es none) ih)
 
 pub nothing_before-without_first : (time : ℕ) (i : Item) (es : List Entry) → NothingBefore time es
-    → NothingBefore time (without_first i es)
+    → NothingBefore time (without_first_entry i es)
 nothing_before-without_first time i [] none = none
 nothing_before-without_first time i (e ∷ es) none =
     without_first-step time i e es none
@@ -36,7 +36,7 @@ nothing_before-without_first time i (e ∷ es) none =
 
 -- a timer is due at this time or later, where it runs
 abbrev pub IsNotBefore : ℕ → Option ℕ → Type 0
-IsNotBefore time due = AllByRecursion (λ u. time ≤ u) (listed due)
+IsNotBefore time due = AllByRecursion (λ u. time ≤ u) (timer_time due)
 
 put_if-step : (time : ℕ) (i : Item) (due : Option ℕ) (es : List Entry) → IsNotBefore time due → NothingBefore time es
     → NothingBefore time (put_if i due es)
@@ -44,7 +44,7 @@ put_if-step time i None es late none = none
 put_if-step time i (Some u) es late none = nothing_before-put time u i es late.0 none
 
 set_due-step : (time : ℕ) (i : Item) (due : Option ℕ) (es : List Entry) → IsNotBefore time due → NothingBefore time es
-    → (t : Bool) → same_times (times i es) (listed due) ≡ t → NothingBefore time (set_due i due es)
+    → (t : Bool) → same_times (times_of_item i es) (timer_time due) ≡ t → NothingBefore time (set_due i due es)
 set_due-step time i due es late none true t = rw t none
 set_due-step time i due es late none false t =
     rw t (put_if-step time i due (without i es) late (nothing_before-without time i es none))
@@ -52,7 +52,7 @@ set_due-step time i due es late none false t =
 pub nothing_before-set_due : (time : ℕ) (i : Item) (due : Option ℕ) (es : List Entry) → IsNotBefore time due
     → NothingBefore time es → NothingBefore time (set_due i due es)
 nothing_before-set_due time i due es late none =
-    set_due-step time i due es late none (same_times (times i es) (listed due)) refl
+    set_due-step time i due es late none (same_times (times_of_item i es) (timer_time due)) refl
 
 -- ---- the next
 
@@ -64,17 +64,17 @@ nothing_before-next es time i next =
     (λ e h. omega arith) next.before next.later in
     let here : time ≤ time = omega arith in
     rw next.is
-    (All-append (λ (e : Entry). time ≤ e.time) next.before (entry time i ∷ next.after) before
-    (All-cons (λ (e : Entry). time ≤ e.time) (entry time i) next.after here next.not_before))
+    (All-append (λ (e : Entry). time ≤ e.time) next.before (pending_entry time i ∷ next.after) before
+    (All-cons (λ (e : Entry). time ≤ e.time) (pending_entry time i) next.after here next.not_before))
 
-times-all_step : (P : ℕ → Type 0) (i : Item) (e : Entry) (es : List Entry) → P e.time → AllByRecursion P (times i es)
-    → (t : Bool) → same_item i e.item ≡ t → AllByRecursion P (times i (e ∷ es))
+times-all_step : (P : ℕ → Type 0) (i : Item) (e : Entry) (es : List Entry) → P e.time → AllByRecursion P (times_of_item i es)
+    → (t : Bool) → same_item i e.item ≡ t → AllByRecursion P (times_of_item i (e ∷ es))
 times-all_step P i e es here rest true t = rw t (here, rest)
 times-all_step P i e es here rest false t = rw t rest
 
--- what holds of all times holds of those of an item
+-- what holds of all times_of_item holds of those of an item
 pub times-all : (P : ℕ → Type 0) (i : Item) (es : List Entry) → All (λ (e : Entry). P e.time) es
-    → AllByRecursion P (times i es)
+    → AllByRecursion P (times_of_item i es)
 times-all P i [] all = tt
 times-all P i (e ∷ es) all =
     times-all_step P i e es (All-head (λ (x : Entry). P x.time) e es all)
@@ -82,14 +82,14 @@ times-all P i (e ∷ es) all =
 
 -- the next is pending at its time, and before that only later
 pub times-next : (es : List Entry) (time : ℕ) (i : Item) → IsNext es time i
-    → (front : List ℕ) × (rest : List ℕ) × (times i es ≡ front ++ time ∷ rest) × AllByRecursion (λ u. time < u) front
+    → (front : List ℕ) × (rest : List ℕ) × (times_of_item i es ≡ front ++ time ∷ rest) × AllByRecursion (λ u. time < u) front
 times-next es time i next =
     let same = same_itself i in
-    let here : times i (entry time i ∷ next.after) ≡ time ∷ times i next.after = rw same refl in (
-      times i next.before,
-      times i next.after,
-      ap (times i) next.is ∙ times-append i next.before (entry time i ∷ next.after)
-          ∙ ap (λ us. times i next.before ++ us) here,
+    let here : times_of_item i (pending_entry time i ∷ next.after) ≡ time ∷ times_of_item i next.after = rw same refl in (
+      times_of_item i next.before,
+      times_of_item i next.after,
+      ap (times_of_item i) next.is ∙ times-append i next.before (pending_entry time i ∷ next.after)
+          ∙ ap (λ us. times_of_item i next.before ++ us) here,
       times-all (λ u. time < u) i next.before next.later,
     )
 
@@ -107,9 +107,9 @@ first-step (f ∷ fs) rest time t ts is later least =
     let here = later.0 in
     let low = least_of t time fs rest behind in absurd (omega arith)
 
--- where the times of an item don't fall, the next is the first of them
+-- where the times_of_item of an item don't fall, the next is the first of them
 pub next-first : (es : List Entry) (time : ℕ) (i : Item) → IsNext es time i → (t : ℕ) (ts : List ℕ)
-    → times i es ≡ t ∷ ts → AllByRecursion (λ u. t ≤ u) ts → t ≡ time
+    → times_of_item i es ≡ t ∷ ts → AllByRecursion (λ u. t ≤ u) ts → t ≡ time
 next-first es time i next t ts is least =
     let found = times-next es time i next in
     first-step found.0 found.1 time t ts (sym found.2 ∙ is) found.3 least
@@ -119,7 +119,7 @@ some-step [] rest time is = absurd (grind (arith, is))
 some-step (f ∷ fs) rest time is = absurd (grind (arith, is))
 
 -- a timer that is next is due then
-pub next-due : (es : List Entry) (time : ℕ) (i : Item) (due : Option ℕ) → IsNext es time i → times i es ≡ listed due
+pub next-due : (es : List Entry) (time : ℕ) (i : Item) (due : Option ℕ) → IsNext es time i → times_of_item i es ≡ timer_time due
     → due ≡ Some time
 next-due es time i None next is =
     let found = times-next es time i next in absurd (some-step found.0 found.1 time (sym found.2 ∙ is))

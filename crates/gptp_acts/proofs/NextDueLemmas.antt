@@ -11,7 +11,7 @@ use Rattle.gptp_system.proofs.TimelyLemmas.{due_timer}
 use Rattle.gptp_acts.specs.declared.item.Item.TheVariants.{Expiry, Arrival}
 use Rattle.gptp_acts.specs.declared.station.Station.{Station}
 use Rattle.gptp_acts.specs.Pending.{IsNext}
-use Rattle.gptp_acts.specs.World.{Channel, WorldState, queue, station_due}
+use Rattle.gptp_acts.specs.World.{Channel, WorldState, world_queue, station_due}
 use Rattle.gptp_acts.specs.Agrees.{Agrees}
 use Rattle.gptp_acts.proofs.AgreeLemmas.{arriving, dues, running}
 use Rattle.gptp_acts.proofs.MomentLemmas.{next-due, next-first}
@@ -63,7 +63,7 @@ pub record Comes (link : ℕ) (direction : Direction) (time : ℕ) (w : WorldSta
   pub oldest : Frame
   pub rest : List Frame
   pub here : slice_get w.net.channels link ≡ Some channel
-  pub front : queue direction channel ≡ oldest ∷ rest
+  pub front : world_queue direction channel ≡ oldest ∷ rest
   pub due_now : oldest.due ≡ time
 
 lower : (t u : ℕ) (ts : List ℕ) → t ≤ u → AllByRecursion (λ v. u ≤ v) ts → AllByRecursion (λ v. t ≤ v) ts
@@ -75,9 +75,9 @@ pub later_dues : (f : Frame) (fs : List Frame) → AreDueInOrder (f ∷ fs) → 
 later_dues f [] order = tt
 later_dues f (g ∷ fs) order = (order.0, lower f.due g.due (dues fs) order.0 (later_dues g fs order.1))
 
--- a frame that is next is the oldest of its queue
+-- a frame that is next is the oldest of its world_queue
 pub next_comes : (link : ℕ) (direction : Direction) (time : ℕ) (w : WorldState)
-    → ((channel : Channel) → slice_get w.net.channels link ≡ Some channel → AreDueInOrder (queue direction channel))
+    → ((channel : Channel) → slice_get w.net.channels link ≡ Some channel → AreDueInOrder (world_queue direction channel))
     → Agrees w → IsNext w.net.pending time (Arrival link direction) → Comes link direction time w
 next_comes link direction time w ordered agrees next = by (slice_get w.net.channels link) refl
   where
@@ -85,9 +85,9 @@ next_comes link direction time w ordered agrees next = by (slice_get w.net.chann
     by None none =
         absurd (none-some time (next-due w.net.pending time (Arrival link direction) None next
         (agrees (Arrival link direction) ∙ ap (arriving direction) none)))
-    by (Some channel) here = on (queue direction channel) refl (ordered channel here)
+    by (Some channel) here = on (world_queue direction channel) refl (ordered channel here)
       where
-        on : (frames : List Frame) → queue direction channel ≡ frames → AreDueInOrder frames
+        on : (frames : List Frame) → world_queue direction channel ≡ frames → AreDueInOrder frames
             → Comes link direction time w
         on [] none order =
             absurd (none-some time (next-due w.net.pending time (Arrival link direction) None next

@@ -1,12 +1,12 @@
--- What is next in an agenda, as an entry without its number.
+-- What is next in an agenda, as an pending_entry without its number.
 use Rattle.std.proofs.Common.{◌≡◌, ℕ, ◌+◌, ◌<◌, ◌≤◌, ◌==◌, Bool, true, false, List, [], ◌∷◌, Option, Some, None, refl, ap, subst, arith}
 use Rattle.std.specs.List.{All, AllByRecursion}
 use Rattle.std.specs.Option.{option_map}
 use Rattle.std.proofs.lemmas.Bool.Decides.{nat_tests}
 use Rattle.std.proofs.lemmas.List.Elements.{All-cons, All-head, All-tail}
-use Rattle.gptp_scheduler.specs.Pending.{Entry as Numbered, entry_at, IsFirst, IsNoEarlier, RiseFrom}
+use Rattle.gptp_scheduler.specs.Pending.{AgendaEntry as Numbered, entry_at, IsFirst, IsNoEarlier, RiseFrom}
 use Rattle.gptp_acts.specs.declared.item.Item.{Item}
-use Rattle.gptp_acts.specs.Pending.{Entry, entry, plain, IsKnown, IsNext}
+use Rattle.gptp_acts.specs.Pending.{Entry, pending_entry, plain, IsKnownItem, IsNext}
 
 -- ---- what stands under a number
 
@@ -27,13 +27,13 @@ low least next n [] e rises found = absurd (grind (arith, found))
 low least next n (x ∷ es) e rises found =
     low-step least next n x es e rises found (low (x.number + 1) next n es e rises.1) (x.number == n) refl
 
--- ---- the least entry
+-- ---- the least pending_entry
 
 no_sooner : (time n : ℕ) (es : List (Numbered Item)) → All (IsNoEarlier {T = Item} time n) es
     → All (λ (e : Entry). time ≤ e.time) (plain es)
 no_sooner time n [] all = λ k d h. absurd (omega arith)
 no_sooner time n (x ∷ es) all =
-    All-cons (λ (e : Entry). time ≤ e.time) (entry x.time x.item) (plain es)
+    All-cons (λ (e : Entry). time ≤ e.time) (pending_entry x.time x.item) (plain es)
     (All-head (IsNoEarlier {T = Item} time n) x es all).not_before
     (no_sooner time n es (All-tail (IsNoEarlier {T = Item} time n) x es all))
 
@@ -54,7 +54,7 @@ module _ (next n : ℕ) (e : Numbered Item) where
       record {
         before = [];
         after = plain es;
-        is = ap (λ (y : Numbered Item). entry y.time y.item ∷ plain es) head;
+        is = ap (λ (y : Numbered Item). pending_entry y.time y.item ∷ plain es) head;
         later = λ k d h. absurd (omega arith);
         not_before = no_sooner e.time n es (All-tail (IsNoEarlier {T = Item} e.time n) x es all);
       }
@@ -64,10 +64,10 @@ module _ (next n : ℕ) (e : Numbered Item) where
       let above = low (x.number + 1) next n es e rises.1 rest in
       let here = All-head (IsNoEarlier {T = Item} e.time n) x es all in
       record {
-        before = entry x.time x.item ∷ tail.before;
+        before = pending_entry x.time x.item ∷ tail.before;
         after = tail.after;
-        is = ap (λ ys. entry x.time x.item ∷ ys) tail.is;
-        later = All-cons (λ (y : Entry). e.time < y.time) (entry x.time x.item) tail.before
+        is = ap (λ ys. pending_entry x.time x.item ∷ ys) tail.is;
+        later = All-cons (λ (y : Entry). e.time < y.time) (pending_entry x.time x.item) tail.before
             (later e.time n x.time x.number here.not_before here.by_number (omega arith)
             (x.time == e.time) refl) tail.later;
         not_before = tail.not_before;
@@ -81,7 +81,7 @@ module _ (next n : ℕ) (e : Numbered Item) where
       (λ rest. next-found (x.number + 1) es rises.1 rest (All-tail (IsNoEarlier {T = Item} e.time n) x es all))
       (x.number == n) refl
 
--- an entry by its time and item
+-- an pending_entry by its time and item
 found : (o : Option (Numbered Item)) (time : ℕ) (item : Item) → option_map (λ (e : Numbered Item). e.time) o ≡ Some time
     → option_map (λ (e : Numbered Item). e.item) o ≡ Some item
     → (e : Numbered Item) × (o ≡ Some e) × (e.time ≡ time) × (e.item ≡ item)
@@ -100,18 +100,18 @@ next_is next es time n item rises first items =
 -- ---- its item is known
 
 known-step : (systems links n : ℕ) (x : Numbered Item) (es : List (Numbered Item)) (item : Item)
-    → IsKnown systems links x.item → (option_map (λ (e : Numbered Item). e.item) (entry_at es n) ≡ Some item
-    → IsKnown systems links item)
+    → IsKnownItem systems links x.item → (option_map (λ (e : Numbered Item). e.item) (entry_at es n) ≡ Some item
+    → IsKnownItem systems links item)
     → option_map (λ (e : Numbered Item). e.item) (entry_at (x ∷ es) n) ≡ Some item → (t : Bool) → (x.number == n) ≡ t
-    → IsKnown systems links item
+    → IsKnownItem systems links item
 known-step systems links n x es item here ih items true t =
     let heads : Some x.item ≡ Some item = rw t at items in
-    let is : x.item ≡ item = cc in subst (λ (i : Item). IsKnown systems links i) is here
+    let is : x.item ≡ item = cc in subst (λ (i : Item). IsKnownItem systems links i) is here
 known-step systems links n x es item here ih items false t = ih (rw t at items)
 
 pub next_known : (systems links : ℕ) (es : List (Numbered Item)) (n : ℕ) (item : Item)
-    → AllByRecursion (λ (e : Numbered Item). IsKnown systems links e.item) es
-    → option_map (λ (e : Numbered Item). e.item) (entry_at es n) ≡ Some item → IsKnown systems links item
+    → AllByRecursion (λ (e : Numbered Item). IsKnownItem systems links e.item) es
+    → option_map (λ (e : Numbered Item). e.item) (entry_at es n) ≡ Some item → IsKnownItem systems links item
 next_known systems links [] n item all items = absurd (grind (arith, items))
 next_known systems links (x ∷ es) n item all items =
     known-step systems links n x es item all.0 (next_known systems links es n item all.1) items (x.number == n) refl

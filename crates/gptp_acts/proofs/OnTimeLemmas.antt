@@ -5,17 +5,17 @@ use Rattle.gptp_links.specs.Fate.{Draw}
 use Rattle.gptp_links.specs.Queue.{Frame}
 use Rattle.gptp_system.specs.declared.answer.Answer.{Answer}
 use Rattle.gptp_setup.specs.declared.timer.Timer.{Timer}
-use Rattle.gptp_system.specs.Input.{Input, Frame as FrameHeard, Expires as TimerExpires}
+use Rattle.gptp_system.specs.Input.{Input, Frame as FrameHeard, TimerRunsOut as TimerExpires}
 use Rattle.gptp_system.specs.State.{due}
 use Rattle.gptp_system.specs.Steps.{IsDue, IsUp}
 use Rattle.gptp_acts.specs.declared.item.Item.TheVariants.{Arrival, Expiry}
 use Rattle.gptp_acts.specs.declared.station.Station.{Station}
-use Rattle.gptp_acts.specs.Act.{Calls, Delivers, Expires, Hears}
+use Rattle.gptp_acts.specs.Act.{Calls, Delivers, TimerRunsOut, Hears}
 use Rattle.gptp_acts.specs.Ahead.{AllArePending, AreFit, ArePending, IsSteady, IsWorldOnTime, due_by}
 use Rattle.gptp_acts.specs.Changing.{failed}
 use Rattle.gptp_acts.specs.Item.{same_item}
-use Rattle.gptp_acts.specs.Pending.{Entry, NothingBefore, listed, times, without_first}
-use Rattle.gptp_acts.specs.World.{Net, WorldState, queue, receiver, station_due}
+use Rattle.gptp_acts.specs.Pending.{Entry, NothingBefore, timer_time, times_of_item, without_first_entry}
+use Rattle.gptp_acts.specs.World.{Net, WorldState, world_queue, receiver, station_due}
 use Rattle.gptp_acts.proofs.AheadLemmas.{calls_due_by, calls_on_time, live_due, pending_none_late, requeued_fit}
 use Rattle.gptp_acts.proofs.DueByLemmas.{due_by-taken}
 use Rattle.gptp_lists.proofs.MappedLemmas.{same_there}
@@ -36,7 +36,7 @@ passes_on_time w w' stations net on pending none = record {
         setup = old.setup;
         steady = old.steady;
         timers = λ live. pending_none_late w'.time place station.system w.net.pending none
-            (λ timer. pending place station here timer ∙ ap listed (live_due station timer live));
+            (λ timer. pending place station here timer ∙ ap timer_time (live_due station timer live));
       };
   links = subst (λ (n : Net). AreFit n.channels) (sym net) on.links;
   pending = subst (λ (n : Net). NothingBefore w'.time n.pending) (sym net) none;
@@ -52,10 +52,10 @@ other_item place out timer other true b =
 other_item place out timer other false b = b
 
 module _ (place : ℕ) (timer : Timer) (w : WorldState) (draws : List Draw) (w' : WorldState)
-    (k : Expires place timer w draws w') where
+    (k : TimerRunsOut place timer w draws w') where
   -- the world without the entry of the timer
   abbrev left : List Entry
-  left = without_first (Expiry place timer) w.net.pending
+  left = without_first_entry (Expiry place timer) w.net.pending
 
   abbrev between : WorldState
   between = record w { net = record w.net { pending = left } }
@@ -85,20 +85,20 @@ module _ (place : ℕ) (timer : Timer) (w : WorldState) (draws : List Draw) (w' 
   out_steady : IsSteady k.station.system → IsSteady k.calls.station.system
   out_steady = subst (λ (x : Station). IsSteady x.system) (sym one_station)
 
-  out_pending : ((t : Timer) → times (Expiry place t) w.net.pending ≡ listed (station_due t k.station))
+  out_pending : ((t : Timer) → times_of_item (Expiry place t) w.net.pending ≡ timer_time (station_due t k.station))
       → ArePending place (TimerExpires timer) k.calls.station.system left
   out_pending agree t other =
       times-without_first_other (Expiry place timer) (Expiry place t) w.net.pending
       (other_item place timer t other (same_item (Expiry place t) (Expiry place timer)) refl)
-      ∙ agree t ∙ ap listed (station_dues t)
+      ∙ agree t ∙ ap timer_time (station_dues t)
 
   -- And it leaves less to do by now.
   pub expires_due_by : IsSteady k.station.system → AreFit w.net.channels
-      → ((t : Timer) → times (Expiry place t) w.net.pending ≡ listed (station_due t k.station))
+      → ((t : Timer) → times_of_item (Expiry place t) w.net.pending ≡ timer_time (station_due t k.station))
       → due_by w.time w'.net.pending < due_by w.time w.net.pending
   expires_due_by steady fit agree =
       let less : due_by w.time left + 1 ≡ due_by w.time w.net.pending =
-      due_by-taken w.time (Expiry place timer) w.net.pending w.time [] (agree timer ∙ ap listed k.now_due)
+      due_by-taken w.time (Expiry place timer) w.net.pending w.time [] (agree timer ∙ ap timer_time k.now_due)
       (omega arith) in
       let call = calls_due_by place (TimerExpires timer) between draws k.answer w' k.calls (out_steady steady)
       out_timely fit (out_pending agree) in
@@ -115,7 +115,7 @@ module _ (link : ℕ) (direction : Direction) (octets : List ℕ) (w : WorldStat
   abbrev heard : Input
   heard = FrameHeard (receiver direction k.channel).port octets
 
-  left_is : k.net.pending ≡ without_first (Arrival link direction) w.net.pending
+  left_is : k.net.pending ≡ without_first_entry (Arrival link direction) w.net.pending
   left_is = ap (λ (n : Net). n.pending) k.takes.is
 
   emptied_fit : AreFit w.net.channels → AreFit k.net.channels
@@ -155,19 +155,19 @@ module _ (link : ℕ) (direction : Direction) (octets : List ℕ) (w : WorldStat
 
   -- the timers of the receiver are pending still
   heard_pending : (one : Answer) (c : Calls k.place heard emptied draws one w') → k.station ≡ c.station
-      → ((t : Timer) → times (Expiry k.place t) w.net.pending ≡ listed (station_due t k.station))
+      → ((t : Timer) → times_of_item (Expiry k.place t) w.net.pending ≡ timer_time (station_due t k.station))
       → ArePending k.place heard c.station.system k.net.pending
   heard_pending one c same agree t other =
-      ap (times (Expiry k.place t)) left_is
+      ap (times_of_item (Expiry k.place t)) left_is
       ∙ times-without_first_other (Arrival link direction) (Expiry k.place t) w.net.pending
       (no_arrival k.place t link direction)
-      ∙ agree t ∙ ap listed (ap (station_due t) same ∙ live_due c.station t c.live)
+      ∙ agree t ∙ ap timer_time (ap (station_due t) same ∙ live_due c.station t c.live)
 
   -- And it leaves less to do by now, where what is pending agrees with the link.
   pub delivers_due_by : IsSteady k.station.system
       → (k.station.live ≡ true → IsUp k.station.system (receiver direction k.channel).port) → AreFit w.net.channels
-      → ((t : Timer) → times (Expiry k.place t) w.net.pending ≡ listed (station_due t k.station))
-      → times (Arrival link direction) w.net.pending ≡ map (λ (f : Frame). f.due) (queue direction k.channel)
+      → ((t : Timer) → times_of_item (Expiry k.place t) w.net.pending ≡ timer_time (station_due t k.station))
+      → times_of_item (Arrival link direction) w.net.pending ≡ map (λ (f : Frame). f.due) (world_queue direction k.channel)
       → due_by w.time w'.net.pending < due_by w.time w.net.pending
   delivers_due_by steady up fit agree arrivals = by answer k.hears
     where

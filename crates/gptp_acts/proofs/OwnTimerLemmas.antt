@@ -12,7 +12,7 @@ use Rattle.gptp_acts.specs.declared.item.Item.{Item}
 use Rattle.gptp_acts.specs.declared.item.Item.TheVariants.{Expiry}
 use Rattle.gptp_acts.specs.declared.station.Station.{Station}
 use Rattle.gptp_acts.specs.Item.{same_item}
-use Rattle.gptp_acts.specs.Pending.{Entry, times, without_first, listed, set_due}
+use Rattle.gptp_acts.specs.Pending.{Entry, times_of_item, without_first_entry, timer_time, set_due}
 use Rattle.gptp_acts.specs.World.{timers_from, station_due}
 use Rattle.gptp_acts.specs.Act.{set_timers}
 use Rattle.gptp_acts.specs.Agrees.{OnlyItsTimers}
@@ -150,20 +150,20 @@ station_timer timer station = elim (has_timer timer station.system) [
 pub only_same_count : (place : ℕ) (ps qs : List Port) (es : List Entry) → length qs ≡ length ps
     → OnlyItsTimers place ps es → OnlyItsTimers place qs es
 only_same_count place ps qs es same only timer =
-    subst (λ ts. In timer ts ⊎ (times (Expiry place timer) es ≡ [])) (sym (same_timers 1 ps qs same)) (only timer)
+    subst (λ ts. In timer ts ⊎ (times_of_item (Expiry place timer) es ≡ [])) (sym (same_timers 1 ps qs same)) (only timer)
 
 -- nothing of an item is pending once an entry is taken, if nothing was before
-none_left : (i j : Item) (es : List Entry) → times j es ≡ [] → times j (without_first i es) ≡ []
+none_left : (i j : Item) (es : List Entry) → times_of_item j es ≡ [] → times_of_item j (without_first_entry i es) ≡ []
 none_left i j es none = by (same_item j i) refl
   where
-    by : (b : Bool) → same_item j i ≡ b → times j (without_first i es) ≡ []
+    by : (b : Bool) → same_item j i ≡ b → times_of_item j (without_first_entry i es) ≡ []
     by true same =
         let is : i ≡ j = sym (item_is j i same) in
-        subst (λ x. times j (without_first x es) ≡ []) (sym is) (times-without_first_same j es ∙ ap (drop 1) none)
+        subst (λ x. times_of_item j (without_first_entry x es) ≡ []) (sym is) (times-without_first_same j es ∙ ap (drop 1) none)
     by false differ = times-without_first_other i j es differ ∙ none
 
 pub only_without_first : (place : ℕ) (ps : List Port) (i : Item) (es : List Entry) → OnlyItsTimers place ps es
-    → OnlyItsTimers place ps (without_first i es)
+    → OnlyItsTimers place ps (without_first_entry i es)
 only_without_first place ps i es only timer = elim (only timer) [
   | inl among ↦ inl among
   | inr none ↦ inr (none_left i (Expiry place timer) es none)
@@ -179,19 +179,19 @@ set_timers_is place station (t ∷ ts) es =
 
 -- a timer that runs only if it is one of these is pending when it is due, once these are set
 all_set : (runs : Timer → Option ℕ) (place : ℕ) (ts : List Timer) (es : List Entry) (timer : Timer)
-    → In timer ts ⊎ (runs timer ≡ None) → In timer ts ⊎ (times (Expiry place timer) es ≡ [])
+    → In timer ts ⊎ (runs timer ≡ None) → In timer ts ⊎ (times_of_item (Expiry place timer) es ≡ [])
     → IsSet runs place (set_all runs place ts es) timer
 all_set runs place ts es timer (inl among) pending = are_set runs place timer ts es among
 all_set runs place ts es timer (inr none) (inl among) = are_set runs place timer ts es among
 all_set runs place ts es timer (inr none) (inr empty) =
-    stays_set runs place timer ts es (empty ∙ sym (ap listed none))
+    stays_set runs place timer ts es (empty ∙ sym (ap timer_time none))
 
 -- each timer of a station is pending when it is due
 pub timers_agree : (place : ℕ) (station : Station) (es : List Entry) (timer : Timer)
     → OnlyItsTimers place station.system.ports es
-    → times (Expiry place timer) (set_timers place station (timers_from 1 station.system.ports) es)
-    ≡ listed (station_due timer station)
+    → times_of_item (Expiry place timer) (set_timers place station (timers_from 1 station.system.ports) es)
+    ≡ timer_time (station_due timer station)
 timers_agree place station es timer only =
-    ap (times (Expiry place timer)) (set_timers_is place station (timers_from 1 station.system.ports) es)
+    ap (times_of_item (Expiry place timer)) (set_timers_is place station (timers_from 1 station.system.ports) es)
     ∙ all_set (λ t. station_due t station) place (timers_from 1 station.system.ports) es timer
     (station_timer timer station) (only timer)

@@ -20,15 +20,15 @@ use Rattle.gptp_plan.specs.declared.change.Change.TheVariants.{LinkDown, LinkUp,
 use Rattle.gptp_acts.specs.declared.done.Done.{Done}
 use Rattle.gptp_acts.specs.declared.item.Item.TheVariants.{Expiry, Arrival}
 use Rattle.gptp_acts.specs.declared.station.Station.{Station}
-use Rattle.gptp_acts.specs.Act.{Delivers, Expires}
+use Rattle.gptp_acts.specs.Act.{Delivers, TimerRunsOut}
 use Rattle.gptp_acts.specs.Acts.{set_to, Acts, Changes}
 use Rattle.gptp_plan.specs.Allowed.{IsFitAct}
 use Rattle.gptp_acts.specs.Agrees.{Agrees, HaveTheirPorts}
 use Rattle.gptp_acts.specs.Ahead.{due_by, AllArePending, IsPortAmong}
 use Rattle.gptp_acts.specs.Changing.{with_bounds, with_setup, with_station, CallsIfLive, ComesUpIf, FailsIf, GoesDownIf, InjectsIf, RecoversIf, StartsAll}
-use Rattle.gptp_acts.specs.Pending.{times, listed, NothingBefore}
+use Rattle.gptp_acts.specs.Pending.{times_of_item, timer_time, NothingBefore}
 use Rattle.gptp_acts.specs.Sound.{IsSound, IsWired}
-use Rattle.gptp_acts.specs.World.{Channel, WorldState, port_id, queue, receiver, sender, station_due}
+use Rattle.gptp_acts.specs.World.{Channel, WorldState, port_id, world_queue, receiver, sender, station_due}
 use Rattle.gptp_acts.proofs.AgreeLemmas.{agrees_at, calls_if_live_agree, delivers_agree, expires_agree, sends_one_agrees}
 use Rattle.gptp_acts.proofs.ChangeAgreeLemmas.{comes_up_if_agree, fails_if_agree, goes_down_if_agree, recovers_if_agree, starts_all_agree, with_bounds_agrees, with_setup_agrees}
 use Rattle.gptp_acts.proofs.ChangeOnTimeLemmas.{calls_if_live_on_time, comes_up_on_time, fails_on_time, goes_down_on_time, injects_on_time, recovers_on_time, reset_on_time, starts_all_on_time, with_bounds_on_time}
@@ -39,14 +39,14 @@ use Rattle.gptp_acts.proofs.WiredLemmas.{bounds_wired, calls_wired, comes_up_wir
 
 pub agrees_pending : (w : WorldState) → Agrees w → AllArePending w
 agrees_pending w agrees place station here timer =
-    agrees (Expiry place timer) ∙ ap (λ o. option_map_or (λ (x : Station). listed (station_due timer x)) o []) here
+    agrees (Expiry place timer) ∙ ap (λ o. option_map_or (λ (x : Station). timer_time (station_due timer x)) o []) here
 
 pub agrees_arrivals : (w : WorldState) → Agrees w → (link : ℕ) (direction : Direction) (channel : Channel)
     → slice_get w.net.channels link ≡ Some channel
-    → times (Arrival link direction) w.net.pending ≡ map (λ (f : Frame). f.due) (queue direction channel)
+    → times_of_item (Arrival link direction) w.net.pending ≡ map (λ (f : Frame). f.due) (world_queue direction channel)
 agrees_arrivals w agrees link direction channel here =
     agrees (Arrival link direction)
-    ∙ ap (λ o. option_map_or (λ (c : Channel). map (λ (f : Frame). f.due) (queue direction c)) o []) here
+    ∙ ap (λ o. option_map_or (λ (c : Channel). map (λ (f : Frame). f.due) (world_queue direction c)) o []) here
 
 -- ---- time that passes
 
@@ -81,7 +81,7 @@ pub delivered_up : (link : ℕ) (direction : Direction) (octets : List ℕ) (w :
     (answer : Option Answer) (w' : WorldState) (k : Delivers link direction octets w draws answer w') → IsWired w
     → k.station.live ≡ true → IsUp k.station.system (receiver direction k.channel).port
 delivered_up link direction octets w draws answer w' k is live =
-    let up = in_flight_up k.channel.up (queue direction k.channel) _ k.takes.rest
+    let up = in_flight_up k.channel.up (world_queue direction k.channel) _ k.takes.rest
     (is.flow link direction k.channel k.takes.here).still k.takes.front in
     opposite_up w link k.place direction k.channel k.station is k.takes.here up k.there live k.is_end
 
@@ -107,7 +107,7 @@ delivers_less link direction octets w draws answer w' is k =
 -- ---- an expiry
 
 pub expires_sound : (place : ℕ) (timer : Timer) (w : WorldState) (draws : List Draw) (w' : WorldState) → IsSound w
-    → Expires place timer w draws w' → IsSound w'
+    → TimerRunsOut place timer w draws w' → IsSound w'
 expires_sound place timer w draws w' is k = record {
   wired = expires_wired place timer w draws w' is.wired k;
   on_time = expires_on_time place timer w draws w' k is.on_time;
@@ -115,7 +115,7 @@ expires_sound place timer w draws w' is k = record {
 }
 
 pub expires_less : (place : ℕ) (timer : Timer) (w : WorldState) (draws : List Draw) (w' : WorldState) → IsSound w
-    → Expires place timer w draws w' → due_by w.time w'.net.pending < due_by w.time w.net.pending
+    → TimerRunsOut place timer w draws w' → due_by w.time w'.net.pending < due_by w.time w.net.pending
 expires_less place timer w draws w' is k =
     expires_due_by place timer w draws w' k (is.on_time.stations place k.station k.here).steady is.on_time.links
     (agrees_pending w is.agrees place k.station k.here)

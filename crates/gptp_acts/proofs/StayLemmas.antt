@@ -10,7 +10,7 @@ use Rattle.gptp_roles.specs.Selection.{clock_of}
 use Rattle.gptp_system.specs.declared.answer.Answer.{Answer}
 use Rattle.gptp_system.specs.declared.sending.Sending.{Sending}
 use Rattle.gptp_setup.specs.declared.timer.Timer.{Timer}
-use Rattle.gptp_system.specs.Input.{Input, PortUp, PortDown, Priority, Frame as FrameHeard, Expires as TimerExpires}
+use Rattle.gptp_system.specs.Input.{Input, PortUp, PortDown, Priority, Frame as FrameHeard, TimerRunsOut as TimerExpires}
 use Rattle.gptp_system.specs.Start.{started}
 use Rattle.gptp_system.specs.State.{SystemState, clock}
 use Rattle.gptp_system.proofs.StartLemmas.{length-new_ports}
@@ -24,7 +24,7 @@ use Rattle.gptp_acts.specs.declared.done.Done.{Done}
 use Rattle.gptp_acts.specs.declared.station.Station.{Station}
 use Rattle.gptp_acts.specs.World.{Channel, Net, WorldState, port_id, sender, receiver}
 use Rattle.gptp_acts.specs.Sends.{SendsAll, SendsOne}
-use Rattle.gptp_acts.specs.Act.{all_timers, in_state, Calls, Delivers, Expires, Hears, Takes}
+use Rattle.gptp_acts.specs.Act.{all_timers, in_state, Calls, Delivers, TimerRunsOut, Hears, TakesFrame}
 use Rattle.gptp_acts.specs.Acts.{at, set_to, Acts, Changes}
 use Rattle.gptp_acts.specs.Advancing.{Advanced, Advances, Told}
 use Rattle.gptp_acts.specs.Agrees.{stopped}
@@ -140,7 +140,7 @@ sends_carry now s xs draws net net' sends =
     bare_carry net.channels net'.channels (sends_bare now s xs draws net net' sends)
 
 pub takes_carry : (place : ℕ) (direction : Direction) (now : ℕ) (octets : List ℕ) (channel : Channel) (net net' : Net)
-    → Takes place direction now octets channel net net' → CarryTheSame net.channels net'.channels
+    → TakesFrame place direction now octets channel net net' → CarryTheSame net.channels net'.channels
 takes_carry place direction now octets channel net net' takes =
     bare_carry net.channels net'.channels (takes_bare place direction now octets channel net net' takes)
 
@@ -320,7 +320,7 @@ delivers_stay link direction octets w draws answer w' setups delivers =
     delivers.hears)
 
 pub expires_stay : (place : ℕ) (timer : Timer) (w : WorldState) (draws : List Draw) (w' : WorldState)
-    → HaveTheirSetups w → Expires place timer w draws w' → Stays w w'
+    → HaveTheirSetups w → TimerRunsOut place timer w draws w' → Stays w w'
 expires_stay place timer w draws w' setups expires =
     let at : WorldState = stopped place timer w in
     stays_on w at w' (net_stays w at.net setups (join_same w.net.channels))

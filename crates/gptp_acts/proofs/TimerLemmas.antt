@@ -11,7 +11,7 @@ use Rattle.gptp_setup.specs.declared.timer.Timer.TheVariants as timers
 use Rattle.gptp_acts.specs.declared.item.Item.{Item}
 use Rattle.gptp_acts.specs.declared.item.Item.TheVariants.{Expiry, Arrival}
 use Rattle.gptp_acts.specs.Item.{timer_kind, timer_port, same_item}
-use Rattle.gptp_acts.specs.Pending.{Entry, times, listed, set_due}
+use Rattle.gptp_acts.specs.Pending.{Entry, times_of_item, timer_time, set_due}
 use Rattle.gptp_acts.proofs.PendingLemmas.{set_due-kept, times-set_due_same, times-set_due_other}
 
 pub kind_below : (timer : Timer) → timer_kind timer < 7
@@ -93,7 +93,7 @@ module _ (due : Timer → Option ℕ) (place : ℕ) where
 
   -- this timer is pending when it is due
   abbrev pub IsSet : List Entry → Timer → Type 0
-  IsSet es t = times (Expiry place t) es ≡ listed (due t)
+  IsSet es t = times_of_item (Expiry place t) es ≡ timer_time (due t)
 
   pub set_all-append : (ts us : List Timer) (es : List Entry) → set_all (ts ++ us) es ≡ set_all us (set_all ts es)
   set_all-append [] us es = refl
@@ -111,7 +111,7 @@ module _ (due : Timer → Option ℕ) (place : ℕ) where
 
   -- what is none of these timers is pending as before
   pub times-set_all_other : (i : Item) (ts : List Timer) (es : List Entry)
-      → AllByRecursion (λ t. same_item i (Expiry place t) ≡ false) ts → times i (set_all ts es) ≡ times i es
+      → AllByRecursion (λ t. same_item i (Expiry place t) ≡ false) ts → times_of_item i (set_all ts es) ≡ times_of_item i es
   times-set_all_other i [] es all = refl
   times-set_all_other i (t ∷ ts) es all =
       times-set_all_other i ts (set_due (Expiry place t) (due t) es) all.1
@@ -123,12 +123,12 @@ module _ (due : Timer → Option ℕ) (place : ℕ) where
   all_differ i differ (t ∷ ts) = (differ t, all_differ i differ ts)
 
   pub times-set_all_arrival : (l : ℕ) (d : Direction) (ts : List Timer) (es : List Entry)
-      → times (Arrival l d) (set_all ts es) ≡ times (Arrival l d) es
+      → times_of_item (Arrival l d) (set_all ts es) ≡ times_of_item (Arrival l d) es
   times-set_all_arrival l d ts es =
       times-set_all_other (Arrival l d) ts es (all_differ (Arrival l d) (no_timer l d place) ts)
 
   pub times-set_all_elsewhere : (p : ℕ) (t : Timer) (ts : List Timer) (es : List Entry) → (p ≡ place → ⊥)
-      → times (Expiry p t) (set_all ts es) ≡ times (Expiry p t) es
+      → times_of_item (Expiry p t) (set_all ts es) ≡ times_of_item (Expiry p t) es
   times-set_all_elsewhere p t ts es differ =
       times-set_all_other (Expiry p t) ts es (all_differ (Expiry p t) (λ u. other_system p place t u differ) ts)
 
@@ -136,8 +136,8 @@ module _ (due : Timer → Option ℕ) (place : ℕ) where
       → same_item (Expiry place t) (Expiry place u) ≡ b → IsSet (set_due (Expiry place u) (due u) es) t
   stays_set-step t u es is true b =
       let both = same_timer place place t u b in
-      ap (λ x. times (Expiry place x) (set_due (Expiry place u) (due u) es)) both.1
-      ∙ times-set_due_same (Expiry place u) (due u) es ∙ sym (ap (λ x. listed (due x)) both.1)
+      ap (λ x. times_of_item (Expiry place x) (set_due (Expiry place u) (due u) es)) both.1
+      ∙ times-set_due_same (Expiry place u) (due u) es ∙ sym (ap (λ x. timer_time (due x)) both.1)
   stays_set-step t u es is false b = times-set_due_other (Expiry place u) (Expiry place t) (due u) es b ∙ is
 
   -- a timer that is set stays so
@@ -152,7 +152,7 @@ module _ (due : Timer → Option ℕ) (place : ℕ) where
   are_set t [] es among = elim among [ ]
   are_set t (u ∷ us) es (inl same) =
       let now : IsSet (set_due (Expiry place u) (due u) es) t =
-      ap (λ x. times (Expiry place x) (set_due (Expiry place u) (due u) es)) same
-      ∙ times-set_due_same (Expiry place u) (due u) es ∙ sym (ap (λ x. listed (due x)) same) in
+      ap (λ x. times_of_item (Expiry place x) (set_due (Expiry place u) (due u) es)) same
+      ∙ times-set_due_same (Expiry place u) (due u) es ∙ sym (ap (λ x. timer_time (due x)) same) in
       stays_set t us (set_due (Expiry place u) (due u) es) now
   are_set t (u ∷ us) es (inr rest) = are_set t us (set_due (Expiry place u) (due u) es) rest

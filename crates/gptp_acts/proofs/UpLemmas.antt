@@ -15,14 +15,14 @@ use Rattle.gptp_system.specs.declared.port.Port.{Port}
 use Rattle.gptp_system.specs.declared.sending.Sending.{Sending}
 use Rattle.gptp_setup.specs.declared.timer.Timer.TheVariants as timers
 use Rattle.gptp_system.specs.Input.{Input, Steps, PortUp, PortDown, Frame, Expires, Priority}
-use Rattle.gptp_system.specs.Measures.{only_at, part_answered, part_asked, part_down, part_heard, part_of, HearsPart, IsPartAfter, Part}
+use Rattle.gptp_system.specs.Measures.{only_at, part_answered, part_asked, part_down, part_heard, measure_at, HearsPart, IsPartAfter, Part}
 use Rattle.gptp_system.specs.State.{SystemState, clock}
-use Rattle.gptp_system.specs.Steps.{IsPortOf, IsUp}
+use Rattle.gptp_system.specs.Steps.{HasPortNumber, IsUp}
 use Rattle.gptp_pdelay.specs.Peer.{after_interval, reset_peer}
 use Rattle.gptp_system.proofs.MeasureLemmas.{steps_measure}
 use Rattle.gptp_system.proofs.SystemLemmas.{up_is_port}
 use Rattle.gptp_acts.specs.declared.station.Station.{Station}
-use Rattle.gptp_acts.specs.Changing.{is_end, is_up_at, up_ports}
+use Rattle.gptp_acts.specs.Changing.{is_link_end, is_up_at, up_ports}
 use Rattle.gptp_acts.specs.World.{Channel, Net, sender}
 use Rattle.gptp_lists.proofs.PlaceLemmas.{member_there, same_place}
 use Rattle.gptp_acts.proofs.SteadyLemmas.{same_ports}
@@ -101,10 +101,10 @@ is_down (Expires timer) p = inr (λ same. absurd cc)
 is_down (Priority value) p = inr (λ same. absurd cc)
 
 -- the timer of the port at a place
-port_runs : (s : SystemState) (i : ℕ) (q : Port) → slice_get s.ports i ≡ Some q → IsUp s (suc i) → Runs (part_of q)
+port_runs : (s : SystemState) (i : ℕ) (q : Port) → slice_get s.ports i ≡ Some q → IsUp s (suc i) → Runs (measure_at q)
 port_runs s i q there up = subst (λ o. IsSome (option_and_then (λ (r : Port). r.pdelay) o)) there up
 
-runs_port : (s : SystemState) (i : ℕ) (q : Port) → slice_get s.ports i ≡ Some q → Runs (part_of q) → IsUp s (suc i)
+runs_port : (s : SystemState) (i : ℕ) (q : Port) → slice_get s.ports i ≡ Some q → Runs (measure_at q) → IsUp s (suc i)
 runs_port s i q there runs = subst (λ o. IsSome (option_and_then (λ (r : Port). r.pdelay) o)) (sym there) runs
 
 -- a port that measured its link still does, unless the link went down
@@ -118,19 +118,19 @@ stays_up input now s s' sends answer (suc i) steps not_down up =
     let now_there = member_there s'.ports i (omega (arith, count)) in
     let was = steps_measure input now s s' sends answer steps i now_there.0 now_there.1 in
     runs_port s' i now_there.0 now_there.1
-    (part_kept s now input (suc i) (part_of was.0) (part_of now_there.0) not_down was.2
+    (part_kept s now input (suc i) (measure_at was.0) (measure_at now_there.0) not_down was.2
     (port_runs s i was.0 was.1 up))
 
 -- a port whose link comes up measures it
 pub comes_up : (now : ℕ) (s s' : SystemState) (sends : List Sending) (answer : Answer) (p : ℕ)
-    → Steps (PortUp p) now s s' sends answer → IsPortOf s p → IsUp s' p
+    → Steps (PortUp p) now s s' sends answer → HasPortNumber s p → IsUp s' p
 comes_up now s s' sends answer zero steps port = let least = port.least in absurd (omega arith)
 comes_up now s s' sends answer (suc i) steps port =
     let most = port.most in
     let count = same_ports (PortUp (suc i)) now s s' sends answer steps in
     let now_there = member_there s'.ports i (omega (arith, count)) in
     let was = steps_measure (PortUp (suc i)) now s s' sends answer steps i now_there.0 now_there.1 in
-    let asked = only_here (suc i) (part_asked s now reset_peer) (part_of was.0) (part_of now_there.0) was.2 in
+    let asked = only_here (suc i) (part_asked s now reset_peer) (measure_at was.0) (measure_at now_there.0) was.2 in
     runs_port s' i now_there.0 now_there.1 (subst Runs (sym asked) refl)
 
 -- ---- the ports of a system that starts
@@ -171,8 +171,8 @@ range_in a (suc n) k (inr rest) = let ih = range_in (a + 1) n k rest in (omega (
 
 -- a link is at the ports that it joins
 ends : (direction : Direction) (channel : Channel)
-    → (is_end (sender direction channel).clock (sender direction channel).port channel.a
-    || is_end (sender direction channel).clock (sender direction channel).port channel.b) ≡ true
+    → (is_link_end (sender direction channel).clock (sender direction channel).port channel.a
+    || is_link_end (sender direction channel).clock (sender direction channel).port channel.b) ≡ true
 ends FromA channel = grind (arith, nat_tests)
 ends FromB channel = grind (arith, nat_tests)
 
@@ -194,7 +194,7 @@ up_at [] link direction channel here up = absurd (none-some channel here)
 up_at (c ∷ cs) zero direction channel here up =
     let number = (sender direction channel).clock in
     let port = (sender direction channel).port in
-    let joined : (channel.up && (is_end number port channel.a || is_end number port channel.b)) ≡ true =
+    let joined : (channel.up && (is_link_end number port channel.a || is_link_end number port channel.b)) ≡ true =
     both_true channel.up _ up (ends direction channel) in
     subst (λ x. is_up_at (x ∷ cs) number port ≡ true) (sym (same_Some c channel here))
     (first_true _ (is_up_at cs number port) joined)
@@ -203,7 +203,7 @@ up_at (c ∷ cs) (suc link) direction channel here up =
     (up_at cs link direction channel here up)
 
 -- the ports that a start brings up are its own
-pub brought_ports : (station : Station) (net : Net) (p : ℕ) → In p (up_ports station net) → IsPortOf station.system p
+pub brought_ports : (station : Station) (net : Net) (p : ℕ) → In p (up_ports station net) → HasPortNumber station.system p
 brought_ports station net p among =
     let numbers = range_with_len 1 (length station.system.ports) in
     let within = range_in 1 (length station.system.ports) p
@@ -214,7 +214,7 @@ brought_ports station net p among =
 pub brings_port : (station : Station) (net : Net) (link : ℕ) (direction : Direction) (channel : Channel)
     → slice_get net.channels link ≡ Some channel → channel.up ≡ true
     → clock station.system ≡ (sender direction channel).clock
-    → IsPortOf station.system (sender direction channel).port
+    → HasPortNumber station.system (sender direction channel).port
     → In (sender direction channel).port (up_ports station net)
 brings_port station net link direction channel here up named port =
     let most = port.most in

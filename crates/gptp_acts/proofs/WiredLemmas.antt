@@ -9,7 +9,7 @@ use Rattle.gptp_setup.specs.declared.timer.Timer.{Timer}
 use Rattle.gptp_system.specs.Input.{Input, PortDown}
 use Rattle.gptp_acts.specs.declared.station.Station.{Station}
 use Rattle.gptp_acts.specs.World.{Channel, WorldState}
-use Rattle.gptp_acts.specs.Act.{Calls, Delivers, Expires}
+use Rattle.gptp_acts.specs.Act.{Calls, Delivers, TimerRunsOut}
 use Rattle.gptp_acts.specs.Changing.{with_bounds, with_setup, with_station, ComesUpIf, FailsIf, GoesDownIf, Injects, RecoversIf, StartsAll}
 use Rattle.gptp_acts.specs.Sound.{AllFlow, AreLinked, IsWired}
 use Rattle.gptp_acts.proofs.FlowLemmas.{calls_flow, comes_up_flow, delivers_flow, expires_flow, fails_flow, goes_down_flow, recovers_flow, sends_one_flow, starts_all_flow, with_bounds_flow}
@@ -62,7 +62,7 @@ delivers_wired link direction octets w draws answer w' wired delivers =
     (delivers_linked link direction octets w draws answer w' wired.linked delivers)
 
 pub expires_wired : (place : ℕ) (timer : Timer) (w : WorldState) (draws : List Draw) (w' : WorldState)
-    → IsWired w → Expires place timer w draws w' → IsWired w'
+    → IsWired w → TimerRunsOut place timer w draws w' → IsWired w'
 expires_wired place timer w draws w' wired expires =
     stays_wired w w' wired (expires_stay place timer w draws w' wired.setups expires)
     (expires_flow place timer w draws w' wired.flow expires)

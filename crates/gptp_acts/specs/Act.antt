@@ -6,12 +6,12 @@ use Rattle.gptp_links.specs.Queue.{frame, Frame}
 use Rattle.gptp_system.specs.declared.answer.Answer.{Answer}
 use Rattle.gptp_system.specs.declared.sending.Sending.{Sending}
 use Rattle.gptp_setup.specs.declared.timer.Timer.{Timer}
-use Rattle.gptp_system.specs.Input.{Input, Frame as FrameHeard, Expires as TimerExpires, Steps}
+use Rattle.gptp_system.specs.Input.{Input, Frame as FrameHeard, TimerRunsOut as TimerExpires, Steps}
 use Rattle.gptp_system.specs.State.{SystemState, clock}
 use Rattle.gptp_acts.specs.declared.item.Item.TheVariants.{Expiry, Arrival}
 use Rattle.gptp_acts.specs.declared.station.Station.{Station}
-use Rattle.gptp_acts.specs.Pending.{Entry, set_due, without_first}
-use Rattle.gptp_acts.specs.World.{Channel, Net, WorldState, queue, with_queue, receiver, timers_from, station_due}
+use Rattle.gptp_acts.specs.Pending.{Entry, set_due, without_first_entry}
+use Rattle.gptp_acts.specs.World.{Channel, Net, WorldState, world_queue, with_queue, receiver, timers_from, station_due}
 use Rattle.gptp_acts.specs.Sends.{SendsAll}
 
 -- ---- one call of one system
@@ -52,14 +52,14 @@ pub record HasFailed (place : ℕ) (w : WorldState) : Type 0 where
 -- ---- a delivery
 
 -- the oldest frame of a link in a direction is due now, and leaves it
-pub record Takes (place : ℕ) (direction : Direction) (now : ℕ) (octets : List ℕ) (channel : Channel) (net net' : Net) :
+pub record TakesFrame (place : ℕ) (direction : Direction) (now : ℕ) (octets : List ℕ) (channel : Channel) (net net' : Net) :
     Type 0 where
   pub rest : List Frame
   pub here : slice_get net.channels place ≡ Some channel
-  pub front : queue direction channel ≡ frame now octets ∷ rest
+  pub front : world_queue direction channel ≡ frame now octets ∷ rest
   pub is : net' ≡ record {
     channels = slice_set net.channels place (with_queue direction rest channel);
-    pending = without_first (Arrival place direction) net.pending;
+    pending = without_first_entry (Arrival place direction) net.pending;
   }
 
 -- The receiver at the end of the link answers to the frame; one that has failed is silent.
@@ -73,7 +73,7 @@ pub record Delivers (link : ℕ) (direction : Direction) (octets : List ℕ) (w 
   pub net : Net
   pub place : ℕ
   pub station : Station
-  pub takes : Takes link direction w.time octets channel w.net net
+  pub takes : TakesFrame link direction w.time octets channel w.net net
   pub there : slice_get w.stations place ≡ Some station
   pub is_end : clock station.system ≡ (receiver direction channel).clock
   pub hears : Hears place (receiver direction channel).port octets (record w { net = net }) draws answer w'
@@ -81,10 +81,10 @@ pub record Delivers (link : ℕ) (direction : Direction) (octets : List ℕ) (w 
 -- ---- an expiry
 
 -- a timer of a live system runs out now
-pub record Expires (place : ℕ) (timer : Timer) (w : WorldState) (draws : List Draw) (w' : WorldState) : Type 0 where
+pub record TimerRunsOut (place : ℕ) (timer : Timer) (w : WorldState) (draws : List Draw) (w' : WorldState) : Type 0 where
   pub station : Station
   pub answer : Answer
   pub here : slice_get w.stations place ≡ Some station
   pub now_due : station_due timer station ≡ Some w.time
   pub calls : Calls place (TimerExpires timer)
-      (record w { net = record w.net { pending = without_first (Expiry place timer) w.net.pending } }) draws answer w'
+      (record w { net = record w.net { pending = without_first_entry (Expiry place timer) w.net.pending } }) draws answer w'

@@ -18,11 +18,11 @@ use Rattle.gptp_acts.specs.declared.done.Done.TheVariants.{Quiet, Heard}
 use Rattle.gptp_acts.specs.declared.done.Refused.{Refused}
 use Rattle.gptp_acts.specs.declared.done.Refused.TheVariants.{InThePast, Untimely, NoSuch, NotDue, OutOfMemory}
 use Rattle.gptp_acts.specs.declared.station.Station.{Station}
-use Rattle.gptp_acts.specs.Act.{Delivers, Expires}
+use Rattle.gptp_acts.specs.Act.{Delivers, TimerRunsOut}
 use Rattle.gptp_acts.specs.Changing.{with_bounds, with_setup, with_station, CallsIfLive, ComesUpIf, FailsIf, GoesDownIf, InjectsIf, IsChannel, IsStation, RecoversIf}
 use Rattle.gptp_acts.specs.World.{port_id}
 use Rattle.gptp_acts.specs.Pending.{Entry, NothingBefore}
-use Rattle.gptp_acts.specs.World.{Channel, Net, WorldState, queue, receiver, station_due}
+use Rattle.gptp_acts.specs.World.{Channel, Net, WorldState, world_queue, receiver, station_due}
 
 -- ---- what an act is about
 
@@ -72,7 +72,7 @@ IsThere (Changing change) w = IsThereToChange change w
 pub record IsOldestDue (direction : Direction) (time : ℕ) (channel : Channel) : Type 0 where
   pub oldest : Frame
   pub rest : List Frame
-  pub front : queue direction channel ≡ oldest ∷ rest
+  pub front : world_queue direction channel ≡ oldest ∷ rest
   pub due : oldest.due ≡ time
 
 -- An act is due at exactly its time; a change always is.
@@ -132,9 +132,9 @@ Changes (Inject number port octets) w draws w' = AtLink (port_id number port) w.
     InjectsIf channel.up (port_id number port) octets w draws w')
 
 -- the port that a frame reached, what was answered there, and the frame
-abbrev pub Tells : PortId → Option Answer → List ℕ → Done → Type 0
-Tells reached answer octets Quiet = ⊥
-Tells reached answer octets (Heard number port told frame) =
+abbrev pub TellsHearing : PortId → Option Answer → List ℕ → Done → Type 0
+TellsHearing reached answer octets Quiet = ⊥
+TellsHearing reached answer octets (Heard number port told frame) =
     (number ≡ reached.clock) × (port ≡ reached.port) × (told ≡ answer) × (frame.items ≡ octets)
 
 -- a frame is delivered, and it is told where it went
@@ -144,14 +144,14 @@ pub record Delivery (link : ℕ) (direction : Direction) (done : Done) (w : Worl
   pub octets : List ℕ
   pub answer : Option Answer
   pub here : slice_get w.net.channels link ≡ Some channel
-  pub told : Tells (receiver direction channel) answer octets done
+  pub told : TellsHearing (receiver direction channel) answer octets done
   pub delivers : Delivers link direction octets w draws answer w'
 
 -- An act of the world, at its own time, and what is told of it. A change is the last change from then on.
 abbrev pub Acts : Act → WorldState → List Draw → Done → WorldState → Type 0
 Acts (Deliver link direction) w draws done w' = Delivery link direction done w draws w'
 Acts (Expire number timer) w draws done w' =
-    (done ≡ Quiet) × AtSystem number w (λ place station. Expires place timer w draws w')
+    (done ≡ Quiet) × AtSystem number w (λ place station. TimerRunsOut place timer w draws w')
 Acts (Changing change) w draws done w' = (done ≡ Quiet) × Changes change (record w { last_change = w.time }) draws w'
 
 -- the world at a later time

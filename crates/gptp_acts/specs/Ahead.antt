@@ -9,10 +9,10 @@ use Rattle.gptp_system.specs.Facts.{AreHeld, AreShown, IsAtRest}
 use Rattle.gptp_system.specs.Input.{Input, Expires}
 use Rattle.gptp_setup.specs.Intervals.{AreParams, IsLog}
 use Rattle.gptp_system.specs.State.{SystemState, clock, due}
-use Rattle.gptp_system.specs.Steps.{IsPortOf}
+use Rattle.gptp_system.specs.Steps.{HasPortNumber}
 use Rattle.gptp_acts.specs.declared.item.Item.TheVariants.{Expiry}
 use Rattle.gptp_acts.specs.declared.station.Station.{Station}
-use Rattle.gptp_acts.specs.Pending.{Entry, times, listed, NothingBefore}
+use Rattle.gptp_acts.specs.Pending.{Entry, times_of_item, timer_time, NothingBefore}
 use Rattle.gptp_acts.specs.World.{Channel, WorldState, station_due}
 
 -- how much is pending at a time or before it
@@ -35,12 +35,12 @@ NoneLate time s = (timer : Timer) (t : ℕ) → due timer s ≡ Some t → time 
 -- Each timer of the system at a place is pending just when it is due. One that the input says runs out needn't be.
 abbrev pub ArePending : ℕ → Input → SystemState → List Entry → Type 0
 ArePending place input s es =
-    (timer : Timer) → input ≢ Expires timer → times (Expiry place timer) es ≡ listed (due timer s)
+    (timer : Timer) → input ≢ Expires timer → times_of_item (Expiry place timer) es ≡ timer_time (due timer s)
 
 -- so it is with the timers of all systems; none of one that has failed is pending
 abbrev pub AllArePending : WorldState → Type 0
 AllArePending w = (place : ℕ) (station : Station) → slice_get w.stations place ≡ Some station
-    → (timer : Timer) → times (Expiry place timer) w.net.pending ≡ listed (station_due timer station)
+    → (timer : Timer) → times_of_item (Expiry place timer) w.net.pending ≡ timer_time (station_due timer station)
 
 -- a station can start, its system is steady, and no timer of it is late where it is live
 pub record IsOnTime (time : ℕ) (station : Station) : Type 0 where
@@ -66,4 +66,4 @@ HasPorts place ports w =
 -- a port is one of the system that has its clock
 abbrev pub IsPortAmong : PortId → List Station → Type 0
 IsPortAmong port stations = (place : ℕ) (station : Station) → slice_get stations place ≡ Some station
-    → clock station.system ≡ port.clock → IsPortOf station.system port.port
+    → clock station.system ≡ port.clock → HasPortNumber station.system port.port

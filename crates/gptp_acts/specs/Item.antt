@@ -26,18 +26,18 @@ timer_port timers.Relay = 0
 timer_port timers.Lapse = 0
 
 -- what tells an item from all others: the place of its system or link, its kind and its port
-abbrev pub place_of : Item → ℕ
-place_of (Expiry place timer) = place
-place_of (Arrival link direction) = link
+abbrev pub item_key : Item → ℕ
+item_key (Expiry place timer) = place
+item_key (Arrival link direction) = link
 
-abbrev pub kind_of : Item → ℕ
-kind_of (Expiry place timer) = timer_kind timer
-kind_of (Arrival link FromA) = 7
-kind_of (Arrival link FromB) = 8
+abbrev pub item_kind : Item → ℕ
+item_kind (Expiry place timer) = timer_kind timer
+item_kind (Arrival link FromA) = 7
+item_kind (Arrival link FromB) = 8
 
-abbrev pub port_of : Item → ℕ
-port_of (Expiry place timer) = timer_port timer
-port_of (Arrival link direction) = 0
+abbrev pub item_port : Item → ℕ
+item_port (Expiry place timer) = timer_port timer
+item_port (Arrival link direction) = 0
 
 abbrev pub same_item : Item → Item → Bool
-same_item a b = place_of a == place_of b && (kind_of a == kind_of b && port_of a == port_of b)
+same_item a b = item_key a == item_key b && (item_kind a == item_kind b && item_port a == item_port b)

@@ -15,23 +15,23 @@ use Rattle.gptp_system.specs.declared.sending.Body.TheVariants as bodies
 use Rattle.gptp_system.specs.State.{SystemState, own, trace}
 use Rattle.gptp_acts.specs.declared.item.Item.TheVariants.{Arrival}
 use Rattle.gptp_acts.specs.Pending.{put}
-use Rattle.gptp_acts.specs.World.{Channel, Net, sender, queue, with_queue}
+use Rattle.gptp_acts.specs.World.{Channel, Net, sender, world_queue, with_queue}
 
 -- The message of a send: an Announce has the trace of its system as the call leaves it (IEEE 802.1AS-2020, 10.3.9.23).
-abbrev pub message_of : List ℕ → Head → Body → Message
-message_of path head (bodies.Announce body) = messages.Announce (record { head = head; body = body; path = path })
-message_of path head bodies.Sync = messages.Sync head
-message_of path head (bodies.FollowUp origin rate) =
+abbrev pub sent_message : List ℕ → Head → Body → Message
+sent_message path head (bodies.Announce body) = messages.Announce (record { head = head; body = body; path = path })
+sent_message path head bodies.Sync = messages.Sync head
+sent_message path head (bodies.FollowUp origin rate) =
     messages.FollowUp (record { head = head; origin = origin; rate = rate })
-message_of path head bodies.PdelayReq = messages.PdelayReq head
-message_of path head (bodies.PdelayResp stamp requester) =
+sent_message path head bodies.PdelayReq = messages.PdelayReq head
+sent_message path head (bodies.PdelayResp stamp requester) =
     messages.PdelayResp (record { head = head; stamp = stamp; requester = requester })
-message_of path head (bodies.PdelayRespFollowUp stamp requester) =
+sent_message path head (bodies.PdelayRespFollowUp stamp requester) =
     messages.PdelayRespFollowUp (record { head = head; stamp = stamp; requester = requester })
 
 -- its octets
 abbrev pub written : SystemState → Sending → List ℕ
-written s x = Written (message_of (trace s) x.head x.body)
+written s x = Written (sent_message (trace s) x.head x.body)
 
 -- A frame is sent on a link in a direction with this fate: unless it is lost it goes behind those in flight, and is
 -- pending.
@@ -40,8 +40,8 @@ entered place direction channel now octets None net = net
 entered place direction channel now octets (Some delay) net = record {
   channels = slice_set net.channels place
       (with_queue direction
-      (queue direction channel ++ frame (due_after (queue direction channel) now delay) octets ∷ []) channel);
-  pending = put (due_after (queue direction channel) now delay) (Arrival place direction) net.pending;
+      (world_queue direction channel ++ frame (due_after (world_queue direction channel) now delay) octets ∷ []) channel);
+  pending = put (due_after (world_queue direction channel) now delay) (Arrival place direction) net.pending;
 }
 
 -- a frame is sent from a port, onto a link that is up and begins there, with a lawful fate
@@ -58,8 +58,8 @@ pub record SendsOne (now : ℕ) (from : PortId) (octets : List ℕ) (draw : Draw
   pub after : net' ≡ entered place direction channel now octets draw.answer net
 
 -- no link that is up begins at this port
-abbrev pub IsUnlinked : Net → PortId → Type 0
-IsUnlinked net from = (place : ℕ) (direction : Direction) (channel : Channel)
+abbrev pub IsUnlinkedPort : Net → PortId → Type 0
+IsUnlinkedPort net from = (place : ℕ) (direction : Direction) (channel : Channel)
     → slice_get net.channels place ≡ Some channel
     → sender direction channel ≡ from → channel.up ≡ false
 
@@ -69,4 +69,4 @@ SendsAll now s [] draws net net' = (draws ≡ []) × (net' ≡ net)
 SendsAll now s (x ∷ xs) draws net net' =
     ((draw : Draw) × (rest : List Draw) × (between : Net) × (draws ≡ draw ∷ rest)
     × SendsOne now (own s x.port) (written s x) draw net between × SendsAll now s xs rest between net')
-    ⊎ (IsUnlinked net (own s x.port) × SendsAll now s xs draws net net')
+    ⊎ (IsUnlinkedPort net (own s x.port) × SendsAll now s xs draws net net')

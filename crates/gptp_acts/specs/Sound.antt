@@ -6,11 +6,11 @@ use Rattle.gptp_pdelay.specs.Clock.{IsDrift}
 use Rattle.gptp_roles.specs.Selection.{clock_of}
 use Rattle.gptp_setup.specs.Intervals.{AreIntervals}
 use Rattle.gptp_system.specs.State.{clock}
-use Rattle.gptp_system.specs.Steps.{IsPortOf, IsUp}
+use Rattle.gptp_system.specs.Steps.{HasPortNumber, IsUp}
 use Rattle.gptp_acts.specs.declared.station.Station.{Station}
 use Rattle.gptp_acts.specs.Agrees.{Agrees}
 use Rattle.gptp_acts.specs.Ahead.{IsWorldOnTime}
-use Rattle.gptp_acts.specs.World.{Channel, WorldState, sender, queue}
+use Rattle.gptp_acts.specs.World.{Channel, WorldState, sender, world_queue}
 
 -- what a system starts with keeps the limits, and is its own
 pub record IsItsSetup (station : Station) : Type 0 where
@@ -34,7 +34,7 @@ abbrev pub JoinPorts : WorldState → Type 0
 JoinPorts w = (link place : ℕ) (direction : Direction) (channel : Channel) (station : Station)
     → slice_get w.net.channels link ≡ Some channel → slice_get w.stations place ≡ Some station
     → clock station.system ≡ (sender direction channel).clock
-    → IsPortOf station.system (sender direction channel).port
+    → HasPortNumber station.system (sender direction channel).port
 
 -- at a port there is at most one link
 abbrev pub AreApart : WorldState → Type 0
@@ -44,8 +44,8 @@ AreApart w = (link other : ℕ) (direction way : Direction) (channel at : Channe
 
 -- frames arrive in the order in which they were sent, and nothing is in flight on a link that is down
 pub record Flows (direction : Direction) (channel : Channel) : Type 0 where
-  pub order : AreDueInOrder (queue direction channel)
-  pub still : channel.up ≡ false → queue direction channel ≡ []
+  pub order : AreDueInOrder (world_queue direction channel)
+  pub still : channel.up ≡ false → world_queue direction channel ≡ []
 
 abbrev pub AllFlow : WorldState → Type 0
 AllFlow w = (link : ℕ) (direction : Direction) (channel : Channel) → slice_get w.net.channels link ≡ Some channel

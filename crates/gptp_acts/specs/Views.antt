@@ -3,7 +3,7 @@ use Rattle.std.specs.Prelude.{◌≡◌, ℕ, nat_le, true, if◌then◌else◌,
 use Rattle.gptp_roles.specs.declared.role.Role.{Role}
 use Rattle.gptp_system.specs.Start.{role_at}
 use Rattle.gptp_system.specs.State.{SystemState, clock}
-use Rattle.gptp_system.specs.Steps.{IsPortOf}
+use Rattle.gptp_system.specs.Steps.{HasPortNumber}
 use Rattle.gptp_plan.specs.declared.change.Act.{Act}
 use Rattle.gptp_plan.specs.declared.change.Act.TheVariants.{Deliver, Expire}
 use Rattle.gptp_plan.specs.declared.change.Timed.{Timed}
@@ -52,7 +52,7 @@ pub record ShowsLive (number : ℕ) (w : WorldState) (s : SystemState) : Type 0 
   pub state : s ≡ station.system
 
 -- a live system follows this root, so many steps away, over the port with this number
-pub record Follows (root steps : ℕ) (slave : Option ℕ) (place : ℕ) (station : Station) : Type 0 where
+pub record FollowsRoot (root steps : ℕ) (slave : Option ℕ) (place : ℕ) (station : Station) : Type 0 where
   pub live : station.live ≡ true
   pub root_is : root ≡ station.system.root
   pub steps_are : steps ≡ station.system.steps
@@ -61,10 +61,10 @@ pub record Follows (root steps : ℕ) (slave : Option ℕ) (place : ℕ) (statio
 -- a live system has a port with this number
 pub record HasPort (port place : ℕ) (station : Station) : Type 0 where
   pub live : station.live ≡ true
-  pub port_of : IsPortOf station.system port
+  pub port_of : HasPortNumber station.system port
 
 -- and it has this role
 pub record HasRole (port : ℕ) (role : Role) (place : ℕ) (station : Station) : Type 0 where
   pub live : station.live ≡ true
-  pub port_of : IsPortOf station.system port
+  pub port_of : HasPortNumber station.system port
   pub role_is : role ≡ role_at station.system port

@@ -47,9 +47,9 @@ abbrev pub receiver : Direction → Channel → PortId
 receiver FromA channel = channel.b
 receiver FromB channel = channel.a
 
-abbrev pub queue : Direction → Channel → List Frame
-queue FromA channel = channel.from_a
-queue FromB channel = channel.from_b
+abbrev pub world_queue : Direction → Channel → List Frame
+world_queue FromA channel = channel.from_a
+world_queue FromB channel = channel.from_b
 
 abbrev pub with_queue : Direction → List Frame → Channel → Channel
 with_queue FromA frames channel = record channel { from_a = frames }

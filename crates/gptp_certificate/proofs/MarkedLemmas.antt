@@ -18,12 +18,12 @@ use Rattle.gptp_system.specs.State.{clock}
 use Rattle.gptp_acts.specs.World.{WorldState}
 use Rattle.gptp_acts.specs.declared.station.Station.{Station}
 use Rattle.gptp_kept.specs.Bounded.{statement_of, statements_of}
-use Rattle.gptp_kept.specs.Standing.{live_systems, snapshot_of}
+use Rattle.gptp_kept.specs.Standing.{live_stations, snapshot_of}
 use Rattle.gptp_kept.proofs.BoundedLemmas.{statement_from, statement_there, stated_lives}
 use Rattle.gptp_kept.proofs.SystemLemmas.{clock_in, live_from}
-use Rattle.gptp_certificate.specs.Marking.{AreMarked, ArePairs, AreStarts, IsFarBy, IsStart, Marks, line_roots}
-use Rattle.gptp_certificate.specs.Rounds.{AreLeast, AreWithin, value}
-use Rattle.gptp_certificate.specs.Stated.{IsLineOf, States, stated_line}
+use Rattle.gptp_certificate.specs.Marking.{LinesAreMarked, ArePairs, AreStarts, IsFarBy, IsStart, Marks, line_roots}
+use Rattle.gptp_certificate.specs.Rounds.{AreLeast, LinksAreWithin, value}
+use Rattle.gptp_certificate.specs.Stated.{IsStatedLine, States, stated_line}
 use Rattle.gptp_certificate.specs.Stating.{AreSaid}
 use Rattle.gptp_certificate.proofs.RouteLemmas.{leads_of, one_place, route_of, within}
 
@@ -46,12 +46,12 @@ value_past (x ∷ xs) zero past = absurd (omega arith)
 value_past (x ∷ xs) (suc i) past = value_past xs i (omega arith)
 
 -- no more systems live than there are
-live_few : (stations : List Station) → length (live_systems stations) ≤ length stations
+live_few : (stations : List Station) → length (live_stations stations) ≤ length stations
 live_few [] = omega arith
 live_few (first ∷ stations) = by first.live refl (live_few stations)
   where
-    by : (live : Bool) → first.live ≡ live → length (live_systems stations) ≤ length stations
-        → length (live_systems (first ∷ stations)) ≤ length (first ∷ stations)
+    by : (live : Bool) → first.live ≡ live → length (live_stations stations) ≤ length stations
+        → length (live_stations (first ∷ stations)) ≤ length (first ∷ stations)
     by true is few = rw is (omega arith)
     by false is few = rw is (omega arith)
 
@@ -59,7 +59,7 @@ live_few (first ∷ stations) = by first.live refl (live_few stations)
 pub said_all : (w : WorldState) (own : List SystemLine) → AreSaid w own → (v : ℕ) → In v (clocks (snapshot_of w))
     → In v (line_clocks own)
 said_all w own said v known =
-    let (s, live, same) = from_map clock_in v (live_systems w.stations) known in
+    let (s, live, same) = from_map clock_in v (live_stations w.stations) known in
     let at = live_from w.stations s live in
     let line = stated_line at.station.system in
     let member = (said.each line).1 (record {
@@ -74,10 +74,10 @@ said_all w own said v known =
 -- the pairs of links join lines
 pub pairs_within : (g : Snapshot) (own : List SystemLine) (pairs others : List (ℕ × ℕ)) (n : ℕ)
     → IsRising (line_clocks own) → ArePairs (line_clocks own) g.links pairs → length own ≡ n → pairs ≡ others
-    → AreWithin n others
+    → LinksAreWithin n others
 pairs_within g own pairs others n rising are long same =
-    subst (AreWithin n) same
-    (subst (λ m. AreWithin m pairs) (length-map own (λ (line : SystemLine). line.clock) ∙ long)
+    subst (LinksAreWithin n) same
+    (subst (λ m. LinksAreWithin m pairs) (length-map own (λ (line : SystemLine). line.clock) ∙ long)
     (within g (line_clocks own) pairs are (Different-rising (line_clocks own) rising)))
 
 -- ---- numbers that begin a count are no greater than what none leads to
@@ -339,11 +339,11 @@ module _ (w : WorldState) (own : List SystemLine) (said : AreSaid w own) (wf : I
 
       -- ---- the lines
 
-      module _ (lines : List SystemLine) (marked : AreMarked (length own) lowest numbers own lines) where
+      module _ (lines : List SystemLine) (marked : LinesAreMarked (length own) lowest numbers own lines) where
         line_is : (i : ℕ) (station : Station) (new : SystemLine) → IsLineAt i station
-            → Marks (value lowest i) (value numbers i) (stated_line station.system) new → IsLineOf w station new
+            → Marks (value lowest i) (value numbers i) (stated_line station.system) new → IsStatedLine w station new
         line_is i station new at (inl (far, is)) =
-            subst (IsLineOf w station) (sym is)
+            subst (IsStatedLine w station) (sym is)
             (inr (record {
               is_far = far_of i station at far;
               clock = refl;

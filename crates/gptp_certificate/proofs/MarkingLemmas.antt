@@ -14,11 +14,11 @@ use Rattle.gptp_graph.specs.Order.{IsRising}
 use Rattle.gptp_graph.specs.Snapshot.{IsWellFormed, Snapshot, clocks}
 use Rattle.gptp_graph.proofs.LinkLemmas.{Joins-clock}
 use Rattle.gptp_vector.specs.declared.port.PortId.{PortId}
-use Rattle.gptp_kept.specs.View.{identity_of}
-use Rattle.gptp_world.specs.Used.{link_of}
+use Rattle.gptp_kept.specs.View.{port_identity_number}
+use Rattle.gptp_world.specs.Used.{snapshot_link}
 use Rattle.gptp_certificate_text.specs.Certificate.{line_of, lines_of}
 use Rattle.gptp_certificate_text.specs.declared.certificate.SystemLine.{SystemLine as Line}
-use Rattle.gptp_certificate.specs.Marking.{AreAmong, AreMarked, IsStart, Marks, clocks_at, port_clocks}
+use Rattle.gptp_certificate.specs.Marking.{AreAmong, LinesAreMarked, IsStart, Marks, clocks_at, port_clocks}
 use Rattle.gptp_certificate.specs.Rounds.{value}
 
 -- ---- clocks that rise can be searched
@@ -36,7 +36,7 @@ rises (x ∷ xs) h (suc i) (suc j) d le lt = rises xs h.1 i j d (omega arith) (o
 -- ---- the links of a snapshot, as a world lists them
 
 module _ (g : Snapshot) (wf : IsWellFormed g) (links : List (PortId × PortId))
-    (same : map link_of links ≡ g.links) where
+    (same : map snapshot_link links ≡ g.links) where
   -- where all clocks of the snapshot are among these, so are those at the ends of each link
   pub ends_among : (cs : List ℕ) → ((v : ℕ) → In v (clocks g) → In v cs) → All (AreAmong cs) links
   ends_among cs all i d below = record { a = among.0; b = among.1 }
@@ -44,22 +44,22 @@ module _ (g : Snapshot) (wf : IsWellFormed g) (links : List (PortId × PortId))
       ports : PortId × PortId
       ports = get_or links i d
 
-      joins : In (link_of ports) g.links
+      joins : In (snapshot_link ports) g.links
       joins =
-          subst (In (link_of ports)) same
-          (In-map link_of ports links (In-slice_get ports links i (slice_get-get_or links i d below)))
+          subst (In (snapshot_link ports)) same
+          (In-map snapshot_link ports links (In-slice_get ports links i (slice_get-get_or links i d below)))
 
       contains : (v : ℕ) → In v (clocks g) → Contains cs v
       contains v known = let (place, here) = slice_get-In v cs (all v known) in contains_there cs place v here
 
       among : Contains cs ports.0.clock × Contains cs ports.1.clock
       among =
-          let first = identity_of ports.0 in let second = identity_of ports.1 in (
+          let first = port_identity_number ports.0 in let second = port_identity_number ports.1 in (
             contains ports.0.clock (Joins-clock g first second wf (inl joins)),
             contains ports.1.clock (Joins-clock g second first wf (inr joins)),
           )
 
-  ends_same : (xs : List (PortId × PortId)) → map port_clocks xs ≡ map clocks_at (map link_of xs)
+  ends_same : (xs : List (PortId × PortId)) → map port_clocks xs ≡ map clocks_at (map snapshot_link xs)
   ends_same [] = refl
   ends_same (x ∷ xs) = ap (λ es. port_clocks x ∷ es) (ends_same xs)
 
@@ -118,7 +118,7 @@ starts_more place lowest lines line numbers number low here is_low start so_far 
 
 -- ---- one line more is marked
 
-pub marked_none : (lowest numbers : List ℕ) (lines : List SystemLine) → AreMarked 0 lowest numbers lines lines
+pub marked_none : (lowest numbers : List ℕ) (lines : List SystemLine) → LinesAreMarked 0 lowest numbers lines lines
 marked_none lowest numbers lines = record {
   long = refl;
   marked = λ i line below here. absurd (omega arith);
@@ -127,8 +127,8 @@ marked_none lowest numbers lines = record {
 
 pub marked_more : (place : ℕ) (lowest numbers : List ℕ) (old now : List SystemLine) (line new : SystemLine)
     → slice_get now place ≡ Some line → Marks (value lowest place) (value numbers place) line new
-    → AreMarked place lowest numbers old now
-    → AreMarked (place + 1) lowest numbers old (slice_set now place new)
+    → LinesAreMarked place lowest numbers old now
+    → LinesAreMarked (place + 1) lowest numbers old (slice_set now place new)
 marked_more place lowest numbers old now line new here marks so_far = record {
   long = length-set now place new ∙ so_far.long;
   marked = λ i one below there. by i one below there (same_place i place);
@@ -154,15 +154,15 @@ marked_more place lowest numbers old now line new here marks so_far = record {
 pub mark_next : (place : ℕ) (lowest numbers : List ℕ) (old : List SystemLine) (cur : List Line) (one new : Line)
     (low : ℕ) → place < length old → place < length lowest → one ≡ slice_index_or cur place one
     → low ≡ slice_index_or lowest place low → Marks low (value numbers place) (line_of one) (line_of new)
-    → AreMarked place lowest numbers old (lines_of cur)
-    → AreMarked (place + 1) lowest numbers old (lines_of (slice_set cur place new))
+    → LinesAreMarked place lowest numbers old (lines_of cur)
+    → LinesAreMarked (place + 1) lowest numbers old (lines_of (slice_set cur place new))
 mark_next place lowest numbers old cur one new low below low_below is low_is marks so_far =
     let long = so_far.long in let same_long = length-map cur line_of in
     let here : slice_get cur place ≡ Some one =
     slice_get_read cur (length cur) place one refl (omega arith) is in
     let low_at : low ≡ value lowest place =
     sym (read lowest place low 0 (slice_get_read lowest (length lowest) place low refl low_below low_is)) in
-    subst (AreMarked (place + 1) lowest numbers old) (sym (map-set line_of cur place new))
+    subst (LinesAreMarked (place + 1) lowest numbers old) (sym (map-set line_of cur place new))
     (marked_more place lowest numbers old (lines_of cur) (line_of one) (line_of new)
     (mapped_there line_of cur place one here)
     (subst (λ r. Marks r (value numbers place) (line_of one) (line_of new)) low_at marks) so_far)

@@ -7,7 +7,7 @@ use Rattle.gptp_lists.proofs.MappedLemmas.{taken}
 use Rattle.gptp_lists.proofs.MemberLemmas.{In-parts, In-slice_get}
 use Rattle.gptp_lists.proofs.PlaceLemmas.{get-set_same, read, same_place}
 use Rattle.std.proofs.lemmas.List.{get_or-set_other}
-use Rattle.gptp_certificate.specs.Rounds.{value, AreWithin, CameOver, HasCome, Leads, PassRound, Passes, Touches}
+use Rattle.gptp_certificate.specs.Rounds.{value, LinksAreWithin, CameOver, HasCome, Leads, PassRound, ValuesPass, LinkTouches}
 
 -- ---- over one link
 
@@ -22,7 +22,7 @@ module _ (step a b x y : ℕ) (xs : List ℕ) (at_a : slice_get xs a ≡ Some x)
   set_at i z new at = read (slice_set xs i new) i new 0 (get-set_same xs i z new at)
 
   -- the value at b is the lesser
-  pub passes_to_a : y + step < x → Passes step a b xs (slice_set xs a (y + step))
+  pub passes_to_a : y + step < x → ValuesPass step a b xs (slice_set xs a (y + step))
   passes_to_a lower = record {
     long = length-set xs a (y + step);
     less = λ i. by i (same_place i a);
@@ -55,7 +55,7 @@ module _ (step a b x y : ℕ) (xs : List ℕ) (at_a : slice_get xs a ≡ Some x)
 
 -- neither is
 pub passes_nothing : (step a b x y : ℕ) (xs : List ℕ) → slice_get xs a ≡ Some x → slice_get xs b ≡ Some y
-    → x ≤ y + step → y ≤ x + step → Passes step a b xs xs
+    → x ≤ y + step → y ≤ x + step → ValuesPass step a b xs xs
 passes_nothing step a b x y xs at_a at_b first second =
     let here = read xs a x 0 at_a in let there = read xs b y 0 at_b in
     record {
@@ -67,7 +67,7 @@ passes_nothing step a b x y xs at_a at_b first second =
     }
 
 -- over a link the other way round it is the same
-turned : (step a b : ℕ) (xs ys : List ℕ) → Passes step a b xs ys → Passes step b a xs ys
+turned : (step a b : ℕ) (xs ys : List ℕ) → ValuesPass step a b xs ys → ValuesPass step b a xs ys
 turned step a b xs ys passes = record {
   long = passes.long;
   less = passes.less;
@@ -82,7 +82,7 @@ turned step a b xs ys passes = record {
 
 -- the value at a is the lesser
 pub passes_to_b : (step a b x y : ℕ) (xs : List ℕ) → slice_get xs a ≡ Some x → slice_get xs b ≡ Some y
-    → x + step < y → Passes step a b xs (slice_set xs b (x + step))
+    → x + step < y → ValuesPass step a b xs (slice_set xs b (x + step))
 passes_to_b step a b x y xs at_a at_b lower =
     turned step b a xs (slice_set xs b (x + step)) (passes_to_a step b a y x xs at_b at_a lower)
 
@@ -92,7 +92,7 @@ pub round_begins : (step : ℕ) (xs : List ℕ) → PassRound step [] xs xs
 round_begins step xs = record { long = refl; less = λ i. omega arith; meets = λ i j member. absurd member }
 
 round_more : (step a b : ℕ) (links : List (ℕ × ℕ)) (before xs ys : List ℕ) → PassRound step links before xs
-    → Passes step a b xs ys → PassRound step (links ++ (a, b) ∷ []) before ys
+    → ValuesPass step a b xs ys → PassRound step (links ++ (a, b) ∷ []) before ys
 round_more step a b links before xs ys so_far passes = record {
   long = passes.long ∙ so_far.long;
   less = λ i. (let first = so_far.less i in let then = passes.less i in omega arith);
@@ -123,8 +123,8 @@ module _ (step : ℕ) (links : List (ℕ × ℕ)) (starts : List ℕ) where
   came_at_first = record { long = refl; from = λ i within. (i, 0, within, refl, omega arith) }
 
   -- what passes over a link has come over one more
-  came_more : (a b : ℕ) (xs ys : List ℕ) → AreWithin (length starts) links → In (a, b) links
-      → Passes step a b xs ys → CameOver step links starts xs → CameOver step links starts ys
+  came_more : (a b : ℕ) (xs ys : List ℕ) → LinksAreWithin (length starts) links → In (a, b) links
+      → ValuesPass step a b xs ys → CameOver step links starts xs → CameOver step links starts ys
   came_more a b xs ys within member passes came = record {
     long = passes.long ∙ came.long;
     from = λ i here. by i here (passes.from i);
@@ -134,7 +134,7 @@ module _ (step : ℕ) (links : List (ℕ × ℕ)) (starts : List ℕ) where
       IsFrom i =
           (j k : ℕ) × (j < length starts) × Leads links i j k × (value ys i ≡ value starts j + k * step)
 
-      over : (i m : ℕ) → Touches links i m → m < length starts → value ys i ≡ value xs m + step → IsFrom i
+      over : (i m : ℕ) → LinkTouches links i m → m < length starts → value ys i ≡ value xs m + step → IsFrom i
       over i m touches there is =
           let (j, k, below, leads, at) = came.from m there in
           (j, suc k, below, (m, touches, leads), omega arith)
@@ -176,21 +176,21 @@ there links k below = slice_get-get_or links k (0, 0) below
 among : (links : List (ℕ × ℕ)) (k : ℕ) → k < length links → In (link_at links k) links
 among links k below = In-slice_get (link_at links k) links k (there links k below)
 
-pub ends_within : (n : ℕ) (links : List (ℕ × ℕ)) (k : ℕ) → AreWithin n links → k < length links
+pub ends_within : (n : ℕ) (links : List (ℕ × ℕ)) (k : ℕ) → LinksAreWithin n links → k < length links
     → ((link_at links k).0 < n) × ((link_at links k).1 < n)
 ends_within n links k within below = within (link_at links k).0 (link_at links k).1 (among links k below)
 
 pub round_next : (step : ℕ) (links : List (ℕ × ℕ)) (k : ℕ) (before xs ys : List ℕ) → k < length links
-    → PassRound step (take k links) before xs → Passes step (link_at links k).0 (link_at links k).1 xs ys
+    → PassRound step (take k links) before xs → ValuesPass step (link_at links k).0 (link_at links k).1 xs ys
     → PassRound step (take (k + 1) links) before ys
 round_next step links k before xs ys below so_far passes =
     subst (λ ls. PassRound step ls before ys) (sym (taken links k (link_at links k) (there links k below)))
     (round_more step (link_at links k).0 (link_at links k).1 (take k links) before xs ys so_far passes)
 
 pub came_next : (step : ℕ) (links : List (ℕ × ℕ)) (k : ℕ) (starts first xs ys : List ℕ)
-    → AreWithin (length first) links → k < length links → CameOver step links starts first
-    → Passes step (link_at links k).0 (link_at links k).1 xs ys → CameOver step links starts xs
+    → LinksAreWithin (length first) links → k < length links → CameOver step links starts first
+    → ValuesPass step (link_at links k).0 (link_at links k).1 xs ys → CameOver step links starts xs
     → CameOver step links starts ys
 came_next step links k starts first xs ys within below from passes =
     came_more step links starts (link_at links k).0 (link_at links k).1 xs ys
-    (subst (λ n. AreWithin n links) from.long within) (among links k below) passes
+    (subst (λ n. LinksAreWithin n links) from.long within) (among links k below) passes

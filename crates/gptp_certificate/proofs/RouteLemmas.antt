@@ -6,7 +6,7 @@ use Rattle.gptp_lists.proofs.MemberLemmas.{In-map, In-slice_get, from_map}
 use Rattle.gptp_graph.specs.Path.{Route}
 use Rattle.gptp_graph.specs.Snapshot.{Adjacent, Joins, Link, Snapshot, port_of}
 use Rattle.gptp_certificate.specs.Marking.{ArePairs, clocks_at, clocks_in}
-use Rattle.gptp_certificate.specs.Rounds.{AreWithin, Leads, Touches}
+use Rattle.gptp_certificate.specs.Rounds.{LinksAreWithin, Leads, LinkTouches}
 
 -- a number stands at one place among different ones
 pub one_place : (xs : List ℕ) (i j x : ℕ) → Different xs → slice_get xs i ≡ Some x → slice_get xs j ≡ Some x → i ≡ j
@@ -39,7 +39,7 @@ module _ (g : Snapshot) (clocks : List ℕ) (pairs : List (ℕ × ℕ)) (are : A
       }
 
   -- so places of pairs are among the clocks
-  pub within : AreWithin (length clocks) pairs
+  pub within : LinksAreWithin (length clocks) pairs
   within i j member =
       let is = link_of_pair i j member in (
         slice_get_within clocks i is.link.a.clock is.a,
@@ -47,7 +47,7 @@ module _ (g : Snapshot) (clocks : List ℕ) (pairs : List (ℕ × ℕ)) (are : A
       )
 
   -- what a pair touches is a neighbour
-  neighbour : (i j v : ℕ) → Touches pairs i j → slice_get clocks i ≡ Some v
+  neighbour : (i j v : ℕ) → LinkTouches pairs i j → slice_get clocks i ≡ Some v
       → (u : ℕ) × (slice_get clocks j ≡ Some u) × Adjacent g v u
   neighbour i j v (inl member) here =
       let is = link_of_pair i j member in
@@ -95,7 +95,7 @@ module _ (g : Snapshot) (clocks : List ℕ) (pairs : List (ℕ × ℕ)) (are : A
       (p, among, ap (λ (q : Option ℕ × Option ℕ). q.0) e, ap (λ (q : Option ℕ × Option ℕ). q.1) e)
 
   touched : (i v u : ℕ) → Adjacent g v u → slice_get clocks i ≡ Some v
-      → (j : ℕ) × (slice_get clocks j ≡ Some u) × Touches pairs i j
+      → (j : ℕ) × (slice_get clocks j ≡ Some u) × LinkTouches pairs i j
   touched i v u (m, n, inl member) here =
       let (p, among, a, b) = pair_of_link (record { a = port_of v m; b = port_of u n }) member in
       let same : p.0 ≡ i = one_place clocks p.0 i v differ a here in

@@ -23,22 +23,22 @@ use Rattle.gptp_roles.specs.declared.role.Role.{Role}
 use Rattle.gptp_roles.specs.declared.role.Role.TheVariants.{Disabled, Master, Slave, Passive}
 use Rattle.gptp_system.specs.Start.{role_at}
 use Rattle.gptp_system.specs.State.{SystemState, clock, parent}
-use Rattle.gptp_system.specs.Steps.{IsPortOf}
+use Rattle.gptp_system.specs.Steps.{HasPortNumber}
 use Rattle.gptp_acts.specs.Sound.{HaveOwnClocks}
 use Rattle.gptp_acts.specs.World.{WorldState}
 use Rattle.gptp_acts.specs.declared.station.Station.{Station}
 use Rattle.gptp_kept.specs.Bounded.{IsBoundedWorld, statement_of, statements_of}
-use Rattle.gptp_kept.specs.Standing.{snapshot_of, standing}
+use Rattle.gptp_kept.specs.Standing.{snapshot_of, standing_system}
 use Rattle.gptp_kept.proofs.BoundedLemmas.{claimed_bounded, statement_there, stated_lives}
 use Rattle.gptp_kept.proofs.StandsLemmas.{stands_well}
 use Rattle.gptp_kept.proofs.SystemLemmas.{clock_in, live_from, live_there}
-use Rattle.gptp_kept.specs.Settled.{IsSettledSystem, Settled, link_of}
+use Rattle.gptp_kept.specs.Settled.{IsSettledSystem, Settled, followed_link}
 use Rattle.gptp_kept.specs.Settled as graphs
 use Rattle.gptp_kept.specs.Claimed.{Claimed}
 use Rattle.gptp_kept.proofs.ClaimedLemmas.{claimed_settled}
 use Rattle.gptp_certificate_text.specs.Certificate.{IsCertificate, parent_of, role_of}
 use Rattle.gptp_certificate.specs.Settled.{IsRightInTime}
-use Rattle.gptp_certificate.specs.Stated.{IsFarLine, IsLineOf, IsNearLine, States, stated_line, stated_port}
+use Rattle.gptp_certificate.specs.Stated.{IsFarLine, IsStatedLine, IsNearLine, States, stated_line, stated_port}
 use Rattle.gptp_certificate.proofs.StatedLemmas.{numbers_rise}
 
 -- ---- the line of one system
@@ -56,11 +56,11 @@ in_range first (suc count) n (inl same) = (omega (arith, same), omega (arith, sa
 in_range first (suc count) n (inr later) =
     let (least, most) = in_range (first + 1) count n later in (omega (arith, least), omega (arith, most))
 
-same_parent : (followed : Option (ℕ × PortId)) → option_map link_of followed ≡ option_map parent_of followed
+same_parent : (followed : Option (ℕ × PortId)) → option_map followed_link followed ≡ option_map parent_of followed
 same_parent None = refl
 same_parent (Some (own_port, there)) = refl
 
-same_role : (role : Role) → graphs.role_of role ≡ role_of role
+same_role : (role : Role) → graphs.graph_role role ≡ role_of role
 same_role Disabled = refl
 same_role Master = refl
 same_role Slave = refl
@@ -83,7 +83,7 @@ settled_line g s is below = record {
     roles port member =
         let (n, among, same) = from_map (stated_port s) port (range_with_len 1 (length s.ports)) member in
         let (least, most) = in_range 1 (length s.ports) n among in
-        let is_port : IsPortOf s n = record { least = least; most = omega (arith, most) } in
+        let is_port : HasPortNumber s n = record { least = least; most = omega (arith, most) } in
         let role = subst (λ r. IsSettledRole g (port_of (clock s) n) r) (same_role (role_at s n))
         (is.roles n is_port) in
         subst (λ (p : PortLine). IsSettledRole g (port_of (clock s) p.number) p.role) same role
@@ -96,7 +96,7 @@ record IsLineAt (w : WorldState) (line : SystemLine) : Type 0 where
   station : Station
   here : slice_get w.stations place ≡ Some station
   live : station.live ≡ true
-  is : IsLineOf w station line
+  is : IsStatedLine w station line
 
 line_at : (w : WorldState) (lines : List SystemLine) (line : SystemLine) → States w lines → In line lines
     → IsLineAt w line
@@ -106,13 +106,13 @@ line_at w lines line states member =
     record { place = place; station = of.station; here = here; live = of.live; is = of.is }
 
 -- it has the clock of its system
-same_clock : (w : WorldState) (line : SystemLine) (station : Station) → IsLineOf w station line
+same_clock : (w : WorldState) (line : SystemLine) (station : Station) → IsStatedLine w station line
     → line.clock ≡ clock station.system
 same_clock w line station (inl near) = ap (λ (l : SystemLine). l.clock) near.is
 same_clock w line station (inr far) = far.clock
 
 -- a line that isn't far is what its system says
-near_is : (w : WorldState) (line : SystemLine) (station : Station) → IsLineOf w station line → line.far ≡ false
+near_is : (w : WorldState) (line : SystemLine) (station : Station) → IsStatedLine w station line → line.far ≡ false
     → line ≡ stated_line station.system
 near_is w line station (inl near) other = near.is
 near_is w line station (inr far) other = let is = far.far in absurd cc
@@ -122,7 +122,7 @@ pub far_bare : (w : WorldState) (lines : List SystemLine) → States w lines →
     → line.far ≡ true → IsBare line
 far_bare w lines states line member far = by (states.stated line member).is
   where
-    by : IsLineOf w (states.stated line member).station line → IsBare line
+    by : IsStatedLine w (states.stated line member).station line → IsBare line
     by (inl near) = let is : line.far ≡ false = ap (λ (l : SystemLine). l.far) near.is in absurd cc
     by (inr is) = is.bare
 
@@ -156,7 +156,7 @@ its_systems w lines own states = record {
     no_other : (line : SystemLine) → In line lines → (s : System) × labels.IsLineOf g lines s line
     no_other line member =
         let at = line_at w lines line states member in (
-          standing at.station,
+          standing_system at.station,
           record {
             live = live_there w.stations at.place at.station at.here at.live;
             stated = member;
@@ -240,7 +240,7 @@ module _ (w : WorldState) (wf : IsWellFormed (snapshot_of w)) (settled : Settled
               roles = λ port member. absurd (subst (In port) far.bare.ports member);
             }
 
-    settled_by : (line : SystemLine) → IsLineOf w station line → IsSettledLine (snapshot_of w) line
+    settled_by : (line : SystemLine) → IsStatedLine w station line → IsSettledLine (snapshot_of w) line
     settled_by line (inl near) = near_line line near
     settled_by line (inr far) = far_line line far
 
@@ -264,7 +264,7 @@ right_in_time w lines claimed states calm =
 -- ---- they stand in order
 
 -- the numbers of a line's ports rise
-ports_rise : (w : WorldState) (station : Station) (line : SystemLine) → IsLineOf w station line
+ports_rise : (w : WorldState) (station : Station) (line : SystemLine) → IsStatedLine w station line
     → IsRising (port_numbers line)
 ports_rise w station line (inl near) =
     subst (λ (l : SystemLine). IsRising (port_numbers l)) (sym near.is)

@@ -65,7 +65,7 @@ Marks lowest n before after =
     (IsFarBy before lowest × (after ≡ far_line before lowest n)) ⊎ ((IsFarBy before lowest → ⊥) × (after ≡ before))
 
 -- so at each place below this one
-pub record AreMarked (count : ℕ) (lowest numbers : List ℕ) (before after : List SystemLine) : Type 0 where
+pub record LinesAreMarked (count : ℕ) (lowest numbers : List ℕ) (before after : List SystemLine) : Type 0 where
   pub long : length after ≡ length before
   pub marked : (i : ℕ) (line : SystemLine) → i < count → slice_get before i ≡ Some line
       → (new : SystemLine) × (slice_get after i ≡ Some new) × Marks (value lowest i) (value numbers i) line new

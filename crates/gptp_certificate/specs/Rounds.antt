@@ -8,21 +8,21 @@ abbrev pub value : List ℕ → ℕ → ℕ
 value xs i = slice_index_or xs i 0
 
 -- a link joins the two places
-abbrev pub Touches : List (ℕ × ℕ) → ℕ → ℕ → Type 0
-Touches links i j = In (i, j) links ⊎ In (j, i) links
+abbrev pub LinkTouches : List (ℕ × ℕ) → ℕ → ℕ → Type 0
+LinkTouches links i j = In (i, j) links ⊎ In (j, i) links
 
 -- so many links lead from the one to the other
 abbrev pub Leads : List (ℕ × ℕ) → ℕ → ℕ → ℕ → Type 0
 Leads links i j zero = i ≡ j
-Leads links i j (suc k) = (m : ℕ) × Touches links i m × Leads links m j k
+Leads links i j (suc k) = (m : ℕ) × LinkTouches links i m × Leads links m j k
 
 -- links join places below this one
-abbrev pub AreWithin : ℕ → List (ℕ × ℕ) → Type 0
-AreWithin n links = (i j : ℕ) → In (i, j) links → (i < n) × (j < n)
+abbrev pub LinksAreWithin : ℕ → List (ℕ × ℕ) → Type 0
+LinksAreWithin n links = (i j : ℕ) → In (i, j) links → (i < n) × (j < n)
 
 -- Over the link between two places each value passed on: at neither end more is left than the value of the other with
 -- the step of the link.
-pub record Passes (step a b : ℕ) (xs ys : List ℕ) : Type 0 where
+pub record ValuesPass (step a b : ℕ) (xs ys : List ℕ) : Type 0 where
   pub long : length ys ≡ length xs
   pub less : (i : ℕ) → value ys i ≤ value xs i
   pub meets_a : value ys a ≤ value xs b + step

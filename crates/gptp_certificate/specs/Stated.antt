@@ -47,8 +47,8 @@ pub record IsNearLine (g : Snapshot) (all : List Statement) (station : Station) 
   pub is_near : IsFar g all (statement_of station) → ⊥
   pub is : line ≡ stated_line station.system
 
-abbrev pub IsLineOf : WorldState → Station → SystemLine → Type 0
-IsLineOf w station line = IsNearLine (snapshot_of w) (statements_of w) station line
+abbrev pub IsStatedLine : WorldState → Station → SystemLine → Type 0
+IsStatedLine w station line = IsNearLine (snapshot_of w) (statements_of w) station line
     ⊎ IsFarLine (snapshot_of w) (statements_of w) (statement_of station) line
 
 -- the line is that of a live system
@@ -56,11 +56,11 @@ pub record IsStated (w : WorldState) (line : SystemLine) : Type 0 where
   pub station : Station
   pub there : In station w.stations
   pub live : station.live ≡ true
-  pub is : IsLineOf w station line
+  pub is : IsStatedLine w station line
 
 -- The lines are those of the live systems, one of each, by rising clock.
 pub record States (w : WorldState) (lines : List SystemLine) : Type 0 where
   pub rising : IsRising (line_clocks lines)
   pub stated : (line : SystemLine) → In line lines → IsStated w line
   pub all : (station : Station) → In station w.stations → station.live ≡ true
-      → (line : SystemLine) × In line lines × IsLineOf w station line
+      → (line : SystemLine) × In line lines × IsStatedLine w station line

@@ -9,8 +9,8 @@ ghost use Rattle.gptp_graph.specs.Snapshot.{clocks as all_clocks};
 ghost use Rattle.gptp_lists.specs.Members.{In};
 ghost use Rattle.gptp_kept.specs.Standing.{snapshot_of};
 ghost use Rattle.gptp_certificate_text.specs.Certificate.{line_of, lines_of};
-ghost use Rattle.gptp_certificate.specs.Marking.{AreAmong, AreMarked, ArePairs, AreStarts, IsFarBy, IsStart, Marks, clocks_in, line_roots, port_clocks};
-ghost use Rattle.gptp_certificate.specs.Rounds.{AreLeast, AreWithin, value};
+ghost use Rattle.gptp_certificate.specs.Marking.{AreAmong, LinesAreMarked, ArePairs, AreStarts, IsFarBy, IsStart, Marks, clocks_in, line_roots, port_clocks};
+ghost use Rattle.gptp_certificate.specs.Rounds.{AreLeast, LinksAreWithin, value};
 ghost use Rattle.gptp_certificate.specs.Stated.{States};
 ghost use Rattle.gptp_certificate.specs.Stating.{AreSaid};
 
@@ -106,7 +106,7 @@ fn lowest_roots(
     links: &[(usize, usize)],
     systems: usize,
 ) -> Result<Vec<Identity>, AllocError>
-    requires { AreWithin (length lines.now) links.now }
+    requires { LinksAreWithin (length lines.now) links.now }
     ensures { IfOk result (λ lowest. AreLeast 0 links.now systems (line_roots (lines_of lines.now)) lowest.items) }
 {
     let mut roots = list_roots(alloc, lines)?;
@@ -167,7 +167,7 @@ fn mark_each(lines: &mut Vec<SystemLine>, lowest: &[Identity], links: &[u16])
     requires lowest { length lowest.now ≡ length lines.old.items }
     requires links { length links.now ≡ length lines.old.items }
     requires few { (i : ℕ) → value links.now i ≤ 65281 }
-    ensures { AreMarked (length lines.old.items) lowest.now links.now (lines_of lines.old.items)
+    ensures { LinesAreMarked (length lines.old.items) lowest.now links.now (lines_of lines.old.items)
         (lines_of lines.new.items) }
 {
     for place in 0..lines.len() {

@@ -1,7 +1,7 @@
 //! Values that pass over links between places, round by round.
 
 ghost use Rattle.std.specs.Prelude.{◌≡◌, ◌<◌, ℕ, length, List};
-ghost use Rattle.gptp_certificate.specs.Rounds.{AreLeast, AreWithin, CameOver, Passes, PassRound};
+ghost use Rattle.gptp_certificate.specs.Rounds.{AreLeast, LinksAreWithin, CameOver, ValuesPass, PassRound};
 
 use gptp_vector::Identity;
 
@@ -9,7 +9,7 @@ use gptp_vector::Identity;
 fn pass_identity(values: &mut Vec<Identity>, a: usize, b: usize)
     requires a { a < length values.old.items }
     requires b { b < length values.old.items }
-    ensures { Passes 0 a b values.old.items values.new.items }
+    ensures { ValuesPass 0 a b values.old.items values.new.items }
 {
     let here = values[a];
     let there = values[b];
@@ -26,7 +26,7 @@ fn pass_identity(values: &mut Vec<Identity>, a: usize, b: usize)
 fn pass_number(values: &mut Vec<u16>, a: usize, b: usize)
     requires a { a < length values.old.items }
     requires b { b < length values.old.items }
-    ensures { Passes 1 a b values.old.items values.new.items }
+    ensures { ValuesPass 1 a b values.old.items values.new.items }
 {
     let here = values[a];
     let there = values[b];
@@ -41,7 +41,7 @@ fn pass_number(values: &mut Vec<u16>, a: usize, b: usize)
 
 /// One round of identities: over each link in turn.
 fn pass_identities(values: &mut Vec<Identity>, links: &[(usize, usize)])
-    requires { AreWithin (length values.old.items) links.now }
+    requires { LinksAreWithin (length values.old.items) links.now }
     ensures round { PassRound 0 links.now values.old.items values.new.items }
     ensures came { (starts : List ℕ) → CameOver 0 links.now starts values.old.items
         → CameOver 0 links.now starts values.new.items }
@@ -53,7 +53,7 @@ fn pass_identities(values: &mut Vec<Identity>, links: &[(usize, usize)])
 
 /// One round of numbers: over each link in turn.
 fn pass_numbers(values: &mut Vec<u16>, links: &[(usize, usize)])
-    requires { AreWithin (length values.old.items) links.now }
+    requires { LinksAreWithin (length values.old.items) links.now }
     ensures round { PassRound 1 links.now values.old.items values.new.items }
     ensures came { (starts : List ℕ) → CameOver 1 links.now starts values.old.items
         → CameOver 1 links.now starts values.new.items }
@@ -65,7 +65,7 @@ fn pass_numbers(values: &mut Vec<u16>, links: &[(usize, usize)])
 
 /// Leaves at each place the least of the identities at those places that at most so many links lead to.
 pub(crate) fn settle_identities(values: &mut Vec<Identity>, links: &[(usize, usize)], rounds: usize)
-    requires { AreWithin (length values.old.items) links.now }
+    requires { LinksAreWithin (length values.old.items) links.now }
     ensures { AreLeast 0 links.now rounds values.old.items values.new.items }
 {
     for round in 0..rounds {
@@ -76,7 +76,7 @@ pub(crate) fn settle_identities(values: &mut Vec<Identity>, links: &[(usize, usi
 /// Leaves at each place the least of the numbers at those places that at most so many links lead to, each with how many
 /// they are.
 pub(crate) fn settle_numbers(values: &mut Vec<u16>, links: &[(usize, usize)], rounds: usize)
-    requires { AreWithin (length values.old.items) links.now }
+    requires { LinksAreWithin (length values.old.items) links.now }
     ensures { AreLeast 1 links.now rounds values.old.items values.new.items }
 {
     for round in 0..rounds {

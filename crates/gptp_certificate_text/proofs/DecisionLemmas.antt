@@ -9,8 +9,8 @@ use Rattle.gptp_graph.specs.Parent.{ParentLink}
 use Rattle.gptp_graph.specs.SettledRole.{Role, Disabled, Master, Slave, Passive}
 use Rattle.gptp_graph.proofs.DecisionLemmas.{below_dec, dec_both, dec_either, dec_iff}
 use Rattle.gptp_certificate_text.specs.CertificateText.{entry_text}
-use Rattle.gptp_certificate_text.specs.Entries.{Entry, SystemEntry, PortEntry, IsPortNumber, IsReadableEntry}
-use Rattle.gptp_certificate_text.specs.Forms.{Form, SystemForm, FarForm, PortForm, ParentWords, SystemWords, FarWords, PortWords, AreFarWords, ArePortWords, AreSystemWords, FitsHere, HasForm, HasParentWords, HasWords, far_text, form_text, parent_text, port_text, role_text, system_text}
+use Rattle.gptp_certificate_text.specs.Entries.{LineKey, SystemEntry, PortEntry, IsPortNumber, IsReadableEntry}
+use Rattle.gptp_certificate_text.specs.Forms.{Form, SystemForm, FarForm, PortForm, ParentWords, SystemWords, FarWords, PortWords, AreFarWords, ArePortWords, AreSystemWords, FitsHere, HasForm, HasParentWords, HasWords, far_text, form_text, parent_text, port_text, role_word, system_text}
 use Rattle.gptp_certificate_text.specs.Words.{IsWord, Lacks, is_blank}
 use Rattle.gptp_certificate_text.proofs.FormLemmas.{behind_clock, behind_root, behind_steps, far_behind_clock, far_behind_steps, far_parts, far_rest_behind_clock, far_rest_behind_steps, link_behind_clock, link_behind_own, link_parts, port_behind_clock, port_behind_number, port_parts, rest_behind_clock, rest_behind_root, rest_behind_steps, rest_is_parent, rest_is_root, system_parts}
 use Rattle.gptp_certificate_text.proofs.LineLemmas.{unfit}
@@ -129,8 +129,8 @@ some_role_dec P dec =
     back (Slave, p) = inr (inr (inl p))
     back (Passive, p) = inr (inr (inr p))
 
-role_dec : (text : List ℕ) → Dec ((role : Role) × (text ≡ role_text role))
-role_dec text = some_role_dec (λ (role : Role). text ≡ role_text role) (λ role. octets_dec text (role_text role))
+role_dec : (text : List ℕ) → Dec ((role : Role) × (text ≡ role_word role))
+role_dec text = some_role_dec (λ (role : Role). text ≡ role_word role) (λ role. octets_dec text (role_word role))
 
 -- ---- the words of a parent
 
@@ -298,7 +298,7 @@ module _ (line : List ℕ) where
 
   module _ (clock rest : List ℕ) (clock_is : IsWord clock) (is : line ≡ codes "port " ++ (clock ++ 32 ∷ rest)) where
     port_by_role : (number last : List ℕ) → IsWord number → rest ≡ number ++ 32 ∷ last
-        → Dec ((role : Role) × (last ≡ role_text role)) → Dec HasPort
+        → Dec ((role : Role) × (last ≡ role_word role)) → Dec HasPort
     port_by_role number last number_is at (yes (role, role_is)) =
         let words : PortWords = record { clock = clock; number = number; role = role } in
         yes (
@@ -318,14 +318,14 @@ module _ (line : List ℕ) where
     port_by_number (no none) =
         no (λ (words, are, same).
         let first = port_behind_clock words line clock rest are clock_is is same in
-        none (words.number, role_text words.role, are.number, first.1))
+        none (words.number, role_word words.role, are.number, first.1))
 
   port_by_clock : Dec (HasValue (codes "port ") line) → Dec HasPort
   port_by_clock (yes (clock, rest, clock_is, is)) = port_by_number clock rest clock_is is (first_dec rest)
   port_by_clock (no none) =
       no (λ (words, are, same). none (
         words.clock,
-        words.number ++ 32 ∷ role_text words.role,
+        words.number ++ 32 ∷ role_word words.role,
         are.clock,
         same ∙ port_parts words,
       ))
@@ -440,7 +440,7 @@ module _ (line : List ℕ) where
         (entry_text (SystemEntry clock root steps false (Some (link_of own there port))))))) 65536) 65536) (2 ^ 64)
 
     abbrev pub HasEntry : Type 0
-    HasEntry = (entry : Entry) × IsReadableEntry version entry × (line ≡ entry_text entry)
+    HasEntry = (entry : LineKey) × IsReadableEntry version entry × (line ≡ entry_text entry)
 
     abbrev IsOneOf : Type 0
     IsOneOf = HasPortEntry ⊎ (HasNumbers IsFarEntry ⊎ (HasNumbers IsRootEntry ⊎ HasNumbers IsLinkedEntry))

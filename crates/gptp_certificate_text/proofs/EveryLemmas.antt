@@ -8,11 +8,11 @@ use Rattle.gptp_graph.proofs.DecisionLemmas.{dec_both}
 use Rattle.gptp_certificate_text.specs.declared.fault.CertificateFault.{CertificateFault}
 use Rattle.gptp_certificate_text.specs.declared.fault.CertificateFault.TheVariants.{Head, Line, Order, Spelling, OutOfMemory}
 use Rattle.gptp_certificate_text.specs.Certificate.{IsCertificate, IsVersion}
-use Rattle.gptp_certificate_text.specs.CertificateText.{certificate_text, end_text, entry_text, front_text, head_text, spelled}
-use Rattle.gptp_certificate_text.specs.Entries.{Entry, SystemEntry, PortEntry, FollowEach, Follows, IsReadable, IsReadableEntry, StandInOrder, clock_of, ends_far, entries_of, is_far, number_of}
+use Rattle.gptp_certificate_text.specs.CertificateText.{certificate_text, end_text, entry_text, front_text, head_text, spelled_line}
+use Rattle.gptp_certificate_text.specs.Entries.{LineKey, SystemEntry, PortEntry, FollowEach, CanFollow, IsReadable, IsReadableEntry, StandInOrder, entry_clock, ends_far, entries_of, is_far, entry_number}
 use Rattle.gptp_certificate_text.specs.Forms.{FitsHere, HasForm}
 use Rattle.gptp_certificate_text.specs.Lines.{RefusesLine}
-use Rattle.gptp_certificate_text.specs.Parsing.{Fails, FailsBehind, FailsFrom, RestFails, StandBefore}
+use Rattle.gptp_certificate_text.specs.Parsing.{FailsToParse, FailsBehind, FailsFrom, RestFails, StandBefore}
 use Rattle.gptp_certificate_text.specs.Words.{Lacks}
 use Rattle.gptp_certificate_text.proofs.DecisionLemmas.{BeginsWith, HasCut, HasEntry, after_dec, cut_exists, entry_dec, form_dec, octets_dec}
 use Rattle.gptp_certificate_text.proofs.LineLemmas.{entry_words, one_form}
@@ -26,23 +26,23 @@ near_dec : (far : Bool) → Dec (far ≡ false)
 near_dec true = no (λ same. absurd cc)
 near_dec false = yes refl
 
-follows_dec : (before entry : Entry) → Dec (Follows before entry)
-follows_dec before (SystemEntry clock root steps far parent) = dec_lt (clock_of before) clock
-follows_dec before (PortEntry clock port) = by (ℕ_discrete (clock_of before) clock)
-    (dec_lt (number_of before) port.number) (near_dec (is_far before))
+follows_dec : (before entry : LineKey) → Dec (CanFollow before entry)
+follows_dec before (SystemEntry clock root steps far parent) = dec_lt (entry_clock before) clock
+follows_dec before (PortEntry clock port) = by (ℕ_discrete (entry_clock before) clock)
+    (dec_lt (entry_number before) port.number) (near_dec (is_far before))
   where
-    by : Dec (clock_of before ≡ clock) → Dec (number_of before < port.number) → Dec (is_far before ≡ false)
-        → Dec (Follows before (PortEntry clock port))
+    by : Dec (entry_clock before ≡ clock) → Dec (entry_number before < port.number) → Dec (is_far before ≡ false)
+        → Dec (CanFollow before (PortEntry clock port))
     by (yes same) (yes above) (yes near) = yes (same, above, near)
     by (yes same) (yes above) (no far) = no (λ h. far h.2)
     by (yes same) (no below) near = no (λ h. below h.1)
     by (no other) above near = no (λ h. other h.0)
 
-follow_each_dec : (before : Entry) (entries : List Entry) → Dec (FollowEach before entries)
+follow_each_dec : (before : LineKey) (entries : List LineKey) → Dec (FollowEach before entries)
 follow_each_dec before [] = yes tt
 follow_each_dec before (entry ∷ rest) = dec_both (follows_dec before entry) (follow_each_dec entry rest)
 
-order_dec : (entries : List Entry) → Dec (StandInOrder entries)
+order_dec : (entries : List LineKey) → Dec (StandInOrder entries)
 order_dec [] = yes tt
 order_dec (SystemEntry clock root steps far parent ∷ rest) =
     follow_each_dec (SystemEntry clock root steps far parent) rest
@@ -51,12 +51,12 @@ order_dec (PortEntry clock port ∷ rest) = no (λ stand. stand)
 -- ---- the lines of systems
 
 -- entries in order are the ports of a system, and the lines of others
-record AreGrouped (clock : ℕ) (entries : List Entry) : Type 0 where
+record AreGrouped (clock : ℕ) (entries : List LineKey) : Type 0 where
   ports : List PortLine
   more : List SystemLine
   are : map (PortEntry clock) ports ++ entries_of more ≡ entries
 
-grouped : (clock : ℕ) (first : Entry) (entries : List Entry) → clock_of first ≡ clock → FollowEach first entries
+grouped : (clock : ℕ) (first : LineKey) (entries : List LineKey) → entry_clock first ≡ clock → FollowEach first entries
     → AreGrouped clock entries
 grouped clock first [] is each = record { ports = []; more = []; are = refl }
 grouped clock first (PortEntry name port ∷ rest) is each =
@@ -65,7 +65,7 @@ grouped clock first (PortEntry name port ∷ rest) is each =
     record {
       ports = port ∷ behind.ports;
       more = behind.more;
-      are = ap₂ (λ (v : ℕ) (es : List Entry). PortEntry v port ∷ es) (sym same) behind.are;
+      are = ap₂ (λ (v : ℕ) (es : List LineKey). PortEntry v port ∷ es) (sym same) behind.are;
     }
 grouped clock first (SystemEntry name root steps far parent ∷ rest) is each =
     let behind = grouped name (SystemEntry name root steps far parent) rest refl each.1 in
@@ -80,10 +80,10 @@ grouped clock first (SystemEntry name root steps far parent ∷ rest) is each =
     record {
       ports = [];
       more = line ∷ behind.more;
-      are = ap (λ (es : List Entry). SystemEntry name root steps far parent ∷ es) behind.are;
+      are = ap (λ (es : List LineKey). SystemEntry name root steps far parent ∷ es) behind.are;
     }
 
-lines_exist : (entries : List Entry) → StandInOrder entries → (lines : List SystemLine) × (entries_of lines ≡ entries)
+lines_exist : (entries : List LineKey) → StandInOrder entries → (lines : List SystemLine) × (entries_of lines ≡ entries)
 lines_exist [] stand = ([], refl)
 lines_exist (SystemEntry name root steps far parent ∷ rest) stand =
     let behind = grouped name (SystemEntry name root steps far parent) rest refl stand in
@@ -95,12 +95,12 @@ lines_exist (SystemEntry name root steps far parent ∷ rest) stand =
       parent = parent;
       ports = behind.ports;
     } in
-    (line ∷ behind.more, ap (λ (es : List Entry). SystemEntry name root steps far parent ∷ es) behind.are)
+    (line ∷ behind.more, ap (λ (es : List LineKey). SystemEntry name root steps far parent ∷ es) behind.are)
 lines_exist (PortEntry name port ∷ rest) stand = absurd stand
 
 -- ---- line by line
 
-readable_more : (version : ℕ) (before : List Entry) (entry : Entry) → AllByRecursion (IsReadableEntry version) before
+readable_more : (version : ℕ) (before : List LineKey) (entry : LineKey) → AllByRecursion (IsReadableEntry version) before
     → IsReadableEntry version entry → AllByRecursion (IsReadableEntry version) (before ++ entry ∷ [])
 readable_more version [] entry all one = (one, tt)
 readable_more version (first ∷ before) entry all one = (all.0, readable_more version before entry all.1 one)
@@ -109,7 +109,7 @@ grown : (head entries line more : List ℕ)
     → (head ++ (entries ++ ((line ++ 10 ∷ []) ++ []))) ++ more ≡ (head ++ entries) ++ (line ++ 10 ∷ more)
 grown head entries line more = simp append_assoc refl
 
-front_more : (version : ℕ) (before : List Entry) (entry : Entry) (more : List ℕ)
+front_more : (version : ℕ) (before : List LineKey) (entry : LineKey) (more : List ℕ)
     → front_text version (before ++ entry ∷ []) ++ more
     ≡ front_text version before ++ (entry_text entry ++ 10 ∷ more)
 front_more version before entry more =
@@ -123,17 +123,17 @@ IsCertificates text =
     × IsCertificate version lines
 
 abbrev pub IsFaulty : List ℕ → Type 0
-IsFaulty text = (fault : CertificateFault) × Fails text fault
+IsFaulty text = (fault : CertificateFault) × FailsToParse text fault
 
 -- a fault that isn't want of memory
-not_memory : (version : ℕ) (before : List Entry) (rest : List ℕ) (fault : CertificateFault)
+not_memory : (version : ℕ) (before : List LineKey) (rest : List ℕ) (fault : CertificateFault)
     → (fault ≡ OutOfMemory → ⊥) → (fault ≡ OutOfMemory) ⊎ RestFails version before rest fault
     → RestFails version before rest fault
 not_memory version before rest fault other (inl memory) = absurd (other memory)
 not_memory version before rest fault other (inr fails) = fails
 
 module _ (text : List ℕ) (version : ℕ) (is_version : IsVersion version) where
-  faulty : (before : List Entry) (rest : List ℕ) (fault : CertificateFault) → StandBefore version before rest text
+  faulty : (before : List LineKey) (rest : List ℕ) (fault : CertificateFault) → StandBefore version before rest text
       → RestFails version before rest fault → IsCertificates text ⊎ IsFaulty text
   faulty before rest fault stand fails = inr (
     fault,
@@ -147,18 +147,18 @@ module _ (text : List ℕ) (version : ℕ) (is_version : IsVersion version) wher
     }),
   )
 
-  ended : (before : List Entry) (rest : List ℕ) → StandBefore version before rest text → rest ≡ end_text
+  ended : (before : List LineKey) (rest : List ℕ) → StandBefore version before rest text → rest ≡ end_text
       → IsCertificates text
   ended before rest stand end =
       let (lines, are) = lines_exist before stand.order in
       let stands : StandBefore version (entries_of lines) rest text =
-      subst (λ (es : List Entry). StandBefore version es rest text) (sym are) stand in
+      subst (λ (es : List LineKey). StandBefore version es rest text) (sym are) stand in
       let (whole, readable) = parsed text rest version version lines lines refl refl stands end in
       (version, lines, whole, readable, is_certificate version lines is_version readable stands.order)
 
-  module _ (before : List Entry) (rest : List ℕ) (stand : StandBefore version before rest text)
+  module _ (before : List LineKey) (rest : List ℕ) (stand : StandBefore version before rest text)
       (goes_on : rest ≢ end_text)
-      (later : (entry : Entry) (more : List ℕ) → StandBefore version (before ++ entry ∷ []) more text
+      (later : (entry : LineKey) (more : List ℕ) → StandBefore version (before ++ entry ∷ []) more text
       → length more < length rest → IsCertificates text ⊎ IsFaulty text)
       (line more : List ℕ) (lacks : Lacks 10 line) (first : rest ≡ line ++ 10 ∷ more) where
     refused : (fault : CertificateFault) → (fault ≡ OutOfMemory → ⊥) → RefusesLine version before line fault
@@ -167,7 +167,7 @@ module _ (text : List ℕ) (version : ℕ) (is_version : IsVersion version) wher
         faulty before rest fault stand (not_memory version before rest fault other
         (rest_fails version before rest line more fault goes_on first lacks refuses))
 
-    by_order : (entry : Entry) → HasForm version (ends_far before) line → IsReadableEntry version entry
+    by_order : (entry : LineKey) → HasForm version (ends_far before) line → IsReadableEntry version entry
         → line ≡ entry_text entry → Dec (StandInOrder (before ++ entry ∷ [])) → IsCertificates text ⊎ IsFaulty text
     by_order entry has readable is (no out) =
         refused Order (λ same. absurd cc) (inr (inr (
@@ -176,7 +176,7 @@ module _ (text : List ℕ) (version : ℕ) (is_version : IsVersion version) wher
             entry = entry;
             readable = readable;
             fits = subst (FitsHere version (ends_far before))
-                (one_form has.form (spelled entry) has.words (entry_words version entry readable) (sym has.is ∙ is))
+                (one_form has.form (spelled_line entry) has.words (entry_words version entry readable) (sym has.is ∙ is))
                 has.fits;
             is = is;
             order = out;
@@ -205,8 +205,8 @@ module _ (text : List ℕ) (version : ℕ) (is_version : IsVersion version) wher
     by_form (no formless) = refused Line (λ same. absurd cc) (inr (inl (inl (refl, formless))))
     by_form (yes has) = by_entry has (entry_dec line version)
 
-  by_cut : (before : List Entry) (rest : List ℕ) → StandBefore version before rest text → rest ≢ end_text
-      → ((entry : Entry) (more : List ℕ) → StandBefore version (before ++ entry ∷ []) more text
+  by_cut : (before : List LineKey) (rest : List ℕ) → StandBefore version before rest text → rest ≢ end_text
+      → ((entry : LineKey) (more : List ℕ) → StandBefore version (before ++ entry ∷ []) more text
       → length more < length rest → IsCertificates text ⊎ IsFaulty text)
       → HasCut 10 rest ⊎ Lacks 10 rest → IsCertificates text ⊎ IsFaulty text
   by_cut before rest stand goes_on later (inl (line, more, lacks, first)) =
@@ -214,15 +214,15 @@ module _ (text : List ℕ) (version : ℕ) (is_version : IsVersion version) wher
   by_cut before rest stand goes_on later (inr lacks) =
       faulty before rest Line stand (unfed version before rest goes_on lacks)
 
-  by_end : (before : List Entry) (rest : List ℕ) → StandBefore version before rest text → Dec (rest ≡ end_text)
-      → ((entry : Entry) (more : List ℕ) → StandBefore version (before ++ entry ∷ []) more text
+  by_end : (before : List LineKey) (rest : List ℕ) → StandBefore version before rest text → Dec (rest ≡ end_text)
+      → ((entry : LineKey) (more : List ℕ) → StandBefore version (before ++ entry ∷ []) more text
       → length more < length rest → IsCertificates text ⊎ IsFaulty text)
       → IsCertificates text ⊎ IsFaulty text
   by_end before rest stand (yes end) later = inl (ended before rest stand end)
   by_end before rest stand (no goes_on) later = by_cut before rest stand goes_on later (cut_exists 10 rest)
 
   -- the rest has fewer octets than n
-  from_rest : (n : ℕ) (before : List Entry) (rest : List ℕ) → StandBefore version before rest text → length rest < n
+  from_rest : (n : ℕ) (before : List LineKey) (rest : List ℕ) → StandBefore version before rest text → length rest < n
       → IsCertificates text ⊎ IsFaulty text
   from_rest zero before rest stand below = absurd (omega (arith, below))
   from_rest (suc n) before rest stand below =
@@ -258,7 +258,7 @@ part_of : (text : List ℕ) (fault : CertificateFault) (failure : FailsBehind te
 part_of text fault failure (yes (more, is)) = (more, inr (failure, inl is))
 part_of text fault failure (no none) = (failure.rest, inr (failure, inr (λ more is. none (more, is), refl)))
 
-pub part_exists : (text : List ℕ) (fault : CertificateFault) → Fails text fault
+pub part_exists : (text : List ℕ) (fault : CertificateFault) → FailsToParse text fault
     → (part : List ℕ) × FailsFrom text fault part
 part_exists text fault (inl (is, lacks)) = (text, inl (is, lacks, refl))
 part_exists text fault (inr failure) = part_of text fault failure (after_dec end_text failure.rest)

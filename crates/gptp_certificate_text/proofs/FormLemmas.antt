@@ -3,7 +3,7 @@ use Rattle.std.proofs.Common.{◌≡◌, ℕ, List, ◌∷◌, ◌++◌, codes, 
 use Rattle.std.specs.Prelude.{Some}
 use Rattle.std.proofs.lemmas.List.{append_cancel_left}
 use Rattle.gptp_certificate_text.specs.Words.{IsWord}
-use Rattle.gptp_certificate_text.specs.Forms.{ParentWords, SystemWords, FarWords, PortWords, AreParentWords, AreSystemWords, AreFarWords, ArePortWords, parent_text, far_text, port_text, role_text, system_text}
+use Rattle.gptp_certificate_text.specs.Forms.{ParentWords, SystemWords, FarWords, PortWords, AreParentWords, AreSystemWords, AreFarWords, ArePortWords, parent_text, far_text, port_text, role_word, system_text}
 use Rattle.gptp_certificate_text.proofs.WordLemmas.{one_value, one_word}
 
 abbrev pub behind_steps : SystemWords → List ℕ
@@ -29,7 +29,7 @@ pub far_parts : (words : FarWords) → far_text words ≡ codes "system " ++ (wo
 far_parts words = simp append_assoc refl
 
 pub port_parts : (words : PortWords)
-    → port_text words ≡ codes "port " ++ (words.clock ++ 32 ∷ (words.number ++ 32 ∷ role_text words.role))
+    → port_text words ≡ codes "port " ++ (words.clock ++ 32 ∷ (words.number ++ 32 ∷ role_word words.role))
 port_parts words = simp append_assoc refl
 
 pub link_parts : (link : ParentWords) → parent_text (Some link) ≡ link.own_port ++ 32 ∷ (link.clock ++ 32 ∷ link.port)
@@ -77,16 +77,16 @@ rest_is_root words text rest d e = append_cancel_left (codes "root ") rest words
 
 pub port_behind_clock : (words : PortWords) (line clock rest : List ℕ) → ArePortWords words → IsWord clock
     → line ≡ codes "port " ++ (clock ++ 32 ∷ rest) → line ≡ port_text words
-    → (clock ≡ words.clock) × (rest ≡ words.number ++ 32 ∷ role_text words.role)
+    → (clock ≡ words.clock) × (rest ≡ words.number ++ 32 ∷ role_word words.role)
 port_behind_clock words line clock rest are is d e =
-    one_value (codes "port ") line clock words.clock rest (words.number ++ 32 ∷ role_text words.role) is are.clock d
+    one_value (codes "port ") line clock words.clock rest (words.number ++ 32 ∷ role_word words.role) is are.clock d
     (e ∙ port_parts words)
 
 pub port_behind_number : (words : PortWords) (text number rest : List ℕ) → ArePortWords words → IsWord number
-    → text ≡ number ++ 32 ∷ rest → text ≡ words.number ++ 32 ∷ role_text words.role
-    → (number ≡ words.number) × (rest ≡ role_text words.role)
+    → text ≡ number ++ 32 ∷ rest → text ≡ words.number ++ 32 ∷ role_word words.role
+    → (number ≡ words.number) × (rest ≡ role_word words.role)
 port_behind_number words text number rest are is d e =
-    one_word number words.number rest (role_text words.role) is are.number (sym d ∙ e)
+    one_word number words.number rest (role_word words.role) is are.number (sym d ∙ e)
 
 pub link_behind_own : (link : ParentWords) (text own rest : List ℕ) → AreParentWords link → IsWord own
     → text ≡ own ++ 32 ∷ rest → text ≡ parent_text (Some link) → (own ≡ link.own_port)

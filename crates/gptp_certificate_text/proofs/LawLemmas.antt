@@ -15,10 +15,10 @@ use Rattle.gptp_graph.specs.SettledRole.{Role}
 use Rattle.gptp_certificate_text.specs.declared.fault.CertificateFault.{CertificateFault}
 use Rattle.gptp_certificate_text.specs.declared.fault.CertificateFault.TheVariants.{Head, Line, Order, OutOfMemory, Spelling}
 use Rattle.gptp_certificate_text.specs.Certificate.{IsCertificate, IsVersion}
-use Rattle.gptp_certificate_text.specs.CertificateText.{certificate_text, end_text, entry_text, far_words, front_text, head_text, parent_words, port_words, spelled, system_words}
-use Rattle.gptp_certificate_text.specs.Entries.{Entry, SystemEntry, PortEntry, FollowEach, IsReadable, IsReadableEntry, IsReadableLink, IsReadableParent, StandInOrder, clock_of, ends_far, entries_of, is_far, number_of, system_entry}
+use Rattle.gptp_certificate_text.specs.CertificateText.{certificate_text, end_text, entry_text, far_words, front_text, head_text, parent_words, port_words, spelled_line, system_words}
+use Rattle.gptp_certificate_text.specs.Entries.{LineKey, SystemEntry, PortEntry, FollowEach, IsReadable, IsReadableEntry, IsReadableLink, IsReadableParent, StandInOrder, entry_clock, ends_far, entries_of, is_far, entry_number, system_entry}
 use Rattle.gptp_certificate_text.specs.Forms.{Form, SystemForm, FarForm, PortForm, FitsHere, HasForm, ParentWords, PortWords, FarWords, SystemWords, form_text}
-use Rattle.gptp_certificate_text.specs.Parsing.{Fails, FailsBehind, FailsFrom, IsFailingPart, LacksHead, RestFails}
+use Rattle.gptp_certificate_text.specs.Parsing.{FailsToParse, FailsBehind, FailsFrom, IsFailingPart, LacksHead, RestFails}
 use Rattle.gptp_certificate_text.proofs.LineLemmas.{entry_words, one_form}
 use Rattle.gptp_certificate_text.proofs.OrderLemmas.{all_behind}
 use Rattle.gptp_certificate_text.proofs.ReadingLemmas.{entry_lacks_feed, head_lacks_feed, line_lacks_feed}
@@ -72,7 +72,7 @@ port_of number role = record { number = number; role = role }
 same_far_words : (a b : FarWords) → FarForm a ≡ FarForm b → a ≡ b
 same_far_words a b e = cc
 
-same_spelled : (v w : ℕ) (a b : Entry) → IsReadableEntry v a → IsReadableEntry w b → spelled a ≡ spelled b → a ≡ b
+same_spelled : (v w : ℕ) (a b : LineKey) → IsReadableEntry v a → IsReadableEntry w b → spelled_line a ≡ spelled_line b → a ≡ b
 same_spelled v w (SystemEntry c r s true p) (SystemEntry c2 r2 s2 true p2) f g e =
     let words = same_far_words (far_words c r s) (far_words c2 r2 s2) e in
     let clock = same_digits 8 c c2 f.0 g.0 (ap (λ (w : FarWords). w.clock) words) in
@@ -105,38 +105,38 @@ same_spelled v w (PortEntry c q) (PortEntry c2 q2) f g e =
     ap (λ (x : ℕ). PortEntry x q) clock ∙ ap (λ (x : ℕ). PortEntry c2 (port_of x q.role)) number
     ∙ ap (λ (x : Role). PortEntry c2 (port_of q2.number x)) role
 
-one_entry : (v w : ℕ) (a b : Entry) → IsReadableEntry v a → IsReadableEntry w b → entry_text a ≡ entry_text b → a ≡ b
+one_entry : (v w : ℕ) (a b : LineKey) → IsReadableEntry v a → IsReadableEntry w b → entry_text a ≡ entry_text b → a ≡ b
 one_entry v w a b f g e =
-    same_spelled v w a b f g (one_form (spelled a) (spelled b) (entry_words v a f) (entry_words w b g) e)
+    same_spelled v w a b f g (one_form (spelled_line a) (spelled_line b) (entry_words v a f) (entry_words w b g) e)
 
 -- one line stands first
-first_entry : (v w : ℕ) (a b : Entry) (x y : List ℕ) → IsReadableEntry v a → IsReadableEntry w b
+first_entry : (v w : ℕ) (a b : LineKey) (x y : List ℕ) → IsReadableEntry v a → IsReadableEntry w b
     → entry_text a ++ 10 ∷ x ≡ entry_text b ++ 10 ∷ y
     → (a ≡ b) × (x ≡ y)
 first_entry v w a b x y f g e =
     let cut = one_cut 10 (entry_text a) (entry_text b) x y (entry_lacks_feed v a f) (entry_lacks_feed w b g) e in
     (one_entry v w a b f g cut.0, cut.1)
 
-has_form : (v : ℕ) (after_far : Bool) (entry : Entry) → IsReadableEntry v entry
-    → FitsHere v after_far (spelled entry) → HasForm v after_far (entry_text entry)
+has_form : (v : ℕ) (after_far : Bool) (entry : LineKey) → IsReadableEntry v entry
+    → FitsHere v after_far (spelled_line entry) → HasForm v after_far (entry_text entry)
 has_form v after_far entry readable fits =
-    record { form = spelled entry; words = entry_words v entry readable; fits = fits; is = refl }
+    record { form = spelled_line entry; words = entry_words v entry readable; fits = fits; is = refl }
 
-same_line : (v : ℕ) (after_far : Bool) (line more : List ℕ) (entry : Entry) (rest : List ℕ) → HasForm v after_far line
+same_line : (v : ℕ) (after_far : Bool) (line more : List ℕ) (entry : LineKey) (rest : List ℕ) → HasForm v after_far line
     → IsReadableEntry v entry → line ++ 10 ∷ more ≡ entry_text entry ++ 10 ∷ rest → line ≡ entry_text entry
 same_line v after_far line more entry rest has readable e =
     (one_cut 10 line (entry_text entry) more rest (line_lacks_feed v after_far line has)
     (entry_lacks_feed v entry readable) e).0
 
 -- a port line in order doesn't stand right after a far system's line
-port_after : (first : Entry) (before : List Entry) (clock : ℕ) (port : PortLine)
+port_after : (first : LineKey) (before : List LineKey) (clock : ℕ) (port : PortLine)
     → FollowEach first (before ++ PortEntry clock port ∷ []) → ends_far (first ∷ before) ≡ false
 port_after first [] clock port each = each.0.2
 port_after first (next ∷ before) clock port each = port_after next before clock port each.1
 
 -- what stands in order has a form that can stand there
-stands_fit : (v : ℕ) (before : List Entry) (entry : Entry) → IsReadableEntry v entry
-    → StandInOrder (before ++ entry ∷ []) → FitsHere v (ends_far before) (spelled entry)
+stands_fit : (v : ℕ) (before : List LineKey) (entry : LineKey) → IsReadableEntry v entry
+    → StandInOrder (before ++ entry ∷ []) → FitsHere v (ends_far before) (spelled_line entry)
 stands_fit v before (SystemEntry c r s true p) readable stand = readable.3.1
 stands_fit v before (SystemEntry c r s false p) readable stand = tt
 stands_fit v [] (PortEntry c p) readable stand = absurd stand
@@ -145,7 +145,7 @@ stands_fit v (SystemEntry c r s far q ∷ before) (PortEntry d p) readable stand
 stands_fit v (PortEntry c q ∷ before) (PortEntry d p) readable stand = absurd stand
 
 -- an entry's line that can stand there is no fault
-no_fault : (v : ℕ) (before : List Entry) (entry : Entry) (more : List ℕ) (fault : CertificateFault)
+no_fault : (v : ℕ) (before : List LineKey) (entry : LineKey) (more : List ℕ) (fault : CertificateFault)
     → IsReadableEntry v entry → StandInOrder (before ++ entry ∷ [])
     → RestFails v before (entry_text entry ++ 10 ∷ more) fault → ⊥
 no_fault v before entry more Head readable stand fails = fails
@@ -172,15 +172,15 @@ form_not_end (PortForm words) more e =
     absurd (omega (arith, same))
 
 -- nor is the end
-no_end : (v : ℕ) (before : List Entry) (fault : CertificateFault) → RestFails v before end_text fault → ⊥
+no_end : (v : ℕ) (before : List LineKey) (fault : CertificateFault) → RestFails v before end_text fault → ⊥
 no_end v before Head fails = fails
 no_end v before Line fails = fails.goes_on refl
-no_end v before Order fails = form_not_end (spelled fails.entry) fails.more fails.first
+no_end v before Order fails = form_not_end (spelled_line fails.entry) fails.more fails.first
 no_end v before Spelling fails =
     form_not_end fails.form.form fails.more (fails.first ∙ ap (λ l. l ++ 10 ∷ fails.more) fails.form.is)
 no_end v before OutOfMemory fails = fails
 
-same_fault : (v : ℕ) (before : List Entry) (rest : List ℕ) (f g : CertificateFault) → RestFails v before rest f
+same_fault : (v : ℕ) (before : List LineKey) (rest : List ℕ) (f g : CertificateFault) → RestFails v before rest f
     → RestFails v before rest g → f ≡ g
 same_fault v before rest Head g a b = absurd a
 same_fault v before rest OutOfMemory g a b = absurd a
@@ -207,22 +207,22 @@ same_fault v before rest Spelling Spelling a b = refl
 same_fault v before rest Spelling OutOfMemory a b = absurd b
 
 -- of two fronts of a text one goes on with the other's lines
-abbrev GoesOn : List Entry → List Entry → List ℕ → List ℕ → Type 0
-GoesOn xs ys x y = (zs : List Entry) × (ys ≡ xs ++ zs) × (x ≡ entries_text zs ++ y)
+abbrev GoesOn : List LineKey → List LineKey → List ℕ → List ℕ → Type 0
+GoesOn xs ys x y = (zs : List LineKey) × (ys ≡ xs ++ zs) × (x ≡ entries_text zs ++ y)
 
-first_of : (a : Entry) (xs : List Entry) (x : List ℕ)
+first_of : (a : LineKey) (xs : List LineKey) (x : List ℕ)
     → entries_text (a ∷ xs) ++ x ≡ entry_text a ++ 10 ∷ (entries_text xs ++ x)
 first_of a xs x = simp append_assoc refl
 
-more_of : (a b : Entry) (xs ys : List Entry) (x y : List ℕ) → a ≡ b → GoesOn xs ys x y → GoesOn (a ∷ xs) (b ∷ ys) x y
+more_of : (a b : LineKey) (xs ys : List LineKey) (x y : List ℕ) → a ≡ b → GoesOn xs ys x y → GoesOn (a ∷ xs) (b ∷ ys) x y
 more_of a b xs ys x y same goes = (goes.0, ap (λ e. e ∷ ys) (sym same) ∙ ap (λ es. a ∷ es) goes.1, goes.2)
 
-either_more : (a b : Entry) (xs ys : List Entry) (x y : List ℕ) → a ≡ b → GoesOn xs ys x y ⊎ GoesOn ys xs y x
+either_more : (a b : LineKey) (xs ys : List LineKey) (x y : List ℕ) → a ≡ b → GoesOn xs ys x y ⊎ GoesOn ys xs y x
     → GoesOn (a ∷ xs) (b ∷ ys) x y ⊎ GoesOn (b ∷ ys) (a ∷ xs) y x
 either_more a b xs ys x y same (inl goes) = inl (more_of a b xs ys x y same goes)
 either_more a b xs ys x y same (inr goes) = inr (more_of b a ys xs y x (sym same) goes)
 
-fronts : (v w : ℕ) (xs ys : List Entry) (x y : List ℕ) → AllByRecursion (IsReadableEntry v) xs
+fronts : (v w : ℕ) (xs ys : List LineKey) (x y : List ℕ) → AllByRecursion (IsReadableEntry v) xs
     → AllByRecursion (IsReadableEntry w) ys → entries_text xs ++ x ≡ entries_text ys ++ y
     → GoesOn xs ys x y ⊎ GoesOn ys xs y x
 fronts v w [] ys x y f g e = inl (ys, refl, e)
@@ -232,17 +232,17 @@ fronts v w (a ∷ xs) (b ∷ ys) x y f g e =
     (sym (first_of a xs x) ∙ e ∙ first_of b ys y) in
     either_more a b xs ys x y cut.0 (fronts v w xs ys x y f.1 g.1 cut.1)
 
-all_at : (v : ℕ) (xs : List Entry) (entry : Entry) (zs : List Entry)
+all_at : (v : ℕ) (xs : List LineKey) (entry : LineKey) (zs : List LineKey)
     → AllByRecursion (IsReadableEntry v) (xs ++ entry ∷ zs) → IsReadableEntry v entry
 all_at v [] entry zs all = all.0
 all_at v (x ∷ xs) entry zs all = all_at v xs entry zs all.1
 
-each_front : (first : Entry) (xs : List Entry) (entry : Entry) (zs : List Entry) → FollowEach first (xs ++ entry ∷ zs)
+each_front : (first : LineKey) (xs : List LineKey) (entry : LineKey) (zs : List LineKey) → FollowEach first (xs ++ entry ∷ zs)
     → FollowEach first (xs ++ entry ∷ [])
 each_front first [] entry zs each = (each.0, tt)
 each_front first (x ∷ xs) entry zs each = (each.0, each_front x xs entry zs each.1)
 
-stand_front : (xs : List Entry) (entry : Entry) (zs : List Entry) → StandInOrder (xs ++ entry ∷ zs)
+stand_front : (xs : List LineKey) (entry : LineKey) (zs : List LineKey) → StandInOrder (xs ++ entry ∷ zs)
     → StandInOrder (xs ++ entry ∷ [])
 stand_front [] (SystemEntry c r s far p) zs stand = tt
 stand_front [] (PortEntry c p) zs stand = absurd stand
@@ -250,7 +250,7 @@ stand_front (SystemEntry c r s far p ∷ xs) entry zs stand = each_front (System
 stand_front (PortEntry c p ∷ xs) entry zs stand = absurd stand
 
 -- where lines in order go on, there is no fault
-at_fault : (v : ℕ) (xs ys zs : List Entry) (x y : List ℕ) (fault : CertificateFault)
+at_fault : (v : ℕ) (xs ys zs : List LineKey) (x y : List ℕ) (fault : CertificateFault)
     → AllByRecursion (IsReadableEntry v) ys → StandInOrder ys
     → ys ≡ xs ++ zs → x ≡ entries_text zs ++ y → RestFails v xs x fault → (xs ≡ ys) × (x ≡ y)
 at_fault v xs ys [] x y fault readable stand goes rest fails = (sym (goes ∙ append-nil xs), rest)
@@ -260,12 +260,12 @@ at_fault v xs ys (entry ∷ zs) x y fault readable stand goes rest fails =
     (stand_front xs entry zs (subst StandInOrder goes stand))
     (subst (λ r. RestFails v xs r fault) (rest ∙ first_of entry zs y) fails))
 
-not_end : (zs : List Entry) (y : List ℕ) (P : Type 0) → end_text ≡ entries_text zs ++ y → (end_text ≡ y → P) → P
+not_end : (zs : List LineKey) (y : List ℕ) (P : Type 0) → end_text ≡ entries_text zs ++ y → (end_text ≡ y → P) → P
 not_end [] y P e f = f e
-not_end (entry ∷ zs) y P e f = absurd (form_not_end (spelled entry) (entries_text zs ++ y) (e ∙ first_of entry zs y))
+not_end (entry ∷ zs) y P e f = absurd (form_not_end (spelled_line entry) (entries_text zs ++ y) (e ∙ first_of entry zs y))
 
 -- the head line stands first
-head_first : (v : ℕ) (xs : List Entry) (x : List ℕ) → front_text v xs ++ x ≡ head_text v ++ 10 ∷ (entries_text xs ++ x)
+head_first : (v : ℕ) (xs : List LineKey) (x : List ℕ) → front_text v xs ++ x ≡ head_text v ++ 10 ∷ (entries_text xs ++ x)
 head_first v xs x = simp append_assoc refl
 
 small_version : (v : ℕ) → IsVersion v → v < 10
@@ -273,7 +273,7 @@ small_version v (inl e) = omega arith
 small_version v (inr e) = omega arith
 
 -- a head line is one version's, with what stands behind it
-behind_head : (v w : ℕ) (xs ys : List Entry) (x y : List ℕ) → IsVersion v → IsVersion w
+behind_head : (v w : ℕ) (xs ys : List LineKey) (x y : List ℕ) → IsVersion v → IsVersion w
     → front_text v xs ++ x ≡ front_text w ys ++ y → (v ≡ w) × (entries_text xs ++ x ≡ entries_text ys ++ y)
 behind_head v w xs ys x y is_v is_w e =
     let small_v = small_version v is_v in
@@ -295,11 +295,11 @@ near_if_ports : (far : Bool) (port : PortLine) (ports : List PortLine) → (far 
 near_if_ports false port ports bare = refl
 near_if_ports true port ports bare = absurd (let none = bare refl in cc)
 
-ports_follow : (first : Entry) (clock : ℕ) (ports : List PortLine) (more : List Entry) → clock_of first ≡ clock
+ports_follow : (first : LineKey) (clock : ℕ) (ports : List PortLine) (more : List LineKey) → entry_clock first ≡ clock
     → (is_far first ≡ true → ports ≡ [])
-    → ((number : ℕ) → In number (map (λ (p : PortLine). p.number) ports) → number_of first < number)
+    → ((number : ℕ) → In number (map (λ (p : PortLine). p.number) ports) → entry_number first < number)
     → IsRising (map (λ (p : PortLine). p.number) ports)
-    → ((last : Entry) → clock_of last ≡ clock → FollowEach last more)
+    → ((last : LineKey) → entry_clock last ≡ clock → FollowEach last more)
     → FollowEach first (map (PortEntry clock) ports ++ more)
 ports_follow first clock [] more is bare above rising behind = behind first is
 ports_follow first clock (port ∷ ports) more is bare above rising behind = (
@@ -308,7 +308,7 @@ ports_follow first clock (port ∷ ports) more is bare above rising behind = (
       behind,
 )
 
-ports_positive : (version clock : ℕ) (ports : List PortLine) (more : List Entry)
+ports_positive : (version clock : ℕ) (ports : List PortLine) (more : List LineKey)
     → AllByRecursion (IsReadableEntry version) (map (PortEntry clock) ports ++ more)
     → (number : ℕ) → In number (map (λ (p : PortLine). p.number) ports) → 0 < number
 ports_positive version clock [] more all number i = absurd i
@@ -325,8 +325,8 @@ rest_in_order v line lines is = record {
   second = λ l i. is.second l (inr i);
 }
 
-lines_follow : (v : ℕ) (lines : List SystemLine) (first : Entry)
-    → ((clock : ℕ) → In clock (line_clocks lines) → clock_of first < clock)
+lines_follow : (v : ℕ) (lines : List SystemLine) (first : LineKey)
+    → ((clock : ℕ) → In clock (line_clocks lines) → entry_clock first < clock)
     → IsCertificate v lines → IsReadable v lines → FollowEach first (entries_of lines)
 lines_follow v [] first above order readable = tt
 lines_follow v (line ∷ lines) first above order readable = (
@@ -351,7 +351,7 @@ lines_stand v (line ∷ lines) order readable =
     (λ clock i. subst (λ c. c < clock) (sym is) (order.order.clocks.0 clock i)) (rest_in_order v line lines order)
     (all_behind v (map (PortEntry line.clock) line.ports) (entries_of lines) readable.1))
 
-no_certificate_of : (text : List ℕ) (fault : CertificateFault) (b : FailsBehind text fault) (ys : List Entry)
+no_certificate_of : (text : List ℕ) (fault : CertificateFault) (b : FailsBehind text fault) (ys : List LineKey)
     → StandInOrder ys → AllByRecursion (IsReadableEntry b.version) ys
     → GoesOn b.before ys b.rest end_text ⊎ GoesOn ys b.before end_text b.rest → ⊥
 no_certificate_of text fault b ys stand readable (inl goes) =
@@ -362,7 +362,7 @@ no_certificate_of text fault b ys stand readable (inr goes) =
     (λ e. no_end b.version b.before fault (subst (λ r. RestFails b.version b.before r fault) (sym e) b.fails))
 
 pub no_certificate : (text : List ℕ) (fault : CertificateFault) (version : ℕ) (lines : List SystemLine)
-    → Fails text fault → IsCertificate version lines → IsReadable version lines → text ≢ certificate_text version lines
+    → FailsToParse text fault → IsCertificate version lines → IsReadable version lines → text ≢ certificate_text version lines
 no_certificate text fault version lines (inl (e, lacks)) order readable is =
     lacks version (entries_text (entries_of lines) ++ end_text) order.is_version
     (is ∙ head_first version (entries_of lines) end_text)
@@ -374,7 +374,7 @@ no_certificate text fault version lines (inr b) order readable is =
     (fronts b.version version b.before (entries_of lines) b.rest end_text b.stand.readable readable behind.1)
 
 -- two faults behind lines of one version, of which the ones go on with the others
-one_fault_of : (v : ℕ) (f g : CertificateFault) (xs ys : List Entry) (x y : List ℕ)
+one_fault_of : (v : ℕ) (f g : CertificateFault) (xs ys : List LineKey) (x y : List ℕ)
     → AllByRecursion (IsReadableEntry v) ys → StandInOrder ys → RestFails v xs x f → RestFails v ys y g
     → GoesOn xs ys x y → f ≡ g
 one_fault_of v f g xs ys x y readable order first second goes =
@@ -410,7 +410,7 @@ both_behind text f g a b =
       fronts a.version b.version a.before b.before a.rest b.rest a.stand.readable b.stand.readable behind.1,
     )
 
-pub one_fault : (text : List ℕ) (f g : CertificateFault) → Fails text f → Fails text g → f ≡ g
+pub one_fault : (text : List ℕ) (f g : CertificateFault) → FailsToParse text f → FailsToParse text g → f ≡ g
 one_fault text f g (inl (d, lacks)) (inl (e, also)) = d ∙ sym e
 one_fault text f g (inl (d, lacks)) (inr b) = absurd (has_head text g b lacks)
 one_fault text f g (inr a) (inl (e, lacks)) = absurd (has_head text f a lacks)
@@ -421,7 +421,7 @@ one_fault text f g (inr a) (inr b) =
 -- ---- where a text fails
 
 -- the rest of the one that goes on is that of the other
-same_rest : (v : ℕ) (fault : CertificateFault) (xs ys : List Entry) (x y : List ℕ)
+same_rest : (v : ℕ) (fault : CertificateFault) (xs ys : List LineKey) (x y : List ℕ)
     → AllByRecursion (IsReadableEntry v) ys → StandInOrder ys → RestFails v xs x fault → GoesOn xs ys x y → x ≡ y
 same_rest v fault xs ys x y readable order fails goes =
     (at_fault v xs ys goes.0 x y fault readable order goes.1 goes.2 fails).1
@@ -452,7 +452,7 @@ one_part text f g p q (inr (a, x)) (inr (b, y)) =
 
 -- what fails from somewhere fails
 pub fails_somewhere : (text : List ℕ) (fault : CertificateFault) (part : List ℕ) → FailsFrom text fault part
-    → Fails text fault
+    → FailsToParse text fault
 fails_somewhere text fault part (inl (e, lacks, _)) = inl (e, lacks)
 fails_somewhere text fault part (inr (b, _)) = inr b
 
@@ -499,12 +499,12 @@ same_lines (x ∷ xs) (y ∷ ys) e =
     let rest = same_ports x.clock y.clock x.ports y.ports xs ys others in
     ap (λ l. l ∷ xs) (same_system x y first rest.0) ∙ ap (λ ls. y ∷ ls) (same_lines xs ys rest.1)
 
-whole : (xs ys zs : List Entry) → ys ≡ xs ++ zs → end_text ≡ entries_text zs ++ end_text → xs ≡ ys
+whole : (xs ys zs : List LineKey) → ys ≡ xs ++ zs → end_text ≡ entries_text zs ++ end_text → xs ≡ ys
 whole xs ys [] goes rest = sym (goes ∙ append-nil xs)
 whole xs ys (entry ∷ zs) goes rest =
-    absurd (form_not_end (spelled entry) (entries_text zs ++ end_text) (rest ∙ first_of entry zs end_text))
+    absurd (form_not_end (spelled_line entry) (entries_text zs ++ end_text) (rest ∙ first_of entry zs end_text))
 
-whole_either : (xs ys : List Entry) → GoesOn xs ys end_text end_text ⊎ GoesOn ys xs end_text end_text → xs ≡ ys
+whole_either : (xs ys : List LineKey) → GoesOn xs ys end_text end_text ⊎ GoesOn ys xs end_text end_text → xs ≡ ys
 whole_either xs ys (inl goes) = whole xs ys goes.0 goes.1 goes.2
 whole_either xs ys (inr goes) = sym (whole ys xs goes.0 goes.1 goes.2)
 

@@ -15,8 +15,8 @@ use Rattle.gptp_graph.specs.SettledRole.{Role, Disabled, Master, Slave, Passive}
 use Rattle.gptp_lists.specs.Members.{In}
 use Rattle.gptp_spelling.specs.Digits.{clock_text, identity_text}
 use Rattle.gptp_certificate_text.specs.CertificateText.{certificate_text, end_text, entry_text, far_words, head_text, parent_words, port_words, system_words}
-use Rattle.gptp_certificate_text.specs.Entries.{Entry, SystemEntry, PortEntry, IsReadable, IsReadableEntry, IsReadableParent, entries_of}
-use Rattle.gptp_certificate_text.specs.Forms.{far_text, parent_text, port_text, role_text, system_text}
+use Rattle.gptp_certificate_text.specs.Entries.{LineKey, SystemEntry, PortEntry, IsReadable, IsReadableEntry, IsReadableParent, entries_of}
+use Rattle.gptp_certificate_text.specs.Forms.{far_text, parent_text, port_text, role_word, system_text}
 use Rattle.gptp_certificate_text.proofs.TextLemmas.{entries_text}
 
 -- two texts, one behind the other
@@ -34,7 +34,7 @@ digits_length n x =
     let octets = length-bytes_high_first n x in
     omega (arith, digits, octets)
 
-role_length : (role : Role) → length (role_text role) ≤ 8
+role_length : (role : Role) → length (role_word role) ≤ 8
 role_length Disabled = omega arith
 role_length Master = omega arith
 role_length Slave = omega arith
@@ -89,7 +89,7 @@ port_length : (clock : ℕ) (port : PortLine) → port.number ≤ 65535 → leng
 port_length clock port few =
     let name = clock_text clock in
     let number = decimal port.number in
-    let role = role_text port.role in
+    let role = role_word port.role in
     both ((codes "port ") ++ name ++ (codes " ") ++ number ++ (codes " ")) role 28 8
     (both ((codes "port ") ++ name ++ (codes " ") ++ number) (codes " ") 27 1
     (both ((codes "port ") ++ name ++ (codes " ")) number 22 5
@@ -98,7 +98,7 @@ port_length clock port few =
     (number_length port.number few)) (omega arith)) (role_length port.role)
 
 -- the line of an entry that can be read has 105 octets at most
-entry_length : (version : ℕ) (entry : Entry) → IsReadableEntry version entry → length (entry_text entry) ≤ 105
+entry_length : (version : ℕ) (entry : LineKey) → IsReadableEntry version entry → length (entry_text entry) ≤ 105
 entry_length version (SystemEntry clock root steps true parent) (_, _, few, _) =
     let text = far_length clock root steps few in omega (arith, text)
 entry_length version (SystemEntry clock root steps false parent) (_, _, few, is) =
@@ -108,7 +108,7 @@ entry_length version (PortEntry clock port) (_, is) =
 
 -- ---- all lines
 
-entries_length : (version : ℕ) (entries : List Entry) → AllByRecursion (IsReadableEntry version) entries
+entries_length : (version : ℕ) (entries : List LineKey) → AllByRecursion (IsReadableEntry version) entries
     → length (entries_text entries) ≤ 106 * length entries
 entries_length version [] all = omega arith
 entries_length version (entry ∷ rest) all =

@@ -1,4 +1,4 @@
--- Single lines: each is spelled in one way, by words.
+-- Single lines: each is spelled_line in one way, by words.
 use Rattle.std.proofs.Common.{◌≡◌, ◌≢◌, ℕ, zero, suc, ◌+◌, ◌<◌, ◌≤◌, ◌==◌, ◌%◌, ◌/◌, ◌^◌, Bool, true, false, not, if◌then◌else◌, List, [], ◌∷◌, ◌++◌, length, codes, inl, inr, refl, sym, ap, subst, ◌∙◌, arith}
 use Rattle.std.specs.Prelude.{Option, Some, None, Result, Ok, Err, IfErr, IfNone, OnErr, decimal, get_or, slice_index}
 use Rattle.std.specs.List.{list_all}
@@ -15,10 +15,10 @@ use Rattle.gptp_graph.specs.Parent.{ParentLink}
 use Rattle.gptp_certificate_text.specs.declared.fault.CertificateFault.{CertificateFault}
 use Rattle.gptp_certificate_text.specs.declared.fault.CertificateFault.TheVariants.{Spelling}
 use Rattle.gptp_certificate_text.specs.Words.{is_blank, IsWord}
-use Rattle.gptp_certificate_text.specs.Forms.{Form, SystemForm, FarForm, PortForm, ParentWords, SystemWords, FarWords, PortWords, AreSystemWords, AreFarWords, ArePortWords, FitsHere, HasForm, HasParentWords, HasWords, far_text, form_text, parent_text, port_text, role_text, system_text}
-use Rattle.gptp_certificate_text.specs.CertificateText.{far_words, parent_words, port_words, spelled, system_words}
+use Rattle.gptp_certificate_text.specs.Forms.{Form, SystemForm, FarForm, PortForm, ParentWords, SystemWords, FarWords, PortWords, AreSystemWords, AreFarWords, ArePortWords, FitsHere, HasForm, HasParentWords, HasWords, far_text, form_text, parent_text, port_text, role_word, system_text}
+use Rattle.gptp_certificate_text.specs.CertificateText.{far_words, parent_words, port_words, spelled_line, system_words}
 use Rattle.std.specs.Option.{option_map}
-use Rattle.gptp_certificate_text.specs.Entries.{Entry, SystemEntry, PortEntry, IsReadableEntry, IsReadableParent}
+use Rattle.gptp_certificate_text.specs.Entries.{LineKey, SystemEntry, PortEntry, IsReadableEntry, IsReadableParent}
 use Rattle.gptp_certificate_text.specs.Lines.{LineFails}
 use Rattle.gptp_certificate_text.proofs.WordLemmas.{word_is_one}
 use Rattle.gptp_certificate_text.proofs.FormLemmas.{far_behind_clock, far_behind_steps, far_parts, far_rest_behind_clock, far_rest_behind_steps, rest_is_root, behind_clock, behind_root, behind_steps, link_behind_clock, link_behind_own, link_parts, port_behind_clock, port_behind_number, port_parts, rest_behind_clock, rest_behind_root, rest_behind_steps, rest_is_parent, system_parts}
@@ -31,13 +31,13 @@ named word =
     else if slice_index word 0 == 115 then Slave
     else Passive
 
-named_role : (role : Role) → named (role_text role) ≡ role
+named_role : (role : Role) → named (role_word role) ≡ role
 named_role Disabled = refl
 named_role Master = refl
 named_role Slave = refl
 named_role Passive = refl
 
-one_role : (a b : Role) → role_text a ≡ role_text b → a ≡ b
+one_role : (a b : Role) → role_word a ≡ role_word b → a ≡ b
 one_role a b e = sym (named_role a) ∙ ap named e ∙ named_role b
 
 abbrev parent_of_words : List ℕ → List ℕ → List ℕ → ParentWords
@@ -108,9 +108,9 @@ one_form (FarForm a) (PortForm b) f g e = absurd (other_head _ _ e)
 one_form (PortForm a) (SystemForm b) f g e = absurd (other_head _ _ (sym e))
 one_form (PortForm a) (FarForm b) f g e = absurd (other_head _ _ (sym e))
 one_form (PortForm a) (PortForm b) f g e =
-    let clock = port_behind_clock b (form_text (PortForm a)) a.clock (a.number ++ 32 ∷ role_text a.role) g f.clock
+    let clock = port_behind_clock b (form_text (PortForm a)) a.clock (a.number ++ 32 ∷ role_word a.role) g f.clock
     (port_parts a) e in
-    let number = port_behind_number b (a.number ++ 32 ∷ role_text a.role) a.number (role_text a.role) g f.number refl
+    let number = port_behind_number b (a.number ++ 32 ∷ role_word a.role) a.number (role_word a.role) g f.number refl
     clock.1 in
     ap (λ (c : List ℕ). port_of_words c a.number a.role) clock.0
     ∙ ap (λ (n : List ℕ). port_of_words b.clock n a.role) number.0
@@ -159,8 +159,8 @@ parent_spelled (Some link) r = record {
   port = decimal_word link.port r.port.most;
 }
 
--- a line that can be read is spelled by words
-pub entry_words : (version : ℕ) (entry : Entry) → IsReadableEntry version entry → HasWords (spelled entry)
+-- a line that can be read is spelled_line by words
+pub entry_words : (version : ℕ) (entry : LineKey) → IsReadableEntry version entry → HasWords (spelled_line entry)
 entry_words version (SystemEntry clock root steps true parent) r = record {
   clock = digits_word 8 clock (omega arith);
   steps = decimal_word steps r.2;
@@ -181,14 +181,14 @@ entry_words version (PortEntry clock port) r = record {
 pub misspelled : {X : Type 0} (version : ℕ) (after_far : Bool) (line : List ℕ) (form : Form)
     (r : Result X CertificateFault) → HasWords form → FitsHere version after_far form → line ≡ form_text form
     → IfErr r (λ fault. fault ≡ Spelling)
-    → OnErr r ((entry : Entry) → IsReadableEntry version entry → spelled entry ≢ form)
+    → OnErr r ((entry : LineKey) → IsReadableEntry version entry → spelled_line entry ≢ form)
     → IfErr r (λ fault. LineFails version after_far line fault)
 misspelled version after_far line form (Ok x) words fits is fault none = search Rattle.std.proofs.Common.rules
 misspelled version after_far line form (Err e) words fits is fault none = inr (
   fault,
   record { form = form; words = words; fits = fits; is = is },
   λ entry readable same.
-      none entry readable (one_form (spelled entry) form (entry_words version entry readable) words (sym same ∙ is)),
+      none entry readable (one_form (spelled_line entry) form (entry_words version entry readable) words (sym same ∙ is)),
 )
 
 -- a line with no words of any form
@@ -211,12 +211,12 @@ pub unfit : (version : ℕ) (after_far : Bool) (line : List ℕ) (form : Form) �
 unfit version after_far line form words is no_fit h =
     no_fit (subst (FitsHere version after_far) (one_form h.form form h.words words (sym h.is ∙ is)) h.fits)
 
--- no entry is spelled by these words of a system
+-- no entry is spelled_line by these words of a system
 pub no_system : (version : ℕ) (words : SystemWords)
     → ((version clock root steps : ℕ) (parent : Option ParentLink)
     → IsReadableEntry version (SystemEntry clock root steps false parent)
     → system_words clock root steps parent ≢ words)
-    → (entry : Entry) → IsReadableEntry version entry → spelled entry ≢ SystemForm words
+    → (entry : LineKey) → IsReadableEntry version entry → spelled_line entry ≢ SystemForm words
 no_system version words none (SystemEntry clock root steps true parent) readable e = absurd cc
 no_system version words none (SystemEntry clock root steps false parent) readable e =
     none version clock root steps parent readable (let same : system_words clock root steps parent ≡ words = cc in same)
@@ -227,7 +227,7 @@ pub no_far_system : (version : ℕ) (words : FarWords)
     → ((version clock root steps : ℕ) (parent : Option ParentLink)
     → IsReadableEntry version (SystemEntry clock root steps true parent)
     → far_words clock root steps ≢ words)
-    → (entry : Entry) → IsReadableEntry version entry → spelled entry ≢ FarForm words
+    → (entry : LineKey) → IsReadableEntry version entry → spelled_line entry ≢ FarForm words
 no_far_system version words none (SystemEntry clock root steps true parent) readable e =
     none version clock root steps parent readable (let same : far_words clock root steps ≡ words = cc in same)
 no_far_system version words none (SystemEntry clock root steps false parent) readable e = absurd cc
@@ -237,7 +237,7 @@ no_far_system version words none (PortEntry clock port) readable e = absurd cc
 pub no_port : (version : ℕ) (words : PortWords)
     → ((version clock : ℕ) (port : PortLine) → IsReadableEntry version (PortEntry clock port)
     → port_words clock port ≢ words)
-    → (entry : Entry) → IsReadableEntry version entry → spelled entry ≢ PortForm words
+    → (entry : LineKey) → IsReadableEntry version entry → spelled_line entry ≢ PortForm words
 no_port version words none (SystemEntry clock root steps true parent) readable e = absurd cc
 no_port version words none (SystemEntry clock root steps false parent) readable e = absurd cc
 no_port version words none (PortEntry clock port) readable e =

@@ -11,26 +11,26 @@ use Rattle.gptp_graph.specs.Order.{IsRising}
 use Rattle.gptp_graph.specs.Parent.{ParentLink}
 use Rattle.gptp_roles.specs.declared.role.Role.{Role}
 use Rattle.gptp_certificate_text.specs.declared.certificate.SystemLine as declared
-use Rattle.gptp_certificate_text.specs.Certificate.{AreInOrder, IsCertificate, IsVersion, line_of, lines_of, port_line_of}
-use Rattle.gptp_certificate_text.specs.Entries.{Entry, SystemEntry, PortEntry, FollowEach, Follows, IsReadable, IsReadableChoice, IsReadableEntry, StandInOrder, clock_of, ends_far, entries_of, entries_of_line, is_far, number_of, system_entry}
+use Rattle.gptp_certificate_text.specs.Certificate.{LinesAreInOrder, IsCertificate, IsVersion, line_of, lines_of, port_line_of}
+use Rattle.gptp_certificate_text.specs.Entries.{LineKey, SystemEntry, PortEntry, FollowEach, CanFollow, IsReadable, IsReadableChoice, IsReadableEntry, StandInOrder, entry_clock, ends_far, entries_of, entries_of_line, is_far, entry_number, system_entry}
 use Rattle.gptp_certificate_text.specs.Lines.{Appends, last_entry, last_of}
 
-each_then : (first : Entry) (rest : List Entry) (entry : Entry) → FollowEach first rest
-    → Follows (last_of first rest) entry
+each_then : (first : LineKey) (rest : List LineKey) (entry : LineKey) → FollowEach first rest
+    → CanFollow (last_of first rest) entry
     → FollowEach first (rest ++ entry ∷ [])
 each_then first [] entry each follows = (follows, tt)
 each_then first (next ∷ rest) entry each follows = (each.0, each_then next rest entry each.1 follows)
 
-each_last : (first : Entry) (rest : List Entry) (entry : Entry) → FollowEach first (rest ++ entry ∷ [])
-    → Follows (last_of first rest) entry
+each_last : (first : LineKey) (rest : List LineKey) (entry : LineKey) → FollowEach first (rest ++ entry ∷ [])
+    → CanFollow (last_of first rest) entry
 each_last first [] entry each = each.0
 each_last first (next ∷ rest) entry each = each_last next rest entry each.1
 
-last_of-append : (first : Entry) (xs ys : List Entry) → last_of first (xs ++ ys) ≡ last_of (last_of first xs) ys
+last_of-append : (first : LineKey) (xs ys : List LineKey) → last_of first (xs ++ ys) ≡ last_of (last_of first xs) ys
 last_of-append first [] ys = refl
 last_of-append first (x ∷ xs) ys = last_of-append x xs ys
 
-last_in : (front : List SystemLine) (line : SystemLine) (first : Entry)
+last_in : (front : List SystemLine) (line : SystemLine) (first : LineKey)
     → last_of first (entries_of (front ++ line ∷ [])) ≡ last_entry line
 last_in [] line first = ap (last_of (system_entry line)) (append-nil (map (PortEntry line.clock) line.ports))
 last_in (x ∷ front) line first =
@@ -38,41 +38,41 @@ last_in (x ∷ front) line first =
     ∙ last_in front line (last_entry x)
 
 -- what follows the last line stands after all
-pub stands_then : (front : List SystemLine) (line : SystemLine) (entry : Entry)
+pub stands_then : (front : List SystemLine) (line : SystemLine) (entry : LineKey)
     → StandInOrder (entries_of (front ++ line ∷ []))
-    → Follows (last_entry line) entry → StandInOrder (entries_of (front ++ line ∷ []) ++ entry ∷ [])
+    → CanFollow (last_entry line) entry → StandInOrder (entries_of (front ++ line ∷ []) ++ entry ∷ [])
 stands_then [] line entry stand follows =
     each_then (system_entry line) (map (PortEntry line.clock) line.ports ++ []) entry stand
-    (subst (λ last. Follows last entry) (sym (last_in [] line (system_entry line))) follows)
+    (subst (λ last. CanFollow last entry) (sym (last_in [] line (system_entry line))) follows)
 stands_then (x ∷ front) line entry stand follows =
     each_then (system_entry x) (map (PortEntry x.clock) x.ports ++ entries_of (front ++ line ∷ [])) entry stand
-    (subst (λ last. Follows last entry) (sym (last_in (x ∷ front) line (system_entry x))) follows)
+    (subst (λ last. CanFollow last entry) (sym (last_in (x ∷ front) line (system_entry x))) follows)
 
-pub stands_last : (front : List SystemLine) (line : SystemLine) (entry : Entry)
-    → StandInOrder (entries_of (front ++ line ∷ []) ++ entry ∷ []) → Follows (last_entry line) entry
+pub stands_last : (front : List SystemLine) (line : SystemLine) (entry : LineKey)
+    → StandInOrder (entries_of (front ++ line ∷ []) ++ entry ∷ []) → CanFollow (last_entry line) entry
 stands_last [] line entry stand =
-    subst (λ last. Follows last entry) (last_in [] line (system_entry line))
+    subst (λ last. CanFollow last entry) (last_in [] line (system_entry line))
     (each_last (system_entry line) (map (PortEntry line.clock) line.ports ++ []) entry stand)
 stands_last (x ∷ front) line entry stand =
-    subst (λ last. Follows last entry) (last_in (x ∷ front) line (system_entry x))
+    subst (λ last. CanFollow last entry) (last_in (x ∷ front) line (system_entry x))
     (each_last (system_entry x) (map (PortEntry x.clock) x.ports ++ entries_of (front ++ line ∷ [])) entry stand)
 
 lines_split : (lines front : List declared.SystemLine) (last : declared.SystemLine) → lines ≡ front ++ last ∷ []
     → lines_of lines ≡ lines_of front ++ line_of last ∷ []
 lines_split lines front last split = ap lines_of split ∙ map-append line_of front (last ∷ [])
 
-pub line_stands : (lines front : List declared.SystemLine) (last : declared.SystemLine) (entry : Entry)
+pub line_stands : (lines front : List declared.SystemLine) (last : declared.SystemLine) (entry : LineKey)
     → lines ≡ front ++ last ∷ []
-    → StandInOrder (entries_of (lines_of lines)) → Follows (last_entry (line_of last)) entry
+    → StandInOrder (entries_of (lines_of lines)) → CanFollow (last_entry (line_of last)) entry
     → StandInOrder (entries_of (lines_of lines) ++ entry ∷ [])
 line_stands lines front last entry split stand follows =
     let e = lines_split lines front last split in
     subst (λ ls. StandInOrder (entries_of ls ++ entry ∷ [])) (sym e)
     (stands_then (lines_of front) (line_of last) entry (subst (λ ls. StandInOrder (entries_of ls)) e stand) follows)
 
-pub line_follows : (lines front : List declared.SystemLine) (last : declared.SystemLine) (entry : Entry)
+pub line_follows : (lines front : List declared.SystemLine) (last : declared.SystemLine) (entry : LineKey)
     → lines ≡ front ++ last ∷ []
-    → StandInOrder (entries_of (lines_of lines) ++ entry ∷ []) → Follows (last_entry (line_of last)) entry
+    → StandInOrder (entries_of (lines_of lines) ++ entry ∷ []) → CanFollow (last_entry (line_of last)) entry
 line_follows lines front last entry split stand =
     stands_last (lines_of front) (line_of last) entry
     (subst (λ ls. StandInOrder (entries_of ls ++ entry ∷ [])) (lines_split lines front last split) stand)
@@ -84,10 +84,10 @@ entries_split front last =
     ∙ ap (λ t. entries_of front ++ t) (append-nil (entries_of_line last))
 
 -- a port more in the last line is a line more
-pub port_appended : (lines after front : List declared.SystemLine) (last more : declared.SystemLine) (entry : Entry)
+pub port_appended : (lines after front : List declared.SystemLine) (last more : declared.SystemLine) (entry : LineKey)
     → lines ≡ front ++ last ∷ [] → after ≡ front ++ more ∷ [] → StandInOrder (entries_of (lines_of lines))
     → entries_of_line (line_of more) ≡ entries_of_line (line_of last) ++ entry ∷ []
-    → Follows (last_entry (line_of last)) entry
+    → CanFollow (last_entry (line_of last)) entry
     → Appends (entries_of (lines_of lines)) entry (entries_of (lines_of after))
 port_appended lines after front last more entry split then_split stand is follows =
     let before = entries_of (lines_of front) in
@@ -101,25 +101,25 @@ port_appended lines after front last more entry split then_split stand is follow
       order = subst StandInOrder (sym grown) (line_stands lines front last entry split stand follows);
     }
 
-clock_last : (first : Entry) (clock : ℕ) (ports : List PortLine) → clock_of first ≡ clock
-    → clock_of (last_of first (map (PortEntry clock) ports)) ≡ clock
+clock_last : (first : LineKey) (clock : ℕ) (ports : List PortLine) → entry_clock first ≡ clock
+    → entry_clock (last_of first (map (PortEntry clock) ports)) ≡ clock
 clock_last first clock [] is = is
 clock_last first clock (port ∷ ports) is = clock_last (PortEntry clock port) clock ports refl
 
-pub last_clock : (line : SystemLine) → clock_of (last_entry line) ≡ line.clock
+pub last_clock : (line : SystemLine) → entry_clock (last_entry line) ≡ line.clock
 last_clock line = clock_last (system_entry line) line.clock line.ports refl
 
-number_last : (first : Entry) (clock : ℕ) (front : List (ℕ × Role)) (port : ℕ × Role)
-    → number_of (last_of first (map (PortEntry clock) (map port_line_of (front ++ port ∷ [])))) ≡ port.0
+number_last : (first : LineKey) (clock : ℕ) (front : List (ℕ × Role)) (port : ℕ × Role)
+    → entry_number (last_of first (map (PortEntry clock) (map port_line_of (front ++ port ∷ [])))) ≡ port.0
 number_last first clock [] port = refl
 number_last first clock (x ∷ front) port = number_last (PortEntry clock (port_line_of x)) clock front port
 
 pub last_port : (line : declared.SystemLine) (front : List (ℕ × Role)) (port : ℕ × Role)
     → line.ports.items ≡ front ++ port ∷ []
-    → port.0 ≡ number_of (last_entry (line_of line))
+    → port.0 ≡ entry_number (last_entry (line_of line))
 last_port line front port split =
     sym (ap (λ ports.
-    number_of (last_of (system_entry (line_of line)) (map (PortEntry line.clock) (map port_line_of ports)))) split
+    entry_number (last_of (system_entry (line_of line)) (map (PortEntry line.clock) (map port_line_of ports)))) split
     ∙ number_last (system_entry (line_of line)) line.clock front port)
 
 -- a far line has no ports
@@ -130,7 +130,7 @@ abbrev AreBare : List SystemLine → Type 0
 AreBare lines = (line : SystemLine) → In line lines → IsBareIfFar line
 
 -- the part of a list that is behind another
-pub all_behind : (version : ℕ) (xs ys : List Entry) → AllByRecursion (IsReadableEntry version) (xs ++ ys)
+pub all_behind : (version : ℕ) (xs ys : List LineKey) → AllByRecursion (IsReadableEntry version) (xs ++ ys)
     → AllByRecursion (IsReadableEntry version) ys
 all_behind version [] ys all = all
 all_behind version (x ∷ xs) ys all = all_behind version xs ys all.1
@@ -142,30 +142,30 @@ of_each P x xs here there y (inl e) = subst P (sym e) here
 of_each P x xs here there y (inr i) = there y i
 
 -- behind a far system's line stands no port line
-ports_bare : (first : Entry) (clock : ℕ) (ports : List PortLine) (more : List Entry)
+ports_bare : (first : LineKey) (clock : ℕ) (ports : List PortLine) (more : List LineKey)
     → FollowEach first (map (PortEntry clock) ports ++ more) → is_far first ≡ true → ports ≡ []
 ports_bare first clock [] more each far = refl
 ports_bare first clock (port ∷ ports) more each far = absurd (let near = each.0.2 in cc)
 
 -- ports in order rise, and what follows them follows the last
-ports_rise : (first : Entry) (clock : ℕ) (ports : List PortLine) (more : List Entry)
+ports_rise : (first : LineKey) (clock : ℕ) (ports : List PortLine) (more : List LineKey)
     → FollowEach first (map (PortEntry clock) ports ++ more)
     → IsRising (map (λ (port : PortLine). port.number) ports)
-    × ((number : ℕ) → In number (map (λ (port : PortLine). port.number) ports) → number_of first < number)
+    × ((number : ℕ) → In number (map (λ (port : PortLine). port.number) ports) → entry_number first < number)
     × FollowEach (last_of first (map (PortEntry clock) ports)) more
 ports_rise first clock [] more each = (tt, (λ number i. absurd i), each)
 ports_rise first clock (port ∷ ports) more each =
     let rest = ports_rise (PortEntry clock port) clock ports more each.1 in
     let above = each.0.1 in (
       (rest.1, rest.0),
-      of_each (λ number. number_of first < number) port.number (map (λ (p : PortLine). p.number) ports) above
+      of_each (λ number. entry_number first < number) port.number (map (λ (p : PortLine). p.number) ports) above
           (λ number i. let h = rest.1 number i in omega arith),
       rest.2,
     )
 
 rises_from : (line : SystemLine) (lines : List SystemLine)
     → FollowEach (system_entry line) (map (PortEntry line.clock) line.ports ++ entries_of lines)
-    → AreInOrder (line ∷ lines) × ((clock : ℕ) → In clock (line_clocks lines) → line.clock < clock)
+    → LinesAreInOrder (line ∷ lines) × ((clock : ℕ) → In clock (line_clocks lines) → line.clock < clock)
     × AreBare (line ∷ lines)
 rises_from line [] each =
     let ports = ports_rise (system_entry line) line.clock line.ports [] each in (
@@ -192,7 +192,7 @@ rises_from line (next ∷ lines) each =
     )
 
 -- lines in order are a certificate's
-pub in_order : (lines : List SystemLine) → StandInOrder (entries_of lines) → AreInOrder lines
+pub in_order : (lines : List SystemLine) → StandInOrder (entries_of lines) → LinesAreInOrder lines
 in_order [] stand = record { clocks = tt; ports = λ line i. absurd i }
 in_order (line ∷ lines) stand = (rises_from line lines stand).0
 
@@ -276,11 +276,11 @@ last_split lines last more some is =
     (parts.0 ∙ ap (λ l. take (length lines - 1) lines ++ l ∷ []) (sym is), parts.1)
 
 -- the last line, with a port more
-pub port_put : (lines : List declared.SystemLine) (last more : declared.SystemLine) (entry : Entry)
+pub port_put : (lines : List declared.SystemLine) (last more : declared.SystemLine) (entry : LineKey)
     → true ≡ nat_lt 0 (length lines)
     → last ≡ get_or lines (length lines - 1) last → StandInOrder (entries_of (lines_of lines))
     → entries_of_line (line_of more) ≡ entries_of_line (line_of last) ++ entry ∷ []
-    → Follows (last_entry (line_of last)) entry
+    → CanFollow (last_entry (line_of last)) entry
     → Appends (entries_of (lines_of lines)) entry (entries_of (lines_of (set lines (length lines - 1) more)))
 port_put lines last more entry some is stand grown follows =
     let parts = last_split lines last more some is in
@@ -288,10 +288,10 @@ port_put lines last more entry some is stand grown follows =
     parts.1 stand grown
     follows
 
-pub port_follows : (lines : List declared.SystemLine) (last : declared.SystemLine) (entry : Entry)
+pub port_follows : (lines : List declared.SystemLine) (last : declared.SystemLine) (entry : LineKey)
     → true ≡ nat_lt 0 (length lines)
     → last ≡ get_or lines (length lines - 1) last → StandInOrder (entries_of (lines_of lines) ++ entry ∷ [])
-    → Follows (last_entry (line_of last)) entry
+    → CanFollow (last_entry (line_of last)) entry
 port_follows lines last entry some is stand =
     line_follows lines (take (length lines - 1) lines) last entry (last_split lines last last some is).0 stand
 
@@ -300,7 +300,7 @@ not_after A B F S (inl a) f = inl a
 not_after A B F S (inr (b, no_f)) f = inr (b, λ s. no_f (f s))
 
 -- the last of all lines is that of the last system
-ends_of : (front : List Entry) (first : Entry) (rest : List Entry)
+ends_of : (front : List LineKey) (first : LineKey) (rest : List LineKey)
     → ends_far (front ++ first ∷ rest) ≡ is_far (last_of first rest)
 ends_of [] first [] = refl
 ends_of [] first (next ∷ rest) = ends_of [] next rest
@@ -314,7 +314,7 @@ ends_last front last =
     ∙ ends_of (entries_of front) (system_entry last) (map (PortEntry last.clock) last.ports)
 
 -- a line with ports doesn't end with a far system's
-pub not_far_behind : (first : Entry) (clock : ℕ) (port : PortLine) (ports : List PortLine)
+pub not_far_behind : (first : LineKey) (clock : ℕ) (port : PortLine) (ports : List PortLine)
     → is_far (last_of first (map (PortEntry clock) (port ∷ ports))) ≡ false
 not_far_behind first clock port [] = refl
 not_far_behind first clock port (next ∷ ports) = not_far_behind (PortEntry clock port) clock next ports
@@ -331,12 +331,12 @@ near_last lines last some is near =
     sym (lines_end lines (take (length lines - 1) lines) last (last_split lines last last some is).0) ∙ near
 
 -- whether a system's last line is a far system's
-pub ends_near : (first : Entry) (clock : ℕ) (items : List (ℕ × Role)) → is_far first ≡ false
+pub ends_near : (first : LineKey) (clock : ℕ) (items : List (ℕ × Role)) → is_far first ≡ false
     → is_far (last_of first (map (PortEntry clock) (map port_line_of items))) ≡ false
 ends_near first clock [] near = near
 ends_near first clock (item ∷ items) near = not_far_behind first clock (port_line_of item) (map port_line_of items)
 
-pub ends_with : (first : Entry) (clock : ℕ) (items : List (ℕ × Role)) → is_far first ≡ true
+pub ends_with : (first : LineKey) (clock : ℕ) (items : List (ℕ × Role)) → is_far first ≡ true
     → nat_eq (length items) 0 ≡ is_far (last_of first (map (PortEntry clock) (map port_line_of items)))
 ends_with first clock [] far = sym far
 ends_with first clock (item ∷ items) far =

@@ -9,11 +9,11 @@ use Rattle.gptp_certificate_text.specs.declared.fault.CertificateFault.{Certific
 use Rattle.gptp_certificate_text.specs.declared.fault.CertificateFault.TheVariants.{OutOfMemory}
 use Rattle.gptp_certificate_text.specs.Certificate.{IsVersion}
 use Rattle.gptp_certificate_text.specs.Words.{IsWord, Lacks}
-use Rattle.gptp_certificate_text.specs.Forms.{Form, SystemForm, FarForm, PortForm, ParentWords, HasForm, HasParentWords, HasWords, form_text, parent_text, role_text}
-use Rattle.gptp_certificate_text.specs.CertificateText.{certificate_text, end_text, entry_text, front_text, head_text, spelled}
-use Rattle.gptp_certificate_text.specs.Entries.{Entry, IsReadable, IsReadableEntry, ends_far, entries_of}
+use Rattle.gptp_certificate_text.specs.Forms.{Form, SystemForm, FarForm, PortForm, ParentWords, HasForm, HasParentWords, HasWords, form_text, parent_text, role_word}
+use Rattle.gptp_certificate_text.specs.CertificateText.{certificate_text, end_text, entry_text, front_text, head_text, spelled_line}
+use Rattle.gptp_certificate_text.specs.Entries.{LineKey, IsReadable, IsReadableEntry, ends_far, entries_of}
 use Rattle.gptp_certificate_text.specs.Lines.{RefusesLine}
-use Rattle.gptp_certificate_text.specs.Parsing.{Fails, FailsFrom, HasNoForm, IsFailingPart, LacksHead, RestFails, StandBefore}
+use Rattle.gptp_certificate_text.specs.Parsing.{FailsToParse, FailsFrom, HasNoForm, IsFailingPart, LacksHead, RestFails, StandBefore}
 use Rattle.gptp_certificate_text.proofs.WordLemmas.{no_cut, one_cut, plain_lacks_feed}
 use Rattle.gptp_certificate_text.proofs.FormLemmas.{far_parts, link_parts, port_parts, system_parts}
 use Rattle.gptp_certificate_text.proofs.LineLemmas.{decimal_word, entry_words}
@@ -22,7 +22,7 @@ lacks_value : (word rest : List ℕ) → IsWord word → Lacks 10 rest → Lacks
 lacks_value word rest is lacks =
     list_all-append (λ other. not (other == 10)) word (32 ∷ rest) ∙ rw (plain_lacks_feed word is.plain) lacks
 
-role_lacks_feed : (role : Role) → Lacks 10 (role_text role)
+role_lacks_feed : (role : Role) → Lacks 10 (role_word role)
 role_lacks_feed Disabled = refl
 role_lacks_feed Master = refl
 role_lacks_feed Slave = refl
@@ -47,8 +47,8 @@ pub line_lacks_feed : (version : ℕ) (after_far : Bool) (line : List ℕ) → H
     → Lacks 10 line
 line_lacks_feed version after_far line has = subst (Lacks 10) (sym has.is) (form_lacks_feed has.form has.words)
 
-pub entry_lacks_feed : (version : ℕ) (entry : Entry) → IsReadableEntry version entry → Lacks 10 (entry_text entry)
-entry_lacks_feed version entry readable = form_lacks_feed (spelled entry) (entry_words version entry readable)
+pub entry_lacks_feed : (version : ℕ) (entry : LineKey) → IsReadableEntry version entry → Lacks 10 (entry_text entry)
+entry_lacks_feed version entry readable = form_lacks_feed (spelled_line entry) (entry_words version entry readable)
 
 pub head_lacks_feed : (version : ℕ) → version < 10 → Lacks 10 (head_text version)
 head_lacks_feed version small =
@@ -77,7 +77,7 @@ no_head text one two version rest (inr e) is =
     two rest (is ∙ ap (λ v. head_text v ++ 10 ∷ rest) e ∙ head_is 2 rest (omega arith))
 
 -- a rest with no line feed has no line
-pub unfed : (version : ℕ) (before : List Entry) (rest : List ℕ) → rest ≢ end_text → Lacks 10 rest
+pub unfed : (version : ℕ) (before : List LineKey) (rest : List ℕ) → rest ≢ end_text → Lacks 10 rest
     → HasNoForm version before rest
 unfed version before rest goes_on lacks =
     record { goes_on = goes_on; formless = λ line more has e. no_cut 10 line more (subst (Lacks 10) e lacks) }
@@ -92,7 +92,7 @@ parsed text rest version read_version lines read same_version same_lines stand e
     (stand.split ∙ ap (λ r. front_text version (entries_of lines) ++ r) end, stand.readable))
 
 -- the first line's fault is that of the rest
-pub rest_fails : (version : ℕ) (before : List Entry) (rest line more : List ℕ) (fault : CertificateFault)
+pub rest_fails : (version : ℕ) (before : List LineKey) (rest line more : List ℕ) (fault : CertificateFault)
     → rest ≢ end_text → rest ≡ line ++ 10 ∷ more → Lacks 10 line → RefusesLine version before line fault
     → (fault ≡ OutOfMemory) ⊎ RestFails version before rest fault
 rest_fails version before rest line more fault goes_on first lacks (inl e) = inl e
@@ -118,7 +118,7 @@ rest_fails version before rest line more fault goes_on first lacks (inr (inr (e,
     }))
 
 -- the fault of the rest is the text's
-pub fails_from : (version : ℕ) (before : List Entry) (text rest part : List ℕ) (fault : CertificateFault)
+pub fails_from : (version : ℕ) (before : List LineKey) (text rest part : List ℕ) (fault : CertificateFault)
     → IsVersion version → StandBefore version before rest text → IsFailingPart rest part
     → (fault ≡ OutOfMemory) ⊎ RestFails version before rest fault → (fault ≡ OutOfMemory) ⊎ FailsFrom text fault part
 fails_from version before text rest part fault is_version stand failing (inl e) = inl e
@@ -137,7 +137,7 @@ fails_from version before text rest part fault is_version stand failing (inr fai
 
 -- without the part
 pub fails_somewhere : (text part : List ℕ) (fault : CertificateFault)
-    → (fault ≡ OutOfMemory) ⊎ FailsFrom text fault part → (fault ≡ OutOfMemory) ⊎ Fails text fault
+    → (fault ≡ OutOfMemory) ⊎ FailsFrom text fault part → (fault ≡ OutOfMemory) ⊎ FailsToParse text fault
 fails_somewhere text part fault (inl e) = inl e
 fails_somewhere text part fault (inr (inl (e, lacks, at))) = inr (inl (e, lacks))
 fails_somewhere text part fault (inr (inr (failure, failing))) = inr (inr failure)

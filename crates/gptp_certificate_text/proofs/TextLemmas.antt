@@ -11,13 +11,13 @@ use Rattle.gptp_certificate_text.specs.declared.certificate.SystemLine.{SystemLi
 use Rattle.gptp_certificate_text.specs.Certificate.{line_of, lines_of, parent_of, port_line_of}
 use Rattle.gptp_certificate_text.specs.CertificateText.{entry_text, far_words, system_words}
 use Rattle.gptp_certificate_text.specs.Forms.{far_text, system_text}
-use Rattle.gptp_certificate_text.specs.Entries.{Entry, SystemEntry, PortEntry, entries_of, entries_of_line, system_entry}
+use Rattle.gptp_certificate_text.specs.Entries.{LineKey, SystemEntry, PortEntry, entries_of, entries_of_line, system_entry}
 
 -- the lines of some entries
-abbrev pub entries_text : List Entry → List ℕ
+abbrev pub entries_text : List LineKey → List ℕ
 entries_text entries = text_of (map entry_text entries)
 
-pub entries_text-append : (before after : List Entry)
+pub entries_text-append : (before after : List LineKey)
     → entries_text (before ++ after) ≡ entries_text before ++ entries_text after
 entries_text-append before after =
     ap text_of (map-append entry_text before after) ∙ flat_map-append _ (map entry_text before) (map entry_text after)

@@ -39,7 +39,7 @@ abbrev pub lines_of : List SystemLine → List graphs.SystemLine
 lines_of = map line_of
 
 -- the lines stand by rising clock, and the port lines of each by rising number
-pub record AreInOrder (lines : List graphs.SystemLine) : Type 0 where
+pub record LinesAreInOrder (lines : List graphs.SystemLine) : Type 0 where
   pub clocks : IsRising (line_clocks lines)
   pub ports : (line : graphs.SystemLine) → In line lines → IsRising (port_numbers line)
 
@@ -55,6 +55,6 @@ pub record CertificateContent : Type 0 where
 -- what holds of every certificate: its lines stand in order, far ones are bare, and stand in version 2 alone
 pub record IsCertificate (version : ℕ) (lines : List graphs.SystemLine) : Type 0 where
   pub is_version : IsVersion version
-  pub order : AreInOrder lines
+  pub order : LinesAreInOrder lines
   pub bare : (line : graphs.SystemLine) → In line lines → line.far ≡ true → IsBare line
   pub second : (line : graphs.SystemLine) → In line lines → line.far ≡ true → version ≡ 2

@@ -6,7 +6,7 @@ use Rattle.gptp_graph.specs.Labelling.{PortLine, SystemLine}
 use Rattle.gptp_graph.specs.Parent.{ParentLink}
 use Rattle.gptp_spelling.specs.Digits.{clock_text, identity_text}
 use Rattle.gptp_spelling.specs.Lines.{text_of}
-use Rattle.gptp_certificate_text.specs.Entries.{Entry, SystemEntry, PortEntry, entries_of}
+use Rattle.gptp_certificate_text.specs.Entries.{LineKey, SystemEntry, PortEntry, entries_of}
 use Rattle.gptp_certificate_text.specs.Forms.{Form, SystemForm, FarForm, PortForm, ParentWords, PortWords, FarWords, SystemWords, form_text}
 
 -- the words of a parent: numbers are decimal, clocks hexadecimal
@@ -34,22 +34,22 @@ far_words clock root steps = record { clock = clock_text clock; steps = decimal 
 abbrev pub port_words : ℕ → PortLine → PortWords
 port_words clock port = record { clock = clock_text clock; number = decimal port.number; role = port.role }
 
--- how a line is spelled
-abbrev pub spelled : Entry → Form
-spelled (SystemEntry clock root steps true parent) = FarForm (far_words clock root steps)
-spelled (SystemEntry clock root steps false parent) = SystemForm (system_words clock root steps parent)
-spelled (PortEntry clock port) = PortForm (port_words clock port)
+-- how a line is spelled_line
+abbrev pub spelled_line : LineKey → Form
+spelled_line (SystemEntry clock root steps true parent) = FarForm (far_words clock root steps)
+spelled_line (SystemEntry clock root steps false parent) = SystemForm (system_words clock root steps parent)
+spelled_line (PortEntry clock port) = PortForm (port_words clock port)
 
--- a line, as it is spelled
-abbrev pub entry_text : Entry → List ℕ
-entry_text entry = form_text (spelled entry)
+-- a line, as it is spelled_line
+abbrev pub entry_text : LineKey → List ℕ
+entry_text entry = form_text (spelled_line entry)
 
 -- the head line
 abbrev pub head_text : ℕ → List ℕ
 head_text version = codes "gptp-certificate " ++ decimal version
 
 -- the head, and then these lines
-abbrev pub front_text : ℕ → List Entry → List ℕ
+abbrev pub front_text : ℕ → List LineKey → List ℕ
 front_text version entries = text_of (head_text version ∷ map entry_text entries)
 
 -- the line that a certificate ends with

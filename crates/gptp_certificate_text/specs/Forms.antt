@@ -35,11 +35,11 @@ pub data Form : Type 0 where
   PortForm : PortWords → Form
 
 -- the word for a role
-abbrev pub role_text : Role → List ℕ
-role_text Disabled = codes "disabled"
-role_text Master = codes "master"
-role_text Slave = codes "slave"
-role_text Passive = codes "passive"
+abbrev pub role_word : Role → List ℕ
+role_word Disabled = codes "disabled"
+role_word Master = codes "master"
+role_word Slave = codes "slave"
+role_word Passive = codes "passive"
 
 -- three words, or `none`
 abbrev pub parent_text : Option ParentWords → List ℕ
@@ -60,7 +60,7 @@ far_text words = codes "system " ++ words.clock ++ codes " far " ++ words.steps 
 
 -- a port line of these words
 abbrev pub port_text : PortWords → List ℕ
-port_text words = codes "port " ++ words.clock ++ codes " " ++ words.number ++ codes " " ++ role_text words.role
+port_text words = codes "port " ++ words.clock ++ codes " " ++ words.number ++ codes " " ++ role_word words.role
 
 -- a line of this form
 abbrev pub form_text : Form → List ℕ

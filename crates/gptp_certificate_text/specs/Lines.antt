@@ -13,7 +13,7 @@ use Rattle.gptp_certificate_text.specs.declared.entry.Entry.{Entry}
 use Rattle.gptp_certificate_text.specs.declared.entry.Entry.TheVariants as read
 use Rattle.gptp_certificate_text.specs.Certificate.{parent_of, port_line_of, role_of}
 use Rattle.gptp_certificate_text.specs.Entries as entries
-use Rattle.gptp_certificate_text.specs.CertificateText.{entry_text, spelled}
+use Rattle.gptp_certificate_text.specs.CertificateText.{entry_text, spelled_line}
 use Rattle.gptp_graph.specs.Labelling as graphs
 use Rattle.gptp_certificate_text.specs.Forms as forms
 use Rattle.gptp_certificate_text.specs.Forms.{FitsHere, HasForm}
@@ -50,7 +50,7 @@ form_of (Far words) = forms.FarForm (far_words_of words)
 form_of (Port words) = forms.PortForm (port_words_of words)
 
 -- a line by what its words spell
-abbrev pub entry_of : Entry → entries.Entry
+abbrev pub entry_of : Entry → entries.LineKey
 entry_of (read.System clock root steps parent) =
     entries.SystemEntry clock root steps false (option_map parent_of parent)
 entry_of (read.Far clock root steps) = entries.SystemEntry clock root steps true None
@@ -62,45 +62,45 @@ abbrev pub LineFails : ℕ → Bool → List ℕ → CertificateFault → Type 0
 LineFails version after_far line fault =
     ((fault ≡ Line) × (HasForm version after_far line → ⊥))
     ⊎ ((fault ≡ Spelling) × HasForm version after_far line
-    × ((entry : entries.Entry) → entries.IsReadableEntry version entry → line ≢ entry_text entry))
+    × ((entry : entries.LineKey) → entries.IsReadableEntry version entry → line ≢ entry_text entry))
 
 -- the last of a list that begins with the entry
-abbrev pub last_of : entries.Entry → List entries.Entry → entries.Entry
+abbrev pub last_of : entries.LineKey → List entries.LineKey → entries.LineKey
 last_of entry [] = entry
 last_of entry (next ∷ rest) = last_of next rest
 
 -- the last line of a system
-abbrev pub last_entry : graphs.SystemLine → entries.Entry
+abbrev pub last_entry : graphs.SystemLine → entries.LineKey
 last_entry line = last_of (entries.system_entry line) (map (entries.PortEntry line.clock) line.ports)
 
 -- one line more, in order
-pub record Appends (before : List entries.Entry) (entry : entries.Entry) (after : List entries.Entry) : Type 0 where
+pub record Appends (before : List entries.LineKey) (entry : entries.LineKey) (after : List entries.LineKey) : Type 0 where
   pub is : after ≡ before ++ entry ∷ []
   pub order : entries.StandInOrder after
 
 -- memory was refused, or the line can't stand after those before
-abbrev pub RefusesOrder : List entries.Entry → entries.Entry → CertificateFault → Type 0
+abbrev pub RefusesOrder : List entries.LineKey → entries.LineKey → CertificateFault → Type 0
 RefusesOrder before entry fault =
     (fault ≡ OutOfMemory) ⊎ ((fault ≡ Order) × (entries.StandInOrder (before ++ entry ∷ []) → ⊥))
 
 -- the line is an entry's, which stands after those before
-pub record ReadsLine (version : ℕ) (before : List entries.Entry) (line : List ℕ) (after : List entries.Entry)
+pub record ReadsLine (version : ℕ) (before : List entries.LineKey) (line : List ℕ) (after : List entries.LineKey)
     : Type 0 where
-  pub entry : entries.Entry
+  pub entry : entries.LineKey
   pub readable : entries.IsReadableEntry version entry
   pub is : line ≡ entry_text entry
   pub appends : Appends before entry after
 
 -- the line is an entry's, whose form can stand there, but which can't stand after those before
-pub record IsOutOfPlace (version : ℕ) (before : List entries.Entry) (line : List ℕ) : Type 0 where
-  pub entry : entries.Entry
+pub record IsOutOfPlace (version : ℕ) (before : List entries.LineKey) (line : List ℕ) : Type 0 where
+  pub entry : entries.LineKey
   pub readable : entries.IsReadableEntry version entry
-  pub fits : FitsHere version (entries.ends_far before) (spelled entry)
+  pub fits : FitsHere version (entries.ends_far before) (spelled_line entry)
   pub is : line ≡ entry_text entry
   pub order : entries.StandInOrder (before ++ entry ∷ []) → ⊥
 
 -- memory was refused, or the line has the fault
-abbrev pub RefusesLine : ℕ → List entries.Entry → List ℕ → CertificateFault → Type 0
+abbrev pub RefusesLine : ℕ → List entries.LineKey → List ℕ → CertificateFault → Type 0
 RefusesLine version before line fault =
     (fault ≡ OutOfMemory)
     ⊎ (LineFails version (entries.ends_far before) line fault

@@ -5,7 +5,7 @@ ghost use Rattle.gptp_graph.specs.Labelling.{PortLine};
 ghost use Rattle.gptp_graph.specs.Parent.{ParentLink};
 ghost use Rattle.gptp_certificate_text.specs.Certificate.{parent_of};
 ghost use Rattle.gptp_certificate_text.specs.CertificateText as text;
-ghost use Rattle.gptp_certificate_text.specs.CertificateText.{entry_text, spelled};
+ghost use Rattle.gptp_certificate_text.specs.CertificateText.{entry_text, spelled_line};
 ghost use Rattle.gptp_certificate_text.specs.Forms.{FitsHere};
 ghost use Rattle.gptp_certificate_text.specs.Entries as entries;
 ghost use Rattle.gptp_certificate_text.specs.Entries.{IsReadableEntry, IsReadableLink, IsReadableParent};
@@ -70,7 +70,7 @@ fn parent(words: Option<ParentWords<'_>>) -> Option<Option<(u16, PortId)>>
 /// The line of a system that these words spell.
 fn system(words: SystemWords<'_>) -> Option<Entry>
     ensures readable { IfSome result (λ entry. (version : ℕ) → IsReadableEntry version (entry_of entry)) }
-    ensures found { IfSome result (λ entry. spelled (entry_of entry) ≡ form_of (Form.System words.entry)) }
+    ensures found { IfSome result (λ entry. spelled_line (entry_of entry) ≡ form_of (Form.System words.entry)) }
     ensures absent { IfNone result ((version clock root steps : ℕ) (parent : Option ParentLink)
         → IsReadableEntry version (entries.SystemEntry clock root steps false parent)
         → text.system_words clock root steps parent ≢ system_words_of words.entry) }
@@ -90,7 +90,7 @@ fn system(words: SystemWords<'_>) -> Option<Entry>
 /// The line of a far system that these words spell.
 fn far(words: FarWords<'_>) -> Option<Entry>
     ensures readable { IfSome result (λ entry. IsReadableEntry 2 (entry_of entry)) }
-    ensures found { IfSome result (λ entry. spelled (entry_of entry) ≡ form_of (Form.Far words.entry)) }
+    ensures found { IfSome result (λ entry. spelled_line (entry_of entry) ≡ form_of (Form.Far words.entry)) }
     ensures absent { IfNone result ((version clock root steps : ℕ) (parent : Option ParentLink)
         → IsReadableEntry version (entries.SystemEntry clock root steps true parent)
         → text.far_words clock root steps ≢ far_words_of words.entry) }
@@ -104,7 +104,7 @@ fn far(words: FarWords<'_>) -> Option<Entry>
 /// The line of a port that these words spell.
 fn port(words: PortWords<'_>) -> Option<Entry>
     ensures readable { IfSome result (λ entry. (version : ℕ) → IsReadableEntry version (entry_of entry)) }
-    ensures found { IfSome result (λ entry. spelled (entry_of entry) ≡ form_of (Form.Port words.entry)) }
+    ensures found { IfSome result (λ entry. spelled_line (entry_of entry) ≡ form_of (Form.Port words.entry)) }
     ensures absent { IfNone result
         ((version clock : ℕ) (port : PortLine) → IsReadableEntry version (entries.PortEntry clock port)
         → text.port_words clock port ≢ port_words_of words.entry) }
@@ -122,9 +122,9 @@ fn port(words: PortWords<'_>) -> Option<Entry>
 fn spelled_entry(form: Form<'_>, version: u8, after_far: bool) -> Option<Entry>
     requires { FitsHere version after_far (form_of form) }
     ensures readable { IfSome result (λ entry. IsReadableEntry version (entry_of entry)) }
-    ensures found { IfSome result (λ entry. spelled (entry_of entry) ≡ form_of form.entry) }
+    ensures found { IfSome result (λ entry. spelled_line (entry_of entry) ≡ form_of form.entry) }
     ensures absent { IfNone result
-        ((entry : entries.Entry) → IsReadableEntry version entry → spelled entry ≢ form_of form.entry) }
+        ((entry : entries.LineKey) → IsReadableEntry version entry → spelled_line entry ≢ form_of form.entry) }
 {
     match form {
         Form::System(words) => system(words),
@@ -137,10 +137,10 @@ fn spelled_entry(form: Form<'_>, version: u8, after_far: bool) -> Option<Entry>
 fn entry_of_form(form: Form<'_>, version: u8, after_far: bool) -> Result<Entry, CertificateFault>
     requires { FitsHere version after_far (form_of form) }
     ensures readable { IfOk result (λ entry. IsReadableEntry version (entry_of entry)) }
-    ensures read { IfOk result (λ entry. spelled (entry_of entry) ≡ form_of form.entry) }
+    ensures read { IfOk result (λ entry. spelled_line (entry_of entry) ≡ form_of form.entry) }
     ensures fault { IfErr result (λ fault. fault ≡ CertificateFault.Spelling) }
     ensures refused { OnErr result
-        ((entry : entries.Entry) → IsReadableEntry version entry → spelled entry ≢ form_of form.entry) }
+        ((entry : entries.LineKey) → IsReadableEntry version entry → spelled_line entry ≢ form_of form.entry) }
 {
     match spelled_entry(form, version, after_far) {
         None => Err(CertificateFault::Spelling),
@@ -156,7 +156,7 @@ pub(crate) fn read_entry(
     after_far: bool,
 ) -> Result<Entry, CertificateFault>
     ensures readable { IfOk result (λ entry. IsReadableEntry version (entry_of entry)) }
-    ensures fits { IfOk result (λ entry. FitsHere version after_far (spelled (entry_of entry))) }
+    ensures fits { IfOk result (λ entry. FitsHere version after_far (spelled_line (entry_of entry))) }
     ensures read { IfOk result (λ entry. line.now ≡ entry_text (entry_of entry)) }
     ensures refused { IfErr result (λ fault. LineFails version after_far line.now fault) }
 {

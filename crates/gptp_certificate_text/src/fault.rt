@@ -21,9 +21,9 @@ pub enum CertificateFault {
 
 impl fmt::Display for CertificateFault {
     ghost use Rattle.std.specs.Prelude.{Some};
-    ghost use Rattle.gptp_certificate_text.specs.Faults.{fault_text};
+    ghost use Rattle.gptp_certificate_text.specs.Faults.{certificate_fault_text};
 
-    ghost output = { λ fault. Some (fault_text fault) };
+    ghost output = { λ fault. Some (certificate_fault_text fault) };
 
     fn fmt<W: fmt::Write>(&self, f: &mut fmt::Formatter<W>) -> fmt::Result {
         f.write_str(match self {

@@ -4,7 +4,7 @@ ghost use Rattle.std.specs.Prelude.{◌≡◌, ◌≢◌, ◌↔◌, ◌++◌, L
 ghost use Rattle.gptp_graph.specs.SettledRole as settled;
 ghost use Rattle.gptp_certificate_text.specs.Certificate.{role_of};
 ghost use Rattle.gptp_certificate_text.specs.Forms as forms;
-ghost use Rattle.gptp_certificate_text.specs.Forms.{role_text, parent_text, system_text, far_text, port_text, form_text, HasParentWords, AreSystemWords, AreFarWords, ArePortWords, HasWords, FitsHere, HasForm};
+ghost use Rattle.gptp_certificate_text.specs.Forms.{role_word, parent_text, system_text, far_text, port_text, form_text, HasParentWords, AreSystemWords, AreFarWords, ArePortWords, HasWords, FitsHere, HasForm};
 ghost use Rattle.gptp_certificate_text.specs.Lines.{parent_words_of, system_words_of, far_words_of, port_words_of, form_of};
 
 use crate::words::{after, is_word, value, word};
@@ -53,8 +53,8 @@ pub(crate) enum Form<'a> {
 
 /// The role that a word names.
 fn role(word: &[u8]) -> Option<Role>
-    ensures found { IfSome result (λ role. word.now ≡ role_text (role_of role)) }
-    ensures absent { IfNone result ((role : settled.Role) → word.now ≢ role_text role) }
+    ensures found { IfSome result (λ role. word.now ≡ role_word (role_of role)) }
+    ensures absent { IfNone result ((role : settled.Role) → word.now ≢ role_word role) }
 {
     match word {
         b"disabled" => Some(Role::Disabled),

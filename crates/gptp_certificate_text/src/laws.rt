@@ -6,18 +6,18 @@ ghost use Rattle.gptp_certificate_text.specs.declared.fault.CertificateFault.{Ce
 ghost use Rattle.gptp_certificate_text.specs.Certificate.{IsCertificate, IsVersion};
 ghost use Rattle.gptp_certificate_text.specs.CertificateText.{certificate_text};
 ghost use Rattle.gptp_certificate_text.specs.Entries.{IsReadable};
-ghost use Rattle.gptp_certificate_text.specs.Parsing.{Fails, FailsFrom};
+ghost use Rattle.gptp_certificate_text.specs.Parsing.{FailsToParse, FailsFrom};
 
 /// A text that fails is the text of no certificate that can be read.
 pub fn a_text_that_fails_is_no_certificates()
     ensures { (text : List ℕ) (fault : CertificateFault) (version : ℕ) (lines : List SystemLine)
-        → Fails text fault → IsCertificate version lines → IsReadable version lines
+        → FailsToParse text fault → IsCertificate version lines → IsReadable version lines
         → text ≢ certificate_text version lines }
 {}
 
 /// A text fails in one way at most.
 pub fn a_text_fails_in_one_way()
-    ensures { (text : List ℕ) (first second : CertificateFault) → Fails text first → Fails text second
+    ensures { (text : List ℕ) (first second : CertificateFault) → FailsToParse text first → FailsToParse text second
         → first ≡ second }
 {}
 
@@ -39,11 +39,11 @@ pub fn every_text_is_a_certificates_or_fails()
     ensures { (text : List ℕ)
         → ((version : ℕ) × (lines : List SystemLine) × (text ≡ certificate_text version lines)
         × IsReadable version lines × IsCertificate version lines)
-        ⊎ ((fault : CertificateFault) × Fails text fault) }
+        ⊎ ((fault : CertificateFault) × FailsToParse text fault) }
 {}
 
 /// A text that fails does so at some place.
 pub fn a_text_that_fails_has_a_place()
-    ensures { (text : List ℕ) (fault : CertificateFault) → Fails text fault
+    ensures { (text : List ℕ) (fault : CertificateFault) → FailsToParse text fault
         → (part : List ℕ) × FailsFrom text fault part }
 {}

@@ -5,7 +5,7 @@ ghost use Rattle.gptp_graph.specs.Labelling.{PortLine};
 ghost use Rattle.gptp_graph.specs.Parent.{ParentLink};
 ghost use Rattle.gptp_certificate_text.specs.Certificate.{line_of, lines_of, parent_of, port_line_of};
 ghost use Rattle.gptp_certificate_text.specs.Entries as entries;
-ghost use Rattle.gptp_certificate_text.specs.Entries.{Follows, StandInOrder, clock_of, ends_far, entries_of, entries_of_line, is_far, number_of};
+ghost use Rattle.gptp_certificate_text.specs.Entries.{CanFollow, StandInOrder, entry_clock, ends_far, entries_of, entries_of_line, is_far, entry_number};
 ghost use Rattle.gptp_certificate_text.specs.Lines.{Appends, entry_of, last_entry, ReadsLine, RefusesLine, RefusesOrder};
 
 use crate::certificate::SystemLine;
@@ -17,7 +17,7 @@ use std::alloc::Global;
 
 /// The number of a system's last port, or 0 where it has none.
 fn last_number(line: &SystemLine) -> u16
-    ensures { result ≡ number_of (last_entry (line_of line.now)) }
+    ensures { result ≡ entry_number (last_entry (line_of line.now)) }
 {
     match line.ports.as_slice().split_last() {
         None => 0,
@@ -28,7 +28,7 @@ fn last_number(line: &SystemLine) -> u16
 /// Whether the line of a port can follow the last line of a system that isn't far.
 fn can_follow(line: &SystemLine, clock: ClockId, number: u16) -> bool
     ensures { IsTrue result ↔
-        ((clock_of (last_entry (line_of line.now)) ≡ clock) × (number_of (last_entry (line_of line.now)) < number)) }
+        ((entry_clock (last_entry (line_of line.now)) ≡ clock) × (entry_number (last_entry (line_of line.now)) < number)) }
 {
     if line.clock != clock {
         return false;
@@ -47,10 +47,10 @@ fn add_port(
     ensures appended { OnOk result (entries_of_line (line_of line.new)
         ≡ entries_of_line (line_of line.old) ++ entries.PortEntry clock (port_line_of (number, role)) ∷ []) }
     ensures follows { OnOk result
-        (Follows (last_entry (line_of line.old)) (entries.PortEntry clock (port_line_of (number, role)))) }
+        (CanFollow (last_entry (line_of line.old)) (entries.PortEntry clock (port_line_of (number, role)))) }
     ensures refused { IfErr result (λ fault. (fault ≡ CertificateFault.OutOfMemory)
         ⊎ ((fault ≡ CertificateFault.Order)
-        × (Follows (last_entry (line_of line.old)) (entries.PortEntry clock (port_line_of (number, role))) → ⊥))) }
+        × (CanFollow (last_entry (line_of line.old)) (entries.PortEntry clock (port_line_of (number, role))) → ⊥))) }
 {
     if !can_follow(line, clock, number) {
         return Err(CertificateFault::Order);

@@ -6,7 +6,7 @@ ghost use Rattle.gptp_certificate_text.specs.CertificateText.{certificate_text, 
 ghost use Rattle.gptp_certificate_text.specs.Entries.{IsReadable, StandInOrder, entries_of};
 ghost use Rattle.gptp_certificate_text.specs.Lines.{ReadsLine};
 ghost use Rattle.gptp_certificate_text.specs.Words.{Lacks};
-ghost use Rattle.gptp_certificate_text.specs.Parsing.{Fails, FailsFrom, IsFailingPart, LacksHead, RestFails};
+ghost use Rattle.gptp_certificate_text.specs.Parsing.{FailsToParse, FailsFrom, IsFailingPart, LacksHead, RestFails};
 
 use crate::certificate::{Certificate, SystemLine};
 use crate::fault::CertificateFault;
@@ -104,7 +104,7 @@ pub fn parse_located(alloc: Global, text: &[u8]) -> Result<Certificate, (Certifi
 /// [`CertificateFault::OutOfMemory`] can come at any point.
 pub fn parse(alloc: Global, text: &[u8]) -> Result<Certificate, CertificateFault>
     ensures read { IfOk result (λ c. (text.now ≡ certificate_text c.version c.lines) × IsReadable c.version c.lines) }
-    ensures refused { IfErr result (λ fault. (fault ≡ CertificateFault.OutOfMemory) ⊎ Fails text.now fault) }
+    ensures refused { IfErr result (λ fault. (fault ≡ CertificateFault.OutOfMemory) ⊎ FailsToParse text.now fault) }
 {
     match parse_located(alloc, text) {
         Ok(certificate) => Ok(certificate),

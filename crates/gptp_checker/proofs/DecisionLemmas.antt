@@ -16,7 +16,7 @@ use Rattle.gptp_checker.specs.declared.fault.Fault.TheVariants.{Systems, Root, S
 use Rattle.gptp_checker.specs.declared.line_test.LineTest.{LineTest}
 use Rattle.gptp_checker.specs.declared.line_test.LineTest.TheVariants as tests
 use Rattle.gptp_checker.specs.Faults.{test_of}
-use Rattle.gptp_checker.specs.LineTests.{FitsSteps, Follows, FollowsNearer, HasNearer, IsNoLower, PassesEachLine, PassesLine}
+use Rattle.gptp_checker.specs.LineTests.{FitsSteps, FollowsParent, FollowsNearer, HasNearer, IsNoLower, PassesEachLine, PassesLine}
 use Rattle.gptp_checker.specs.Places.{IsSystemAt}
 use Rattle.gptp_checker.proofs.FaultLemmas.{by_lines, found_by}
 
@@ -209,7 +209,7 @@ module _ (g : Snapshot) (lines : List SystemLine) where
       (dec_both (implied_dec (bool_dec line.far false) (dec_lt line.steps 255))
       (implied_dec (bool_dec line.far true) (dec_le 255 line.steps)))))
 
-  follows_dec : (line : SystemLine) (l : ParentLink) → Dec (Follows g lines line.clock line.steps l)
+  follows_dec : (line : SystemLine) (l : ParentLink) → Dec (FollowsParent g lines line.clock line.steps l)
   follows_dec line l =
       dec_iff (λ h. record { joins = h.0; less = h.1 }) (λ h. (h.joins, h.less))
       (dec_both (Joins-dec g (port_of line.clock l.own_port) (port_of l.clock l.port)) (one_less_dec l.clock line))
@@ -226,7 +226,7 @@ module _ (g : Snapshot) (lines : List SystemLine) where
   parent_dec : (line : SystemLine) → Dec (FollowsNearer g lines line)
   parent_dec line =
       dec_iff (λ h. record { near = h.0; far = h.1 }) (λ h. (h.near, h.far))
-      (dec_both (if_some_dec (λ (l : ParentLink). Follows g lines line.clock line.steps l) (follows_dec line)
+      (dec_both (if_some_dec (λ (l : ParentLink). FollowsParent g lines line.clock line.steps l) (follows_dec line)
       line.parent)
       (implied_dec (bool_dec line.far true) (nearer_dec line)))
 

@@ -9,7 +9,7 @@ use Rattle.gptp_graph.specs.LocalTests.{PassesTooFar, PassesRoot, PassesSteps, P
 use Rattle.gptp_lists.proofs.MemberLemmas.{from_map}
 use Rattle.gptp_graph.proofs.StatementLemmas.{near_with_parent}
 use Rattle.gptp_certificate_text.specs.Certificate.{IsVersion}
-use Rattle.gptp_checker.specs.LineTests.{HasNearer, IsNoLower, LeadsNearer, PassesLine, PassesEachLine, AgreeAcross, AgreeOver}
+use Rattle.gptp_checker.specs.LineTests.{HasNearer, IsNoLower, EndLeadsNearer, PassesLine, PassesEachLine, AgreeAcross, AgreeOver}
 use Rattle.gptp_checker.specs.declared.line_test.LineTest.{LineTest}
 use Rattle.gptp_checker.specs.declared.line_test.LineTest.TheVariants.{TooFar, Root, Steps, Parent, Identity, Tie, Role}
 
@@ -107,10 +107,10 @@ module _ (g : Snapshot) (lines : List SystemLine) where
 
   -- a system has a neighbour one step nearer where one of the links leads there
   pub nearer_by_link : (line : SystemLine)
-      → ((link : Link) × In link g.links × LeadsNearer lines line link) ↔ HasNearer g lines line
+      → ((link : Link) × In link g.links × EndLeadsNearer lines line link) ↔ HasNearer g lines line
   nearer_by_link line = (forward, back)
     where
-      forward : (link : Link) × In link g.links × LeadsNearer lines line link → HasNearer g lines line
+      forward : (link : Link) × In link g.links × EndLeadsNearer lines line link → HasNearer g lines line
       forward (link, at, inl (here, less)) =
           let e : link ≡ record { a = port_of line.clock link.a.port; b = link.b } =
           λ i. record { a = port_of (here i) link.a.port; b = link.b } in
@@ -120,7 +120,7 @@ module _ (g : Snapshot) (lines : List SystemLine) where
           λ i. record { a = link.a; b = port_of (here i) link.b.port } in
           (link.a.clock, (link.b.port, link.a.port, inr (subst (λ l. In l g.links) e at)), less)
 
-      back : HasNearer g lines line → (link : Link) × In link g.links × LeadsNearer lines line link
+      back : HasNearer g lines line → (link : Link) × In link g.links × EndLeadsNearer lines line link
       back (w, (m, n, inl at), less) = (record { a = port_of line.clock m; b = port_of w n }, at, inl (refl, less))
       back (w, (m, n, inr at), less) = (record { a = port_of w n; b = port_of line.clock m }, at, inr (refl, less))
 

@@ -11,7 +11,7 @@ use Rattle.gptp_graph.specs.Snapshot.{IsWellFormed, System, Snapshot, clocks}
 use Rattle.gptp_graph.proofs.RisingLemmas.{Different-rising}
 use Rattle.gptp_checker.specs.Faults.{test_of}
 use Rattle.gptp_checker.specs.LineTests.{PassesEachLine, PassesLine}
-use Rattle.gptp_checker.specs.Located.{AreKnown, AreStated, DiffersAt, HasAllPorts, IsFirstLine, IsFirstPort, IsKnownLine, IsLeast, IsLocation, IsMissing, IsStrange}
+use Rattle.gptp_checker.specs.Located.{LinesAreKnown, AreStated, DiffersAt, HasAllPorts, IsFirstLine, IsFirstPort, IsKnownLine, IsLeastSuch, IsLocation, IsMissing, IsStrange}
 use Rattle.gptp_checker.specs.Places.{IsLineAt, IsSystemAt}
 use Rattle.gptp_checker.specs.declared.fault.Fault.{Fault}
 use Rattle.gptp_checker.specs.declared.fault.Fault.TheVariants.{Systems}
@@ -109,7 +109,7 @@ first_port P line i port rising before at fails = record {
 pub first_strange : (g : Snapshot) (lines : List SystemLine) (i v : ℕ) → IsRising (line_clocks lines)
     → HoldBefore (IsKnownLine g) lines i
     → (line : SystemLine) × (slice_get lines i ≡ Some line) × (line.clock ≡ v) × (IsKnownLine g line → ⊥)
-    → IsLeast (IsStrange g lines) v
+    → IsLeastSuch (IsStrange g lines) v
 first_strange g lines i v rising before (line, at, has, strange) = (
   (line, record { stated = In-slice_get line lines i at; has = has }, strange),
   (λ m below (other, there, is). is (lower_hold (λ (l : SystemLine). l.clock) (IsKnownLine g) lines i line rising before
@@ -120,7 +120,7 @@ first_strange g lines i v rising before (line, at, has, strange) = (
 pub first_missing : (g : Snapshot) (lines : List SystemLine) (i v : ℕ) → IsRising (clocks g)
     → HoldBefore (λ (s : System). In s.clock (line_clocks lines)) g.systems i
     → (s : System) × (slice_get g.systems i ≡ Some s) × (s.clock ≡ v) × (In s.clock (line_clocks lines) → ⊥)
-    → IsLeast (IsMissing g lines) v
+    → IsLeastSuch (IsMissing g lines) v
 first_missing g lines i v rising before (s, at, has, missing) = (
   (
     subst (λ w. In w (clocks g)) has (In-map (λ (t : System). t.clock) s g.systems (In-slice_get s g.systems i at)),
@@ -134,16 +134,16 @@ first_missing g lines i v rising before (s, at, has, missing) = (
 )
 
 -- the least that differs
-pub least_of_strange : (g : Snapshot) (lines : List SystemLine) (v : ℕ) → IsLeast (IsStrange g lines) v
-    → ((m : ℕ) → m < v → IsMissing g lines m → ⊥) → IsLeast (DiffersAt g lines) v
+pub least_of_strange : (g : Snapshot) (lines : List SystemLine) (v : ℕ) → IsLeastSuch (IsStrange g lines) v
+    → ((m : ℕ) → m < v → IsMissing g lines m → ⊥) → IsLeastSuch (DiffersAt g lines) v
 least_of_strange g lines v (is, least) none = (inl is, below)
   where
     below : (m : ℕ) → m < v → DiffersAt g lines m → ⊥
     below m b (inl strange) = least m b strange
     below m b (inr missing) = none m b missing
 
-pub least_of_missing : (g : Snapshot) (lines : List SystemLine) (v : ℕ) → IsLeast (IsMissing g lines) v
-    → ((m : ℕ) → m < v → IsStrange g lines m → ⊥) → IsLeast (DiffersAt g lines) v
+pub least_of_missing : (g : Snapshot) (lines : List SystemLine) (v : ℕ) → IsLeastSuch (IsMissing g lines) v
+    → ((m : ℕ) → m < v → IsStrange g lines m → ⊥) → IsLeastSuch (DiffersAt g lines) v
 least_of_missing g lines v (is, least) none = (inr is, below)
   where
     below : (m : ℕ) → m < v → DiffersAt g lines m → ⊥
@@ -151,7 +151,7 @@ least_of_missing g lines v (is, least) none = (inr is, below)
     below m b (inr missing) = least m b missing
 
 -- none is strange, and none is missing
-pub none_strange : (g : Snapshot) (lines : List SystemLine) → AreKnown g lines → (m : ℕ) → IsStrange g lines m → ⊥
+pub none_strange : (g : Snapshot) (lines : List SystemLine) → LinesAreKnown g lines → (m : ℕ) → IsStrange g lines m → ⊥
 none_strange g lines known m (line, at, strange) = strange (known line at.stated)
 
 pub none_missing : (g : Snapshot) (lines : List SystemLine) → AreStated g lines → (m : ℕ) → IsMissing g lines m → ⊥
@@ -170,7 +170,7 @@ known_by g line s b rising at test = (
 
 -- then the systems are right
 pub systems_right : (g : Snapshot) (lines : List SystemLine) → IsRising (clocks g) → IsRising (line_clocks lines)
-    → ((line : SystemLine) → In line lines → line.far ≡ true → IsBare line) → AreKnown g lines → AreStated g lines
+    → ((line : SystemLine) → In line lines → line.far ≡ true → IsBare line) → LinesAreKnown g lines → AreStated g lines
     → HasItsSystems g lines
 systems_right g lines rising lines_rising bare known stated = record {
   different = Different-rising (line_clocks lines) lines_rising;

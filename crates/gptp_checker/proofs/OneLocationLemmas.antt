@@ -11,7 +11,7 @@ use Rattle.gptp_graph.proofs.RisingLemmas.{Different-rising}
 use Rattle.gptp_network.specs.Snapshot.{port_identity}
 use Rattle.gptp_vector.specs.declared.port.PortId.{PortId}
 use Rattle.gptp_checker.specs.LineTests.{IsNoLower}
-use Rattle.gptp_checker.specs.Located.{DiffersAt, IsAtLine, IsAtParent, IsBefore, IsFirstEnd, IsFirstLine, IsFirstLower, IsFirstPort, IsFirstRole, IsLeast, IsLocation, IsLowerWay, own_end, parent_end}
+use Rattle.gptp_checker.specs.Located.{DiffersAt, IsAtLine, IsAtParent, IsBefore, IsFirstEnd, IsFirstLine, IsFirstLower, IsFirstPort, IsFirstRole, IsLeastSuch, IsLocation, IsLowerWay, own_end, parent_end}
 use Rattle.gptp_checker.specs.declared.fault.Fault.{Fault}
 use Rattle.gptp_checker.specs.declared.fault.Fault.TheVariants as faults
 use Rattle.gptp_checker.specs.declared.line_test.LineTest.{LineTest}
@@ -26,7 +26,7 @@ if_neither m n f g = elim (native.Mathlib.Decide.dec_lt m n) [
   | no over ↦ elim (native.Mathlib.Decide.dec_lt n m) [ yes more ↦ absurd (g more) | no under ↦ omega arith ]
 ]
 
-one_least : (P : ℕ → Type 0) (m n : ℕ) → IsLeast P m → IsLeast P n → m ≡ n
+one_least : (P : ℕ → Type 0) (m n : ℕ) → IsLeastSuch P m → IsLeastSuch P n → m ≡ n
 one_least P m n (p, low) (q, lower) = if_neither m n (λ less. lower m less p) (λ less. low n less q)
 
 -- ---- lines

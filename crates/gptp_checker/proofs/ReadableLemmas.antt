@@ -17,7 +17,7 @@ use Rattle.gptp_graph.proofs.StatementLemmas.{line_clock}
 use Rattle.gptp_network.specs.Snapshot.{IsWithinLimits}
 use Rattle.gptp_certificate_text.specs.Certificate.{IsVersion}
 use Rattle.gptp_certificate_text.specs.CertificateText.{certificate_text}
-use Rattle.gptp_certificate_text.specs.Entries.{Entry, PortEntry, IsPortNumber, IsReadable, IsReadableChoice, IsReadableEntry, IsReadableParent, entries_of}
+use Rattle.gptp_certificate_text.specs.Entries.{LineKey, PortEntry, IsPortNumber, IsReadable, IsReadableChoice, IsReadableEntry, IsReadableParent, entries_of}
 use Rattle.gptp_certificate_text.proofs.LengthLemmas.{certificate_length}
 use Rattle.gptp_checker.specs.Faults.{IsAccepted}
 
@@ -28,7 +28,7 @@ in_range first (suc count) n (inr later) =
     let (least, most) = in_range (first + 1) count n later in (omega (arith, least), omega (arith, most))
 
 -- the lines of a system's ports, and those that follow
-with_ports : (version clock : ℕ) (ports : List PortLine) (rest : List Entry) → clock < 2 ^ 64
+with_ports : (version clock : ℕ) (ports : List PortLine) (rest : List LineKey) → clock < 2 ^ 64
     → ((port : PortLine) → In port ports → IsPortNumber port.number) → AllByRecursion (IsReadableEntry version) rest
     → AllByRecursion (IsReadableEntry version) (map (PortEntry clock) ports ++ rest)
 with_ports version clock [] rest small each later = later

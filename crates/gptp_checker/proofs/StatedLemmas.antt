@@ -13,7 +13,7 @@ use Rattle.gptp_graph.proofs.SystemLemmas.{system_of}
 use Rattle.gptp_graph.proofs.StatementLemmas.{same_line}
 use Rattle.gptp_graph.proofs.Sure.{and_true}
 use Rattle.gptp_checker.specs.Places.{IsLineAt, IsSystemAt}
-use Rattle.gptp_checker.specs.LineTests.{Follows, HasLowRoot, HasOwnRoot, IsNearer, IsNoLower, AgreeAcross, AgreeOver}
+use Rattle.gptp_checker.specs.LineTests.{FollowsParent, HasLowRoot, HasOwnRoot, IsNearer, IsNoLower, AgreeAcross, AgreeOver}
 
 -- this is the identity of the clock, if it has one
 abbrev pub OnlyIdentity : Snapshot → ℕ → Option ℕ → Type 0
@@ -117,7 +117,7 @@ low_root_by g line n b h only test = (
 -- a parent by its link and the steps that are stated of it
 pub follows_by : (g : Snapshot) (lines : List SystemLine) (v steps d : ℕ) (l : ParentLink) (b : Bool) → JoinsAt g v l
     → StatesSteps lines l.clock d → OnlySteps lines l.clock (Some d) → (IsTrue b ↔ (d + 1 ≡ steps))
-    → IsTrue b ↔ Follows g lines v steps l
+    → IsTrue b ↔ FollowsParent g lines v steps l
 follows_by g lines v steps d l b joins there only test = (
   (λ t. record { joins = joins; less = (d, there, test.0 t) }),
   (λ f. let (k, at, less) = f.less in test.1 (ap (λ n. n + 1) (same_number d k (only k at)) ∙ less)),
@@ -125,7 +125,7 @@ follows_by g lines v steps d l b joins there only test = (
 
 -- a parent of which nothing is stated
 pub follows_nothing : {A : Type 0} (g : Snapshot) (lines : List SystemLine) (v steps : ℕ) (l : ParentLink)
-    → OnlySteps lines l.clock None → Follows g lines v steps l → A
+    → OnlySteps lines l.clock None → FollowsParent g lines v steps l → A
 follows_nothing g lines v steps l only f = let (k, at, less) = f.less in let e = only k at in absurd cc
 
 -- the own port of the parent

@@ -43,13 +43,13 @@ pub record IsFirstFault (version : ℕ) (g : Snapshot) (lines : List SystemLine)
   pub fails : test_of fault version g lines → ⊥
 
 -- a fault as its number and its name
-abbrev pub fault_text : Fault → List ℕ
-fault_text Systems = codes "1 Systems"
-fault_text Root = codes "2 Root"
-fault_text Steps = codes "3 Steps"
-fault_text Parent = codes "4 Parent"
-fault_text Link = codes "5 Link"
-fault_text Identity = codes "6 Identity"
-fault_text Tie = codes "7 Tie"
-fault_text Role = codes "8 Role"
-fault_text TooFar = codes "9 TooFar"
+abbrev pub check_fault_text : Fault → List ℕ
+check_fault_text Systems = codes "1 Systems"
+check_fault_text Root = codes "2 Root"
+check_fault_text Steps = codes "3 Steps"
+check_fault_text Parent = codes "4 Parent"
+check_fault_text Link = codes "5 Link"
+check_fault_text Identity = codes "6 Identity"
+check_fault_text Tie = codes "7 Tie"
+check_fault_text Role = codes "8 Role"
+check_fault_text TooFar = codes "9 TooFar"

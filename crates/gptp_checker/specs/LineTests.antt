@@ -24,7 +24,7 @@ pub record FitsSteps (line : SystemLine) : Type 0 where
   pub far : line.far ≡ true → 255 ≤ line.steps
 
 -- a link joins the own port to the parent's port, and the parent's steps are one less
-pub record Follows (g : Snapshot) (lines : List SystemLine) (clock steps : ℕ) (l : ParentLink) : Type 0 where
+pub record FollowsParent (g : Snapshot) (lines : List SystemLine) (clock steps : ℕ) (l : ParentLink) : Type 0 where
   pub joins : JoinsAt g clock l
   pub less : (d : ℕ) × StatesSteps lines l.clock d × (d + 1 ≡ steps)
 
@@ -33,8 +33,8 @@ abbrev pub LeadsFrom : List SystemLine → SystemLine → ℕ → ℕ → Type 0
 LeadsFrom lines line here there = (here ≡ line.clock) × StatesOneLess lines there line
 
 -- so from one of its ends
-abbrev pub LeadsNearer : List SystemLine → SystemLine → Link → Type 0
-LeadsNearer lines line link =
+abbrev pub EndLeadsNearer : List SystemLine → SystemLine → Link → Type 0
+EndLeadsNearer lines line link =
     LeadsFrom lines line link.a.clock link.b.clock ⊎ LeadsFrom lines line link.b.clock link.a.clock
 
 -- a link of the snapshot leads from a far system to one that states one step less
@@ -43,7 +43,7 @@ HasNearer g lines line = (w : ℕ) × Adjacent g line.clock w × StatesOneLess l
 
 -- a parent is followed, and a far system has a link to one that states one step less
 pub record FollowsNearer (g : Snapshot) (lines : List SystemLine) (line : SystemLine) : Type 0 where
-  pub near : (l : ParentLink) → line.parent ≡ Some l → Follows g lines line.clock line.steps l
+  pub near : (l : ParentLink) → line.parent ≡ Some l → FollowsParent g lines line.clock line.steps l
   pub far : line.far ≡ true → HasNearer g lines line
 
 -- the root isn't above the system's identity

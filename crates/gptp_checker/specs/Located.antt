@@ -18,8 +18,8 @@ use Rattle.gptp_checker.specs.declared.location.Location.{Location}
 use Rattle.gptp_checker.specs.declared.location.Location.TheVariants.{System, Link, Port}
 
 -- the least number of which it holds
-abbrev pub IsLeast : (ℕ → Type 0) → ℕ → Type 0
-IsLeast P n = P n × ((m : ℕ) → m < n → P m → ⊥)
+abbrev pub IsLeastSuch : (ℕ → Type 0) → ℕ → Type 0
+IsLeastSuch P n = P n × ((m : ℕ) → m < n → P m → ⊥)
 
 -- ---- systems
 
@@ -111,7 +111,7 @@ pub record IsFirstEnd (g : Snapshot) (lines : List SystemLine) (p q : PortId) : 
 -- ---- the place of a fault
 
 abbrev pub IsLocation : Fault → Snapshot → List SystemLine → Location → Type 0
-IsLocation faults.Systems g lines place = (v : ℕ) × IsLeast (DiffersAt g lines) v × (place ≡ System v)
+IsLocation faults.Systems g lines place = (v : ℕ) × IsLeastSuch (DiffersAt g lines) v × (place ≡ System v)
 IsLocation faults.TooFar g lines place = IsAtLine tests.TooFar g lines place
 IsLocation faults.Root g lines place = IsAtLine tests.Root g lines place
 IsLocation faults.Steps g lines place = IsAtLine tests.Steps g lines place
@@ -127,8 +127,8 @@ IsLocation faults.Role g lines place = (line : SystemLine) × (p : PortId) × Is
 -- ---- what the code keeps: contracts of private functions alone cite this
 
 -- no line is strange, and no system's is missing
-abbrev pub AreKnown : Snapshot → List SystemLine → Type 0
-AreKnown g lines = (line : SystemLine) → In line lines → IsKnownLine g line
+abbrev pub LinesAreKnown : Snapshot → List SystemLine → Type 0
+LinesAreKnown g lines = (line : SystemLine) → In line lines → IsKnownLine g line
 
 abbrev pub AreStated : Snapshot → List SystemLine → Type 0
 AreStated g lines = (v : ℕ) → In v (clocks g) → In v (line_clocks lines)

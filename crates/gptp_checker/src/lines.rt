@@ -7,7 +7,7 @@ ghost use Rattle.gptp_graph.specs.Labelling as graphs;
 ghost use Rattle.gptp_lists.specs.Members.{In};
 ghost use Rattle.gptp_graph.specs.Parent.{ParentLink};
 ghost use Rattle.gptp_graph.specs.Snapshot.{clocks};
-ghost use Rattle.gptp_checker.specs.LineTests.{FitsSteps, Follows, HasLowRoot, HasNearer, HasOwnRoot, PassesEachLine, PassesLine};
+ghost use Rattle.gptp_checker.specs.LineTests.{FitsSteps, FollowsParent, HasLowRoot, HasNearer, HasOwnRoot, PassesEachLine, PassesLine};
 ghost use Rattle.gptp_checker.specs.Located.{IsFirstLine};
 ghost use Rattle.gptp_checker.specs.declared.line_test.LineTest.TheVariants as tests;
 
@@ -67,7 +67,7 @@ fn follows(
 ) -> bool
     requires { PassesSystems snapshot.now certificate.now.lines }
     ensures { IsTrue result
-        ↔ Follows snapshot.now certificate.now.lines own.clock steps (parent_of (own.port, parent)) }
+        ↔ FollowsParent snapshot.now certificate.now.lines own.clock steps (parent_of (own.port, parent)) }
 {
     let clock = parent.clock;
     if !joins(snapshot, own, parent) {
@@ -83,7 +83,7 @@ fn follows(
 fn follows_parent(snapshot: &Snapshot, certificate: &Certificate, line: &SystemLine) -> bool
     requires { PassesSystems snapshot.now certificate.now.lines }
     ensures { IsTrue result ↔ ((l : ParentLink) → (line_of line.now).parent ≡ Some l
-        → Follows snapshot.now certificate.now.lines line.now.clock line.now.steps l) }
+        → FollowsParent snapshot.now certificate.now.lines line.now.clock line.now.steps l) }
 {
     let clock = line.clock;
     let steps = line.steps;

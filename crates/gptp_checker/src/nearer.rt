@@ -4,7 +4,7 @@ ghost use Rattle.std.specs.Prelude.{◌≡◌, ◌↔◌, IsTrue, Some, slice_ge
 ghost use Rattle.gptp_certificate_text.specs.Certificate.{line_of};
 ghost use Rattle.gptp_graph.specs.LocalTests.{PassesSystems, StatesOneLess};
 ghost use Rattle.gptp_graph.specs.Snapshot.{Link};
-ghost use Rattle.gptp_checker.specs.LineTests.{HasNearer, LeadsFrom, LeadsNearer};
+ghost use Rattle.gptp_checker.specs.LineTests.{HasNearer, LeadsFrom, EndLeadsNearer};
 
 use crate::stated::steps_of;
 use gptp_certificate_text::{Certificate, SystemLine};
@@ -53,7 +53,7 @@ fn leads_nearer_at(
 ) -> bool
     requires { PassesSystems snapshot.now certificate.now.lines }
     ensures { IsTrue result ↔ ((link : Link) × (slice_get snapshot.now.links place ≡ Some link)
-        × LeadsNearer certificate.now.lines (line_of line.now) link) }
+        × EndLeadsNearer certificate.now.lines (line_of line.now) link) }
 {
     match snapshot.link_at(place) {
         Some((a, b)) => {

@@ -1,7 +1,7 @@
 //! The tests of a line's ports.
 
 ghost use Rattle.std.specs.Prelude.{◌≡◌, ◌⊎◌, ◌↔◌, ◌<◌, IfNone, IfSome, IsTrue};
-ghost use Rattle.gptp_certificate_text.specs.Certificate.{AreInOrder, line_of, role_of};
+ghost use Rattle.gptp_certificate_text.specs.Certificate.{LinesAreInOrder, line_of, role_of};
 ghost use Rattle.gptp_lists.specs.Members.{In};
 ghost use Rattle.gptp_graph.specs.LocalTests.{HasStatedRole, PassesSystems, StatesSlave};
 ghost use Rattle.gptp_checker.specs.LineTests.{IsNearer, PassesLine};
@@ -76,7 +76,7 @@ pub(crate) fn wrong_role(
     line: &SystemLine,
 ) -> Option<u16>
     requires systems { PassesSystems snapshot.now certificate.now.lines }
-    requires order { AreInOrder certificate.now.lines }
+    requires order { LinesAreInOrder certificate.now.lines }
     requires stated { In (line_of line.now) certificate.now.lines }
     ensures some { IfSome result (IsFirstRole snapshot.now certificate.now.lines (line_of line.now)) }
     ensures none { IfNone result (PassesLine tests.Role snapshot.now certificate.now.lines (line_of line.now)) }

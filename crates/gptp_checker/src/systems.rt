@@ -10,7 +10,7 @@ ghost use Rattle.gptp_lists.specs.Members.{In};
 ghost use Rattle.gptp_graph.specs.LocalTests.{PassesSystems};
 ghost use Rattle.gptp_network.specs.Snapshot.{system_of};
 ghost use Rattle.gptp_checker.specs.Places.{AgreeAt, HasRightPorts, IsLineFor, numbers_of};
-ghost use Rattle.gptp_checker.specs.Located.{AreKnown, AreStated, DiffersAt, HasAllPorts, IsKnownLine, IsLeast, IsMissing, IsStrange};
+ghost use Rattle.gptp_checker.specs.Located.{LinesAreKnown, AreStated, DiffersAt, HasAllPorts, IsKnownLine, IsLeastSuch, IsMissing, IsStrange};
 
 use gptp_certificate_text::{Certificate, SystemLine};
 use gptp_network::Snapshot;
@@ -127,8 +127,8 @@ fn strange_at(snapshot: &Snapshot, certificate: &Certificate, place: usize) -> O
 
 /// The least clock of a line that no system has, or whose ports aren't its own, if there is one.
 fn least_strange(snapshot: &Snapshot, certificate: &Certificate) -> Option<ClockId>
-    ensures some { IfSome result (IsLeast (IsStrange snapshot.now certificate.now.lines)) }
-    ensures none { IfNone result (AreKnown snapshot.now certificate.now.lines) }
+    ensures some { IfSome result (IsLeastSuch (IsStrange snapshot.now certificate.now.lines)) }
+    ensures none { IfNone result (LinesAreKnown snapshot.now certificate.now.lines) }
 {
     certificate.well_formed();
     for place in 0..certificate.len() {
@@ -179,7 +179,7 @@ fn missing_at(snapshot: &Snapshot, certificate: &Certificate, place: usize) -> O
 
 /// The least clock of a system that no line has, if there is one.
 fn least_missing(snapshot: &Snapshot, certificate: &Certificate) -> Option<ClockId>
-    ensures some { IfSome result (IsLeast (IsMissing snapshot.now certificate.now.lines)) }
+    ensures some { IfSome result (IsLeastSuch (IsMissing snapshot.now certificate.now.lines)) }
     ensures none { IfNone result (AreStated snapshot.now certificate.now.lines) }
 {
     snapshot.well_formed();
@@ -193,7 +193,7 @@ fn least_missing(snapshot: &Snapshot, certificate: &Certificate) -> Option<Clock
 
 /// The least clock at which the systems of a certificate and those of a network differ, if there is one.
 pub(crate) fn least_difference(snapshot: &Snapshot, certificate: &Certificate) -> Option<ClockId>
-    ensures some { IfSome result (IsLeast (DiffersAt snapshot.now certificate.now.lines)) }
+    ensures some { IfSome result (IsLeastSuch (DiffersAt snapshot.now certificate.now.lines)) }
     ensures none { IfNone result (PassesSystems snapshot.now certificate.now.lines) }
 {
     snapshot.well_formed();

@@ -1,7 +1,7 @@
 //! Whether a parent is the first of those that are as near.
 
 ghost use Rattle.std.specs.Prelude.{◌↔◌, [], ◌∷◌, IfNone, IfSome, IsTrue};
-ghost use Rattle.gptp_certificate_text.specs.Certificate.{AreInOrder, line_of, parent_of};
+ghost use Rattle.gptp_certificate_text.specs.Certificate.{LinesAreInOrder, line_of, parent_of};
 ghost use Rattle.gptp_lists.specs.Members.{In};
 ghost use Rattle.gptp_graph.specs.LocalTests.{PassesSystems};
 ghost use Rattle.gptp_graph.specs.Order.{IsLower};
@@ -64,7 +64,7 @@ fn first_lower(
     parent: PortId,
 ) -> Option<u16>
     requires systems { PassesSystems snapshot.now certificate.now.lines }
-    requires order { AreInOrder certificate.now.lines }
+    requires order { LinesAreInOrder certificate.now.lines }
     requires stated { In (line_of line.now) certificate.now.lines }
     ensures some { IfSome result
         (IsFirstLower snapshot.now certificate.now.lines (line_of line.now) (parent_of (own_port, parent))) }
@@ -86,7 +86,7 @@ pub(crate) fn lower_way(
     line: &SystemLine,
 ) -> Option<(PortId, PortId)>
     requires systems { PassesSystems snapshot.now certificate.now.lines }
-    requires order { AreInOrder certificate.now.lines }
+    requires order { LinesAreInOrder certificate.now.lines }
     requires stated { In (line_of line.now) certificate.now.lines }
     ensures some { IfSome result
         (λ way. IsLowerWay snapshot.now certificate.now.lines (line_of line.now) way.0 way.1) }

@@ -17,7 +17,7 @@ use Rattle.gptp_certificate_text.specs.Certificate.{IsCertificate, line_of, line
 use Rattle.gptp_certificate_text.specs.declared.certificate.SystemLine as texts
 use Rattle.gptp_components.specs.Distances.{IsDistanceOf}
 use Rattle.gptp_components.specs.declared.distance.Distance.{Distance}
-use Rattle.gptp_choice.specs.Lines.{AreFirstLines, AreRoles, IsLineFor}
+use Rattle.gptp_choice.specs.Lines.{AreFirstLines, AreRoles, IsChosenLine}
 use Rattle.gptp_choice.proofs.RoleLemmas.{range_rises}
 
 abbrev clock_of : System → ℕ
@@ -29,7 +29,7 @@ line_clock line = line.clock
 -- a far system
 pub far_settled : (g : Snapshot) (v ports : ℕ) (own : Distance) (line : SystemLine) → IsDistanceOf g v own
     → 255 ≤ own.steps → line.clock ≡ v → line.root ≡ own.root → line.steps ≡ own.steps → line.far ≡ true
-    → line.parent ≡ None → line.ports ≡ [] → IsLineFor g v ports line
+    → line.parent ≡ None → line.ports ≡ [] → IsChosenLine g v ports line
 far_settled g v ports own line has over clock root steps far parent none = record {
   clock = clock;
   settled = record {
@@ -47,7 +47,7 @@ far_settled g v ports own line has over clock root steps far parent none = recor
 -- a near one
 pub near_settled : (g : Snapshot) (v ports : ℕ) (own : Distance) (line : SystemLine) → IsDistanceOf g v own
     → own.steps < 255 → line.clock ≡ v → line.root ≡ own.root → line.steps ≡ own.steps → line.far ≡ false
-    → IsParentIfAny g v line.parent → AreRoles g v ports line.ports → IsLineFor g v ports line
+    → IsParentIfAny g v line.parent → AreRoles g v ports line.ports → IsChosenLine g v ports line
 near_settled g v ports own line has below clock root steps near parent roles = record {
   clock = clock;
   settled = record {
@@ -69,7 +69,7 @@ pub no_lines : (g : Snapshot) → AreFirstLines g 0 []
 no_lines g = record { clocks_are = refl; each = λ place s line there here. absurd cc }
 
 pub one_line : (g : Snapshot) (place : ℕ) (lines : List SystemLine) (s : System) (line : SystemLine)
-    → AreFirstLines g place lines → slice_get g.systems place ≡ Some s → IsLineFor g s.clock s.ports line
+    → AreFirstLines g place lines → slice_get g.systems place ≡ Some s → IsChosenLine g s.clock s.ports line
     → AreFirstLines g (suc place) (lines ++ line ∷ [])
 one_line g place lines s line before there is = record {
   clocks_are = joined lines ∙ ap (λ cs. cs ++ line.clock ∷ []) before.clocks_are
@@ -79,8 +79,8 @@ one_line g place lines s line before there is = record {
     | inr (last, same) ↦ (
         let one : t ≡ s =
         same_Some t s (sym at ∙ ap (slice_get g.systems) (last ∙ many) ∙ there) in
-        subst (λ (u : System). IsLineFor g u.clock u.ports other) (sym one)
-        (subst (IsLineFor g s.clock s.ports) (sym same) is)
+        subst (λ (u : System). IsChosenLine g u.clock u.ports other) (sym one)
+        (subst (IsChosenLine g s.clock s.ports) (sym same) is)
         )
   ];
 }
@@ -124,7 +124,7 @@ one_line g place lines s line before there is = record {
 pub pushed_line : (g : Snapshot) (place : ℕ) (before after : List texts.SystemLine) (line : texts.SystemLine)
     (s : System)
     → AreFirstLines g place (lines_of before) → after ≡ before ++ line ∷ [] → slice_get g.systems place ≡ Some s
-    → IsLineFor g s.clock s.ports (line_of line) → AreFirstLines g (suc place) (lines_of after)
+    → IsChosenLine g s.clock s.ports (line_of line) → AreFirstLines g (suc place) (lines_of after)
 pushed_line g place before after line s so_far is there for_it =
     subst (AreFirstLines g (suc place)) (sym (ap lines_of is ∙ joined before))
     (one_line g place (lines_of before) s (line_of line) so_far there for_it)
@@ -172,7 +172,7 @@ module _ (g : Snapshot) (wf : IsWellFormed g) (rising : IsRising (clocks g)) (li
       let (s, there, is) = mapped clock_of g.systems place line.clock clock in
       (s, record { place = place; there = there; here = here })
 
-  is_for : (s : System) (line : SystemLine) → AtPlace s line → IsLineFor g s.clock s.ports line
+  is_for : (s : System) (line : SystemLine) → AtPlace s line → IsChosenLine g s.clock s.ports line
   is_for s line at = are.each at.place s line at.there at.here
 
   is_line : (s : System) (line : SystemLine) → AtPlace s line → IsLineOf g lines s line
@@ -210,7 +210,7 @@ module _ (g : Snapshot) (wf : IsWellFormed g) (rising : IsRising (clocks g)) (li
     second = λ line stated far. refl;
   }
     where
-      numbers_rise : (s : System) (line : SystemLine) → IsLineFor g s.clock s.ports line → (far : Bool) → line.far ≡ far
+      numbers_rise : (s : System) (line : SystemLine) → IsChosenLine g s.clock s.ports line → (far : Bool) → line.far ≡ far
           → IsRising (port_numbers line)
       numbers_rise s line is true far =
           subst (λ (ports : List PortLine). IsRising (map (λ (port : PortLine). port.number) ports))

@@ -28,7 +28,7 @@ pub record AreRoles (g : Snapshot) (v count : ℕ) (ports : List PortLine) : Typ
   pub settled : (port : PortLine) → In port ports → IsSettledRole g (port_of v port.number) port.role
 
 -- the line of the system with clock v, which has so many ports
-pub record IsLineFor (g : Snapshot) (v ports : ℕ) (line : SystemLine) : Type 0 where
+pub record IsChosenLine (g : Snapshot) (v ports : ℕ) (line : SystemLine) : Type 0 where
   pub clock : line.clock ≡ v
   pub settled : IsSettledLine g line
   pub numbers : line.far ≡ false → port_numbers line ≡ range_with_len 1 ports
@@ -38,4 +38,4 @@ pub record IsLineFor (g : Snapshot) (v ports : ℕ) (line : SystemLine) : Type 0
 pub record AreFirstLines (g : Snapshot) (count : ℕ) (lines : List SystemLine) : Type 0 where
   pub clocks_are : line_clocks lines ≡ take count (clocks g)
   pub each : (place : ℕ) (s : System) (line : SystemLine) → slice_get g.systems place ≡ Some s
-      → slice_get lines place ≡ Some line → IsLineFor g s.clock s.ports line
+      → slice_get lines place ≡ Some line → IsChosenLine g s.clock s.ports line

@@ -5,7 +5,7 @@ ghost use Rattle.gptp_certificate_text.specs.Certificate.{line_of};
 ghost use Rattle.gptp_components.specs.Distances.{AreDistances, IsDistanceOf};
 ghost use Rattle.gptp_graph.specs.Snapshot.{System};
 ghost use Rattle.gptp_lists.specs.Members.{In};
-ghost use Rattle.gptp_choice.specs.Lines.{IsLineFor};
+ghost use Rattle.gptp_choice.specs.Lines.{IsChosenLine};
 
 use crate::parent::parent_of;
 use crate::role::roles_of;
@@ -22,7 +22,7 @@ const FAR: u16 = 255;
 fn far_line(alloc: Global, snapshot: &Snapshot, clock: ClockId, own: &Distance) -> SystemLine
     requires own { IsDistanceOf snapshot.now clock own.now }
     requires far { 255 ≤ own.now.steps }
-    ensures { (ports : ℕ) → IsLineFor snapshot.now clock ports (line_of result) }
+    ensures { (ports : ℕ) → IsChosenLine snapshot.now clock ports (line_of result) }
 {
     let _ = snapshot;
     SystemLine {
@@ -48,7 +48,7 @@ fn near_line(
     requires ports { (s : System) → In s snapshot.now.systems → s.clock ≡ clock → s.ports ≡ count }
     requires own { IsDistanceOf snapshot.now clock own.now }
     requires near { own.now.steps < 255 }
-    ensures { IfOk result (λ line. IsLineFor snapshot.now clock count (line_of line)) }
+    ensures { IfOk result (λ line. IsChosenLine snapshot.now clock count (line_of line)) }
 {
     let parent = parent_of(snapshot, distances, clock, count, own.steps);
     let ports = roles_of(alloc, snapshot, distances, clock, count, own.steps, &parent)?;
@@ -74,7 +74,7 @@ pub(crate) fn line_of(
     requires distances { AreDistances snapshot.now distances.now }
     requires ports { (s : System) → In s snapshot.now.systems → s.clock ≡ clock → s.ports ≡ ports }
     requires own { IsDistanceOf snapshot.now clock own.now }
-    ensures { IfOk result (λ line. IsLineFor snapshot.now clock ports (line_of line)) }
+    ensures { IfOk result (λ line. IsChosenLine snapshot.now clock ports (line_of line)) }
 {
     if own.steps >= FAR {
         return Ok(far_line(alloc, snapshot, clock, own));

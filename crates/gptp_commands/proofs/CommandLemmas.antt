@@ -9,8 +9,8 @@ use Rattle.clap.specs.declared.parser.matches.ArgMatches.{ArgMatches}
 use Rattle.clap.specs.declared.parser.matches.ArgMatches.TheViews.{out-ArgMatches, out-SubCommand}
 use Rattle.clap.specs.declared.parser.matches.SubCommand.{SubCommand}
 use Rattle.gptp_timeline.specs.Limits.{most_of, option_name}
-use Rattle.gptp_commands.specs.Command.{AsksFor, BeginsWith, Enters, IsCompare, IsEndInRange, IsNoOther, IsRight, IsTaken, LacksClock, LacksKind, LacksPart, Means, MeansNothing, MemoryOr, OrderIsInRange, QuestionIsInRange, ReadsQuestion, Wrong, WrongCases, name_of}
-use Rattle.gptp_commands.specs.Options.{number_of}
+use Rattle.gptp_commands.specs.Command.{AsksFor, BeginsWith, Enters, IsCompare, IsEndInRange, IsNoOther, IsRightOrder, IsRead, LacksClock, LacksKind, LacksPart, WordsMean, MeansNothing, MemoryOr, OrderIsInRange, QuestionIsInRange, ReadsQuestion, Wrong, WrongCases, name_of}
+use Rattle.gptp_commands.specs.Options.{option_number}
 use Rattle.gptp_commands.specs.Table.{gptp_sim, the}
 use Rattle.gptp_commands.specs.declared.command.CommandLineError.{CommandLineError}
 use Rattle.gptp_commands.specs.declared.command.CommandLineError.TheVariants.{Memory, NotRead}
@@ -47,13 +47,13 @@ found_name None = refl
 found_name (Some sub) = refl
 
 -- what the words mean begins with its name
-named : (words : List Text) (order : Order) → Means words order
-    → BeginsWith (name_of order) (drop 1 words) × Means words order
+named : (words : List Text) (order : Order) → WordsMean words order
+    → BeginsWith (name_of order) (drop 1 words) × WordsMean words order
 named words order means = (begins words (name_of order) means.1.0 means.0 means.1.1, means)
 
 -- and those that enter no other command are `compare`
 compared : (words : List Text) → fault_of gptp_sim words ≡ []
-    → IsNoOther (name_in (subcommand_of gptp_sim words)) → IsCompare (drop 1 words) × Means words Compare
+    → IsNoOther (name_in (subcommand_of gptp_sim words)) → IsCompare (drop 1 words) × WordsMean words Compare
 compared words none others =
     let (rows, is) = compare_entered words none others in
     (compares (drop 1 words) none (begins words (codes "compare") rows none is), (none, (rows, is, tt)))
@@ -109,15 +109,15 @@ lacks rows e (inl wrong) = inl wrong.0
 lacks rows e (inr wrong) = inr wrong.0
 
 -- those that are taken aren't such
-pub taken : (words : List Text) (e : CommandLineError) → (e ≡ Memory) ⊎ MeansNothing words e → IsTaken words
+pub taken : (words : List Text) (e : CommandLineError) → (e ≡ Memory) ⊎ MeansNothing words e → IsRead words
     → e ≡ Memory
 taken words e (inl memory) is = memory
 taken words e (inr (inl (error, came, among))) is = absurd (subst (IsAmong (kind_of error)) is.parsed among)
 taken words e (inr (inr (none, inl (rows, entered_is, wrong)))) is =
-    let right : LacksClock rows → ⊥ = subst (λ found. IfSome found IsRight) entered_is is.right in
+    let right : LacksClock rows → ⊥ = subst (λ found. IfSome found IsRightOrder) entered_is is.right in
     absurd (right wrong.0)
 taken words e (inr (inr (none, inr (rows, entered_is, wrong)))) is =
-    let right : LacksKind rows ⊎ LacksPart rows → ⊥ = subst (λ found. IfSome found IsRight) entered_is is.right in
+    let right : LacksKind rows ⊎ LacksPart rows → ⊥ = subst (λ found. IfSome found IsRightOrder) entered_is is.right in
     absurd (right (lacks rows e wrong))
 
 -- ---- the numbers of what is asked for are in their ranges: an end, a seed, a count, those of a question, and all
@@ -128,19 +128,19 @@ upper None least most within = tt
 upper (Some n) least most within = within.1
 
 end_in_range : (name : Text) (least : ℕ) (rows : List Row) (end : Option ℕ)
-    → end ≡ number_of (name, Number least 1000000000000000, []) rows → IsEndInRange end
+    → end ≡ option_number (name, Number least 1000000000000000, []) rows → IsEndInRange end
 end_in_range name least rows end is =
     subst IsEndInRange (sym is)
     (upper _ least 1000000000000000 (number_within name [] least 1000000000000000 rows))
 
-seed_in_range : (rows : List Row) (seed : ℕ) → seed ≡ unwrap_or (number_of (the SEED) rows) 1 → seed < 2 ^ 32
+seed_in_range : (rows : List Row) (seed : ℕ) → seed ≡ unwrap_or (option_number (the SEED) rows) 1 → seed < 2 ^ 32
 seed_in_range rows seed is =
-    let within = default_within (number_of (the SEED) rows) 0 4294967295 1 (omega arith) (omega arith)
+    let within = default_within (option_number (the SEED) rows) 0 4294967295 1 (omega arith) (omega arith)
     (number_within (codes "seed") (codes "1" ∷ []) 0 4294967295 rows) in
     subst (λ n. n < 2 ^ 32) (sym is) (omega (arith, within.1))
 
 count_in_range : (name default_text : Text) (most default number : ℕ) (rows : List Row) → 1 ≤ default → default ≤ most
-    → number ≡ unwrap_or (number_of (name, Number 1 most, default_text ∷ []) rows) default
+    → number ≡ unwrap_or (option_number (name, Number 1 most, default_text ∷ []) rows) default
     → (1 ≤ number) × (number ≤ most)
 count_in_range name default_text most default number rows low high is =
     subst (λ n. (1 ≤ n) × (n ≤ most)) (sym is)

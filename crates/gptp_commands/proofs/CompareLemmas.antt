@@ -9,7 +9,7 @@ use Rattle.std.proofs.lemmas.List.Folds.{list_any-append}
 use Rattle.gptp_sink.specs.Sink.{AppendsSome}
 use Rattle.gptp_sink.proofs.SinkLemmas.{all_of, appends_both, appends_none, some_behind}
 use Rattle.gptp_commands.specs.declared.answer.Answer.{Answer}
-use Rattle.gptp_commands.specs.Answer.{Answers, answer_text, is_refusal}
+use Rattle.gptp_commands.specs.Answer.{AnswersLine, answer_text, is_refusal}
 use Rattle.gptp_commands.specs.Failure.{status_by}
 use Rattle.gptp_spelling.specs.Lines.{text_of}
 use Rattle.gptp_commands.specs.CompareText.{AreAnswers, AnswersLines, AnswersSome}
@@ -36,7 +36,7 @@ answered_none input known = record {
 -- ---- one line more
 
 are_more : (answered : List (List ℕ)) (answers : List Answer) (line : List ℕ) (answer : Answer)
-    → AreAnswers answered answers → Answers line answer → AreAnswers (answered ++ line ∷ []) (answers ++ answer ∷ [])
+    → AreAnswers answered answers → AnswersLine line answer → AreAnswers (answered ++ line ∷ []) (answers ++ answer ∷ [])
 are_more [] answers line answer none one =
     subst (λ xs. AreAnswers (line ∷ []) (xs ++ answer ∷ [])) (sym none) (one, refl)
 are_more (x ∷ xs) [] line answer are one = absurd are
@@ -66,7 +66,7 @@ refusal_more answers answer =
 -- one line more is answered, and its answer written
 pub answered_more : (input rest line after : List ℕ) (old between new : Option (List ℕ)) (refused refusal : Bool)
     (answer : Answer) → Answered input rest old between refused → lines rest ≡ line ∷ lines after
-    → Answers line answer → Appends between new (text_of (answer_text answer ∷ [])) → refusal ≡ is_refusal answer
+    → AnswersLine line answer → Appends between new (text_of (answer_text answer ∷ [])) → refusal ≡ is_refusal answer
     → Answered input after old new (refused || refusal)
 answered_more input rest line after old between new refused refusal answer so_far next one shown refusal-is = record {
   answered = so_far.answered ++ line ∷ [];
@@ -117,7 +117,7 @@ answered_some input rest old now refused so_far = (
 -- and some of the next
 pub answered_part : (input rest line after : List ℕ) (old between new : Option (List ℕ)) (refused : Bool)
     (answer : Answer) → Answered input rest old between refused → lines rest ≡ line ∷ lines after
-    → Answers line answer → AppendsSome between new (text_of (answer_text answer ∷ []))
+    → AnswersLine line answer → AppendsSome between new (text_of (answer_text answer ∷ []))
     → (output : List (List ℕ)) × AnswersSome input output × AppendsSome old new (text_of output)
 answered_part input rest line after old between new refused answer so_far next one shown = (
   map answer_text (so_far.answers ++ answer ∷ []),

@@ -13,7 +13,7 @@ use Rattle.gptp_certificate_text.specs.declared.fault.CertificateFault.{Certific
 use Rattle.gptp_certificate_text.specs.declared.fault.CertificateFault.TheVariants.{Line}
 use Rattle.gptp_certificate_text.proofs.EveryLemmas.{IsCertificates, IsFaulty, read_or_faulty}
 use Rattle.gptp_checker.specs.declared.fault.Fault.{Fault}
-use Rattle.gptp_checker.specs.Faults.{IsAccepted, IsFirstFault, fault_text}
+use Rattle.gptp_checker.specs.Faults.{IsAccepted, IsFirstFault, check_fault_text}
 use Rattle.gptp_checker.proofs.EveryLemmas.{accepted_or_faulty}
 use Rattle.gptp_commands.specs.declared.failure.Status.TheVariants.{Done, Refused}
 use Rattle.gptp_commands.specs.CheckText.{AnswersBoth, AnswersCertificate, CheckText, Judges, JudgesAt, RefusesCertificate, certificate_limit, moment_of}
@@ -28,14 +28,14 @@ judged : (g : Snapshot) (c : CertificateContent)
     → HaveText (Judges g c)
 judged g c (inl is) = (codes "accepted" ∷ [], Done, inl (is, record { shown = refl; status_is = refl }))
 judged g c (inr (fault, first)) = (
-  (codes "not accepted " ++ fault_text fault) ∷ [],
+  (codes "not accepted " ++ check_fault_text fault) ∷ [],
   Refused,
   inr (fault, first, record { shown = refl; status_is = refl }),
 )
 
 refused_certificate : (fault : CertificateFault) → HaveText (RefusesCertificate fault)
 refused_certificate fault = (
-  (codes "certificate refused " ++ certificates.fault_text fault) ∷ [],
+  (codes "certificate refused " ++ certificates.certificate_fault_text fault) ∷ [],
   Refused,
   record { shown = refl; status_is = refl },
 )

@@ -12,15 +12,15 @@ use Rattle.gptp_messages.specs.declared.message.Message.{Message}
 use Rattle.gptp_messages.specs.declared.message.Message.TheVariants as messages
 use Rattle.gptp_messages.specs.declared.refused.Refused.{Refused}
 use Rattle.gptp_messages.specs.declared.refused.Refused.TheVariants.{UnknownType}
-use Rattle.gptp_messages.specs.Grammar.{Reads, Refuses}
-use Rattle.gptp_outcome.specs.GoingOn.{AreOctets}
+use Rattle.gptp_messages.specs.Grammar.{Reads, RefusesFrame}
+use Rattle.gptp_outcome.specs.GoingOn.{AllAreOctets}
 use Rattle.gptp_outcome.proofs.ReadLemmas.{frames_are_judged}
 use Rattle.gptp_commands.specs.declared.announced.WordFault.{WordFault}
 use Rattle.gptp_commands.specs.declared.announced.WordFault.TheVariants as faults
 use Rattle.gptp_commands.specs.declared.answer.Answer.{Answer}
 use Rattle.gptp_commands.specs.declared.answer.Answer.TheVariants.{NoTwoWords}
 use Rattle.gptp_commands.specs.declared.failure.Status.TheVariants as statuses
-use Rattle.gptp_commands.specs.Announced.{Says, vector_of}
+use Rattle.gptp_commands.specs.Announced.{SaysVector, vector_of}
 use Rattle.gptp_commands.specs.Answer.{AnswersWords, answer_of, answer_text, is_refusal}
 use Rattle.gptp_commands.specs.CompareText.{AnswersLines, AreAnswers, CompareText, RefusesSize, size_limit}
 use Rattle.gptp_commands.specs.Every.{HasText, HaveText}
@@ -29,18 +29,18 @@ use Rattle.gptp_commands.specs.Words.{words}
 
 -- ---- what a word spells
 
-octets_by_place : (frame : List ℕ) → ((place : ℕ) → slice_index frame place < 256) → AreOctets frame
+octets_by_place : (frame : List ℕ) → ((place : ℕ) → slice_index frame place < 256) → AllAreOctets frame
 octets_by_place [] below = tt
 octets_by_place (x ∷ xs) below = (below 0, octets_by_place xs (λ place. below (suc place)))
 
 -- octets are spelled
-spelled_octets : (word frame : List ℕ) → decode_of word ≡ Ok frame → AreOctets frame
+spelled_octets : (word frame : List ℕ) → decode_of word ≡ Ok frame → AllAreOctets frame
 spelled_octets word frame is = octets_by_place frame (decode_of-ok word frame is).3
 
 -- ---- what a word says
 
 abbrev HasSaying : List ℕ → Type 0
-HasSaying word = (said : Result Vector WordFault) × Says word said
+HasSaying word = (said : Result Vector WordFault) × SaysVector word said
 
 module _ (word frame : List ℕ) (spells : decode_of word ≡ Ok frame) where
   -- of another type than Announce
@@ -56,7 +56,7 @@ module _ (word frame : List ℕ) (spells : decode_of word ≡ Ok frame) where
   message_said (messages.PdelayRespFollowUp m) reads =
       other_said (messages.PdelayRespFollowUp m) reads (λ a same. absurd cc)
 
-  frame_said : ((m : Message) × Reads frame m) ⊎ ((refused : Refused) × Refuses frame refused) → HasSaying word
+  frame_said : ((m : Message) × Reads frame m) ⊎ ((refused : Refused) × RefusesFrame frame refused) → HasSaying word
   frame_said (inl (m, reads)) = message_said m reads
   frame_said (inr (refused, refuses)) = (Err (faults.Message refused), (frame, spells, inl refuses))
 

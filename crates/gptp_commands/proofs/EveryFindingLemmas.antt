@@ -8,7 +8,7 @@ use Rattle.gptp_network.specs.declared.fault.DocumentFault.TheVariants.{TooMany}
 use Rattle.gptp_network.specs.declared.why.Refusal.{Refusal}
 use Rattle.gptp_network.proofs.LawLemmas.{MeansOrFails, means_or_fails}
 use Rattle.gptp_outline.specs.Rows.{table_of}
-use Rattle.gptp_lint.specs.LintText.{calm_line, found_lines, refused_line}
+use Rattle.gptp_lint.specs.LintText.{calm_time_line, found_lines, refused_line}
 use Rattle.gptp_lint.specs.Refusal.{TellsPlace, TellsRefusal, no_toml_words, refusal_words}
 use Rattle.gptp_lint.specs.UnreadKeys.{unread_keys}
 use Rattle.gptp_lint.proofs.EveryLemmas.{each_is_found}
@@ -19,7 +19,7 @@ use Rattle.gptp_commands.specs.Documents.{RefusesFault, document_limit}
 use Rattle.gptp_commands.specs.Every.{HasText, HaveText}
 use Rattle.gptp_commands.specs.Failure.{status_by}
 use Rattle.gptp_commands.specs.LintText.{RefusesAtPlace, TellsFindings}
-use Rattle.gptp_commands.specs.QuestionText.{AnswersInput, QuestionText}
+use Rattle.gptp_commands.specs.QuestionText.{AnswersQuestionInput, QuestionText}
 use Rattle.gptp_commands.proofs.EveryQuestionLemmas.{refused_so}
 
 -- which key was meant is left open: none is told here
@@ -29,7 +29,7 @@ findings_told strict input d means =
     let (f, are) = each_is_found input d means in
     let unread = map bare (unread_keys input) in
     let said = found_lines input d.network.params.threshold f unread in (
-      said ++ map calm_line f.calm.items,
+      said ++ map calm_time_line f.calm.items,
       status_by (strict && not (length said == 0)),
       record {
         findings = f;
@@ -62,14 +62,14 @@ refused_at input fault fails =
     (refused_line fault tail ∷ [], Refused, record { place = tail; told = told; line = refl; status_is = refl })
 
 module _ (strict : Bool) (input : List ℕ) where
-  input_answered : MeansOrFails input → HaveText (AnswersInput (Lint strict) input)
+  input_answered : MeansOrFails input → HaveText (AnswersQuestionInput (Lint strict) input)
   input_answered (inl (d, means)) =
       let (output, status, tells) = findings_told strict input d means in (output, status, inl (d, means, tells))
   input_answered (inr (fault, fails)) =
       let (output, status, refuses) = refused_at input fault fails in (output, status, inr (fault, fails, refuses))
 
   answered_by_size : (fits : Bool)
-      → HaveText (λ output status. MatchBool fits (AnswersInput (Lint strict) input output status)
+      → HaveText (λ output status. MatchBool fits (AnswersQuestionInput (Lint strict) input output status)
       (RefusesFault TooMany output status))
   answered_by_size true = input_answered (means_or_fails input)
   answered_by_size false = refused_so TooMany

@@ -10,7 +10,7 @@ use Rattle.gptp_network.proofs.LawLemmas.{MeansOrFails, means_or_fails}
 use Rattle.gptp_network.proofs.MeantLemmas.{meant_document, meant_well}
 use Rattle.gptp_certificate_text.specs.Certificate.{CertificateContent, IsCertificate}
 use Rattle.gptp_certificate_text.specs.declared.fault.CertificateFault.{CertificateFault}
-use Rattle.gptp_certificate_text.specs.Parsing.{Fails}
+use Rattle.gptp_certificate_text.specs.Parsing.{FailsToParse}
 use Rattle.gptp_certificate_text.proofs.EveryLemmas.{IsCertificates, IsFaulty, part_exists, read_or_faulty}
 use Rattle.gptp_certificate_text.proofs.ReadingLemmas.{ends_with_part}
 use Rattle.gptp_checker.specs.declared.fault.Fault.{Fault}
@@ -50,7 +50,7 @@ module _ (document : List ℕ) (d : DocumentState) (means : Means document d) (u
 
   -- ---- the line of a text
 
-  line_located : (input : List ℕ) (fault : CertificateFault) → Fails input fault → HaveLines (LocatesLine input)
+  line_located : (input : List ℕ) (fault : CertificateFault) → FailsToParse input fault → HaveLines (LocatesLine input)
   line_located input fault fails =
       let (part, from) = part_exists input fault fails in
       let (front, split) = ends_with_part input part fault from in (

@@ -9,7 +9,7 @@ use Rattle.gptp_links.specs.declared.bounds.Bounds.{Bounds}
 use Rattle.gptp_links.specs.Bounds.{Fit, IsLawful}
 use Rattle.gptp_links.specs.Draws.{delay_drawn, delayed, drawn}
 use Rattle.gptp_plan.specs.Change.{system_after}
-use Rattle.gptp_plan.specs.InUse.{live_systems}
+use Rattle.gptp_plan.specs.InUse.{count_live}
 use Rattle.gptp_plan.specs.Network.{IsNetwork, pace_of}
 use Rattle.gptp_plan.specs.SettlingTime.{settles}
 use Rattle.gptp_plan.specs.SyncWait.{sync_paths}
@@ -41,7 +41,7 @@ use Rattle.gptp_commands.proofs.RunLemmas.{runs_settle}
 
 -- ---- a run ends in time
 
-live_few : (events : List Timed) (members : List Member) → live_systems members events ≤ length members
+live_few : (events : List Timed) (members : List Member) → count_live members events ≤ length members
 live_few events [] = omega arith
 live_few events (m ∷ members) =
     let more = count_more (λ (x : Member). (system_after events x).live) m members in
@@ -61,8 +61,8 @@ settled_in_time d network events =
     let early = early_from n d.events events in
     let few = live_few d.events n.systems in
     let most = network.few_systems in
-    let live : live_systems n.systems d.events ≤ 512 = omega (arith, few, most) in
-    let span = short_time (pace_of n) (sync_paths n d.events) (live_systems n.systems d.events) network.params
+    let live : count_live n.systems d.events ≤ 512 = omega (arith, few, most) in
+    let span = short_time (pace_of n) (sync_paths n d.events) (count_live n.systems d.events) network.params
     (largest_log n network) live (short_delay n d.events network allowed) in
     omega (arith, early, span)
 

@@ -9,9 +9,9 @@ use Rattle.gptp_plan.specs.declared.change.Timed.{Timed}
 use Rattle.gptp_network.specs.Document.{DocumentState, Means}
 use Rattle.gptp_network.proofs.MeantLemmas.{SetsOctets, meant_octets}
 use Rattle.gptp_outcome.specs.ExistenceLaws.{AllInject}
-use Rattle.gptp_outcome.specs.GoingOn.{AreOctets, InjectsOctets}
+use Rattle.gptp_outcome.specs.GoingOn.{AllAreOctets, InjectsOctets}
 
-are_octets : (frame : List ℕ) → ((octet : ℕ) → In octet frame → octet < 256) → AreOctets frame
+are_octets : (frame : List ℕ) → ((octet : ℕ) → In octet frame → octet < 256) → AllAreOctets frame
 are_octets [] below = tt
 are_octets (x ∷ xs) below = (below x (inl refl), are_octets xs (λ octet member. below octet (inr member)))
 

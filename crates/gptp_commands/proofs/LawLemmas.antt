@@ -15,7 +15,7 @@ use Rattle.gptp_commands.specs.declared.announced.WordFault.{WordFault}
 use Rattle.gptp_commands.specs.declared.announced.WordFault.TheVariants as faults
 use Rattle.gptp_commands.specs.declared.answer.Answer.{Answer}
 use Rattle.gptp_commands.specs.declared.failure.Status.{Status}
-use Rattle.gptp_commands.specs.Announced.{AnnouncesNothing, Says, vector_of}
+use Rattle.gptp_commands.specs.Announced.{AnnouncesNothing, SaysVector, vector_of}
 use Rattle.gptp_commands.specs.Answer.{AnswersWords, answer_of, answer_text, is_refusal}
 use Rattle.gptp_commands.specs.Failure.{status_by}
 use Rattle.gptp_commands.specs.CompareText.{size_limit, AreAnswers, AnswersLines, AnswersSome, BeginsCompare, RefusesSize, CompareText}
@@ -33,7 +33,7 @@ one_nothing f d e (inr ((m, reads, _), _)) (inl e-refuses) = absurd (never_both 
 one_nothing f d e (inr (_, d-is)) (inr (_, e-is)) = d-is ∙ sym e-is
 
 -- a word says one thing
-one_saying : (word : List ℕ) (a b : Result Vector WordFault) → Says word a → Says word b → a ≡ b
+one_saying : (word : List ℕ) (a b : Result Vector WordFault) → SaysVector word a → SaysVector word b → a ≡ b
 one_saying word (Ok v) (Ok w) (f, f-is, (a, a-reads, v-is)) (g, g-is, (b, b-reads, w-is)) =
     let same : g ≡ f = let e = sym g-is ∙ f-is in cc in
     let views : a ≡ b = let e = one_reading f (Announce a) (Announce b) a-reads (rw same at b-reads) in cc in

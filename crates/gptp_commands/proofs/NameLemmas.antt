@@ -15,7 +15,7 @@ use Rattle.clap.proofs.WalkLemmas.{both, walk_stopped}
 use Rattle.std.proofs.lemmas.Bool.{eqb-true}
 use Rattle.clap.proofs.OnLiterals.{clap_on_literals}
 use Rattle.gptp_commands.specs.Command.{BeginsWith, IsCompare, IsNoOther}
-use Rattle.gptp_commands.specs.Table.{Entry, commands, gptp_sim}
+use Rattle.gptp_commands.specs.Table.{CommandEntry, commands, gptp_sim}
 
 -- ---- faults, of which the first that there is counts
 
@@ -251,9 +251,9 @@ begins words name rows follows enters =
 -- ---- `compare`
 
 -- it is `help` where it has the name of none of these commands
-none_but_help : (name : Text) (entries : List Entry) (entered : Option Text) → entered ≡ Some name
-    → AllByRecursion (λ (e : Entry). entered ≢ Some e.0) entries
-    → IsIn name (map (λ (e : Entry). e.0) entries ++ codes "help" ∷ []) → name ≡ codes "help"
+none_but_help : (name : Text) (entries : List CommandEntry) (entered : Option Text) → entered ≡ Some name
+    → AllByRecursion (λ (e : CommandEntry). entered ≢ Some e.0) entries
+    → IsIn name (map (λ (e : CommandEntry). e.0) entries ++ codes "help" ∷ []) → name ≡ codes "help"
 none_but_help name [] met is none (inl same) = sym same
 none_but_help name [] met is none (inr nothing) = absurd nothing
 none_but_help name (e ∷ entries) met is none (inl same) = absurd (none.0 (is ∙ ap Some (sym same)))
@@ -274,7 +274,7 @@ compare_entered words follows none =
   where
     by : (name : Text) (others : List Text) (rows : List Row) → drop 1 words ≡ name ∷ others
         → subcommand_of gptp_sim words ≡ Some (name, rows)
-        → (codes "compare" ≡ name) ⊎ IsIn name (map (λ (e : Entry). e.0) (drop 1 commands) ++ codes "help" ∷ [])
+        → (codes "compare" ≡ name) ⊎ IsIn name (map (λ (e : CommandEntry). e.0) (drop 1 commands) ++ codes "help" ∷ [])
         → (rows : List Row) × (subcommand_of gptp_sim words ≡ Some (codes "compare", rows))
     by name others rows is enters (inl same) = (rows, enters ∙ ap (λ (n : Text). Some (n, rows)) (sym same))
     by name others rows is enters (inr among) =

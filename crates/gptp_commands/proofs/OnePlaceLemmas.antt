@@ -6,14 +6,14 @@ use Rattle.std.proofs.lemmas.List.{append_cancel_right}
 use Rattle.gptp_graph.specs.Labelling.{line_clocks}
 use Rattle.gptp_graph.specs.Order.{IsRising}
 use Rattle.gptp_graph.specs.Snapshot.{IsWellFormed, Snapshot}
-use Rattle.gptp_network.specs.Document.{DocumentState, Fails as FailsDocument, Means}
+use Rattle.gptp_network.specs.Document.{DocumentState, FailsToParse as FailsDocument, Means}
 use Rattle.gptp_network.specs.declared.fault.DocumentFault.{DocumentFault}
 use Rattle.gptp_network.specs.declared.fault.DocumentFault.TheVariants.{TooMany}
 use Rattle.gptp_network.proofs.LawLemmas as network_laws
 use Rattle.gptp_certificate_text.specs.Certificate.{CertificateContent, IsCertificate}
 use Rattle.gptp_certificate_text.specs.CertificateText.{certificate_text}
 use Rattle.gptp_certificate_text.specs.Entries.{IsReadable}
-use Rattle.gptp_certificate_text.specs.Parsing.{Fails}
+use Rattle.gptp_certificate_text.specs.Parsing.{FailsToParse}
 use Rattle.gptp_certificate_text.specs.declared.fault.CertificateFault.{CertificateFault}
 use Rattle.gptp_certificate_text.specs.declared.fault.CertificateFault.TheVariants.{Line}
 use Rattle.gptp_certificate_text.proofs.LawLemmas as certificate_laws
@@ -80,7 +80,7 @@ at_content d until input c lines c-is c-read c-of (inr (fault, part, n, fails, _
 
 -- and of one that fails at its line
 at_line : (d : DocumentState) (until : Option ℕ) (input : List ℕ) (fault : CertificateFault) (lines : List (List ℕ))
-    → Fails input fault → LocatesCertificate d until input lines → LocatesLine input lines
+    → FailsToParse input fault → LocatesCertificate d until input lines → LocatesLine input lines
 at_line d until input fault lines fails (inl (c, c-is, c-read, c-of, _)) =
     absurd (certificate_laws.no_certificate input fault c.version c.lines fails c-of c-read c-is)
 at_line d until input fault lines fails (inr located) = located

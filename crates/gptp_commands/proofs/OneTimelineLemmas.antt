@@ -33,7 +33,7 @@ use Rattle.gptp_timeline.specs.Limits.{exceeded_after, is_exceeded, verdict_line
 use Rattle.gptp_timeline.specs.Shown.{shown}
 use Rattle.gptp_timeline.specs.Stretch.{counted, measured, waits}
 use Rattle.gptp_timeline.specs.StretchText.{after_line, system_accuracy}
-use Rattle.gptp_timeline.specs.Timeline.{AllPass, AreErrorsBy, AreErrorsIf, IsPassage, Passage, TimelineOf, accuracy_at, accuracy_lines, all_exceeded, all_lines, is_begun, later_than, none_waits, passage_lines, start_lines, stretch_of}
+use Rattle.gptp_timeline.specs.Timeline.{AllPass, AreErrorsBy, AreErrorsIf, IsPassage, Passage, TimelineOf, accuracy_at, timeline_accuracy_lines, all_exceeded, all_lines, is_begun, later_than, none_waits, passage_lines, start_lines, stretch_of}
 use Rattle.gptp_timeline.specs.declared.limits.Limits.{Limits}
 use Rattle.gptp_timeline.specs.declared.timeline.TimelineOptions.{TimelineOptions}
 use Rattle.gptp_commands.specs.declared.failure.Status.{Status}
@@ -167,7 +167,7 @@ same_accuracy_at (Some from) ts us systems k =
     λ i. flat_map (system_accuracy from (λ name. same_errors_from name (Some from) ts us k i)) systems
 
 same_accuracy : (ts us : List Transition) (a b : Option TimeErrors) → SameTransitions ts us → SameErrors a b
-    → accuracy_lines ts a ≡ accuracy_lines us b
+    → timeline_accuracy_lines ts a ≡ timeline_accuracy_lines us b
 same_accuracy ts us None None k same = refl
 same_accuracy ts us None (Some u) k same = absurd same
 same_accuracy ts us (Some t) None k same = absurd same

@@ -14,14 +14,14 @@ use Rattle.clap.specs.declared.parser.matches.SubCommand.{SubCommand}
 use Rattle.clap.proofs.ValueTestLemmas.{Accepts-accepts, accepts-Accepts}
 use Rattle.clap.proofs.WalkLemmas.{both}
 use Rattle.gptp_commands.specs.Command.{IsNoOther}
-use Rattle.gptp_commands.specs.Options.{is_set, number_in, number_of, within}
+use Rattle.gptp_commands.specs.Options.{is_set, decimal_in_range, option_number, within}
 use Rattle.gptp_commands.specs.declared.table.Form.TheVariants.{Number}
 
 -- ---- numbers
 
 -- a text that isn't read as one has none in a range
 unread : {E : Type 0} (least most : ℕ) (text : Text) (e : E) (is : Bool) → is_unsigned_in least most text ≡ is
-    → ParsesUnsigned 64 10 text (Err e) → None ≡ number_in (Number least most) text
+    → ParsesUnsigned 64 10 text (Err e) → None ≡ decimal_in_range (Number least most) text
 unread least most text e true is fails =
     let accepted = accepts-Accepts false (Unsigned least most) text is in
     absurd (fails (accepted.0, accepted.1))
@@ -32,7 +32,7 @@ pub number_read : {E : Type 0} (reads : Text → Result ℕ E → Type 0) (least
     (read : Option ℕ)
     → ((text : Text) (r : Result ℕ E) → reads text r → ParsesUnsigned 64 10 text r)
     → (found ≡ None → read ≡ None) → ((text : Text) → found ≡ Some text → ReadsOne reads text read)
-    → option_and_then (within least most) read ≡ option_and_then (number_in (Number least most)) found
+    → option_and_then (within least most) read ≡ option_and_then (decimal_in_range (Number least most)) found
 number_read reads least most None read parses none some = rw (none refl) refl
 number_read reads least most (Some text) (Some number) parses none some =
     let parsed = parses text (Ok number) (some text refl) in
@@ -100,20 +100,20 @@ no_other name run timeline check choice accuracy explain lint faults =
 
 -- the number of a text is in its range, and so is one that is found
 text_within : (least most : ℕ) (text : Text) (is : Bool) → is_unsigned_in least most text ≡ is
-    → IfSome (number_in (Number least most) text) (λ n. (least ≤ n) × (n ≤ most))
+    → IfSome (decimal_in_range (Number least most) text) (λ n. (least ≤ n) × (n ≤ most))
 text_within least most text true is =
     let accepted = accepts-Accepts false (Unsigned least most) text is in
     rw is (accepted.2, accepted.3)
 text_within least most text false is = rw is tt
 
 found_within : (least most : ℕ) (found : Option Text)
-    → IfSome (option_and_then (number_in (Number least most)) found) (λ n. (least ≤ n) × (n ≤ most))
+    → IfSome (option_and_then (decimal_in_range (Number least most)) found) (λ n. (least ≤ n) × (n ≤ most))
 found_within least most None = tt
 found_within least most (Some text) = text_within least most text (is_unsigned_in least most text) refl
 
 -- a number of the table is in its range
 pub number_within : (name : Text) (defaults : List Text) (least most : ℕ) (rows : List Row)
-    → IfSome (number_of (name, Number least most, defaults) rows) (λ n. (least ≤ n) × (n ≤ most))
+    → IfSome (option_number (name, Number least most, defaults) rows) (λ n. (least ≤ n) × (n ≤ most))
 number_within name defaults least most rows = found_within least most (one_of name rows)
 
 -- a number is within its range also where a default takes its place

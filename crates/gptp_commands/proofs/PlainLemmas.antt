@@ -12,8 +12,8 @@ use Rattle.clap.proofs.OnLiterals.{clap_on_literals}
 use Rattle.gptp_network.specs.Values.{clock_of_text}
 use Rattle.gptp_network.specs.declared.fault.DocumentFault.{DocumentFault}
 use Rattle.gptp_network.specs.declared.fault.DocumentFault.TheVariants.{OutOfRange}
-use Rattle.gptp_commands.specs.Command.{IsClock, IsNoOption, IsPlain, IsRight, IsTaken, LacksClock, LacksKind, LacksPart, part_of, parts_of}
-use Rattle.gptp_commands.specs.Options.{place_of, word_of}
+use Rattle.gptp_commands.specs.Command.{IsClock, IsNoOption, IsPlain, IsRightOrder, IsRead, LacksClock, LacksKind, LacksPart, part_of, parts_of}
+use Rattle.gptp_commands.specs.Options.{place_value, word_of}
 use Rattle.gptp_commands.specs.Table.{app_of_row, gptp_sim, the}
 use Rattle.gptp_commands.specs.declared.table.rows.TheConstants.{CLOCK, FILE, MOMENT, ONLY, WHERE}
 use Rattle.gptp_commands.proofs.NameLemmas.{fault, names, stop, stops}
@@ -141,14 +141,14 @@ found_in entered = option_map_or (λ p. p.1) entered []
 abbrev explained : Text → List Row
 explained clock = found_in (entered (built gptp_sim) (Some (codes "explain", clock ∷ [])))
 
-clock_walked : (clock : Text) → place_of (the CLOCK) (finished explaining.rules (behind explaining clock).held) ≡ clock
+clock_walked : (clock : Text) → place_value (the CLOCK) (finished explaining.rules (behind explaining clock).held) ≡ clock
 unfolding clap_on_literals
 clock_walked clock = refl
 
 -- it is the word behind `explain`, where nothing else is
-clock_found : (clock : Text) → IsNoOption clock → place_of (the CLOCK) (explained clock) ≡ clock
+clock_found : (clock : Text) → IsNoOption clock → place_value (the CLOCK) (explained clock) ≡ clock
 clock_found clock no_option =
-    ap (λ (end : Walk). place_of (the CLOCK) (finished explaining.rules end.held))
+    ap (λ (end : Walk). place_value (the CLOCK) (finished explaining.rules end.held))
     (value_walked explaining clock no_option) ∙ clock_walked clock
 
 -- a text can't be both
@@ -174,11 +174,11 @@ lacks_none rows none one all (inr beyond) = absurd (omega (arith, all, one, beyo
 -- there are cases where these words are found for the command that is entered
 has_cases : (at : Option (Text × List Row)) → option_map (λ p. p.0) at ≡ Some (codes "faults")
     → word_of (the ONLY) (found_in at) ≡ None → part_of (found_in at) ≡ 1 → parts_of (found_in at) ≡ 1
-    → IfSome at IsRight
+    → IfSome at IsRightOrder
 has_cases None named none one all = tt
 has_cases (Some (name, rows)) named none one all =
     let is : codes "faults" ≡ name = ap (λ o. option_map_or (λ x. x) o []) (sym named) in
-    subst (λ n. IsRight (n, rows)) is (lacks_none rows none one all)
+    subst (λ n. IsRightOrder (n, rows)) is (lacks_none rows none one all)
 
 -- by its name alone
 abbrev failing : Option (Text × List Row)
@@ -200,23 +200,23 @@ one_in_all = refl
 
 -- by the words behind the program's name
 taken_by : (words behind : List Text) → drop 1 words ≡ behind → fault behind ≡ []
-    → IfSome (entered (built gptp_sim) (stop behind)) IsRight → IsTaken words
+    → IfSome (entered (built gptp_sim) (stop behind)) IsRightOrder → IsRead words
 taken_by words behind is none right = record {
   parsed = subst (λ ws. fault ws ≡ []) (sym is) none;
-  right = subst (λ ws. IfSome (entered (built gptp_sim) (stop ws)) IsRight) (sym is) right;
+  right = subst (λ ws. IfSome (entered (built gptp_sim) (stop ws)) IsRightOrder) (sym is) right;
 }
 
 -- what is entered is right, by the name and the words behind it
 right_by : (name : Text) (words : List Text) → subcommand_met names idle name ≡ Some name
-    → IfSome (entered (built gptp_sim) (Some (name, words))) IsRight
-    → IfSome (entered (built gptp_sim) (stop (name ∷ words))) IsRight
-right_by name words met = subst (λ at. IfSome (entered (built gptp_sim) at) IsRight) (sym (stops name words name met))
+    → IfSome (entered (built gptp_sim) (Some (name, words))) IsRightOrder
+    → IfSome (entered (built gptp_sim) (stop (name ∷ words))) IsRightOrder
+right_by name words met = subst (λ at. IfSome (entered (built gptp_sim) at) IsRightOrder) (sym (stops name words name met))
 
-faults_right : IfSome (entered (built gptp_sim) (stop (codes "faults" ∷ []))) IsRight
+faults_right : IfSome (entered (built gptp_sim) (stop (codes "faults" ∷ []))) IsRightOrder
 faults_right =
     right_by (codes "faults") [] refl (has_cases failing refl no_kind_given one_part_given one_in_all)
 
-pub plain_taken : (words : List Text) → IsPlain words → IsTaken words
+pub plain_taken : (words : List Text) → IsPlain words → IsRead words
 unfolding clap_on_literals
 plain_taken words (inl (inl compare)) = taken_by words _ compare refl tt
 plain_taken words (inl (inr compare)) = taken_by words _ compare refl tt

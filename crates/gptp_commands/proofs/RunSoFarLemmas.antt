@@ -18,14 +18,14 @@ use Rattle.gptp_commands.specs.declared.failure.Status.TheVariants.{Done}
 use Rattle.gptp_commands.specs.declared.run.RunOptions.{RunOptions}
 use Rattle.gptp_commands.specs.Documents.{SomeOf}
 use Rattle.gptp_commands.specs.RunText.{LeadsDocument, PlaysDocument, RunsDocument, draws, generator, until_of}
-use Rattle.gptp_commands.specs.RunSoFar.{PlaysSome, Tells}
+use Rattle.gptp_commands.specs.RunSoFar.{PlaysSome, TellsRun}
 use Rattle.gptp_commands.proofs.RunLemmas.{runs_settle}
 
 -- ---- the report and the certificate
 
 -- the report alone, where no certificate is asked for
 tells_report : (d : DocumentState) (until : ℕ) (w : WorldState) (lines : List (List ℕ)) → Reports d until w lines
-    → Tells d until false w lines
+    → TellsRun d until false w lines
 tells_report d until w lines reports = record {
   report = lines;
   reports = reports;
@@ -36,19 +36,19 @@ tells_report d until w lines reports = record {
 
 pub tells_alone : (d : DocumentState) (until : ℕ) (w : WorldState) (old new : Option (List ℕ))
     → (lines : List (List ℕ)) × Reports d until w lines × Appends old new (text_of lines)
-    → (lines : List (List ℕ)) × Tells d until false w lines × Appends old new (text_of lines)
+    → (lines : List (List ℕ)) × TellsRun d until false w lines × Appends old new (text_of lines)
 tells_alone d until w old new (lines, reports, written) = (lines, tells_report d until w lines reports, written)
 
 pub tells_alone_some : (d : DocumentState) (until : ℕ) (w : WorldState) (old new : Option (List ℕ))
     → (lines : List (List ℕ)) × ((lines ≡ []) ⊎ Reports d until w lines) × AppendsSome old new (text_of lines)
-    → (lines : List (List ℕ)) × ((lines ≡ []) ⊎ Tells d until false w lines) × AppendsSome old new (text_of lines)
+    → (lines : List (List ℕ)) × ((lines ≡ []) ⊎ TellsRun d until false w lines) × AppendsSome old new (text_of lines)
 tells_alone_some d until w old new (lines, inl none, some) = (lines, inl none, some)
 tells_alone_some d until w old new (lines, inr reports, some) =
     (lines, inr (tells_report d until w lines reports), some)
 
 module _ (d : DocumentState) (until : ℕ) (w : WorldState) (stated : List SystemLine) (states : States w stated) where
   tells_both : (report : List (List ℕ)) → Reports d until w report
-      → Tells d until true w (report ++ certificate_lines 2 stated)
+      → TellsRun d until true w (report ++ certificate_lines 2 stated)
   tells_both report reports = record {
     report = report;
     reports = reports;
@@ -60,7 +60,7 @@ module _ (d : DocumentState) (until : ℕ) (w : WorldState) (stated : List Syste
   -- some of the report was written
   pub tells_some : (old new : Option (List ℕ))
       → (lines : List (List ℕ)) × ((lines ≡ []) ⊎ Reports d until w lines) × AppendsSome old new (text_of lines)
-      → (lines : List (List ℕ)) × ((lines ≡ []) ⊎ Tells d until true w lines) × AppendsSome old new (text_of lines)
+      → (lines : List (List ℕ)) × ((lines ≡ []) ⊎ TellsRun d until true w lines) × AppendsSome old new (text_of lines)
   tells_some old new (lines, inl none, some) = (lines, inl none, some)
   tells_some old new (report, inr reports, some) = (
     report ++ certificate_lines 2 stated,
@@ -72,7 +72,7 @@ module _ (d : DocumentState) (until : ℕ) (w : WorldState) (stated : List Syste
   pub tells_part : (old between new : Option (List ℕ))
       → (report : List (List ℕ)) × Reports d until w report × Appends old between (text_of report)
       → AppendsSome between new (text_of (certificate_lines 2 stated))
-      → (lines : List (List ℕ)) × ((lines ≡ []) ⊎ Tells d until true w lines) × AppendsSome old new (text_of lines)
+      → (lines : List (List ℕ)) × ((lines ≡ []) ⊎ TellsRun d until true w lines) × AppendsSome old new (text_of lines)
   tells_part old between new (report, reports, written) some = (
     report ++ certificate_lines 2 stated,
     inr (tells_both report reports),
@@ -82,7 +82,7 @@ module _ (d : DocumentState) (until : ℕ) (w : WorldState) (stated : List Syste
   pub tells_all : (old between new : Option (List ℕ))
       → (report : List (List ℕ)) × Reports d until w report × Appends old between (text_of report)
       → Appends between new (text_of (certificate_lines 2 stated))
-      → (lines : List (List ℕ)) × Tells d until true w lines × Appends old new (text_of lines)
+      → (lines : List (List ℕ)) × TellsRun d until true w lines × Appends old new (text_of lines)
   tells_all old between new (report, reports, written) behind = (
     report ++ certificate_lines 2 stated,
     tells_both report reports,
@@ -94,7 +94,7 @@ module _ (d : DocumentState) (until : ℕ) (w : WorldState) (stated : List Syste
 
 module _ (d : DocumentState) (options : RunOptions) (w : WorldState) (frames : List (List ℕ))
     (leads : LeadsTo draws d (until_of options d) options.frames (generator options.seed) w frames) where
-  plays : (told : List (List ℕ)) → Tells d (until_of options d) options.certificate w told
+  plays : (told : List (List ℕ)) → TellsRun d (until_of options d) options.certificate w told
       → PlaysDocument d options (frames ++ told) Done
   plays told tells = record {
     world = w;
@@ -107,7 +107,7 @@ module _ (d : DocumentState) (options : RunOptions) (w : WorldState) (frames : L
   }
 
   pub plays_all : (old between new : Option (List ℕ)) → Appends old between (text_of frames)
-      → (told : List (List ℕ)) × Tells d (until_of options d) options.certificate w told
+      → (told : List (List ℕ)) × TellsRun d (until_of options d) options.certificate w told
       × Appends between new (text_of told)
       → (lines : List (List ℕ)) × PlaysDocument d options lines Done × Appends old new (text_of lines)
   plays_all old between new written (told, tells, behind) = (
@@ -117,7 +117,7 @@ module _ (d : DocumentState) (options : RunOptions) (w : WorldState) (frames : L
   )
 
   pub plays_some : (old between new : Option (List ℕ)) → Appends old between (text_of frames)
-      → (told : List (List ℕ)) × ((told ≡ []) ⊎ Tells d (until_of options d) options.certificate w told)
+      → (told : List (List ℕ)) × ((told ≡ []) ⊎ TellsRun d (until_of options d) options.certificate w told)
       × AppendsSome between new (text_of told)
       → (lines : List (List ℕ)) × PlaysSome d options lines × AppendsSome old new (text_of lines)
   plays_some old between new written (told, inl none, behind) =

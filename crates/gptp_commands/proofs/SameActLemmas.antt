@@ -13,7 +13,7 @@ use Rattle.gptp_outcome.specs.TransitionLaws.{IsSameTransition, SameTransitions}
 use Rattle.gptp_timeline.specs.Changes.{change_lines}
 use Rattle.gptp_timeline.specs.Limits.{amount_of}
 use Rattle.gptp_timeline.specs.Measures.{ended_by, greatest, one_at, since_after}
-use Rattle.gptp_timeline.specs.Receipts.{received_by, receiver}
+use Rattle.gptp_timeline.specs.Receipts.{received_by, receiver_clock}
 use Rattle.gptp_timeline.specs.Shown.{is_expecting, same_choice, same_roles, shown}
 use Rattle.gptp_timeline.specs.Stretch.{counts_for, ended, ended_in, error_at, error_from, error_in, holdover, is_change, last_at, leaves_another, measured, same_known, under_way, waits, waits_after}
 use Rattle.gptp_timeline.specs.Timeline.{act_lines, event_lines, offset_lines}
@@ -27,7 +27,7 @@ same_received Quiet Quiet k = refl
 same_received Quiet (Heard number reached said octets) k = absurd k
 same_received (Heard clock port answer frame) Quiet k = absurd k
 same_received (Heard clock port answer frame) (Heard number reached said octets) (clocks, ports, answers, items) =
-    λ i. receiver (clocks i) (answers i) (items i)
+    λ i. receiver_clock (clocks i) (answers i) (items i)
 
 -- what depends on these alone is the same
 same_by : {X : Type 0} (G : Timed → Option ℕ → WorldState → WorldState → X) (t u : Transition) → IsSameTransition t u

@@ -12,7 +12,7 @@ use Rattle.gptp_certificate_text.specs.Certificate.{CertificateContent}
 use Rattle.gptp_certificate_text.specs.Faults as certificates
 use Rattle.gptp_certificate_text.specs.declared.fault.CertificateFault.TheVariants.{Line}
 use Rattle.gptp_certificate_text.proofs.LawLemmas as certificate_laws
-use Rattle.gptp_checker.specs.Faults.{fault_text}
+use Rattle.gptp_checker.specs.Faults.{check_fault_text}
 use Rattle.gptp_checker.proofs.LawLemmas as checker_laws
 use Rattle.gptp_commands.specs.declared.failure.Status.{Status}
 use Rattle.gptp_commands.specs.CheckText.{certificate_limit, moment_of, AnswersBoth, AnswersCertificate, CheckText, Judges, JudgesAt, RefusesCertificate, Says}
@@ -46,7 +46,7 @@ one_verdict g c a b s t wf (inr (fault, first, _)) (inl (is, _)) =
     absurd (checker_laws.settled_has_none c.version g c.lines fault wf is first)
 one_verdict g c a b s t wf (inr (f, f-is, x)) (inr (h, h-is, y)) =
     same_line _ _ _ a b s t
-    (ap (λ fault. codes "not accepted " ++ fault_text fault)
+    (ap (λ fault. codes "not accepted " ++ check_fault_text fault)
     (checker_laws.one_fault c.version g c.lines f h f-is h-is)) x y
 
 -- and for a document, which has one network at the time
@@ -77,7 +77,7 @@ one_certificate d until input a b s t (inr (fault, fails, _)) (inl (e, e-is, e-r
     absurd (certificate_laws.no_certificate input fault e.version e.lines fails e-of e-read e-is)
 one_certificate d until input a b s t (inr (f, f-fails, x)) (inr (g, g-fails, y)) =
     same_line _ _ _ a b s t
-    (ap (λ fault. codes "certificate refused " ++ certificates.fault_text fault)
+    (ap (λ fault. codes "certificate refused " ++ certificates.certificate_fault_text fault)
     (certificate_laws.one_fault input f g f-fails g-fails)) x y
 
 -- within its size, and past it

@@ -11,7 +11,7 @@ use Rattle.gptp_commands.specs.declared.failure.Status.{Status}
 use Rattle.gptp_commands.specs.CheckText.{CheckText, certificate_limit}
 use Rattle.gptp_commands.specs.Documents.{document_limit}
 use Rattle.gptp_commands.specs.Source.{ReadsWhole}
-use Rattle.gptp_commands.specs.WhereText.{IsAtLine, LocatesBoth, LocatesCertificate, LocatesDocument, LocatesEnd, LocatesLimited, WhereText, line_behind}
+use Rattle.gptp_commands.specs.WhereText.{PlaceIsLine, LocatesBoth, LocatesCertificate, LocatesDocument, LocatesEnd, LocatesLimited, WhereText, line_behind}
 use Rattle.gptp_commands.proofs.CheckLemmas.{same_check}
 use Rattle.gptp_commands.proofs.LimitedLemmas.{same_size}
 
@@ -21,7 +21,7 @@ same_end : (all octets rest : List ℕ) (lines : List (List ℕ)) → all ≡ oc
 same_end all octets rest lines split long at =
     let front : take certificate_limit octets ≡ take certificate_limit all =
     sym (take-append-le certificate_limit octets rest (omega arith)) ∙ ap (take certificate_limit) (sym split) in
-    subst (λ xs. IsAtLine (line_behind xs) lines) front at
+    subst (λ xs. PlaceIsLine (line_behind xs) lines) front at
 
 -- with the certificate as it was read
 same_certificate : (d : DocumentState) (until : Option ℕ) (all : List ℕ) (known : Option (List ℕ)) (octets : List ℕ)

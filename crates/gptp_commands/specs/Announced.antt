@@ -7,7 +7,7 @@ use Rattle.gptp_messages.specs.declared.message.Message.{Message}
 use Rattle.gptp_messages.specs.declared.message.Message.TheVariants.{Announce}
 use Rattle.gptp_messages.specs.declared.refused.Refused.{Refused}
 use Rattle.gptp_messages.specs.declared.refused.Refused.TheVariants.{UnknownType}
-use Rattle.gptp_messages.specs.Grammar.{Reads, Refuses}
+use Rattle.gptp_messages.specs.Grammar.{Reads, RefusesFrame}
 use Rattle.gptp_messages.specs.Refused.{refusal_text}
 use Rattle.gptp_commands.specs.declared.announced.WordFault.{WordFault}
 use Rattle.gptp_commands.specs.declared.announced.WordFault.TheVariants as faults
@@ -27,16 +27,16 @@ ReadsAsOther frame = (m : Message) × Reads frame m × ((a : AnnounceView) → m
 
 -- the octets are no message, or one that announces nothing, which is refused as of an unknown type
 abbrev pub AnnouncesNothing : List ℕ → Refused → Type 0
-AnnouncesNothing frame refused = Refuses frame refused ⊎ (ReadsAsOther frame × (refused ≡ UnknownType))
+AnnouncesNothing frame refused = RefusesFrame frame refused ⊎ (ReadsAsOther frame × (refused ≡ UnknownType))
 
 -- A word announces a vector. Else it isn't hexadecimal, or its octets aren't an Announce.
-abbrev pub Says : List ℕ → Result Vector WordFault → Type 0
-Says word (Ok v) = (frame : List ℕ) × (decode_of word ≡ Ok frame) × AnnouncesVector frame v
-Says word (Err faults.Hex) = IsErr (decode_of word)
-Says word (Err (faults.Message refused)) =
+abbrev pub SaysVector : List ℕ → Result Vector WordFault → Type 0
+SaysVector word (Ok v) = (frame : List ℕ) × (decode_of word ≡ Ok frame) × AnnouncesVector frame v
+SaysVector word (Err faults.Hex) = IsErr (decode_of word)
+SaysVector word (Err (faults.Message refused)) =
     (frame : List ℕ) × (decode_of word ≡ Ok frame) × AnnouncesNothing frame refused
 
 -- how a fault of a word is shown
-abbrev pub fault_text : WordFault → List ℕ
-fault_text faults.Hex = codes "hex"
-fault_text (faults.Message refused) = refusal_text refused
+abbrev pub word_fault_text : WordFault → List ℕ
+word_fault_text faults.Hex = codes "hex"
+word_fault_text (faults.Message refused) = refusal_text refused

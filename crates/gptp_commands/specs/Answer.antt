@@ -9,7 +9,7 @@ use Rattle.gptp_commands.specs.declared.announced.WordFault.{WordFault}
 use Rattle.gptp_commands.specs.declared.answer.Answer.{Answer}
 use Rattle.gptp_commands.specs.declared.answer.Answer.TheVariants.{First, Second, Equal, NoTwoWords, RefusedFirst, RefusedSecond}
 use Rattle.gptp_commands.specs.Words.{words}
-use Rattle.gptp_commands.specs.Announced.{Says, fault_text}
+use Rattle.gptp_commands.specs.Announced.{SaysVector, word_fault_text}
 
 -- by the order of vectors (IEEE 802.1AS-2020, 10.3.4): the better one's side and root
 abbrev pub better_by : Ordering → Vector → Vector → Answer
@@ -29,13 +29,13 @@ answer_of (Ok a) (Ok b) = better_of a b
 -- what two words are answered by what they announce, and any other number of words
 abbrev pub AnswersWords : List (List ℕ) → Answer → Type 0
 AnswersWords (first ∷ second ∷ []) answer =
-    (a : Result Vector WordFault) × (b : Result Vector WordFault) × Says first a × Says second b
+    (a : Result Vector WordFault) × (b : Result Vector WordFault) × SaysVector first a × SaysVector second b
     × (answer ≡ answer_of a b)
 AnswersWords other answer = answer ≡ NoTwoWords
 
 -- a line is answered by its words
-abbrev pub Answers : List ℕ → Answer → Type 0
-Answers line answer = AnswersWords (words line) answer
+abbrev pub AnswersLine : List ℕ → Answer → Type 0
+AnswersLine line answer = AnswersWords (words line) answer
 
 -- how an answer is shown
 abbrev pub answer_text : Answer → List ℕ
@@ -43,8 +43,8 @@ answer_text (First root) = codes "first " ++ identity_text root
 answer_text (Second root) = codes "second " ++ identity_text root
 answer_text (Equal root) = codes "equal " ++ identity_text root
 answer_text NoTwoWords = codes "refused words"
-answer_text (RefusedFirst fault) = codes "refused first " ++ fault_text fault
-answer_text (RefusedSecond fault) = codes "refused second " ++ fault_text fault
+answer_text (RefusedFirst fault) = codes "refused first " ++ word_fault_text fault
+answer_text (RefusedSecond fault) = codes "refused second " ++ word_fault_text fault
 
 -- whether it refuses the line
 abbrev pub is_refusal : Answer → Bool

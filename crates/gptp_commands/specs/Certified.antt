@@ -2,7 +2,7 @@
 use Rattle.std.specs.Prelude.{◌≡◌, ◌≤◌, ℕ, true, List, [], ◌∷◌, ◌++◌, Option, codes, length}
 use Rattle.gptp_network.specs.Document.{DocumentState, Means}
 use Rattle.gptp_network.specs.Snapshot.{events_by}
-use Rattle.gptp_reached.specs.PlayedLaws.{IsAtRest}
+use Rattle.gptp_reached.specs.PlayedLaws.{DocumentIsAtRest}
 use Rattle.gptp_spelling.specs.Lines.{text_of}
 use Rattle.gptp_commands.specs.declared.failure.Status.TheVariants.{Done}
 use Rattle.gptp_commands.specs.declared.question.Question.TheVariants.{Choice}
@@ -17,7 +17,7 @@ pub record AsksAtRest (options : RunOptions) (input : List ℕ) (d : DocumentSta
   pub asked : options.certificate ≡ true
   pub size : length input ≤ document_limit
   pub means : Means input d
-  pub rest : IsAtRest d (until_of options d)
+  pub rest : DocumentIsAtRest d (until_of options d)
 
 -- `check` at this time asks for the network as it stands at the end of the run: the same events lie before both
 abbrev pub AsksTheSame : Option ℕ → RunOptions → DocumentState → Type 0

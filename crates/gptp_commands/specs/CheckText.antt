@@ -3,7 +3,7 @@ use Rattle.std.specs.Prelude.{◌≡◌, ◌⊎◌, ℕ, List, [], ◌∷◌, �
 use Rattle.gptp_graph.specs.Snapshot.{IsWellFormed, Snapshot}
 use Rattle.gptp_network.specs.declared.fault.DocumentFault.{DocumentFault}
 use Rattle.gptp_network.specs.declared.fault.DocumentFault.TheVariants.{TooMany}
-use Rattle.gptp_network.specs.Document.{DocumentState, Fails as FailsDocument, Means}
+use Rattle.gptp_network.specs.Document.{DocumentState, FailsToParse as FailsDocument, Means}
 use Rattle.gptp_network.specs.Snapshot.{IsSnapshot}
 use Rattle.gptp_plan.specs.Calm.{last_change}
 use Rattle.gptp_certificate_text.specs.declared.fault.CertificateFault.{CertificateFault}
@@ -12,9 +12,9 @@ use Rattle.gptp_certificate_text.specs.Certificate.{CertificateContent, IsCertif
 use Rattle.gptp_certificate_text.specs.Faults as certificates
 use Rattle.gptp_certificate_text.specs.CertificateText.{certificate_text}
 use Rattle.gptp_certificate_text.specs.Entries.{IsReadable}
-use Rattle.gptp_certificate_text.specs.Parsing.{Fails}
+use Rattle.gptp_certificate_text.specs.Parsing.{FailsToParse}
 use Rattle.gptp_checker.specs.declared.fault.Fault.{Fault}
-use Rattle.gptp_checker.specs.Faults.{IsAccepted, IsFirstFault, fault_text}
+use Rattle.gptp_checker.specs.Faults.{IsAccepted, IsFirstFault, check_fault_text}
 use Rattle.gptp_commands.specs.declared.failure.Status.{Status}
 use Rattle.gptp_commands.specs.declared.failure.Status.TheVariants.{Done, Refused}
 use Rattle.gptp_commands.specs.Limited.{Limited}
@@ -38,7 +38,7 @@ abbrev pub Judges : Snapshot → CertificateContent → List (List ℕ) → Stat
 Judges g c output status =
     (IsAccepted c.version g c.lines × Says (codes "accepted") Done output status)
     ⊎ ((fault : Fault) × IsFirstFault c.version g c.lines fault
-    × Says (codes "not accepted " ++ fault_text fault) Refused output status)
+    × Says (codes "not accepted " ++ check_fault_text fault) Refused output status)
 
 -- it is judged for the network as it stands at that time, which is well-formed as every document's is
 abbrev pub JudgesAt : DocumentState → Option ℕ → CertificateContent → List (List ℕ) → Status → Type 0
@@ -47,14 +47,14 @@ JudgesAt d until c output status =
 
 -- a certificate that is refused
 abbrev pub RefusesCertificate : CertificateFault → List (List ℕ) → Status → Type 0
-RefusesCertificate fault = Says (codes "certificate refused " ++ certificates.fault_text fault) Refused
+RefusesCertificate fault = Says (codes "certificate refused " ++ certificates.certificate_fault_text fault) Refused
 
 -- a text is a certificate, which is judged, or fails a test
 abbrev pub AnswersCertificate : DocumentState → Option ℕ → List ℕ → List (List ℕ) → Status → Type 0
 AnswersCertificate d until input output status =
     ((c : CertificateContent) × (input ≡ certificate_text c.version c.lines) × IsReadable c.version c.lines
     × IsCertificate c.version c.lines × JudgesAt d until c output status)
-    ⊎ ((fault : CertificateFault) × Fails input fault × RefusesCertificate fault output status)
+    ⊎ ((fault : CertificateFault) × FailsToParse input fault × RefusesCertificate fault output status)
 
 -- what is answered to a certificate within its size, for a text that is a document
 abbrev pub AnswersBoth : Option ℕ → List ℕ → List ℕ → List (List ℕ) → Status → Type 0

@@ -22,8 +22,8 @@ use Rattle.gptp_commands.specs.declared.run.RunOptions.{RunOptions}
 use Rattle.gptp_commands.specs.declared.table.Form.TheVariants.{Number}
 use Rattle.gptp_commands.specs.declared.table.rows.TheConstants.{AT, CERTIFICATE, CLOCK, FILE, FRAMES, HOLD, MAX_ERROR, MOMENT, MOMENTS, OFFSETS, ONLY, PART, PARTS, PROGRESS, RUN_UNTIL, SEED, SEEDS, STRICT, SUMMARY, TIMELINE_UNTIL, WHERE}
 use Rattle.gptp_commands.specs.declared.timeline.TimelineOrder.{TimelineOrder}
-use Rattle.gptp_commands.specs.Options.{flag_of, number_of, place_of, word_of}
-use Rattle.gptp_commands.specs.Table.{Argument, Entry, commands, gptp_sim, the}
+use Rattle.gptp_commands.specs.Options.{flag_of, option_number, place_value, word_of}
+use Rattle.gptp_commands.specs.Table.{Argument, CommandEntry, commands, gptp_sim, the}
 use Rattle.gptp_commands.specs.Version.{AsksVersion}
 use Rattle.gptp_timeline.specs.Limits.{most_of, option_name}
 use Rattle.gptp_timeline.specs.declared.limits.Limit.{Limit}
@@ -33,8 +33,8 @@ use Rattle.gptp_timeline.specs.declared.limits.Limits.{Limits}
 
 -- the options of `run`
 pub record ReadsRun (rows : List Row) (options : RunOptions) : Type 0 where
-  pub until : options.until ≡ number_of (the RUN_UNTIL) rows
-  pub seed : options.seed ≡ unwrap_or (number_of (the SEED) rows) 1
+  pub until : options.until ≡ option_number (the RUN_UNTIL) rows
+  pub seed : options.seed ≡ unwrap_or (option_number (the SEED) rows) 1
   pub frames : options.frames ≡ flag_of (the FRAMES) rows
   pub certificate : options.certificate ≡ flag_of (the CERTIFICATE) rows
 
@@ -43,12 +43,12 @@ abbrev pub limit_argument : Limit → Argument
 limit_argument limit = (option_name limit, Number 0 1000000000000000, [])
 
 abbrev pub ReadsLimits : List Row → Limits → Type 0
-ReadsLimits rows limits = (limit : Limit) → most_of limits limit ≡ number_of (limit_argument limit) rows
+ReadsLimits rows limits = (limit : Limit) → most_of limits limit ≡ option_number (limit_argument limit) rows
 
 -- the options of `timeline`
 pub record ReadsTimeline (rows : List Row) (order : TimelineOrder) : Type 0 where
-  pub until : order.until ≡ number_of (the TIMELINE_UNTIL) rows
-  pub seed : order.seed ≡ unwrap_or (number_of (the SEED) rows) 1
+  pub until : order.until ≡ option_number (the TIMELINE_UNTIL) rows
+  pub seed : order.seed ≡ unwrap_or (option_number (the SEED) rows) 1
   pub summary : order.options.summary ≡ flag_of (the SUMMARY) rows
   pub offsets : order.options.offsets ≡ flag_of (the OFFSETS) rows
   pub limits : ReadsLimits rows order.options.limits
@@ -69,17 +69,17 @@ ReadsKind rows only = (only ≡ kind_in rows) × (is_some only ≡ is_some (word
 
 -- the part that is tried, and how many there are
 abbrev pub part_of : List Row → ℕ
-part_of rows = unwrap_or (number_of (the PART) rows) 1
+part_of rows = unwrap_or (option_number (the PART) rows) 1
 
 abbrev pub parts_of : List Row → ℕ
-parts_of rows = unwrap_or (number_of (the PARTS) rows) 1
+parts_of rows = unwrap_or (option_number (the PARTS) rows) 1
 
 -- the options of `faults`
 pub record ReadsFaults (rows : List Row) (options : FaultsOptions) : Type 0 where
-  pub seeds : options.seeds ≡ unwrap_or (number_of (the SEEDS) rows) 1
-  pub moments : options.moments ≡ unwrap_or (number_of (the MOMENTS) rows) 8
-  pub at : options.at ≡ number_of (the AT) rows
-  pub hold : options.hold ≡ number_of (the HOLD) rows
+  pub seeds : options.seeds ≡ unwrap_or (option_number (the SEEDS) rows) 1
+  pub moments : options.moments ≡ unwrap_or (option_number (the MOMENTS) rows) 8
+  pub at : options.at ≡ option_number (the AT) rows
+  pub hold : options.hold ≡ option_number (the HOLD) rows
   pub only : ReadsKind rows options.only
   pub parts : options.parts ≡ parts_of rows
   pub part : options.part ≡ part_of rows
@@ -89,36 +89,36 @@ pub record ReadsFaults (rows : List Row) (options : FaultsOptions) : Type 0 wher
 
 -- the file and the options of `check`
 pub record ReadsCheck (rows : List Row) (options : CheckOptions) : Type 0 where
-  pub file : string_bytes options.file ≡ place_of (the FILE) rows
-  pub until : options.until ≡ number_of (the MOMENT) rows
+  pub file : string_bytes options.file ≡ place_value (the FILE) rows
+  pub until : options.until ≡ option_number (the MOMENT) rows
   pub located : options.located ≡ flag_of (the WHERE) rows
 
 -- the clock of `explain`
 abbrev pub ReadsClock : List Row → ℕ → Type 0
-ReadsClock rows clock = clock_of_text (place_of (the CLOCK) rows) ≡ Ok clock
+ReadsClock rows clock = clock_of_text (place_value (the CLOCK) rows) ≡ Ok clock
 
 -- what a question asks
 abbrev pub ReadsQuestion : List Row → Question → Type 0
-ReadsQuestion rows (Choice until) = until ≡ number_of (the MOMENT) rows
+ReadsQuestion rows (Choice until) = until ≡ option_number (the MOMENT) rows
 ReadsQuestion rows (Accuracy until max_error) =
-    (until ≡ number_of (the MOMENT) rows) × (max_error ≡ number_of (the MAX_ERROR) rows)
-ReadsQuestion rows (Explain clock until) = ReadsClock rows clock × (until ≡ number_of (the MOMENT) rows)
+    (until ≡ option_number (the MOMENT) rows) × (max_error ≡ option_number (the MAX_ERROR) rows)
+ReadsQuestion rows (Explain clock until) = ReadsClock rows clock × (until ≡ option_number (the MOMENT) rows)
 ReadsQuestion rows (Lint strict) = strict ≡ flag_of (the STRICT) rows
 
 -- what is asked for
-abbrev pub Reads : List Row → Order → Type 0
-Reads rows Compare = ⊤
-Reads rows (Run options) = ReadsRun rows options
-Reads rows (Timeline order) = ReadsTimeline rows order
-Reads rows (Faults options) = ReadsFaults rows options
-Reads rows (Check options) = ReadsCheck rows options
-Reads rows (Ask question) = ReadsQuestion rows question
-Reads rows Version = ⊥
+abbrev pub ReadsOrder : List Row → Order → Type 0
+ReadsOrder rows Compare = ⊤
+ReadsOrder rows (Run options) = ReadsRun rows options
+ReadsOrder rows (Timeline order) = ReadsTimeline rows order
+ReadsOrder rows (Faults options) = ReadsFaults rows options
+ReadsOrder rows (Check options) = ReadsCheck rows options
+ReadsOrder rows (Ask question) = ReadsQuestion rows question
+ReadsOrder rows Version = ⊥
 
 -- ---- what the parser doesn't see: a clock that is none, and a kind or a part that there isn't
 
 abbrev pub LacksClock : List Row → Type 0
-LacksClock rows = clock_of_text (place_of (the CLOCK) rows) ≡ Err OutOfRange
+LacksClock rows = clock_of_text (place_value (the CLOCK) rows) ≡ Err OutOfRange
 
 abbrev pub LacksKind : List Row → Type 0
 LacksKind rows = (is_some (word_of (the ONLY) rows) ≡ true) × (kind_in rows ≡ None)
@@ -128,7 +128,7 @@ LacksPart rows = parts_of rows < part_of rows
 
 -- an error that tells of it
 abbrev pub TellsClock : List Row → CommandLineError → Type 0
-TellsClock rows (NotClock word) = string_bytes word ≡ place_of (the CLOCK) rows
+TellsClock rows (NotClock word) = string_bytes word ≡ place_value (the CLOCK) rows
 TellsClock rows _ = ⊥
 
 abbrev pub TellsKind : List Row → CommandLineError → Type 0
@@ -168,11 +168,11 @@ name_of Version = codes "--version"
 
 -- it asks for this
 abbrev pub Asks : Option (Text × List Row) → Order → Type 0
-Asks entered order = (rows : List Row) × (entered ≡ Some (name_of order, rows)) × Reads rows order
+Asks entered order = (rows : List Row) × (entered ≡ Some (name_of order, rows)) × ReadsOrder rows order
 
 -- the same, but that it is `compare` where it has the name of none of the others
 abbrev pub IsNoOther : Option Text → Type 0
-IsNoOther name = AllByRecursion (λ (e : Entry). name ≢ Some e.0) (drop 1 commands)
+IsNoOther name = AllByRecursion (λ (e : CommandEntry). name ≢ Some e.0) (drop 1 commands)
 
 abbrev pub Enters : Option Text → Option (Text × List Row) → Order → Type 0
 Enters name entered Compare = IsNoOther name
@@ -195,14 +195,14 @@ abbrev pub BeginsWith : Text → List Text → Type 0
 BeginsWith name words = (others : List Text) × (words ≡ name ∷ others)
 
 -- the parser's model finds no fault in the words, and the command that they enter asks for this
-abbrev pub Means : List Text → Order → Type 0
-Means words order = (fault_of gptp_sim words ≡ []) × Asks (subcommand_of gptp_sim words) order
+abbrev pub WordsMean : List Text → Order → Type 0
+WordsMean words order = (fault_of gptp_sim words ≡ []) × Asks (subcommand_of gptp_sim words) order
 
 -- what words ask for: the command that they name, with what the parser finds behind its name
 abbrev pub AsksFor : List Text → Order → Type 0
-AsksFor words Compare = IsCompare (drop 1 words) × Means words Compare
+AsksFor words Compare = IsCompare (drop 1 words) × WordsMean words Compare
 AsksFor words Version = AsksVersion words
-AsksFor words order = BeginsWith (name_of order) (drop 1 words) × Means words order
+AsksFor words order = BeginsWith (name_of order) (drop 1 words) × WordsMean words order
 
 -- words that ask for nothing, with this error: it is of a kind that the parser's model finds, or the model finds none
 abbrev pub MeansNothing : List Text → CommandLineError → Type 0
@@ -211,15 +211,15 @@ MeansNothing words e =
     ⊎ ((fault_of gptp_sim words ≡ []) × Wrong (subcommand_of gptp_sim words) e)
 
 -- `explain` has a clock, and `faults` no kind and no part that there isn't
-abbrev pub IsRight : Text × List Row → Type 0
-IsRight entered =
+abbrev pub IsRightOrder : Text × List Row → Type 0
+IsRightOrder entered =
     MatchBool (bytes_eq entered.0 (codes "explain")) (LacksClock entered.1 → ⊥)
     (MatchBool (bytes_eq entered.0 (codes "faults")) (LacksKind entered.1 ⊎ LacksPart entered.1 → ⊥) ⊤)
 
 -- a command line that is read: the parser's model finds no fault in it, and the command that it enters is right
-pub record IsTaken (words : List Text) : Type 0 where
+pub record IsRead (words : List Text) : Type 0 where
   pub parsed : fault_of gptp_sim words ≡ []
-  pub right : IfSome (subcommand_of gptp_sim words) IsRight
+  pub right : IfSome (subcommand_of gptp_sim words) IsRightOrder
 
 -- ---- commands with nothing that may be left out
 
@@ -240,16 +240,16 @@ abbrev pub ExplainsOnly : Text → List Text → Type 0
 ExplainsOnly clock words = (drop 1 words ≡ codes "explain" ∷ clock ∷ []) × IsNoOption clock × IsClock clock
 
 -- a command by its name alone
-abbrev pub IsBare : Text → List Text → Type 0
-IsBare name words = drop 1 words ≡ name ∷ []
+abbrev pub IsBareCommand : Text → List Text → Type 0
+IsBareCommand name words = drop 1 words ≡ name ∷ []
 
 -- a command with nothing that may be left out
 abbrev pub IsPlain : List Text → Type 0
 IsPlain words =
     IsCompare (drop 1 words) ⊎ (((file : Text) × ChecksOnly file words) ⊎ (((clock : Text) × ExplainsOnly clock words)
-    ⊎ (IsBare (codes "run") words ⊎ (IsBare (codes "choice") words
-    ⊎ (IsBare (codes "accuracy") words ⊎ (IsBare (codes "lint") words
-    ⊎ (IsBare (codes "timeline") words ⊎ IsBare (codes "faults") words)))))))
+    ⊎ (IsBareCommand (codes "run") words ⊎ (IsBareCommand (codes "choice") words
+    ⊎ (IsBareCommand (codes "accuracy") words ⊎ (IsBareCommand (codes "lint") words
+    ⊎ (IsBareCommand (codes "timeline") words ⊎ IsBareCommand (codes "faults") words)))))))
 
 -- ---- the numbers of what is asked for are in their ranges
 
@@ -258,8 +258,8 @@ abbrev pub IsEndInRange : Option ℕ → Type 0
 IsEndInRange until = IfSome until (λ until. until ≤ 1000000000000000)
 
 -- the numbers of the options of `run` are in their ranges
-abbrev pub AreInRange : RunOptions → Type 0
-AreInRange options = IsEndInRange options.until × (options.seed < 2 ^ 32)
+abbrev pub RunOptionsAreInRange : RunOptions → Type 0
+RunOptionsAreInRange options = IsEndInRange options.until × (options.seed < 2 ^ 32)
 
 -- the limits of `timeline` are in their range
 abbrev pub LimitsAreInRange : Limits → Type 0
@@ -275,7 +275,7 @@ QuestionIsInRange (Lint strict) = ⊤
 -- the numbers of the options of a command are in their ranges
 abbrev pub OrderIsInRange : Order → Type 0
 OrderIsInRange Compare = ⊤
-OrderIsInRange (Run options) = AreInRange options
+OrderIsInRange (Run options) = RunOptionsAreInRange options
 OrderIsInRange (Timeline order) =
     IsEndInRange order.until × (order.seed < 2 ^ 32) × LimitsAreInRange order.options.limits
 OrderIsInRange (Faults options) = AreOptions options

@@ -5,7 +5,7 @@ use Rattle.std.specs.Str.Lines.{lines}
 use Rattle.gptp_commands.specs.declared.answer.Answer.{Answer}
 use Rattle.gptp_commands.specs.declared.failure.Status.{Status}
 use Rattle.gptp_commands.specs.declared.failure.Status.TheVariants.{Refused}
-use Rattle.gptp_commands.specs.Answer.{Answers, answer_text, is_refusal}
+use Rattle.gptp_commands.specs.Answer.{AnswersLine, answer_text, is_refusal}
 use Rattle.gptp_commands.specs.Failure.{status_by}
 use Rattle.gptp_commands.specs.Limited.{Begins, Limited}
 
@@ -17,7 +17,7 @@ size_limit = 1048576
 abbrev pub AreAnswers : List (List ℕ) → List Answer → Type 0
 AreAnswers [] answers = answers ≡ []
 AreAnswers (line ∷ lines) [] = ⊥
-AreAnswers (line ∷ lines) (answer ∷ answers) = Answers line answer × AreAnswers lines answers
+AreAnswers (line ∷ lines) (answer ∷ answers) = AnswersLine line answer × AreAnswers lines answers
 
 -- the output is the answers to the lines of the input, and one that refuses its line refuses the input
 pub record AnswersLines (input : List ℕ) (output : List (List ℕ)) (status : Status) : Type 0 where

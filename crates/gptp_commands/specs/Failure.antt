@@ -19,6 +19,6 @@ exit_status (Ok Refused) = 1
 exit_status (Err error) = 3
 
 -- why a command stops, where a text ended before its end
-abbrev pub error_of : Cut → SimError
-error_of cuts.Memory = errors.Memory
-error_of cuts.Write = errors.Write
+abbrev pub stop_error : Cut → SimError
+stop_error cuts.Memory = errors.Memory
+stop_error cuts.Write = errors.Write

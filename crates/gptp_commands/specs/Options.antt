@@ -12,13 +12,13 @@ abbrev pub within : ℕ → ℕ → ℕ → Option ℕ
 within least most number = if nat_le least number && nat_le number most then Some number else None
 
 -- the number that a text is in decimal digits, where it is in its range; a plus may stand first
-abbrev pub number_in : Form → Text → Option ℕ
-number_in (form.Number least most) text =
+abbrev pub decimal_in_range : Form → Text → Option ℕ
+decimal_in_range (form.Number least most) text =
     if is_unsigned_in least most text then Some (digits_value 10 (without_leading_plus text)) else None
-number_in _ text = None
+decimal_in_range _ text = None
 
-abbrev pub number_of : Argument → List Row → Option ℕ
-number_of argument rows = option_and_then (number_in argument.1) (one_of argument.0 rows)
+abbrev pub option_number : Argument → List Row → Option ℕ
+option_number argument rows = option_and_then (decimal_in_range argument.1) (one_of argument.0 rows)
 
 -- whether a flag is given
 abbrev pub is_set : Option Text → Bool
@@ -33,5 +33,5 @@ abbrev pub word_of : Argument → List Row → Option Text
 word_of argument rows = first_of argument.0 rows
 
 -- one that has to be given
-abbrev pub place_of : Argument → List Row → Text
-place_of argument rows = unwrap_or (word_of argument rows) []
+abbrev pub place_value : Argument → List Row → Text
+place_value argument rows = unwrap_or (word_of argument rows) []

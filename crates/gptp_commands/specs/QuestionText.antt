@@ -14,11 +14,11 @@ use Rattle.gptp_commands.specs.LintText.{RefusesAtPlace, TellsFindings}
 use Rattle.gptp_commands.specs.Documents.{document_limit, RefusesFault}
 
 -- the answer for a document, which the input spells, by what is asked
-abbrev pub Answers : Question → List ℕ → DocumentState → List (List ℕ) → Status → Type 0
-Answers (Choice until) input d output status = ChoosesAt d until output status
-Answers (Accuracy until max_error) input d output status = TellsAccuracy d until max_error output status
-Answers (Explain clock until) input d output status = ExplainsAt d until clock output status
-Answers (Lint strict) input d output status = TellsFindings input d strict output status
+abbrev pub AnswersQuestion : Question → List ℕ → DocumentState → List (List ℕ) → Status → Type 0
+AnswersQuestion (Choice until) input d output status = ChoosesAt d until output status
+AnswersQuestion (Accuracy until max_error) input d output status = TellsAccuracy d until max_error output status
+AnswersQuestion (Explain clock until) input d output status = ExplainsAt d until clock output status
+AnswersQuestion (Lint strict) input d output status = TellsFindings input d strict output status
 
 -- the line of an input that is refused by this fault: `lint` also tells its place
 abbrev pub RefusesInput : Question → List ℕ → DocumentFault → List (List ℕ) → Status → Type 0
@@ -28,10 +28,10 @@ RefusesInput (Explain clock until) input fault output status = RefusesFault faul
 RefusesInput (Lint strict) input fault output status = RefusesAtPlace input fault output status
 
 -- an input is a document, of which the question is answered, or fails a test
-abbrev pub AnswersInput : Question → List ℕ → List (List ℕ) → Status → Type 0
-AnswersInput question input output status =
-    ((d : DocumentState) × Means input d × Answers question input d output status)
+abbrev pub AnswersQuestionInput : Question → List ℕ → List (List ℕ) → Status → Type 0
+AnswersQuestionInput question input output status =
+    ((d : DocumentState) × Means input d × AnswersQuestion question input d output status)
     ⊎ ((fault : DocumentFault) × Fails input fault × RefusesInput question input fault output status)
 
 abbrev pub QuestionText : Question → List ℕ → List (List ℕ) → Status → Type 0
-QuestionText question = Limited document_limit (AnswersInput question) (RefusesFault TooMany)
+QuestionText question = Limited document_limit (AnswersQuestionInput question) (RefusesFault TooMany)

@@ -9,7 +9,7 @@ use Rattle.gptp_commands.specs.declared.run.RunOptions.{RunOptions}
 use Rattle.gptp_commands.specs.RunText.{CertifiesIf, PlaysDocument, draws, generator, until_of}
 
 -- the report of a world, and behind it its certificate, where it is asked for
-pub record Tells (d : DocumentState) (until : ℕ) (asked : Bool) (w : WorldState) (lines : List (List ℕ)) : Type
+pub record TellsRun (d : DocumentState) (until : ℕ) (asked : Bool) (w : WorldState) (lines : List (List ℕ)) : Type
     0 where
   pub report : List (List ℕ)
   pub reports : Reports d until w report

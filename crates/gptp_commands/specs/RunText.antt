@@ -19,7 +19,7 @@ use Rattle.gptp_certificate_text.specs.CertificateText.{certificate_lines}
 use Rattle.gptp_certificate.specs.Stated.{States}
 use Rattle.gptp_reached.specs.Headline.{IsSettled}
 use Rattle.gptp_reached.specs.HeadlineLaws.{HasSnapshotOf}
-use Rattle.gptp_reached.specs.PlayedLaws.{IsAtRest}
+use Rattle.gptp_reached.specs.PlayedLaws.{DocumentIsAtRest}
 use Rattle.gptp_commands.specs.declared.failure.Status.{Status}
 use Rattle.gptp_commands.specs.declared.failure.Status.TheVariants.{Done}
 use Rattle.gptp_commands.specs.declared.run.RunOptions.{RunOptions}
@@ -82,7 +82,7 @@ pub record IsSettledRun (d : DocumentState) (options : RunOptions) (output : Lis
 
 -- so is the run of a document that is at rest when it ends
 abbrev pub SettlesInTime : DocumentState → RunOptions → List (List ℕ) → Type 0
-SettlesInTime d options output = IsAtRest d (until_of options d) → IsSettledRun d options output
+SettlesInTime d options output = DocumentIsAtRest d (until_of options d) → IsSettledRun d options output
 
 -- a document is run, and settles in time
 abbrev pub RunsDocument : RunOptions → DocumentState → List (List ℕ) → Status → Type 0

@@ -14,8 +14,8 @@ abbrev pub Argument : Type 0
 Argument = Text × Form × List Text
 
 -- a command: its name and its arguments
-abbrev pub Entry : Type 0
-Entry = Text × List Argument
+abbrev pub CommandEntry : Type 0
+CommandEntry = Text × List Argument
 
 -- the same of rows that the code is passed
 abbrev pub PassedRow : Type 0
@@ -24,8 +24,8 @@ PassedRow = Bor Text × (Form × Bor (List (Bor Text)) × Bor Text) × Bor Text
 abbrev pub shown_argument : PassedRow → Argument
 shown_argument row = (row.0.now, row.1.0, map (λ text. text.now) row.1.1.now)
 
-abbrev pub shown : Bor Text × Bor Text × Bor (List PassedRow) → Entry
-shown row = (row.0.now, map shown_argument row.2.now)
+abbrev pub shown_command : Bor Text × Bor Text × Bor (List PassedRow) → CommandEntry
+shown_command row = (row.0.now, map shown_argument row.2.now)
 
 -- the same of its constants
 abbrev pub TextConstant : Type 0
@@ -37,8 +37,8 @@ RowConstant = TextConstant × (Form × record { now : List TextConstant } × Tex
 abbrev pub the : RowConstant → Argument
 the row = (row.0.now, row.1.0, map (λ text. text.now) row.1.1.now)
 
-abbrev pub entry : TextConstant × TextConstant × record { now : List RowConstant } → Entry
-entry row = (row.0.now, map the row.2.now)
+abbrev pub command_entry : TextConstant × TextConstant × record { now : List RowConstant } → CommandEntry
+command_entry row = (row.0.now, map the row.2.now)
 
 -- what the parser is told of an argument
 abbrev pub rule_by : Text → List Text → Form → Rule
@@ -59,17 +59,17 @@ abbrev pub rule_of_row : Argument → Rule
 rule_of_row row = rule_by row.0 row.2 row.1
 
 -- of a command
-abbrev pub app_of_row : Entry → App
+abbrev pub app_of_row : CommandEntry → App
 app_of_row row = fold (λ app argument. with_rule app (rule_of_row argument)) (new_app row.0) row.1
 
 -- of the program with its commands, of which one has to be named
-abbrev pub program : List Entry → App
+abbrev pub program : List CommandEntry → App
 program rows =
     fold (λ app row. with_subcommand app (app_of_row row).top)
     (on_top (λ top. record top { subcommand_required = true }) (new_app (codes "gptp_sim"))) rows
 
-abbrev pub commands : List Entry
-commands = map entry COMMANDS.now
+abbrev pub commands : List CommandEntry
+commands = map command_entry COMMANDS.now
 
 abbrev pub gptp_sim : App
 gptp_sim = program commands

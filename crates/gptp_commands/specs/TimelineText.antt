@@ -2,7 +2,7 @@
 use Rattle.std.specs.Prelude.{◌≡◌, ℕ, Bool, List, Option, Some, None}
 use Rattle.gptp_network.specs.Document.{DocumentState}
 use Rattle.gptp_timeline.specs.End.{IsDefaultEnd}
-use Rattle.gptp_timeline.specs.Laws.{IsRight}
+use Rattle.gptp_timeline.specs.Laws.{TimelineIsRight}
 use Rattle.gptp_timeline.specs.Timeline.{BeginsTimeline, TimelineOf}
 use Rattle.gptp_commands.specs.declared.failure.Status.{Status}
 use Rattle.gptp_commands.specs.declared.timeline.TimelineOrder.{TimelineOrder}
@@ -24,7 +24,7 @@ pub record PlaysTimeline (d : DocumentState) (order : TimelineOrder) (output : L
   pub ends : EndsAt order.until d until
   pub exceeded : Bool
   pub timeline : TimelineOf draws d until order.options (generator order.seed) output exceeded
-  pub right : IsRight draws d until order.options (generator order.seed) output exceeded timeline
+  pub right : TimelineIsRight draws d until order.options (generator order.seed) output exceeded timeline
   pub status_is : status ≡ status_by exceeded
 
 abbrev pub TellsTimeline : TimelineOrder → DocumentState → List (List ℕ) → Status → Type 0
@@ -35,13 +35,13 @@ TimelineText order = AnswersInput (TellsTimeline order)
 
 -- ---- as far as it gets
 
-pub record PlaysSome (d : DocumentState) (order : TimelineOrder) (lines : List (List ℕ)) : Type 0 where
+pub record PlaysSomeTimeline (d : DocumentState) (order : TimelineOrder) (lines : List (List ℕ)) : Type 0 where
   pub until : ℕ
   pub ends : EndsAt order.until d until
   pub begins : BeginsTimeline draws d until order.options (generator order.seed) lines
 
 abbrev pub TellsSoFar : TimelineOrder → DocumentState → List (List ℕ) → Type 0
-TellsSoFar order d = PlaysSome d order
+TellsSoFar order d = PlaysSomeTimeline d order
 
 abbrev pub BeginsText : TimelineOrder → List ℕ → List (List ℕ) → Type 0
 BeginsText order = BeginsInput (TellsTimeline order) (TellsSoFar order)

@@ -25,13 +25,13 @@ use Rattle.gptp_commands.specs.Documents.{document_limit}
 
 -- ---- the place of a fault
 
-abbrev pub port_text : PortId → List ℕ
-port_text p = clock_text p.clock ++ codes " " ++ decimal p.port
+abbrev pub where_port_text : PortId → List ℕ
+where_port_text p = clock_text p.clock ++ codes " " ++ decimal p.port
 
 abbrev pub place_text : Location → List ℕ
 place_text (System clock) = codes "system " ++ clock_text clock
-place_text (Link own other) = codes "link " ++ port_text own ++ codes " " ++ port_text other
-place_text (Port port) = codes "port " ++ port_text port
+place_text (Link own other) = codes "link " ++ where_port_text own ++ codes " " ++ where_port_text other
+place_text (Port port) = codes "port " ++ where_port_text port
 
 abbrev pub IsAt : List ℕ → List (List ℕ) → Type 0
 IsAt place lines = lines ≡ (codes "at " ++ place) ∷ []
@@ -49,8 +49,8 @@ LocatesFault g c lines =
 abbrev pub line_behind : List ℕ → ℕ
 line_behind front = count_by (λ octet. octet == 10) front + 1
 
-abbrev pub IsAtLine : ℕ → List (List ℕ) → Type 0
-IsAtLine n lines = IsAt (codes "line " ++ decimal n) lines
+abbrev pub PlaceIsLine : ℕ → List (List ℕ) → Type 0
+PlaceIsLine n lines = IsAt (codes "line " ++ decimal n) lines
 
 -- this part, which the text ends with, begins in that line
 abbrev pub BeginsInLine : List ℕ → List ℕ → ℕ → Type 0
@@ -59,11 +59,11 @@ BeginsInLine text part n = (front : List ℕ) × (text ≡ front ++ part) × (n 
 -- the line that fails, of a text that is no certificate
 abbrev pub LocatesLine : List ℕ → List (List ℕ) → Type 0
 LocatesLine input lines = (fault : CertificateFault) × (part : List ℕ) × (n : ℕ) × FailsFrom input fault part
-    × BeginsInLine input part n × IsAtLine n lines
+    × BeginsInLine input part n × PlaceIsLine n lines
 
 -- past the size it is the line of the first octet past it
 abbrev pub LocatesEnd : List ℕ → List (List ℕ) → Type 0
-LocatesEnd input lines = IsAtLine (line_behind (take certificate_limit input)) lines
+LocatesEnd input lines = PlaceIsLine (line_behind (take certificate_limit input)) lines
 
 -- ---- both inputs
 

@@ -2,7 +2,7 @@
 
 ghost use Rattle.std.specs.Prelude.{◌≡◌, IfErr, IfOk};
 ghost use Rattle.gptp_spelling.specs.Lines.{text_of};
-ghost use Rattle.gptp_time_error.specs.AccuracyText.{accuracy_lines, is_exceeded};
+ghost use Rattle.gptp_time_error.specs.AccuracyText.{accuracy_lines, error_is_exceeded};
 ghost use Rattle.gptp_commands.specs.AccuracyText.{TellsAccuracy};
 ghost use Rattle.gptp_commands.specs.Failure.{status_by};
 ghost use Rattle.gptp_commands.specs.Output.{IsOutput};
@@ -16,7 +16,7 @@ use std::alloc::Global;
 
 /// The text of time errors.
 fn show(alloc: Global, errors: &TimeErrors, max_error: Option<u64>) -> Result<Output, SimError>
-    ensures shows { IfOk result (λ o. (o.status ≡ status_by (is_exceeded max_error errors.now.systems.items))
+    ensures shows { IfOk result (λ o. (o.status ≡ status_by (error_is_exceeded max_error errors.now.systems.items))
         × (o.text.items ≡ text_of (accuracy_lines max_error errors.now))) }
     ensures memory { IfErr result (λ e. e ≡ SimError.Memory) }
 {

@@ -1,7 +1,7 @@
 //! The priority vector that a word of hexadecimal announces.
 
 ghost use Rattle.std.specs.Prelude.{◌≡◌, IfOk, IfErr};
-ghost use Rattle.gptp_commands.specs.Announced.{vector_of, AnnouncesVector, AnnouncesNothing, Says};
+ghost use Rattle.gptp_commands.specs.Announced.{vector_of, AnnouncesVector, AnnouncesNothing, SaysVector};
 
 use crate::failure::SimError;
 use gptp_messages::{AnnounceView, Message, Refused, decode};
@@ -21,9 +21,9 @@ pub enum WordFault {
 
 impl fmt::Display for WordFault {
     ghost use Rattle.std.specs.Prelude.{Some};
-    ghost use Rattle.gptp_commands.specs.Announced.{fault_text};
+    ghost use Rattle.gptp_commands.specs.Announced.{word_fault_text};
 
-    ghost output = { λ fault. Some (fault_text fault) };
+    ghost output = { λ fault. Some (word_fault_text fault) };
 
     fn fmt<W: fmt::Write>(&self, f: &mut fmt::Formatter<W>) -> fmt::Result {
         match self {
@@ -59,7 +59,7 @@ fn announced_by(frame: &[u8]) -> Result<Vector, Refused>
 /// The vector that a word announces, or why it announces none. The only error is
 /// [`SimError::Memory`].
 pub fn announced(alloc: Global, word: &[u8]) -> Result<Result<Vector, WordFault>, SimError>
-    ensures says { IfOk result (Says word.now) }
+    ensures says { IfOk result (SaysVector word.now) }
     ensures memory { IfErr result (λ e. e ≡ SimError.Memory) }
 {
     let frame = match hex::decode(alloc, word) {

@@ -1,7 +1,7 @@
 //! What is answered to a line of two words.
 
 ghost use Rattle.std.specs.Prelude.{◌≡◌, IfOk, IfErr};
-ghost use Rattle.gptp_commands.specs.Answer.{better_of, answer_of, is_refusal, Answers};
+ghost use Rattle.gptp_commands.specs.Answer.{better_of, answer_of, is_refusal, AnswersLine};
 
 use crate::announced::{WordFault, announced};
 use crate::failure::SimError;
@@ -84,7 +84,7 @@ fn answer_of(first: Result<Vector, WordFault>, second: Result<Vector, WordFault>
 
 /// What is answered to a line. The only error is [`SimError::Memory`].
 pub fn answer_to(alloc: Global, line: &[u8]) -> Result<Answer, SimError>
-    ensures answers { IfOk result (Answers line.now) }
+    ensures answers { IfOk result (AnswersLine line.now) }
     ensures memory { IfErr result (λ e. e ≡ SimError.Memory) }
 {
     match two_words(line) {

@@ -4,7 +4,7 @@ ghost use Rattle.std.specs.Prelude.{◌≡◌, ◌≢◌, ◌⊎◌, ◌+◌, Li
 ghost use Rattle.std.specs.Io.KnownBytes.{Keeps};
 ghost use Rattle.gptp_network.specs.Snapshot.{IsSnapshot};
 ghost use Rattle.gptp_spelling.specs.Lines.{text_of};
-ghost use Rattle.gptp_checker.specs.Faults.{fault_text};
+ghost use Rattle.gptp_checker.specs.Faults.{check_fault_text};
 ghost use Rattle.gptp_commands.specs.CheckText.{certificate_limit, moment_of, AnswersBoth, AnswersCertificate, CheckText, Judges, JudgesAt, RefusesCertificate, Says};
 ghost use Rattle.gptp_certificate_text.specs.declared.fault.CertificateFault.TheVariants.{Line};
 ghost use Rattle.gptp_commands.specs.declared.failure.Status.TheVariants.{Done, Refused};
@@ -52,7 +52,7 @@ fn accept(alloc: Global) -> Result<Output, SimError>
 
 /// The line of one that isn't.
 pub(crate) fn reject(alloc: Global, fault: Fault) -> Result<Output, SimError>
-    ensures says { IfOk result (λ o. (output : List (List ℕ)) × Says (codes "not accepted " ++ fault_text fault) Refused output o.status × (o.text.items ≡ text_of output)) }
+    ensures says { IfOk result (λ o. (output : List (List ℕ)) × Says (codes "not accepted " ++ check_fault_text fault) Refused output o.status × (o.text.items ≡ text_of output)) }
     ensures memory { IfErr result (λ e. e ≡ SimError.Memory) }
 {
     let mut text = String::new(alloc);

@@ -3,10 +3,10 @@
 ghost use Rattle.std.specs.Prelude.{◌≡◌, ◌⊎◌, ◌≤◌, Err, IfErr, IfNone, IfOk, IfSome, Ok, map, string_bytes};
 ghost use Rattle.std.specs.Process.{exit_status as process_status};
 ghost use Rattle.clap.specs.Words.{found_of, rows_of, subcommand_name_of, subcommand_rows_of};
-ghost use Rattle.gptp_commands.specs.Command.{AsksFor, Enters, IsTaken, MeansNothing, OrderIsInRange, Wrong, command_line_status};
+ghost use Rattle.gptp_commands.specs.Command.{AsksFor, Enters, IsRead, MeansNothing, OrderIsInRange, Wrong, command_line_status};
 ghost use Rattle.gptp_commands.specs.Command.{ReadsCheck, ReadsClock, ReadsFaults, ReadsKind, ReadsLimits, ReadsRun, ReadsTimeline};
 ghost use Rattle.gptp_commands.specs.Command.{WrongCases, WrongClock, WrongKind, kind_of_text, limit_argument};
-ghost use Rattle.gptp_commands.specs.Options.{number_of};
+ghost use Rattle.gptp_commands.specs.Options.{option_number};
 ghost use Rattle.gptp_commands.specs.Version.{AsksVersion};
 ghost use Rattle.gptp_commands.specs.declared.command.CommandLineError.TheVariants.{Memory};
 ghost use Rattle.gptp_network.specs.Values.{clock_of_text};
@@ -174,7 +174,7 @@ fn run_in(matches: &ArgMatches) -> RunOptions
 
 /// The greatest that the command line gives for a limit.
 fn limit_in(matches: &ArgMatches, limit: Limit) -> Option<u64>
-    ensures { result ≡ number_of (limit_argument limit) (rows_of (found_of matches.now)) }
+    ensures { result ≡ option_number (limit_argument limit) (rows_of (found_of matches.now)) }
 {
     number(matches, &(limit.option(), NANOSECONDS, ""))
 }
@@ -329,7 +329,7 @@ fn order_in(alloc: Global, matches: &ArgMatches) -> Result<Order, CommandLineErr
 fn read_words(alloc: Global, words: &[String]) -> Result<Order, CommandLineError>
     ensures asks { IfOk result (AsksFor (map string_bytes words.now)) }
     ensures refused { IfErr result (λ e. (e ≡ Memory) ⊎ MeansNothing (map string_bytes words.now) e) }
-    ensures taken { IfErr result (λ e. IsTaken (map string_bytes words.now) → e ≡ Memory) }
+    ensures taken { IfErr result (λ e. IsRead (map string_bytes words.now) → e ≡ Memory) }
 {
     let matches = grammar(alloc)?.try_get_matches_from(words)?;
     order_in(alloc, &matches)
@@ -340,7 +340,7 @@ fn read_order(alloc: Global, words: &[String]) -> Result<Order, CommandLineError
     ensures asks { IfOk result (AsksFor (map string_bytes words.now)) }
     ensures version { AsksVersion (map string_bytes words.now) → result ≡ Ok Order.Version }
     ensures refused { IfErr result (λ e. (e ≡ Memory) ⊎ MeansNothing (map string_bytes words.now) e) }
-    ensures taken { IfErr result (λ e. IsTaken (map string_bytes words.now) → e ≡ Memory) }
+    ensures taken { IfErr result (λ e. IsRead (map string_bytes words.now) → e ≡ Memory) }
 {
     if is_version(words) {
         return Ok(Order::Version);

@@ -2,7 +2,7 @@
 
 ghost use Rattle.std.specs.Prelude.{◌≡◌};
 ghost use Rattle.gptp_commands.specs.declared.failure.SimError.TheVariants.{Memory, Read, Write};
-ghost use Rattle.gptp_commands.specs.Failure.{error_of, status_by, exit_status};
+ghost use Rattle.gptp_commands.specs.Failure.{stop_error, status_by, exit_status};
 
 use crate::source::ReadFailed;
 use gptp_report::Cut;
@@ -79,7 +79,7 @@ impl From<WriteFailed> for SimError {
 }
 
 impl From<Cut> for SimError {
-    ghost from_gives = { λ cut e. e ≡ error_of cut };
+    ghost from_gives = { λ cut e. e ≡ stop_error cut };
 
     fn from(cut: Cut) -> SimError {
         match cut {

@@ -3,7 +3,7 @@
 ghost use Rattle.std.specs.Prelude.{◌≡◌, IfOk, false, map};
 ghost use Rattle.clap.specs.Words.{app_of, rule_of};
 ghost use Rattle.clap.specs.declared.builder.command.Command.TheViews.{out-Command as fields_of};
-ghost use Rattle.gptp_commands.specs.Table.{app_of_row, gptp_sim, program, rule_of_row, shown, shown_argument};
+ghost use Rattle.gptp_commands.specs.Table.{app_of_row, gptp_sim, program, rule_of_row, shown_command, shown_argument};
 
 use crate::table::rows::COMMANDS;
 use crate::table::{CommandRow, Form, Row, help_of};
@@ -37,7 +37,7 @@ fn arg_of<'a>(alloc: Global, row: &Row) -> Arg<'a>
 
 /// The command of a row.
 fn command_of<'a>(alloc: Global, row: &CommandRow) -> Result<Command<'a>, AllocError>
-    ensures app { IfOk result (λ command. app_of command ≡ app_of_row (shown row.now)) }
+    ensures app { IfOk result (λ command. app_of command ≡ app_of_row (shown_command row.now)) }
     ensures local { IfOk result (λ command. (fields_of command).has_globals ≡ false) }
 {
     let (name, about, rows) = *row;
@@ -52,7 +52,7 @@ fn command_of<'a>(alloc: Global, row: &CommandRow) -> Result<Command<'a>, AllocE
 
 /// The program with its commands, of which one has to be named.
 fn program_of<'a>(alloc: Global, rows: &[CommandRow]) -> Result<Command<'a>, AllocError>
-    ensures { IfOk result (λ command. app_of command ≡ program (map shown rows.now)) }
+    ensures { IfOk result (λ command. app_of command ≡ program (map shown_command rows.now)) }
 {
     let mut command = Command::new(alloc, "gptp_sim")
         .about("Simulates networks that run gPTP")

@@ -7,7 +7,7 @@ ghost use Rattle.gptp_commands.specs.declared.run.RunOptions.{RunOptions};
 ghost use Rattle.gptp_commands.specs.declared.timeline.TimelineOrder.{TimelineOrder};
 ghost use Rattle.gptp_commands.specs.Certified.{AsksAtRest, AsksTheSame, EndsAccepted};
 ghost use Rattle.gptp_commands.specs.CheckText.{CheckText};
-ghost use Rattle.gptp_commands.specs.Command.{IsPlain, IsTaken};
+ghost use Rattle.gptp_commands.specs.Command.{IsPlain, IsRead};
 ghost use Rattle.gptp_commands.specs.CompareText.{BeginsCompare, CompareText};
 ghost use Rattle.gptp_commands.specs.Every.{HasText};
 ghost use Rattle.gptp_commands.specs.FaultsText.{FaultsText};
@@ -170,5 +170,5 @@ pub fn what_a_run_certifies_is_accepted()
 /// A command by its name with nothing that may be left out is a command line that is read: `compare`, `run`, `timeline`,
 /// `faults`, `choice`, `accuracy` and `lint` alone, `check` with a file, and `explain` with a clock.
 pub fn a_plain_command_line_is_taken()
-    ensures { (words : List (List ℕ)) → IsPlain words → IsTaken words }
+    ensures { (words : List (List ℕ)) → IsPlain words → IsRead words }
 {}

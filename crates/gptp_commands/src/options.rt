@@ -2,7 +2,7 @@
 
 ghost use Rattle.std.specs.Prelude.{◌≡◌, map, option_and_then, option_map};
 ghost use Rattle.clap.specs.Words.{found_of, rows_of};
-ghost use Rattle.gptp_commands.specs.Options.{flag_of, number_of, place_of, within, word_of};
+ghost use Rattle.gptp_commands.specs.Options.{flag_of, option_number, place_value, within, word_of};
 ghost use Rattle.gptp_commands.specs.Table.{shown_argument};
 
 use crate::table::{Form, Row};
@@ -26,7 +26,7 @@ fn number_within(number: Option<u64>, least: u64, most: u64) -> Option<u64>
 
 /// The number that an argument gives, if it gives one in its range. The parser lets no other through.
 pub(crate) fn number(matches: &ArgMatches, row: &Row) -> Option<u64>
-    ensures { result ≡ number_of (shown_argument row.now) (rows_of (found_of matches.now)) }
+    ensures { result ≡ option_number (shown_argument row.now) (rows_of (found_of matches.now)) }
 {
     let (name, (form, _, _), _) = *row;
     match form {
@@ -51,7 +51,7 @@ pub(crate) fn word<'a>(matches: &ArgMatches<'a>, row: &Row) -> Option<&'a str>
 
 /// The word that an argument gives which has to be given. The parser lets no command line through that has none.
 pub(crate) fn place<'a>(matches: &ArgMatches<'a>, row: &Row) -> &'a str
-    ensures { result.now ≡ place_of (shown_argument row.now) (rows_of (found_of matches.now)) }
+    ensures { result.now ≡ place_value (shown_argument row.now) (rows_of (found_of matches.now)) }
 {
     word(matches, row).unwrap_or("")
 }

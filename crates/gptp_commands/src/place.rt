@@ -4,7 +4,7 @@ ghost use Rattle.std.specs.Prelude.{◌≡◌, ◌≢◌, ◌⊎◌, ◌++◌, [
 ghost use Rattle.gptp_spelling.specs.Lines.{text_of};
 ghost use Rattle.gptp_certificate_text.specs.Parsing.{FailsFrom};
 ghost use Rattle.gptp_checker.specs.Faults.{IsFirstFault};
-ghost use Rattle.gptp_commands.specs.WhereText.{BeginsInLine, IsAt, IsAtLine, LocatesAt, LocatesBoth, LocatesCertificate};
+ghost use Rattle.gptp_commands.specs.WhereText.{BeginsInLine, IsAt, PlaceIsLine, LocatesAt, LocatesBoth, LocatesCertificate};
 ghost use Rattle.gptp_commands.specs.WhereText.{LocatesDocument, LocatesFault, LocatesLimited, LocatesLine, line_behind, place_text};
 
 use crate::check::{CERTIFICATE_LIMIT, moment_of};
@@ -24,9 +24,9 @@ struct PortDigits(PortId);
 
 impl fmt::Display for PortDigits {
     ghost use Rattle.std.specs.Prelude.{Some};
-    ghost use Rattle.gptp_commands.specs.WhereText.{port_text};
+    ghost use Rattle.gptp_commands.specs.WhereText.{where_port_text};
 
-    ghost output = { λ port. Some (port_text port.0) };
+    ghost output = { λ port. Some (where_port_text port.0) };
 
     fn fmt<W: fmt::Write>(&self, f: &mut fmt::Formatter<W>) -> fmt::Result {
         let PortId { clock, port } = self.0;
@@ -132,7 +132,7 @@ fn line_of_part(text: &[u8], part: &[u8]) -> usize
 
 /// The text that names a line.
 fn at_line(alloc: Global, line: usize) -> Result<String, SimError>
-    ensures says { IfOk result (λ text. (lines : List (List ℕ)) × IsAtLine line lines × (string_bytes text ≡ text_of lines)) }
+    ensures says { IfOk result (λ text. (lines : List (List ℕ)) × PlaceIsLine line lines × (string_bytes text ≡ text_of lines)) }
     ensures memory { IfErr result (λ e. e ≡ SimError.Memory) }
 {
     let mut text = String::new(alloc);

@@ -3,7 +3,7 @@
 ghost use Rattle.std.specs.Prelude.{◌≡◌, ◌≢◌, ◌+◌, List, ℕ, IfErr, IfOk, OnOk};
 ghost use Rattle.std.specs.Io.KnownBytes.{Keeps};
 ghost use Rattle.gptp_commands.specs.Output.{IsOutput};
-ghost use Rattle.gptp_commands.specs.QuestionText.{Answers, AnswersInput, QuestionText, RefusesInput};
+ghost use Rattle.gptp_commands.specs.QuestionText.{AnswersQuestion, AnswersQuestionInput, QuestionText, RefusesInput};
 ghost use Rattle.gptp_commands.specs.Documents.{document_limit};
 ghost use Rattle.gptp_commands.specs.Source.{ReadsWhole, TakesAtMost};
 ghost use Rattle.gptp_commands.specs.Written.{Writes, WritesFront};
@@ -58,7 +58,7 @@ fn answer_document(
     input: &[u8],
     question: Question,
 ) -> Result<Output, SimError>
-    ensures answers { IfOk result (IsOutput (Answers question input.now document.now)) }
+    ensures answers { IfOk result (IsOutput (AnswersQuestion question input.now document.now)) }
     ensures memory { IfErr result (λ e. e ≡ SimError.Memory) }
 {
     match question {
@@ -94,7 +94,7 @@ fn refuse_document(
 
 /// The text for an input within its size.
 fn answer_input(alloc: Global, input: &[u8], question: Question) -> Result<Output, SimError>
-    ensures answers { IfOk result (IsOutput (AnswersInput question input.now)) }
+    ensures answers { IfOk result (IsOutput (AnswersQuestionInput question input.now)) }
     ensures memory { IfErr result (λ e. e ≡ SimError.Memory) }
 {
     match Document::read(alloc, input) {

@@ -10,7 +10,7 @@ ghost use Rattle.gptp_spelling.specs.Lines.{text_of};
 ghost use Rattle.gptp_commands.specs.Source.{ReadsWhole, TakesAtMost};
 ghost use Rattle.gptp_commands.specs.Documents.{document_limit};
 ghost use Rattle.gptp_commands.specs.RunText.{until_of, BeginsRun, PlaysDocument, RunText};
-ghost use Rattle.gptp_commands.specs.RunSoFar.{PlaysSome, Tells};
+ghost use Rattle.gptp_commands.specs.RunSoFar.{PlaysSome, TellsRun};
 ghost use Rattle.gptp_commands.specs.Written.{Writes, WritesSome};
 
 use crate::documents::{DocumentCommand, tell_of_document};
@@ -102,9 +102,9 @@ fn write_certified<F: Fate + Drop, K: Sink>(
     sink: &mut K,
 ) -> Result<(), Cut>
     ensures some { OnErr result ((lines : List (List ℕ))
-        × ((lines ≡ []) ⊎ Tells document.now until true world.now.scene lines)
+        × ((lines ≡ []) ⊎ TellsRun document.now until true world.now.scene lines)
         × AppendsSome (K.written sink.old) (K.written sink.new) (text_of lines)) }
-    ensures whole { OnOk result ((lines : List (List ℕ)) × Tells document.now until true world.now.scene lines
+    ensures whole { OnOk result ((lines : List (List ℕ)) × TellsRun document.now until true world.now.scene lines
         × Appends (K.written sink.old) (K.written sink.new) (text_of lines)) }
     ensures works { result ≢ Err Cut.Write → K.failures sink.new ≡ K.failures sink.old }
     ensures fails { result ≡ Err Cut.Write → K.failures sink.new ≢ K.failures sink.old }
@@ -124,9 +124,9 @@ fn tell<F: Fate + Drop, K: Sink>(
     sink: &mut K,
 ) -> Result<(), Cut>
     ensures some { OnErr result ((lines : List (List ℕ))
-        × ((lines ≡ []) ⊎ Tells document.now until certified world.now.scene lines)
+        × ((lines ≡ []) ⊎ TellsRun document.now until certified world.now.scene lines)
         × AppendsSome (K.written sink.old) (K.written sink.new) (text_of lines)) }
-    ensures whole { OnOk result ((lines : List (List ℕ)) × Tells document.now until certified world.now.scene lines
+    ensures whole { OnOk result ((lines : List (List ℕ)) × TellsRun document.now until certified world.now.scene lines
         × Appends (K.written sink.old) (K.written sink.new) (text_of lines)) }
     ensures works { result ≢ Err Cut.Write → K.failures sink.new ≡ K.failures sink.old }
     ensures fails { result ≡ Err Cut.Write → K.failures sink.new ≢ K.failures sink.old }

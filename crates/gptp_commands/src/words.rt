@@ -2,18 +2,18 @@
 
 ghost use Rattle.std.specs.Prelude.{◌≡◌, ◌≢◌, ◌≤◌, List, ℕ, [], ◌∷◌, length, drop, IfSome, IfNone};
 ghost use Rattle.std.specs.List.{prefix_len, position_or_len};
-ghost use Rattle.gptp_commands.specs.Words.{is_blank, words};
+ghost use Rattle.gptp_commands.specs.Words.{is_space_or_tab, words};
 
 /// Whether an octet separates words.
 fn is_blank(octet: u8) -> bool
-    ensures { result ≡ is_blank octet }
+    ensures { result ≡ is_space_or_tab octet }
 {
     octet == b' ' || octet == b'\t'
 }
 
 /// How many blanks a text begins with.
 fn blanks_before(text: &[u8]) -> usize
-    ensures value { result ≡ prefix_len is_blank text.now }
+    ensures value { result ≡ prefix_len is_space_or_tab text.now }
     ensures bound { result ≤ length text.now }
 {
     text.iter().take_while(|octet| is_blank(**octet)).count()
@@ -21,7 +21,7 @@ fn blanks_before(text: &[u8]) -> usize
 
 /// How many octets stand before the first blank of a text.
 fn word_length(text: &[u8]) -> usize
-    ensures value { result ≡ position_or_len is_blank text.now }
+    ensures value { result ≡ position_or_len is_space_or_tab text.now }
     ensures bound { result ≤ length text.now }
 {
     text.iter().take_while(|octet| !is_blank(**octet)).count()

@@ -17,8 +17,8 @@ use Rattle.gptp_graph.proofs.BestLemmas.{IsBest-unique}
 use Rattle.gptp_graph.proofs.PathLemmas.{Reaches-self, Reaches-sym}
 use Rattle.gptp_graph.proofs.SystemLemmas.{In-clocks, same_identity}
 use Rattle.gptp_network.proofs.SnapshotLemmas.{In-permutation}
-use Rattle.gptp_components.specs.Distances.{AreFirst, IsDistanceOf}
-use Rattle.gptp_components.specs.Search.{AreAllFound, AreByRank, AreFound, IsComponentFound, IsFound, IsNewRoot, NothingFound}
+use Rattle.gptp_components.specs.Distances.{AreFirstDistances, IsDistanceOf}
+use Rattle.gptp_components.specs.Search.{AreAllFound, AreByRank, ComponentsAreFound, IsComponentFound, IsFound, IsNewRoot, NothingFound}
 use Rattle.gptp_components.specs.declared.distance.Distance.{Distance}
 use Rattle.gptp_components.proofs.ComponentLemmas.{same_best}
 use Rattle.gptp_components.proofs.FoundLemmas.{found_there, nothing_there}
@@ -68,7 +68,7 @@ found_within g found all place within = by_system (slice_get g.systems place) re
 
 -- nothing is found at first
 pub found_nothing : (g : Snapshot) (ids : List ℕ) (found : List (Option Distance)) → length found ≡ length g.systems
-    → NothingFound found → AreFound g ids 0 found
+    → NothingFound found → ComponentsAreFound g ids 0 found
 found_nothing g ids found as_many nothing = record {
   as_many = as_many;
   right = λ v d is. absurd (nothing_there g found v d nothing is);
@@ -83,7 +83,7 @@ clock_named g wf root clock is s live same =
     sym (wf.identified s live).clock ∙ ap (λ id. id % 2 ^ 64) same ∙ sym is
 
 module _ (g : Snapshot) (wf : IsWellFormed g) (ids : List ℕ) (ranked : AreByRank g ids) (rank root : ℕ)
-    (at : slice_get ids rank ≡ Some root) (found : List (Option Distance)) (so_far : AreFound g ids rank found) where
+    (at : slice_get ids rank ≡ Some root) (found : List (Option Distance)) (so_far : ComponentsAreFound g ids rank found) where
   -- the system of this rank
   own : (s : System) × In s g.systems × (s.identity ≡ root)
   own = ranked.only root (In-slice_get root ids rank at)
@@ -103,7 +103,7 @@ module _ (g : Snapshot) (wf : IsWellFormed g) (ids : List ℕ) (ranked : AreByRa
 
   -- it was found with a better one
   pub passed_ranked : (clock : ℕ) → ((s : System) → In s g.systems → s.identity ≡ root → s.clock ≡ clock)
-      → (d : Distance) → IsFound g found clock d → AreFound g ids (suc rank) found
+      → (d : Distance) → IsFound g found clock d → ComponentsAreFound g ids (suc rank) found
   passed_ranked clock clock_is d is = record {
     as_many = so_far.as_many;
     right = so_far.right;
@@ -177,7 +177,7 @@ module _ (g : Snapshot) (wf : IsWellFormed g) (ids : List ℕ) (ranked : AreByRa
 
   -- and its component is found
   pub found_ranked : (after : List (Option Distance)) → (new : IsNewRoot g root found)
-      → IsComponentFound g root found after → AreFound g ids (suc rank) after
+      → IsComponentFound g root found after → ComponentsAreFound g ids (suc rank) after
   found_ranked after new component = record {
     as_many = component.as_many ∙ so_far.as_many;
     right = λ v d is. elim (component.only v d is) [
@@ -201,7 +201,7 @@ module _ (g : Snapshot) (wf : IsWellFormed g) (ids : List ℕ) (ranked : AreByRa
 
 -- all are found
 pub all_by_rank : (g : Snapshot) (ids : List ℕ) (count : ℕ) (found : List (Option Distance)) → IsRising (clocks g)
-    → AreByRank g ids → length ids ≤ count → AreFound g ids count found → AreAllFound g found
+    → AreByRank g ids → length ids ≤ count → ComponentsAreFound g ids count found → AreAllFound g found
 all_by_rank g ids count found rising ranked all is place s there =
     let live = In-slice_get s g.systems place there in
     let member = subst (In s.identity) (sym (whole_front ids count all)) (ranked.all s live) in
@@ -219,12 +219,12 @@ all_by_rank g ids count found rising ranked all is place s there =
 
 -- ---- by place
 
-pub none_yet : (g : Snapshot) → AreFirst g 0 []
+pub none_yet : (g : Snapshot) → AreFirstDistances g 0 []
 none_yet g = record { as_many = refl; each = λ place s d there here. absurd cc }
 
 pub one_yet : (g : Snapshot) (found : List (Option Distance)) (place : ℕ) (ds : List Distance) (d : Distance)
-    → AreAllFound g found → AreFirst g place ds → slice_get found place ≡ Some (Some d)
-    → AreFirst g (suc place) (ds ++ d ∷ [])
+    → AreAllFound g found → AreFirstDistances g place ds → slice_get found place ≡ Some (Some d)
+    → AreFirstDistances g (suc place) (ds ++ d ∷ [])
 one_yet g found place ds d all before is = record {
   as_many = length-append ds (d ∷ []) ∙ (let many = before.as_many in omega arith);
   each = λ i s e there here. elim (parts ds d i e here) [

@@ -4,7 +4,7 @@ use native.Mathlib.Decide.{ℕ_discrete}
 use Rattle.gptp_lists.specs.Members.{In}
 use Rattle.gptp_lists.proofs.MemberLemmas.{In-parts}
 use Rattle.gptp_graph.specs.Snapshot.{System, PortIdentity, Snapshot, IsLinked, IsWellFormed, Joins, port_of}
-use Rattle.gptp_components.specs.Search.{AtEdge, IsFound, IsLookedAt, IsPut, IsSpread, Waits}
+use Rattle.gptp_components.specs.Search.{AtEdge, IsFound, IsLookedAt, IsPut, IsSpread, IsWaiting}
 use Rattle.gptp_components.specs.declared.distance.Distance.{Distance}
 
 module _ (g : Snapshot) (next : Distance) where
@@ -102,7 +102,7 @@ module _ (g : Snapshot) (next : Distance) where
     ];
     waits = λ w h. elim (put.new w h) [
       | inl waits ↦ longer_waits w (spread.waits w waits)
-      | inr (same, unfound, is) ↦ subst (Waits g next before after) (sym same) (record {
+      | inr (same, unfound, is) ↦ subst (IsWaiting g next before after) (sym same) (record {
         unfound = λ d h. unfound d (spread.kept q.clock d h);
         found = is;
         from = v;
@@ -119,7 +119,7 @@ module _ (g : Snapshot) (next : Distance) where
     ];
   }
     where
-      longer_waits : (w : ℕ) → Waits g next before found w → Waits g next before after w
+      longer_waits : (w : ℕ) → IsWaiting g next before found w → IsWaiting g next before after w
       longer_waits w h = record {
         unfound = h.unfound;
         found = put.kept w next h.found;

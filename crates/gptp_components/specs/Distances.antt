@@ -12,14 +12,14 @@ pub record IsDistanceOf (g : Snapshot) (v : ℕ) (d : Distance) : Type 0 where
   pub steps : IsDistance g v d.steps
 
 -- the distances of the systems at the first places, so many
-pub record AreFirst (g : Snapshot) (count : ℕ) (ds : List Distance) : Type 0 where
+pub record AreFirstDistances (g : Snapshot) (count : ℕ) (ds : List Distance) : Type 0 where
   pub as_many : length ds ≡ count
   pub each : (place : ℕ) (s : System) (d : Distance) → slice_get g.systems place ≡ Some s → slice_get ds place ≡ Some d
       → IsDistanceOf g s.clock d
 
 -- the distances of all systems, by their places
 abbrev pub AreDistances : Snapshot → List Distance → Type 0
-AreDistances g = AreFirst g (length g.systems)
+AreDistances g = AreFirstDistances g (length g.systems)
 
 -- two systems are of one component exactly where the bests of their components are one
 abbrev pub BestsTellComponents : Type 0

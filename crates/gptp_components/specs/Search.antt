@@ -45,7 +45,7 @@ abbrev pub IsLookedAt : List ℕ → ℕ → ℕ → PortIdentity → Type 0
 IsLookedAt us v k p = In p.clock us ⊎ ((p.clock ≡ v) × (p.port ≤ k))
 
 -- the system waits: it was found as a neighbour of one at the edge
-pub record Waits (g : Snapshot) (next : Distance) (before after : List (Option Distance)) (w : ℕ) : Type 0 where
+pub record IsWaiting (g : Snapshot) (next : Distance) (before after : List (Option Distance)) (w : ℕ) : Type 0 where
   pub unfound : (d : Distance) → IsFound g before w d → ⊥
   pub found : IsFound g after w next
   pub from : ℕ
@@ -58,7 +58,7 @@ pub record IsSpread (g : Snapshot) (next : Distance) (us : List ℕ) (v k : ℕ)
   pub as_many : length after ≡ length before
   pub kept : (w : ℕ) (d : Distance) → IsFound g before w d → IsFound g after w d
   pub only : (w : ℕ) (d : Distance) → IsFound g after w d → IsFound g before w d ⊎ ((d ≡ next) × In w waiting)
-  pub waits : (w : ℕ) → In w waiting → Waits g next before after w
+  pub waits : (w : ℕ) → In w waiting → IsWaiting g next before after w
   pub done : (p q : PortIdentity) → IsLookedAt us v k p → Joins g p q → (d : Distance) × IsFound g after q.clock d
 
 -- the identity is that of the best of a component of which nothing is found
@@ -95,7 +95,7 @@ pub record AreByRank (g : Snapshot) (ids : List ℕ) : Type 0 where
   pub only : (id : ℕ) → In id ids → (s : System) × In s g.systems × (s.identity ≡ id)
 
 -- the components of the first of these, so many, are found, and no others
-pub record AreFound (g : Snapshot) (ids : List ℕ) (count : ℕ) (found : List (Option Distance)) : Type 0 where
+pub record ComponentsAreFound (g : Snapshot) (ids : List ℕ) (count : ℕ) (found : List (Option Distance)) : Type 0 where
   pub as_many : length found ≡ length g.systems
   pub right : (v : ℕ) (d : Distance) → IsFound g found v d → IsDistanceOf g v d
   pub whole : (v w : ℕ) (d : Distance) → Reaches g v w → IsFound g found v d → (e : Distance) × IsFound g found w e

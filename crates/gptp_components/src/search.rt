@@ -3,8 +3,8 @@
 ghost use Rattle.std.specs.Prelude.{◌≡◌, ◌<◌, ◌+◌, ◌++◌, [], ◌∷◌, ℕ, List, length, suc, map, take, IfNone, IfOk, IfSome, OnOk, Option, Some, slice_get};
 ghost use Rattle.gptp_graph.specs.Snapshot.{System, clocks};
 ghost use Rattle.gptp_lists.specs.Members.{In};
-ghost use Rattle.gptp_components.specs.Distances.{AreDistances, AreFirst};
-ghost use Rattle.gptp_components.specs.Search.{AreAllFound, AreByRank, AreFound, AtEdge, IsComponentFound, IsFound, IsNewRoot, IsPut, IsSpread, NothingFound};
+ghost use Rattle.gptp_components.specs.Distances.{AreDistances, AreFirstDistances};
+ghost use Rattle.gptp_components.specs.Search.{AreAllFound, AreByRank, ComponentsAreFound, AtEdge, IsComponentFound, IsFound, IsNewRoot, IsPut, IsSpread, NothingFound};
 ghost use Rattle.gptp_components.specs.declared.distance.Distance.{Distance};
 
 use crate::distance::Distance;
@@ -234,8 +234,8 @@ fn reach_ranked(
 ) -> Result<(), AllocError>
     requires ranked { AreByRank snapshot.now ranked.now }
     requires rank { rank < length ranked.now }
-    requires before { AreFound snapshot.now ranked.now rank found.old.items }
-    ensures { OnOk result (AreFound snapshot.now ranked.now (suc rank) found.new.items) }
+    requires before { ComponentsAreFound snapshot.now ranked.now rank found.old.items }
+    ensures { OnOk result (ComponentsAreFound snapshot.now ranked.now (suc rank) found.new.items) }
 {
     snapshot.well_formed();
     let root = ranked[rank];
@@ -266,8 +266,8 @@ fn push_found(
 ) -> Result<(), AllocError>
     requires found { AreAllFound snapshot.now found.now }
     requires place { place < length snapshot.now.systems }
-    requires before { AreFirst snapshot.now place distances.old.items }
-    ensures { OnOk result (AreFirst snapshot.now (suc place) distances.new.items) }
+    requires before { AreFirstDistances snapshot.now place distances.old.items }
+    ensures { OnOk result (AreFirstDistances snapshot.now (suc place) distances.new.items) }
 {
     let _ = snapshot;
     if let Some(distance) = found_at(found, place) {

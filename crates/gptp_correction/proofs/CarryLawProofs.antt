@@ -4,7 +4,7 @@ use Rattle.gptp_scaled.specs.Rate.{scaled_by}
 use Rattle.gptp_scaled.proofs.LawProofs.{rate_zero_is_identity}
 use Rattle.gptp_correction.specs.declared.correction.Hop.{Hop}
 use Rattle.gptp_correction.specs.Sum.{sum_below}
-use Rattle.gptp_correction.specs.Carry.{added_at, hop_at, link_at, neighbour_at, rate_at, residence_at}
+use Rattle.gptp_correction.specs.Carry.{added_at, hop_at, link_time_at, neighbour_at, rate_at, residence_at}
 use Rattle.gptp_correction.specs.CarryLaws.{CarryGoesByHops, CarryKeepsTime, OnOneClock}
 use Rattle.gptp_correction.proofs.CarryLemmas.{carry_of-last, relays}
 
@@ -23,7 +23,7 @@ rates_are_zero hops left came w (suc n) k =
 
 -- the delay of a link is on the clock beside it what it is on the grandmaster's
 link_is : (hops : List Hop) (left came : ℕ → ℤ) → OnOneClock hops left came → (n : ℕ) →
-    n < length hops → link_at hops n ≡ came n -ℤ left n
+    n < length hops → link_time_at hops n ≡ came n -ℤ left n
 link_is hops left came w n k = rw (w.rates n k) (rate_zero_is_identity.unscaled (hop_at hops n).delay ∙ w.delays n k)
 
 -- times that follow one another add up
@@ -37,7 +37,7 @@ added_is hops left came w n k =
     let zero_rate : rate_at hops n ≡ pos 0 = rates_are_zero hops left came w (suc n) (omega arith) in
     let link = link_is hops left came w n (omega arith) in
     let time = joined (left n) (came n) (left (suc n)) link (w.residences n k) in
-    rw zero_rate (rate_zero_is_identity.scaled (link_at hops n +ℤ residence_at hops n)) ∙ time
+    rw zero_rate (rate_zero_is_identity.scaled (link_time_at hops n +ℤ residence_at hops n)) ∙ time
 
 -- so the correction is the time since the first egress
 correction_is : (hops : List Hop) (left came : ℕ → ℤ) → OnOneClock hops left came → (n : ℕ) →
@@ -52,8 +52,8 @@ pub carry_keeps_time : CarryKeepsTime
 carry_keeps_time hops left came last e w =
     let zero_rate : rate_at hops last ≡ pos 0 = rates_are_zero hops left came w (suc last) (omega arith) in
     let correction = correction_is hops left came w last (omega arith) in
-    let link : scaled_by (rate_at hops last) (link_at hops last) ≡ came last -ℤ left last =
-    rw zero_rate (rate_zero_is_identity.scaled (link_at hops last)) ∙ link_is hops left came w last (omega arith) in
+    let link : scaled_by (rate_at hops last) (link_time_at hops last) ≡ came last -ℤ left last =
+    rw zero_rate (rate_zero_is_identity.scaled (link_time_at hops last)) ∙ link_is hops left came w last (omega arith) in
     carry_of-last (left 0) hops last e ∙ arrives (left 0) (left last) (came last) correction link
   where
     arrives : {a b : ℤ} (x y z : ℤ) → a ≡ y -ℤ x → b ≡ z -ℤ y → (x +ℤ a) +ℤ b ≡ z

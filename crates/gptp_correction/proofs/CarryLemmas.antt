@@ -10,7 +10,7 @@ use Rattle.gptp_correction.specs.declared.correction.Hop.{Hop}
 use Rattle.gptp_correction.specs.declared.correction.Carried.{Carried}
 use Rattle.gptp_correction.specs.Sum.{sum_below}
 use Rattle.gptp_correction.specs.Correction.{carried_on, passage, receipt, BridgeFits, SlaveFits}
-use Rattle.gptp_correction.specs.Carry.{added_at, carried_to, carry_of, hop_at, link_at, neighbour_at, rate_at}
+use Rattle.gptp_correction.specs.Carry.{added_at, carried_to, carry_of, hop_at, link_time_at, neighbour_at, rate_at}
 use Rattle.gptp_correction.specs.Carry.{residence_at, BridgeFitsAt, CarryFits, SlaveFitsAt}
 
 -- a refusal is right where the fact doesn't hold
@@ -27,7 +27,7 @@ OkIff-along (Err e) P Q v w to from _ h = λ q. h (from q)
 -- a bridge adds the delay of its link and its residence
 pub relays : (hops : List Hop) (n : ℕ) → carried_on (carried_to hops n) (hop_at hops n) ≡ carried_to hops (suc n)
 relays hops n =
-    let e : passage (hop_at hops n) ≡ link_at hops n +ℤ residence_at hops n = omega (arith, ints) in
+    let e : passage (hop_at hops n) ≡ link_time_at hops n +ℤ residence_at hops n = omega (arith, ints) in
     ap (λ t. carried_by (rate_at hops n) (sum_below n (added_at hops)) t) e
   where
     carried_by : ℤ → ℤ → ℤ → Carried

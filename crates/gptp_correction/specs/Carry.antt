@@ -15,8 +15,8 @@ abbrev pub neighbour_at : List Hop → ℕ → ℤ
 neighbour_at hops i = (hop_at hops i).neighbour
 
 -- how long the Sync was on the link to it, by the clock there
-abbrev pub link_at : List Hop → ℕ → ℤ
-link_at hops i = link_time (hop_at hops i).delay (neighbour_at hops i)
+abbrev pub link_time_at : List Hop → ℕ → ℤ
+link_time_at hops i = link_time (hop_at hops i).delay (neighbour_at hops i)
 
 -- how long it stayed there, by the clock there
 abbrev pub residence_at : List Hop → ℕ → ℤ
@@ -28,7 +28,7 @@ rate_at hops i = sum_below (suc i) (neighbour_at hops)
 
 -- what a bridge there adds to the correction: link delay and residence at that rate
 abbrev pub added_at : List Hop → ℕ → ℤ
-added_at hops i = scaled_by (rate_at hops i) (link_at hops i +ℤ residence_at hops i)
+added_at hops i = scaled_by (rate_at hops i) (link_time_at hops i +ℤ residence_at hops i)
 
 -- The receipt time at the slave: the origin, what the bridges add, and the delay of the last link at its rate. Without
 -- a hop it is the origin.
@@ -36,7 +36,7 @@ abbrev pub carry_of : ℤ → List Hop → ℤ
 carry_of origin [] = origin
 carry_of origin (h ∷ hs) =
     let hops = h ∷ hs in let last = length hs in
-    (origin +ℤ sum_below last (added_at hops)) +ℤ scaled_by (rate_at hops last) (link_at hops last)
+    (origin +ℤ sum_below last (added_at hops)) +ℤ scaled_by (rate_at hops last) (link_time_at hops last)
 
 -- what is carried to the hop at a place: what the bridges before it add, and the sum of the rates before it
 abbrev pub carried_to : List Hop → ℕ → Carried

@@ -23,7 +23,7 @@ abbrev pub nearest_rate : ℤ → ℤ
 nearest_rate z = int_max (negsuc 2147483647) (int_min z (pos 2147483647))
 
 -- The same with another rate: the one whose sum with the neighbour's rate is held at the limits of Integer32. Where the
--- sum of the rate received is an Integer32 nothing changes (profile).
+-- sum of the rate sync_received is an Integer32 nothing changes (profile).
 abbrev pub held_sum : SyncInfo → ℤ → SyncInfo
 held_sum s neighbour = record s { rate = nearest_rate (s.rate +ℤ neighbour) -ℤ neighbour }
 
@@ -77,8 +77,8 @@ pub record SlaveFits (origin : ℤ) (c : Carried) (delay neighbour : ℤ) : Type
   pub sum : FitsScaled (receipt origin c delay neighbour)
 
 -- when the Sync came, by the grandmaster's clock
-abbrev pub received : SyncInfo → ℤ → ℤ → ℤ
-received s delay neighbour = receipt (scaled_of s.origin) (carried s) delay neighbour
+abbrev pub sync_received : SyncInfo → ℤ → ℤ → ℤ
+sync_received s delay neighbour = receipt (scaled_of s.origin) (carried s) delay neighbour
 
 -- the numbers of a receipt time fit
 abbrev pub ReceiptFits : SyncInfo → ℤ → ℤ → Type 0

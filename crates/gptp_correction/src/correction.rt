@@ -3,7 +3,7 @@
 ghost use Rattle.std.specs.Prelude.{◌≡◌, ◌+ℤ◌, OkIff};
 ghost use Rattle.gptp_scaled.specs.Interval.{FitsInterval};
 ghost use Rattle.gptp_scaled.specs.ScaledNs.{FitsScaled};
-ghost use Rattle.gptp_correction.specs.Correction.{bridge, received, relayed, ReceiptFits, RelayFits};
+ghost use Rattle.gptp_correction.specs.Correction.{bridge, sync_received, relayed, ReceiptFits, RelayFits};
 
 use crate::sync_in::SyncInfo;
 use gptp_scaled::{Interval, OutOfRange, Rate, ScaledNs, Stamp};
@@ -134,7 +134,7 @@ pub fn receipt_time(
     delay: ScaledNs,
     neighbour: Rate,
 ) -> Result<ScaledNs, OutOfRange>
-    ensures { OkIff result (ReceiptFits sync.now delay neighbour) (received sync.now delay neighbour) }
+    ensures { OkIff result (ReceiptFits sync.now delay neighbour) (sync_received sync.now delay neighbour) }
 {
     let carried = Carried {
         correction: sync.correction,

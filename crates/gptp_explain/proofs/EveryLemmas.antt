@@ -28,9 +28,9 @@ use Rattle.gptp_network.specs.Snapshot.{IsSnapshot, events_by, port_identity}
 use Rattle.gptp_network.proofs.ExistenceLemmas.{snapshot_exists}
 use Rattle.gptp_network.proofs.MeantLemmas.{meant_document, meant_well}
 use Rattle.gptp_explain.specs.Compared.{loss, win}
-use Rattle.gptp_explain.specs.Explained.{Explains, ExplainsSystem, IsAbsent, LeadsUp, ShowsWay, path_line, system_line}
+use Rattle.gptp_explain.specs.Explained.{Explains, ExplainsSystem, IsAbsent, LeadsUp, ShowsWay, path_line, explained_system_line}
 use Rattle.gptp_explain.specs.Laws.{EachIsExplained}
-use Rattle.gptp_explain.specs.Ports.{ArePortLines, HasWhy, IsKnown, IsPortLine, IsWay, LeadsTo, parent_port, port_line}
+use Rattle.gptp_explain.specs.Ports.{ArePortLines, HasWhy, IsKnownLink, IsPortLine, IsPortWay, JoinsPorts, parent_port, explained_port_line}
 use Rattle.gptp_explain.specs.Ranks.{AreRanked, rank_lines}
 use Rattle.gptp_explain.specs.declared.why.Why.{Why}
 use Rattle.gptp_explain.specs.declared.why.Why.TheVariants.{Down, Failed, Loses, Offers, Unlinked, Wins}
@@ -46,19 +46,19 @@ port_dec p q =
     (dec_both (ℕ_discrete p.clock q.clock) (ℕ_discrete p.port q.port))
 
 module _ (d : DocumentState) (at : ℕ) (p : PortId) where
-  leads_on : (w : Wire) → IsEnd p w → (q : PortId) × LeadsTo w p q
+  leads_on : (w : Wire) → IsEnd p w → (q : PortId) × JoinsPorts w p q
   leads_on w (inl is) = (w.b, inl (is, refl))
   leads_on w (inr is) = (w.a, inr (is, refl))
 
-  by_up : (w : Wire) (q : PortId) (up : Bool) → In w d.network.links → LeadsTo w p q
-      → (link_after (events_by at d.events) w).up ≡ up → (why : Why) × IsKnown d at p why
+  by_up : (w : Wire) (q : PortId) (up : Bool) → In w d.network.links → JoinsPorts w p q
+      → (link_after (events_by at d.events) w).up ≡ up → (why : Why) × IsKnownLink d at p why
   by_up w q false one leads is = (Down q, record { wire = w; one = one; leads = leads; stands = is })
   by_up w q true one leads is = (Failed q, record { wire = w; one = one; leads = leads; stands = is })
 
   end_dec : (w : Wire) → Dec (IsEnd p w)
   end_dec w = dec_either (port_dec w.a p) (port_dec w.b p)
 
-  known_exists : (why : Why) × IsKnown d at p why
+  known_exists : (why : Why) × IsKnownLink d at p why
   known_exists = elim (any_dec (IsEnd p) d.network.links (λ w one. end_dec w)) [
     | no none ↦ (Unlinked, λ w q one leads. none (w, one, end_of p q w leads))
     | yes found ↦ (let (q, leads) = leads_on found.0 found.2 in
@@ -114,7 +114,7 @@ module _ (g : Snapshot) (wf : IsWellFormed g) where
         let (h, here) = distance_exists g p.clock wf live in
         let (e, over) = distance_exists g q.clock wf
         (Joins-clock g q (port_identity p) wf (Joins-sym g (port_identity p) q joins)) in
-        let way : IsWay g p = record {
+        let way : IsPortWay g p = record {
           there = there;
           joins = joins;
           steps = h;
@@ -129,7 +129,7 @@ module _ (g : Snapshot) (wf : IsWellFormed g) where
         let (e, over) = distance_exists g q.clock wf
         (Joins-clock g q (port_identity p) wf (Joins-sym g (port_identity p) q joins)) in
         let (l, is) = has_parent p there joins no_master h e here over in
-        let way : IsWay g p = record {
+        let way : IsPortWay g p = record {
           there = there;
           joins = joins;
           steps = h;
@@ -143,7 +143,7 @@ module _ (g : Snapshot) (wf : IsWellFormed g) where
     port_line_exists p live =
         let (role, settled) = settled_role_exists g (port_identity p) wf live in
         let (why, has) = why_exists p role live settled in
-        (port_line p role why, record { role = role; settled = settled; why = why; has = has; is = refl })
+        (explained_port_line p role why, record { role = role; settled = settled; why = why; has = has; is = refl })
 
     port_lines_exist : (v : ℕ) (ns : List ℕ) → In v (clocks g)
         → (lines : List (List ℕ)) × ArePortLines d at g v ns lines
@@ -264,7 +264,7 @@ system_exists d at g s stands wf live =
     let (h, is_distance) = distance_exists g s.clock wf here in
     let (way, shows) = shows_exists g wf d at stands s h here is_distance in
     let (ids, are) = ranked_exists g wf s.clock here in (
-      system_line s.clock s.identity best.identity h ∷ way ++ rank_lines s.identity 0 None ids,
+      explained_system_line s.clock s.identity best.identity h ∷ way ++ rank_lines s.identity 0 None ids,
       record {
         best = best;
         is_best = is_best;

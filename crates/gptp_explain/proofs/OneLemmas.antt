@@ -24,9 +24,9 @@ use Rattle.gptp_network.specs.Snapshot.{events_by, port_identity}
 use Rattle.gptp_network.proofs.LawLemmas.{one_snapshot}
 use Rattle.gptp_network.proofs.MeantLemmas.{meant_document, meant_well}
 use Rattle.gptp_explain.specs.Compared.{loss, win}
-use Rattle.gptp_explain.specs.Explained.{ExplainsSystem, LeadsUp, ShowsNear, ShowsWay, path_line, system_line}
+use Rattle.gptp_explain.specs.Explained.{ExplainsSystem, LeadsUp, ShowsNear, ShowsWay, path_line, explained_system_line}
 use Rattle.gptp_explain.specs.Laws.{NeverBoth, OneExplanation}
-use Rattle.gptp_explain.specs.Ports.{ArePortLines, HasWhy, IsKnown, IsLinkAt, IsPortLine, IsWay, LeadsTo, LosesWay, OffersWay, WinsWay, parent_port, port_line}
+use Rattle.gptp_explain.specs.Ports.{ArePortLines, HasWhy, IsKnownLink, IsDocumentLink, IsPortLine, IsPortWay, JoinsPorts, LosesWay, OffersWay, WinsWay, parent_port, explained_port_line}
 use Rattle.gptp_explain.specs.Ranks.{AreRanked, rank_lines}
 use Rattle.gptp_explain.specs.declared.why.Why.{Why}
 use Rattle.gptp_explain.specs.declared.why.Why.TheVariants.{Down, Failed, Loses, Offers, Unlinked, Wins}
@@ -34,7 +34,7 @@ use Rattle.gptp_explain.specs.declared.why.Why.TheVariants.{Down, Failed, Loses,
 -- ---- the link of a document at a port
 
 -- it ends there
-pub end_of : (p q : PortId) (w : Wire) → LeadsTo w p q → IsEnd p w
+pub end_of : (p q : PortId) (w : Wire) → JoinsPorts w p q → IsEnd p w
 end_of p q w (inl ends) = inl ends.0
 end_of p q w (inr ends) = inr ends.0
 
@@ -53,7 +53,7 @@ module _ (d : DocumentState) (network : IsNetwork d.network) (p : PortId) where
       (network.links i w at).apart (ap (λ (q : PortId). q.clock) same)
 
   -- so it leads to one port
-  other_end : (w : Wire) (q r : PortId) → In w d.network.links → LeadsTo w p q → LeadsTo w p r → q ≡ r
+  other_end : (w : Wire) (q r : PortId) → In w d.network.links → JoinsPorts w p q → JoinsPorts w p r → q ≡ r
   other_end w q r one (inl x) (inl y) = sym x.1 ∙ y.1
   other_end w q r one (inl x) (inr y) = absurd (apart w one (x.0 ∙ sym y.0))
   other_end w q r one (inr x) (inl y) = absurd (apart w one (y.0 ∙ sym x.0))
@@ -61,16 +61,16 @@ module _ (d : DocumentState) (network : IsNetwork d.network) (p : PortId) where
 
   module _ (at : ℕ) where
     -- and is up or down
-    one_end : (q r : PortId) (s t : Bool) → IsLinkAt d at p q s → IsLinkAt d at p r t → (q ≡ r) × (s ≡ t)
+    one_end : (q r : PortId) (s t : Bool) → IsDocumentLink d at p q s → IsDocumentLink d at p r t → (q ≡ r) × (s ≡ t)
     one_end q r s t x y =
         let same : y.wire ≡ x.wire =
         one_wire y.wire x.wire y.one x.one (end_of p r y.wire y.leads) (end_of p q x.wire x.leads) in (
-          other_end x.wire q r x.one x.leads (subst (λ (w : Wire). LeadsTo w p r) same y.leads),
+          other_end x.wire q r x.one x.leads (subst (λ (w : Wire). JoinsPorts w p r) same y.leads),
           sym x.stands ∙ ap (λ (w : Wire). (link_after (events_by at d.events) w).up) (sym same) ∙ y.stands,
         )
 
     -- what is known of it is one thing
-    known_once : (a b : Why) → IsKnown d at p a → IsKnown d at p b → a ≡ b
+    known_once : (a b : Why) → IsKnownLink d at p a → IsKnownLink d at p b → a ≡ b
     known_once Unlinked Unlinked x y = refl
     known_once Unlinked (Down r) x y = absurd (x y.wire r y.one y.leads)
     known_once Unlinked (Failed r) x y = absurd (x y.wire r y.one y.leads)
@@ -103,7 +103,7 @@ module _ (d : DocumentState) (network : IsNetwork d.network) (at : ℕ) (g : Sna
       λ i. record { clock = (same i).clock; port = (same i).port }
 
   -- a port has one way
-  way_once : (p : PortId) (v w : IsWay g p) → (v.there ≡ w.there) × (v.steps ≡ w.steps) × (v.beyond ≡ w.beyond)
+  way_once : (p : PortId) (v w : IsPortWay g p) → (v.there ≡ w.there) × (v.steps ≡ w.steps) × (v.beyond ≡ w.beyond)
   way_once p v w =
       let there = there_once p v.there w.there v.joins w.joins in (
         there,
@@ -146,7 +146,7 @@ module _ (d : DocumentState) (network : IsNetwork d.network) (at : ℕ) (g : Sna
   port_line_once p x y k l =
       let roles = RoleBy-unique _ _ _ k.role l.role k.settled l.settled in
       let whys = why_once p l.role k.why l.why (subst (λ (r : Role). HasWhy d at g p r k.why) roles k.has) l.has in
-      k.is ∙ ap₂ (port_line p) roles whys ∙ sym l.is
+      k.is ∙ ap₂ (explained_port_line p) roles whys ∙ sym l.is
 
   port_lines_once : (v : ℕ) (ns : List ℕ) (xs ys : List (List ℕ)) → ArePortLines d at g v ns xs
       → ArePortLines d at g v ns ys → xs ≡ ys
@@ -207,11 +207,11 @@ system_once d at g s xs ys network wf k l =
     let ways = shows_once d network at g wf s l.distance k.way l.way
     (subst (λ (h : ℕ). ShowsWay d at g s h k.way) distances k.shows_way) l.shows_way in
     let ranks = ranked_once g s.clock k.ranked l.ranked k.are_ranked l.are_ranked in
-    let same : system_line s.clock s.identity k.best.identity k.distance
+    let same : explained_system_line s.clock s.identity k.best.identity k.distance
     ∷ k.way ++ rank_lines s.identity 0 None k.ranked
-    ≡ system_line s.clock s.identity l.best.identity l.distance
+    ≡ explained_system_line s.clock s.identity l.best.identity l.distance
     ∷ l.way ++ rank_lines s.identity 0 None l.ranked = λ i.
-    system_line s.clock s.identity (bests i).identity (distances i)
+    explained_system_line s.clock s.identity (bests i).identity (distances i)
     ∷ ways i ++ rank_lines s.identity 0 None (ranks i) in
     k.are ∙ same ∙ sym l.are
 

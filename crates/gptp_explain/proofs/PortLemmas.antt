@@ -18,7 +18,7 @@ use Rattle.gptp_network.specs.Document.{DocumentState}
 use Rattle.gptp_network.specs.Snapshot.{IsSnapshot, events_by, link_of, port_identity}
 use Rattle.gptp_vector.specs.declared.port.PortId.{PortId}
 use Rattle.gptp_explain.specs.Compared.{loss, win}
-use Rattle.gptp_explain.specs.Ports.{HasFailed, IsKnown, IsLinkAt, IsPortOfLine, IsWay, LeadsTo, LosesWay, OffersWay, WinsWay, parent_port}
+use Rattle.gptp_explain.specs.Ports.{OtherEndHasFailed, IsKnownLink, IsDocumentLink, IsPortOfLine, IsPortWay, JoinsPorts, LosesWay, OffersWay, WinsWay, parent_port}
 use Rattle.gptp_explain.specs.declared.why.Why.{Why}
 use Rattle.gptp_explain.specs.declared.why.Why.TheVariants.{Down, Failed, Loses, Offers, Unlinked, Wins}
 use Rattle.gptp_explain.proofs.UsedLemmas.{clock_there, in_used, joined_up}
@@ -48,7 +48,7 @@ module _ (g : Snapshot) (line : SystemLine) (p : PortId) where
 
   -- the way over the port's link
   way_over : {role : _} → IsPortOfLine g line p role → (there : PortId) (beyond : ℕ)
-      → Joins g (port_identity p) (port_identity there) → IsDistance g there.clock beyond → IsWay g p
+      → Joins g (port_identity p) (port_identity there) → IsDistance g there.clock beyond → IsPortWay g p
   way_over own there beyond joins distance = record {
     there = there;
     joins = joins;
@@ -116,39 +116,39 @@ module _ (g : Snapshot) (line : SystemLine) (p : PortId) where
 module _ (d : DocumentState) (at : ℕ) (p : PortId) where
   -- what is known of the link at a place
   pub known_there : (w : Wire) (there : PortId) (why : Why) (place : ℕ) → slice_get d.network.links place ≡ Some w
-      → LeadsTo w p there → (events : List Timed) → events ≡ events_by at d.events
+      → JoinsPorts w p there → (events : List Timed) → events ≡ events_by at d.events
       → ((why ≡ Down there) × ((link_after events w).up ≡ false))
       ⊎ ((why ≡ Failed there) × ((link_after events w).up ≡ true))
-      → IsKnown d at p why
+      → IsKnownLink d at p why
   known_there w there why place here leads events are (inl (is, down)) =
-      let known : IsKnown d at p (Down there) = record {
+      let known : IsKnownLink d at p (Down there) = record {
         wire = w;
         one = In-slice_get w d.network.links place here;
         leads = leads;
         stands = subst (λ (es : List Timed). (link_after es w).up ≡ false) are down;
       } in
-      subst (IsKnown d at p) (sym is) known
+      subst (IsKnownLink d at p) (sym is) known
   known_there w there why place here leads events are (inr (is, up)) =
-      let known : IsKnown d at p (Failed there) = record {
+      let known : IsKnownLink d at p (Failed there) = record {
         wire = w;
         one = In-slice_get w d.network.links place here;
         leads = leads;
         stands = subst (λ (es : List Timed). (link_after es w).up ≡ true) are up;
       } in
-      subst (IsKnown d at p) (sym is) known
+      subst (IsKnownLink d at p) (sym is) known
 
   -- where no link leads from the port
   pub none_known : ((place : ℕ) (w : Wire) (there : PortId) → slice_get d.network.links place ≡ Some w
-      → LeadsTo w p there → ⊥)
-      → IsKnown d at p Unlinked
+      → JoinsPorts w p there → ⊥)
+      → IsKnownLink d at p Unlinked
   none_known none w there one leads =
       let (place, here) = slice_get-In w d.network.links one in none place w there here leads
 
   -- a link that is up leads to no live system, where nothing is linked with the port of one
   pub has_failed : (g : Snapshot) (why : Why) → IsSnapshot d at g → In p.clock (clocks g)
-      → (IsLinked g (port_identity p) → ⊥) → IsKnown d at p why → HasFailed g why
+      → (IsLinked g (port_identity p) → ⊥) → IsKnownLink d at p why → OtherEndHasFailed g why
   has_failed g why stands live unlinked known there is lives =
-      up (subst (IsKnown d at p) is known)
+      up (subst (IsKnownLink d at p) is known)
     where
       used : (a b : PortId) (w : Wire) → In w d.network.links → w.a ≡ a → w.b ≡ b
           → (link_after (events_by at d.events) w).up ≡ true → In a.clock (clocks g) → In b.clock (clocks g)
@@ -159,7 +159,7 @@ module _ (d : DocumentState) (at : ℕ) (p : PortId) where
           (joined_up (events_by at d.events) w a b is_a is_b up) (clock_there g a.clock here)
           (clock_there g b.clock over))
 
-      up : IsLinkAt d at p there true → ⊥
+      up : IsDocumentLink d at p there true → ⊥
       up link = elim link.leads [
         | inl ends ↦ unlinked
             (port_identity there, inl (used p there link.wire link.one ends.0 ends.1 link.stands live lives))

@@ -16,7 +16,7 @@ use Rattle.gptp_graph.specs.Snapshot.{Snapshot, System, IsWellFormed}
 use Rattle.gptp_graph.proofs.SystemLemmas.{same_identity}
 use Rattle.gptp_network.proofs.SnapshotLemmas.{In-permutation}
 use Rattle.gptp_components.proofs.ComponentLemmas.{reaches_by_best, same_best}
-use Rattle.gptp_explain.specs.Ranks.{AreFound, AreRanked, FollowsRoot, rank_lines, shown_line}
+use Rattle.gptp_explain.specs.Ranks.{FollowersAreFound, AreRanked, FollowsRoot, rank_lines, shown_line}
 use Rattle.gptp_explain.proofs.TextLemmas.{lines_behind}
 use Rattle.gptp_spelling.specs.Lines.{text_of}
 
@@ -41,7 +41,7 @@ one_place : (g : Snapshot) → IsWellFormed g → (i j : ℕ) (s : System) → s
 one_place g wf i j s here there = one_place_of (λ (t : System). t.clock) g.systems i j s wf.different here there
 
 module _ (g : Snapshot) (root : ℕ) where
-  pub none_found : AreFound g root 0 []
+  pub none_found : FollowersAreFound g root 0 []
   unfolding IsDistinct
   none_found = record {
     distinct = tt;
@@ -57,9 +57,9 @@ module _ (g : Snapshot) (root : ℕ) where
   ]
 
   -- the next doesn't follow
-  pub passed : (place : ℕ) (ids : List ℕ) → AreFound g root place ids
+  pub passed : (place : ℕ) (ids : List ℕ) → FollowersAreFound g root place ids
       → ((s : System) → slice_get g.systems place ≡ Some s → FollowsRoot g root s → ⊥)
-      → AreFound g root (place + 1) ids
+      → FollowersAreFound g root (place + 1) ids
   passed place ids found none = record {
     distinct = found.distinct;
     all = λ i s less there follows. elim (before_next i place less) [
@@ -71,9 +71,9 @@ module _ (g : Snapshot) (root : ℕ) where
   }
 
   -- it does
-  pub added : (wf : IsWellFormed g) (place : ℕ) (ids : List ℕ) (id : ℕ) → AreFound g root place ids
+  pub added : (wf : IsWellFormed g) (place : ℕ) (ids : List ℕ) (id : ℕ) → FollowersAreFound g root place ids
       → (s : System) × (slice_get g.systems place ≡ Some s) × FollowsRoot g root s × (s.identity ≡ id)
-      → AreFound g root (place + 1) (ids ++ id ∷ [])
+      → FollowersAreFound g root (place + 1) (ids ++ id ∷ [])
   added wf place ids id found (s, there, follows, is) = record {
     distinct = IsDistinct-push nat_eq_equiv ids id found.distinct (is_new (list_any (eqb id) ids) refl);
     all = λ i t less here member. elim (before_next i place less) [
@@ -127,7 +127,7 @@ flips a b = nat_eq_equiv.symm a b
 
 -- all that follow the root, sorted
 pub are_ranked : (g : Snapshot) (v root : ℕ) (before after : List ℕ) → IsWellFormed g → IsBestIdentity g v root
-    → AreFound g root (length g.systems) before → IsPermutation before after → IsSorted nat_cmp after
+    → FollowersAreFound g root (length g.systems) before → IsPermutation before after → IsSorted nat_cmp after
     → AreRanked g v after
 are_ranked g v root before after wf best found moved sorted = record {
   rising = rising after

@@ -25,7 +25,7 @@ line_behind before text after lines line is appended =
     ∙ lines_behind before lines (line ∷ [])
 
 -- a role has one word
-pub one_role_text : (role : Role) → role_text role ≡ forms.role_text (role_of role)
+pub one_role_text : (role : Role) → role_text role ≡ forms.role_word (role_of role)
 one_role_text Disabled = refl
 one_role_text Master = refl
 one_role_text Slave = refl

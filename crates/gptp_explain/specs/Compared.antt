@@ -8,27 +8,27 @@ use Rattle.gptp_vector.specs.declared.port.PortId.{PortId}
 use Rattle.gptp_explain.specs.declared.compared.Compared.{Compared}
 use Rattle.gptp_explain.specs.declared.compared.Compared.TheVariants.{Priority1, Class, Accuracy, Variance, Priority2, Clock, Steps, Source, SourcePort}
 
--- an octet of an identity by its place from 0, the most significant first (IEEE 802.1AS-2020, 10.3.2)
-abbrev pub octet : ℕ → ℕ → ℕ
-octet place identity = slice_index (big_bytes 14 identity) place
+-- an identity_octet of an identity by its place from 0, the most significant first (IEEE 802.1AS-2020, 10.3.2)
+abbrev pub identity_octet : ℕ → ℕ → ℕ
+identity_octet place identity = slice_index (big_bytes 14 identity) place
 
 -- its variance takes two of them
 abbrev pub variance : ℕ → ℕ
-variance identity = octet 3 identity * 256 + octet 4 identity
+variance identity = identity_octet 3 identity * 256 + identity_octet 4 identity
 
 -- the first field in which two identities differ: the clock where no other does
 abbrev pub difference : ℕ → ℕ → Compared
 difference one other =
-    if octet 0 one == octet 0 other then
-    if octet 1 one == octet 1 other then
-    if octet 2 one == octet 2 other then
+    if identity_octet 0 one == identity_octet 0 other then
+    if identity_octet 1 one == identity_octet 1 other then
+    if identity_octet 2 one == identity_octet 2 other then
     if variance one == variance other then
-    if octet 5 one == octet 5 other then Clock (clock_of one) (clock_of other)
-    else Priority2 (octet 5 one) (octet 5 other)
+    if identity_octet 5 one == identity_octet 5 other then Clock (clock_of one) (clock_of other)
+    else Priority2 (identity_octet 5 one) (identity_octet 5 other)
     else Variance (variance one) (variance other)
-    else Accuracy (octet 2 one) (octet 2 other)
-    else Class (octet 1 one) (octet 1 other)
-    else Priority1 (octet 0 one) (octet 0 other)
+    else Accuracy (identity_octet 2 one) (identity_octet 2 other)
+    else Class (identity_octet 1 one) (identity_octet 1 other)
+    else Priority1 (identity_octet 0 one) (identity_octet 0 other)
 
 -- what a Master port of this clock, so many links from the root, wins by against the other end
 abbrev pub win : ℕ → ℕ → ℕ → ℕ → Compared

@@ -22,8 +22,8 @@ distance_word distance = if nat_lt distance 255 then codes "steps" else codes "f
 abbrev pub by_words : ℕ → ℕ → List ℕ
 by_words root own = if root == own then [] else codes " by " ++ compared_text (difference root own)
 
-abbrev pub system_line : ℕ → ℕ → ℕ → ℕ → List ℕ
-system_line clock own root distance =
+abbrev pub explained_system_line : ℕ → ℕ → ℕ → ℕ → List ℕ
+explained_system_line clock own root distance =
     codes "system " ++ clock_text clock ++ codes " own " ++ identity_text own
     ++ codes " root " ++ identity_text root
     ++ codes " " ++ distance_word distance ++ codes " " ++ decimal distance ++ by_words root own
@@ -61,7 +61,7 @@ pub record ExplainsSystem (d : DocumentState) (at : ℕ) (g : Snapshot) (s : Sys
   pub shows_way : ShowsWay d at g s distance way
   pub ranked : List ℕ
   pub are_ranked : AreRanked g s.clock ranked
-  pub are : lines ≡ system_line s.clock s.identity best.identity distance
+  pub are : lines ≡ explained_system_line s.clock s.identity best.identity distance
       ∷ way ++ rank_lines s.identity 0 None ranked
 
 -- of the live system with this clock, as the network of the document stands at the time

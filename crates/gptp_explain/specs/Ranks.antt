@@ -21,7 +21,7 @@ abbrev pub FollowsRoot : Snapshot → ℕ → System → Type 0
 FollowsRoot g root s = IsBestIdentity g s.clock root
 
 -- of the systems at the first places those that follow the root, by their identities, which differ
-pub record AreFound (g : Snapshot) (root place : ℕ) (ids : List ℕ) : Type 0 where
+pub record FollowersAreFound (g : Snapshot) (root place : ℕ) (ids : List ℕ) : Type 0 where
   pub distinct : IsDistinct nat_eq ids
   pub all : (i : ℕ) (s : System) → i < place → slice_get g.systems i ≡ Some s → FollowsRoot g root s
       → In s.identity ids

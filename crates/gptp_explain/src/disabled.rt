@@ -7,7 +7,7 @@ ghost use Rattle.gptp_network.specs.Events.{AreInOrder};
 ghost use Rattle.gptp_network.specs.Snapshot.{IsSnapshot, events_by, port_identity};
 ghost use Rattle.gptp_plan.specs.Change.{link_after};
 ghost use Rattle.gptp_plan.specs.declared.network.Wire.{Wire};
-ghost use Rattle.gptp_explain.specs.Ports.{HasFailed, IsKnown, LeadsTo};
+ghost use Rattle.gptp_explain.specs.Ports.{OtherEndHasFailed, IsKnownLink, JoinsPorts};
 
 use crate::why::Why;
 use gptp_network::{Document, Snapshot};
@@ -26,9 +26,9 @@ fn events_by(events: &[Timed], until: u64) -> &[Timed]
 /// The port at the other end of the link at a place, where the port is one of its ends.
 fn beyond(network: &Network, place: usize, port: &PortId) -> Option<PortId>
     ensures some { IfSome result (λ there. (w : Wire) × (slice_get network.now.links place ≡ Some w)
-        × LeadsTo w port.now there) }
+        × JoinsPorts w port.now there) }
     ensures none { IfNone result ((w : Wire) (there : PortId) → slice_get network.now.links place ≡ Some w
-        → LeadsTo w port.now there → ⊥) }
+        → JoinsPorts w port.now there → ⊥) }
 {
     let (a, b, _, _) = network.link_at(place)?;
     if a == *port {
@@ -54,7 +54,7 @@ fn known_at(network: &Network, events: &[Timed], place: usize, there: PortId) ->
 
 /// What is known of the link at a port at a time: there is none, or it is down, or up.
 fn known_of(document: &Document, at: u64, port: &PortId) -> Why
-    ensures { IsKnown document.now at port.now result }
+    ensures { IsKnownLink document.now at port.now result }
 {
     document.well_formed();
     let network = document.network();
@@ -72,8 +72,8 @@ pub(crate) fn why_disabled(document: &Document, at: u64, snapshot: &Snapshot, po
     requires stands { IsSnapshot document.now at snapshot.now }
     requires live { In port.now.clock (clocks snapshot.now) }
     requires unlinked { IsLinked snapshot.now (port_identity port.now) → ⊥ }
-    ensures known { IsKnown document.now at port.now result }
-    ensures failed { HasFailed snapshot.now result }
+    ensures known { IsKnownLink document.now at port.now result }
+    ensures failed { OtherEndHasFailed snapshot.now result }
 {
     let _ = snapshot;
     known_of(document, at, port)

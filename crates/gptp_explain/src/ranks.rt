@@ -3,7 +3,7 @@
 ghost use Rattle.std.specs.Prelude.{◌≡◌, ◌+◌, ◌<◌, ◌∷◌, ◌++◌, [], List, ℕ, IfNone, IfOk, IfSome, None, OnOk, slice_get, string_bytes};
 ghost use Rattle.gptp_graph.specs.SettledChoice.{IsBestIdentity, IsSettledChoice};
 ghost use Rattle.gptp_graph.specs.Snapshot.{System};
-ghost use Rattle.gptp_explain.specs.Ranks.{AreFound, AreRanked, FollowsRoot, better_words, never_words, rank_line, rank_lines, shown_line};
+ghost use Rattle.gptp_explain.specs.Ranks.{FollowersAreFound, AreRanked, FollowsRoot, better_words, never_words, rank_line, rank_lines, shown_line};
 ghost use Rattle.gptp_roles.specs.Selection.{clock_of};
 ghost use Rattle.gptp_spelling.specs.Lines.{text_of};
 
@@ -49,8 +49,8 @@ fn push_follower(
     place: usize,
 ) -> Result<(), AllocError>
     requires choice { IsSettledChoice snapshot.now choice.now.lines }
-    requires found { AreFound snapshot.now root place found.old.items }
-    ensures { OnOk result (AreFound snapshot.now root (place + 1) found.new.items) }
+    requires found { FollowersAreFound snapshot.now root place found.old.items }
+    ensures { OnOk result (FollowersAreFound snapshot.now root (place + 1) found.new.items) }
 {
     snapshot.well_formed();
     if let Some(identity) = follower_at(snapshot, choice, root, place) {

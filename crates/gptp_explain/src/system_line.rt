@@ -1,7 +1,7 @@
 //! The line of a system.
 
 ghost use Rattle.std.specs.Prelude.{◌≡◌, ◌∷◌, ◌++◌, [], OnOk, string_bytes};
-ghost use Rattle.gptp_explain.specs.Explained.{by_words, distance_word, system_line};
+ghost use Rattle.gptp_explain.specs.Explained.{by_words, distance_word, explained_system_line};
 
 use crate::compared::difference;
 use gptp_certificate_text::SystemLine;
@@ -34,7 +34,7 @@ pub(crate) fn write_system(
     line: &SystemLine,
 ) -> Result<(), AllocError>
     ensures { OnOk result (string_bytes text.new ≡ string_bytes text.old
-        ++ (system_line line.now.clock own line.now.root line.now.steps ++ 10 ∷ [])) }
+        ++ (explained_system_line line.now.clock own line.now.root line.now.steps ++ 10 ∷ [])) }
 {
     let steps = line.steps;
     let word = distance_word(steps);

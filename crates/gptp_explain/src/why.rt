@@ -28,9 +28,9 @@ pub(crate) struct PortDigits(pub PortId);
 
 impl fmt::Display for PortDigits {
     ghost use Rattle.std.specs.Prelude.{Some};
-    ghost use Rattle.gptp_explain.specs.Why.{port_text};
+    ghost use Rattle.gptp_explain.specs.Why.{clock_port_text};
 
-    ghost output = { λ port. Some (port_text port.0) };
+    ghost output = { λ port. Some (clock_port_text port.0) };
 
     fn fmt<W: fmt::Write>(&self, f: &mut fmt::Formatter<W>) -> fmt::Result {
         let PortId { clock, port } = self.0;

@@ -2,7 +2,7 @@
 use Rattle.std.proofs.Common.{◌≡◌, false, List, None, refl}
 use Rattle.gptp_network.specs.Document.{DocumentState}
 use Rattle.gptp_faults.specs.Cases.{AreCases}
-use Rattle.gptp_faults.specs.Faults.{Answers, IsTable}
+use Rattle.gptp_faults.specs.Faults.{AnswersFaultsOf, IsTable}
 use Rattle.gptp_faults.specs.FaultsText.{table_lines}
 use Rattle.gptp_faults.specs.Refusals.{any_late, fault_before}
 use Rattle.gptp_faults.specs.Times.{ArePlanned, AreTimes}
@@ -16,7 +16,7 @@ use Rattle.gptp_faults.specs.declared.times.Times.{Times}
 pub answered : (d : DocumentState) (options : FaultsOptions) (cases : List Case) (t : Times) (planned : List Planned)
     → AreCases d options.only cases → AreTimes d options t → fault_before d t cases ≡ None
     → ArePlanned d options t cases planned → any_late t planned ≡ false
-    → (answer : Answer) → IsTable d options t planned answer → Answers d options answer
+    → (answer : Answer) → IsTable d options t planned answer → AnswersFaultsOf d options answer
 answered d options cases t planned are_cases are_times before are_planned in_time (Refused fault) none = absurd none
 answered d options cases t planned are_cases are_times before are_planned in_time (Table text exceeded)
     (outcomes, told, are_outcomes, are_told, text_is, exceeded_is) = (

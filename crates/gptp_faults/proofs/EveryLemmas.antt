@@ -7,7 +7,7 @@ use Rattle.gptp_reached.specs.PlayedLaws.{IsPlayable}
 use Rattle.gptp_faults.specs.Cases.{AreCases}
 use Rattle.gptp_faults.specs.EveryLaws.{EachHasFaults, HasFaults, RunsEnd}
 use Rattle.gptp_faults.specs.Faults.{FaultsOf}
-use Rattle.gptp_faults.specs.FaultsText.{exceeds, table_lines}
+use Rattle.gptp_faults.specs.FaultsText.{exceeds_limit, table_lines}
 use Rattle.gptp_faults.specs.Refusals.{any_late, fault_before}
 use Rattle.gptp_faults.specs.Times.{AreOptions, ArePlanned, AreTimes}
 use Rattle.gptp_faults.specs.declared.cases.Case.{Case}
@@ -30,7 +30,7 @@ module _ (d : DocumentState) (options : FaultsOptions) (playable : IsPlayable d)
       planned are_planned in_time in
       let (told, ranked) = each_is_ranked outcomes in
       let lines : List (List ℕ) = table_lines options.limits t told in
-      let exceeded : Bool = exceeds options.limits told in
+      let exceeded : Bool = exceeds_limit options.limits told in
       let table : FaultsOf d options lines exceeded = record {
         cases = cases;
         are_cases = are;

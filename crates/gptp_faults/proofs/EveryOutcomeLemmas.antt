@@ -12,10 +12,10 @@ use Rattle.gptp_timeline.specs.Ends.{EndState}
 use Rattle.gptp_faults.specs.Cases.{AreCases, fault_of, return_of}
 use Rattle.gptp_faults.specs.EveryLaws.{InjectsNothing, RunsEnd}
 use Rattle.gptp_faults.specs.Extremes.{greatest_behind, of_one}
-use Rattle.gptp_faults.specs.Outcomes.{AreOutcomes, IsOutcome, IsOutcomeAt, OutcomeState, backs, belongs, downs, numbers_of}
+use Rattle.gptp_faults.specs.Outcomes.{AreOutcomes, IsOutcome, IsOutcomeAt, OutcomeState, backs, is_of_part, downs, case_numbers}
 use Rattle.gptp_faults.specs.Refusals.{any_late, fault_before, latest_event}
-use Rattle.gptp_faults.specs.Runs.{IsRun, generator, moment_of, runs_of, seed_of, with_case}
-use Rattle.gptp_faults.specs.Times.{AreOptions, ArePlanned, AreTimes, IsInTime, IsPlanned, last_moment}
+use Rattle.gptp_faults.specs.Runs.{CaseRunEnds, generator, run_moment, runs_of, seed_of, with_case}
+use Rattle.gptp_faults.specs.Times.{AreOptions, ArePlanned, AreTimes, RunsEndInTime, IsPlanned, last_moment}
 use Rattle.gptp_faults.specs.declared.cases.Case.{Case}
 use Rattle.gptp_faults.specs.declared.cases.Case.TheVariants as cases
 use Rattle.gptp_faults.specs.declared.cases.Planned.{Planned}
@@ -51,9 +51,9 @@ injects_nothing (cases.System clock) = (tt, tt)
 
 -- what becomes of a case of which each run is there
 outcome_of : (d : DocumentState) (t : Times) (p : Planned) (number : ℕ) (all : List (EndState × EndState))
-    → 0 < runs_of t → Each (IsRun d t p) (range_with_len 0 (runs_of t)) all
+    → 0 < runs_of t → Each (CaseRunEnds d t p) (range_with_len 0 (runs_of t)) all
     → (o : OutcomeState) × IsOutcome d t number p o
-outcome_of d t p number [] some each = absurd (none_for (IsRun d t p) (runs_of t) some each)
+outcome_of d t p number [] some each = absurd (none_for (CaseRunEnds d t p) (runs_of t) some each)
 outcome_of d t p number (first ∷ others) some each =
     let (follow, are) = roots_are_followed first.0.roots in (
       record {
@@ -91,19 +91,19 @@ module _ (d : DocumentState) (playable : IsPlayable d) (runs : RunsEnd d) (optio
   some_run = let product = mul-le 1 1 t.moments t.seeds some_moment some_seed in omega (arith, product)
 
   -- a case that comes back early, and whose runs end in time
-  case_run : (p : Planned) → In p.failing all → 0 < p.hold → last_moment t + p.hold ≤ latest_event → IsInTime t p
-      → (run : ℕ) → run < runs_of t → (ends : EndState × EndState) × IsRun d t p run ends
+  case_run : (p : Planned) → In p.failing all → 0 < p.hold → last_moment t + p.hold ≤ latest_event → RunsEndInTime t p
+      → (run : ℕ) → run < runs_of t → (ends : EndState × EndState) × CaseRunEnds d t p run ends
   case_run p member some early in_time run below =
       let (from, last) = moment_within t (run / t.seeds) some_moment
       (moment_below run t.moments t.seeds some_seed below) in
       let behind = from_behind d t all p.failing member before in
       let back : last_moment t + p.hold ≤ 800000000000000 = early in
       let end : last_moment t + p.hold + t.behind ≤ 1000000000000000 = in_time in
-      let can : IsPlayable (with_case (moment_of t run) p d) =
-      case_playable d options.only all p.failing (moment_of t run) (moment_of t run + p.hold) playable are member
+      let can : IsPlayable (with_case (run_moment t run) p d) =
+      case_playable d options.only all p.failing (run_moment t run) (run_moment t run + p.hold) playable are member
       (omega (arith, behind, from)) (omega arith) (omega (arith, last, back)) in
       let nothing = injects_nothing p.failing in
-      runs (moment_of t run) (moment_of t run + p.hold) (moment_of t run + p.hold + t.behind) (fault_of p.failing)
+      runs (run_moment t run) (run_moment t run + p.hold) (run_moment t run + p.hold + t.behind) (fault_of p.failing)
       (return_of p.failing) (generator (seed_of t run)) nothing.0 nothing.1 can (omega (arith, some)) (omega arith)
       (omega (arith, last, end))
 
@@ -117,15 +117,15 @@ module _ (d : DocumentState) (playable : IsPlayable d) (runs : RunsEnd d) (optio
         let some = hold_some d t c options.hold p.hold playable.network least hold in
         let run = case_run p failing some (back_early t planned in_time number p there)
         (each_in_time t planned in_time number p there) in
-        let (ends, each) = each_exists (IsRun d t p) (range_with_len 0 (runs_of t))
+        let (ends, each) = each_exists (CaseRunEnds d t p) (range_with_len 0 (runs_of t))
         (λ n among. run n (below_count (runs_of t) n among)) in
         let (o, outcome) = outcome_of d t p number ends some_run each in
         (o, (p, there, outcome))
 
     pub outcomes_exist : (outcomes : List OutcomeState) × AreOutcomes d t options planned outcomes
     outcomes_exist =
-        each_exists (IsOutcomeAt d t planned) (numbers_of options.parts options.part (length planned))
+        each_exists (IsOutcomeAt d t planned) (case_numbers options.parts options.part (length planned))
         (λ number member.
-        let among = from_filter (belongs options.parts options.part) number (range_with_len 0 (length planned))
+        let among = from_filter (is_of_part options.parts options.part) number (range_with_len 0 (length planned))
         member in
         outcome_at number (below_count (length planned) number among.0))

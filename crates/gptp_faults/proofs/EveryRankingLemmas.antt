@@ -12,7 +12,7 @@ use Rattle.gptp_lists.proofs.MemberLemmas.{from_map}
 use Rattle.gptp_timeline.specs.Stretch.{times}
 use Rattle.gptp_faults.specs.Follows.{AreFollows, followed}
 use Rattle.gptp_faults.specs.Outcomes.{OutcomeState}
-use Rattle.gptp_faults.specs.Ranking.{AreRanked, is_worse}
+use Rattle.gptp_faults.specs.Ranking.{OutcomesAreRanked, is_worse}
 use Rattle.gptp_faults.specs.declared.follows.Follow.{Follow}
 use Rattle.gptp_faults.proofs.OrderLemmas.{worse_orders}
 
@@ -116,7 +116,7 @@ module _ {X : Type 0} (lt : X → X → Bool) (o : IsStrictWeakOrder lt) where
 
 -- ---- outcomes
 
-pub each_is_ranked : (outcomes : List OutcomeState) → (told : List OutcomeState) × AreRanked outcomes told
+pub each_is_ranked : (outcomes : List OutcomeState) → (told : List OutcomeState) × OutcomesAreRanked outcomes told
 each_is_ranked outcomes = (
   sorted is_worse worse_orders outcomes,
   record {

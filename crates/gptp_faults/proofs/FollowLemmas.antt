@@ -29,11 +29,11 @@ use Rattle.gptp_plan.proofs.LogLemmas.{largest_log}
 use Rattle.gptp_timeline.proofs.PastLemmas.{all_past, by_past, past_later, PastBy}
 use Rattle.gptp_timeline.proofs.SettlingLemmas.{keeps_first}
 use Rattle.gptp_faults.specs.Cases.{fault_of, return_of}
-use Rattle.gptp_faults.specs.Extremes.{greatest_behind, joined, of_one}
+use Rattle.gptp_faults.specs.Extremes.{greatest_behind, greatest_of_two, of_one}
 use Rattle.gptp_faults.specs.Faults.{FaultsOf}
 use Rattle.gptp_faults.specs.Laws.{FollowSettled}
 use Rattle.gptp_faults.specs.Outcomes.{downs, IsOutcomeAt}
-use Rattle.gptp_faults.specs.Runs.{draws, generator, IsRun, moment_of, runs_of, seed_of, with_case}
+use Rattle.gptp_faults.specs.Runs.{draws, generator, CaseRunEnds, run_moment, runs_of, seed_of, with_case}
 use Rattle.gptp_faults.specs.Times.{IsHold, IsPlanned, moment}
 use Rattle.gptp_faults.specs.declared.cases.Planned.{Planned}
 use Rattle.gptp_faults.specs.declared.extremes.Extremes.{Extremes}
@@ -84,7 +84,7 @@ all_but_last time es e past late =
 zero_over : (n : ℕ) → 0 / n ≡ 0
 zero_over n = omega arith
 
-first_moment : (t : Times) → moment_of t 0 ≡ t.from
+first_moment : (t : Times) → run_moment t 0 ≡ t.from
 first_moment t =
     let none : 0 * t.spread ≡ 0 = omega arith in
     let first : t.from + 0 ≡ t.from = omega arith in
@@ -99,7 +99,7 @@ first_run P (suc count) y ys each = each.0
 -- the bound is that of the first
 bound_kept : (e : Extremes) (ss : List Stretch) → (greatest_behind e ss).bound ≡ e.bound
 bound_kept e [] = refl
-bound_kept e (s ∷ ss) = bound_kept (joined e (of_one s)) ss
+bound_kept e (s ∷ ss) = bound_kept (greatest_of_two e (of_one s)) ss
 
 -- ---- a run of a case
 
@@ -172,7 +172,7 @@ module _ (d : DocumentState) (t : Times) (p : Planned) (playable : IsPlayable d)
       omega (arith, is, equal)
 
   -- the roots where its first run ends to be down are those of the settled choice
-  roots_settle : (a b : EndState) (bound : ℕ) (g : Snapshot) → IsPlayable whole → IsRun d t p 0 (a, b)
+  roots_settle : (a b : EndState) (bound : ℕ) (g : Snapshot) → IsPlayable whole → CaseRunEnds d t p 0 (a, b)
       → a.stretch.bound ≡ Some bound → IsSnapshot failed t.from g → AreRoots g a.roots
   roots_settle a b bound g can run bounded stands =
       let until = t.from + p.hold + t.behind in
@@ -211,7 +211,7 @@ follow_settles d options lines exceeded f playable o bound g default member boun
     let playable_whole = case_playable d options.only f.cases p.failing t.from (t.from + p.hold) playable f.are_cases
     (subst (λ x. In x f.cases) (sym is_case) a_case) last (omega arith) early in
     let first = outcome.first in
-    let run = first_run (IsRun d t p) (runs_of t) first outcome.others outcome.runs in
+    let run = first_run (CaseRunEnds d t p) (runs_of t) first outcome.others outcome.runs in
     let kept : first.0.stretch.bound ≡ Some bound =
     sym (bound_kept (of_one first.0.stretch) (downs outcome.others))
     ∙ ap (λ (e : Extremes). e.bound) (sym outcome.down) ∙ bounded in

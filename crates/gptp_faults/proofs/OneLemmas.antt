@@ -23,12 +23,12 @@ use Rattle.gptp_faults.specs.Extremes.{greatest_behind, of_one}
 use Rattle.gptp_faults.specs.Faults.{FaultsOf}
 use Rattle.gptp_faults.specs.Follows.{AreFollows}
 use Rattle.gptp_faults.specs.declared.follows.Follow.{Follow}
-use Rattle.gptp_faults.specs.FaultsText.{exceeds, table_lines}
+use Rattle.gptp_faults.specs.FaultsText.{exceeds_limit, table_lines}
 use Rattle.gptp_faults.specs.Laws.{NeverRefused, OneRefusal, OneTable, RunsEndOnce}
-use Rattle.gptp_faults.specs.Outcomes.{AreOutcomes, IsOutcome, IsOutcomeAt, OutcomeState, backs, downs, numbers_of}
-use Rattle.gptp_faults.specs.Ranking.{AreRanked}
+use Rattle.gptp_faults.specs.Outcomes.{AreOutcomes, IsOutcome, IsOutcomeAt, OutcomeState, backs, downs, case_numbers}
+use Rattle.gptp_faults.specs.Ranking.{OutcomesAreRanked}
 use Rattle.gptp_faults.specs.Refusals.{IsLate, RefusesFaults, any_late, fault_before}
-use Rattle.gptp_faults.specs.Runs.{IsRun, generator, moment_of, seed_of, with_case}
+use Rattle.gptp_faults.specs.Runs.{CaseRunEnds, generator, run_moment, seed_of, with_case}
 use Rattle.gptp_faults.specs.Times.{ArePlanned, AreTimes, IsHold, IsPlanned}
 use Rattle.gptp_faults.specs.declared.cases.Case.{Case}
 use Rattle.gptp_faults.specs.declared.cases.Planned.{Planned}
@@ -66,10 +66,10 @@ follows_once roots a b k l =
 -- ---- a run
 
 module _ (d : DocumentState) (once : RunsEndOnce d) where
-  run_once : (t : Times) (p : Planned) (run : ℕ) (a b : EndState × EndState) → IsRun d t p run a → IsRun d t p run b
+  run_once : (t : Times) (p : Planned) (run : ℕ) (a b : EndState × EndState) → CaseRunEnds d t p run a → CaseRunEnds d t p run b
       → a ≡ b
   run_once t p run a b k l =
-      let at = moment_of t run in
+      let at = run_moment t run in
       same_Some a b (once (with_case at p d) (at + p.hold + t.behind) (generator (seed_of t run)) (Some a) (Some b) refl
       k l)
 
@@ -78,7 +78,7 @@ module _ (d : DocumentState) (once : RunsEndOnce d) where
   outcome_once : (t : Times) (number : ℕ) (p : Planned) (a b : OutcomeState) → IsOutcome d t number p a
       → IsOutcome d t number p b → a ≡ b
   outcome_once t number p a b k l =
-      let runs = each_once (IsRun d t p) (run_once t p) _ (k.first ∷ k.others) (l.first ∷ l.others) k.runs l.runs in
+      let runs = each_once (CaseRunEnds d t p) (run_once t p) _ (k.first ∷ k.others) (l.first ∷ l.others) k.runs l.runs in
       let first : k.first ≡ l.first = cc in
       let others : k.others ≡ l.others = cc in
       let numbers : a.number ≡ b.number = k.number_is ∙ sym l.number_is in
@@ -110,7 +110,7 @@ module _ (d : DocumentState) (once : RunsEndOnce d) where
       → AreOutcomes d t options planned a → AreOutcomes d t options planned b → a ≡ b
   outcomes_once t options planned a b k l =
       each_once (IsOutcomeAt d t planned) (outcome_at_once t planned)
-      (numbers_of options.parts options.part (length planned)) a b k l
+      (case_numbers options.parts options.part (length planned)) a b k l
 
 -- ---- what is planned
 
@@ -173,9 +173,9 @@ module _ (d : DocumentState) (options : FaultsOptions) where
         (subst (λ (t : Times). AreOutcomes d t options k.planned k.outcomes) times k.are_outcomes)) l.are_outcomes in
         let told : k.told ≡ l.told =
         ranked_once l.outcomes k.told l.told
-        (subst (λ (os : List OutcomeState). AreRanked os k.told) outcomes k.are_told) l.are_told in (
+        (subst (λ (os : List OutcomeState). OutcomesAreRanked os k.told) outcomes k.are_told) l.are_told in (
           k.are ∙ ap₂ (λ (t : Times) (os : List OutcomeState). table_lines options.limits t os) times told ∙ sym l.are,
-          k.exceeded_is ∙ ap (exceeds options.limits) told ∙ sym l.exceeded_is,
+          k.exceeded_is ∙ ap (exceeds_limit options.limits) told ∙ sym l.exceeded_is,
         )
 
   -- what a refusal rests on: the cases and the times of a document are one thing

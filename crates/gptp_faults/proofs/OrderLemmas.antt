@@ -6,7 +6,7 @@ use Rattle.std.specs.List.Sorted.{IsSortedBy, ties}
 use Rattle.std.proofs.lemmas.Cmp.{nat_list_cmp_total}
 use Rattle.std.proofs.lemmas.List.Sorted.{IsStrictWeakOrder-flip, ranks_by, sorted_far}
 use Rattle.gptp_faults.specs.Outcomes.{OutcomeState}
-use Rattle.gptp_faults.specs.Ranking.{AreRanked, is_worse, weight, worst_of}
+use Rattle.gptp_faults.specs.Ranking.{OutcomesAreRanked, is_worse, weight, worst_of}
 
 module _ {X : Type 0} (lt : X → X → Bool) (o : IsStrictWeakOrder lt) where
   -- none of these is before x
@@ -87,6 +87,6 @@ pub worse_orders : IsStrictWeakOrder is_worse
 worse_orders = IsStrictWeakOrder-flip _ (ranks_by nat_list_cmp_total (λ (o : OutcomeState). weight (worst_of o)))
 
 -- so outcomes are ranked in one order
-pub ranked_once : (outcomes a b : List OutcomeState) → AreRanked outcomes a → AreRanked outcomes b → a ≡ b
+pub ranked_once : (outcomes a b : List OutcomeState) → OutcomesAreRanked outcomes a → OutcomesAreRanked outcomes b → a ≡ b
 ranked_once outcomes a b x y =
     same_order is_worse worse_orders a b x.worst_first y.worst_first (λ z. x.equals z ∙ sym (y.equals z))

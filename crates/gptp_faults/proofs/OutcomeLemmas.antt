@@ -7,10 +7,10 @@ use Rattle.gptp_network.specs.Document.{DocumentState}
 use Rattle.gptp_timeline.specs.Ends.{EndState}
 use Rattle.gptp_timeline.specs.declared.stretch.Stretch.{Stretch}
 use Rattle.gptp_timeline.specs.Each.{Each}
-use Rattle.gptp_faults.specs.Extremes.{greatest_behind, joined, of_one}
+use Rattle.gptp_faults.specs.Extremes.{greatest_behind, greatest_of_two, of_one}
 use Rattle.gptp_faults.specs.Follows.{AreFollows}
-use Rattle.gptp_faults.specs.Outcomes.{backs, belongs, downs, IsOutcome, IsOutcomeAt, numbers_of, OutcomeState}
-use Rattle.gptp_faults.specs.Runs.{IsRun, runs_of}
+use Rattle.gptp_faults.specs.Outcomes.{backs, is_of_part, downs, IsOutcome, IsOutcomeAt, case_numbers, OutcomeState}
+use Rattle.gptp_faults.specs.Runs.{CaseRunEnds, runs_of}
 use Rattle.gptp_faults.specs.declared.extremes.Extremes.{Extremes}
 use Rattle.gptp_faults.specs.declared.follows.Follow.{Follow}
 use Rattle.gptp_faults.specs.declared.cases.Planned.{Planned}
@@ -34,22 +34,22 @@ range_with_one count =
 
 -- with one stretch more
 greatest_more : (e : Extremes) (ss : List Stretch) (s : Stretch)
-    → greatest_behind e (ss ++ s ∷ []) ≡ joined (greatest_behind e ss) (of_one s)
+    → greatest_behind e (ss ++ s ∷ []) ≡ greatest_of_two (greatest_behind e ss) (of_one s)
 greatest_more e [] s = refl
-greatest_more e (x ∷ xs) s = greatest_more (joined e (of_one x)) xs s
+greatest_more e (x ∷ xs) s = greatest_more (greatest_of_two e (of_one x)) xs s
 
 -- Some runs of a case were made; so great is the worst of them, and so many systems follow which roots in the first.
 pub record AreTried (d : DocumentState) (t : Times) (p : Planned) (count : ℕ) (down back : Extremes)
     (follow : List Follow) : Type 0 where
   pub first : EndState × EndState
   pub others : List (EndState × EndState)
-  pub runs : Each (IsRun d t p) (range_with_len 0 count) (first ∷ others)
+  pub runs : Each (CaseRunEnds d t p) (range_with_len 0 count) (first ∷ others)
   pub down_is : down ≡ greatest_behind (of_one first.0.stretch) (downs others)
   pub back_is : back ≡ greatest_behind (of_one first.1.stretch) (backs others)
   pub follow_is : AreFollows first.0.roots follow
 
 module _ (d : DocumentState) (t : Times) (p : Planned) where
-  pub one_tried : (first : EndState × EndState) (down back : Extremes) (follow : List Follow) → IsRun d t p 0 first
+  pub one_tried : (first : EndState × EndState) (down back : Extremes) (follow : List Follow) → CaseRunEnds d t p 0 first
       → down ≡ of_one first.0.stretch → back ≡ of_one first.1.stretch → AreFollows first.0.roots follow
       → AreTried d t p 1 down back follow
   one_tried first down back follow run down_is back_is follow_is = record {
@@ -62,19 +62,19 @@ module _ (d : DocumentState) (t : Times) (p : Planned) where
   }
 
   pub more_tried : (count : ℕ) (down back down_after back_after : Extremes) (follow : List Follow)
-      → AreTried d t p count down back follow → (ends : EndState × EndState) → IsRun d t p count ends
-      → down_after ≡ joined down (of_one ends.0.stretch) → back_after ≡ joined back (of_one ends.1.stretch)
+      → AreTried d t p count down back follow → (ends : EndState × EndState) → CaseRunEnds d t p count ends
+      → down_after ≡ greatest_of_two down (of_one ends.0.stretch) → back_after ≡ greatest_of_two back (of_one ends.1.stretch)
       → AreTried d t p (count + 1) down_after back_after follow
   more_tried count down back down_after back_after follow tried ends run down_is back_is = record {
     first = tried.first;
     others = tried.others ++ ends ∷ [];
-    runs = subst (λ ns. Each (IsRun d t p) ns (tried.first ∷ tried.others ++ ends ∷ [])) (sym (range_with_one count))
-        (each_more (IsRun d t p) (range_with_len 0 count) (tried.first ∷ tried.others) count ends tried.runs run);
-    down_is = down_is ∙ ap (λ e. joined e (of_one ends.0.stretch)) tried.down_is
+    runs = subst (λ ns. Each (CaseRunEnds d t p) ns (tried.first ∷ tried.others ++ ends ∷ [])) (sym (range_with_one count))
+        (each_more (CaseRunEnds d t p) (range_with_len 0 count) (tried.first ∷ tried.others) count ends tried.runs run);
+    down_is = down_is ∙ ap (λ e. greatest_of_two e (of_one ends.0.stretch)) tried.down_is
         ∙ sym (greatest_more (of_one tried.first.0.stretch) (downs tried.others) ends.0.stretch)
         ∙ ap (greatest_behind (of_one tried.first.0.stretch))
         (sym (map-append (λ (r : EndState × EndState). r.0.stretch) tried.others (ends ∷ [])));
-    back_is = back_is ∙ ap (λ e. joined e (of_one ends.1.stretch)) tried.back_is
+    back_is = back_is ∙ ap (λ e. greatest_of_two e (of_one ends.1.stretch)) tried.back_is
         ∙ sym (greatest_more (of_one tried.first.1.stretch) (backs tried.others) ends.1.stretch)
         ∙ ap (greatest_behind (of_one tried.first.1.stretch))
         (sym (map-append (λ (r : EndState × EndState). r.1.stretch) tried.others (ends ∷ [])));
@@ -89,7 +89,7 @@ module _ (d : DocumentState) (t : Times) (p : Planned) where
   all_tried number count down back follow o tried all is = record {
     first = tried.first;
     others = tried.others;
-    runs = subst (λ n. Each (IsRun d t p) (range_with_len 0 n) (tried.first ∷ tried.others)) all tried.runs;
+    runs = subst (λ n. Each (CaseRunEnds d t p) (range_with_len 0 n) (tried.first ∷ tried.others)) all tried.runs;
     number_is = ap (λ (x : OutcomeState). x.number) is;
     failing = ap (λ (x : OutcomeState). x.failing) is;
     down = ap (λ (x : OutcomeState). x.down) is ∙ tried.down_is;
@@ -100,32 +100,32 @@ module _ (d : DocumentState) (t : Times) (p : Planned) where
 -- ---- the cases of a part
 
 module _ (parts part count : ℕ) where
-  numbers_more : numbers_of parts part (count + 1)
-      ≡ numbers_of parts part count ++ filter (belongs parts part) (count ∷ [])
+  numbers_more : case_numbers parts part (count + 1)
+      ≡ case_numbers parts part count ++ filter (is_of_part parts part) (count ∷ [])
   numbers_more =
-      ap (filter (belongs parts part)) (range_with_one count)
-      ∙ filter-append (belongs parts part) (range_with_len 0 count) (count ∷ [])
+      ap (filter (is_of_part parts part)) (range_with_one count)
+      ∙ filter-append (is_of_part parts part) (range_with_len 0 count) (count ∷ [])
 
-  pub one_number : belongs parts part count ≡ true
-      → numbers_of parts part (count + 1) ≡ numbers_of parts part count ++ count ∷ []
-  one_number is = numbers_more ∙ ap (λ ns. numbers_of parts part count ++ ns) (rw is refl)
+  pub one_number : is_of_part parts part count ≡ true
+      → case_numbers parts part (count + 1) ≡ case_numbers parts part count ++ count ∷ []
+  one_number is = numbers_more ∙ ap (λ ns. case_numbers parts part count ++ ns) (rw is refl)
 
-  pub no_number : belongs parts part count ≡ false → numbers_of parts part (count + 1) ≡ numbers_of parts part count
+  pub no_number : is_of_part parts part count ≡ false → case_numbers parts part (count + 1) ≡ case_numbers parts part count
   no_number is =
-      numbers_more ∙ ap (λ ns. numbers_of parts part count ++ ns) (rw is refl)
-      ∙ append-nil (numbers_of parts part count)
+      numbers_more ∙ ap (λ ns. case_numbers parts part count ++ ns) (rw is refl)
+      ∙ append-nil (case_numbers parts part count)
 
 module _ (d : DocumentState) (t : Times) (planned : List Planned) (parts part count : ℕ)
-    (tried : List OutcomeState) (so_far : Each (IsOutcomeAt d t planned) (numbers_of parts part count) tried) where
-  -- a case more that belongs to the part was tried
-  pub case_tried : belongs parts part count ≡ true → (o : OutcomeState) → IsOutcomeAt d t planned count o
-      → Each (IsOutcomeAt d t planned) (numbers_of parts part (count + 1)) (tried ++ o ∷ [])
+    (tried : List OutcomeState) (so_far : Each (IsOutcomeAt d t planned) (case_numbers parts part count) tried) where
+  -- a case more that is_of_part to the part was tried
+  pub case_tried : is_of_part parts part count ≡ true → (o : OutcomeState) → IsOutcomeAt d t planned count o
+      → Each (IsOutcomeAt d t planned) (case_numbers parts part (count + 1)) (tried ++ o ∷ [])
   case_tried is o outcome =
       subst (λ ns. Each (IsOutcomeAt d t planned) ns (tried ++ o ∷ [])) (sym (one_number parts part count is))
-      (each_more (IsOutcomeAt d t planned) (numbers_of parts part count) tried count o so_far outcome)
+      (each_more (IsOutcomeAt d t planned) (case_numbers parts part count) tried count o so_far outcome)
 
   -- it doesn't belong to it
-  pub case_passed : belongs parts part count ≡ false
-      → Each (IsOutcomeAt d t planned) (numbers_of parts part (count + 1)) tried
+  pub case_passed : is_of_part parts part count ≡ false
+      → Each (IsOutcomeAt d t planned) (case_numbers parts part (count + 1)) tried
   case_passed is =
       subst (λ ns. Each (IsOutcomeAt d t planned) ns tried) (sym (no_number parts part count is)) so_far

@@ -10,14 +10,14 @@ use Rattle.gptp_lists.proofs.MemberLemmas.{from_map, In-parts}
 use Rattle.gptp_lists.proofs.PlaceLemmas.{behind}
 use Rattle.gptp_network.specs.Adding.{with_event}
 use Rattle.gptp_network.specs.Document.{DocumentState}
-use Rattle.gptp_network.specs.Events.{AreEvents, IsChange}
-use Rattle.gptp_network.specs.Links.{port_id}
+use Rattle.gptp_network.specs.Events.{AreEvents, IsPossibleChange}
+use Rattle.gptp_network.specs.Links.{port_numbered}
 use Rattle.gptp_network.specs.Snapshot.{joins_two, link_of}
 use Rattle.gptp_network.proofs.EventLemmas.{event_added}
 use Rattle.gptp_network.proofs.SnapshotLemmas.{clock_after, from_filter, from_filter_map}
 use Rattle.gptp_plan.specs.Calm.{last_change}
 use Rattle.gptp_plan.specs.Change.{joined_after, link_after, live_after, system_after}
-use Rattle.gptp_plan.specs.Network.{has_clock, is_taken, same_port}
+use Rattle.gptp_plan.specs.Network.{members_have_clock, is_taken, same_port}
 use Rattle.gptp_plan.specs.declared.change.Act.{Act}
 use Rattle.gptp_plan.specs.declared.change.Act.TheVariants as acts
 use Rattle.gptp_plan.specs.declared.change.Change.{Change}
@@ -58,7 +58,7 @@ port_itself p = let one = same_itself p.clock in let other = same_itself p.port 
 
 -- the changes by which a case fails and comes back can be made in the network
 abbrev CanFail : DocumentState → Case → Type 0
-CanFail d c = IsChange d.network (fault_of c) × IsChange d.network (return_of c)
+CanFail d c = IsPossibleChange d.network (fault_of c) × IsPossibleChange d.network (return_of c)
 
 module _ (d : DocumentState) (kind : Option Only) (all : List Case) (are : AreCases d kind all) (c : Case) where
   abbrev g : Snapshot
@@ -86,7 +86,7 @@ module _ (d : DocumentState) (kind : Option Only) (all : List Case) (are : AreCa
       given_if (system_after d.events m).live _ pair lives in
       let clock : clock_of m.identity ≡ clock_of pair.0 =
       sym (clock_after d.events m) ∙ ap (λ (p : ℕ × ℕ). clock_of p.0) same in
-      let there : has_clock d.network.systems (clock_of pair.0) ≡ true =
+      let there : members_have_clock d.network.systems (clock_of pair.0) ≡ true =
       some_passes (λ (x : Member). clock_of x.identity == clock_of pair.0) m d.network.systems at
       (rw clock (same_itself (clock_of pair.0))) in
       subst (CanFail d) is (there, there)
@@ -109,7 +109,7 @@ sets_no_octet (cases.Link a b) = (tt, tt)
 sets_no_octet (cases.System clock) = (tt, tt)
 
 -- one event more can be played
-more_playable : (d : DocumentState) (at : ℕ) (change : Change) → IsPlayable d → IsChange d.network change
+more_playable : (d : DocumentState) (at : ℕ) (change : Change) → IsPlayable d → IsPossibleChange d.network change
     → SetsAnOctet (acts.Change change) → last_change d.events ≤ at → at ≤ 800000000000000
     → IsPlayable (with_event at change d)
 more_playable d at change playable fits octet later early = record {

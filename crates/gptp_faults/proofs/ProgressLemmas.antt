@@ -9,8 +9,8 @@ use Rattle.gptp_spelling.specs.Lines.{text_of}
 use Rattle.gptp_timeline.specs.Each.{Each}
 use Rattle.gptp_faults.specs.Cases.{AreCases}
 use Rattle.gptp_faults.specs.Faults.{IsTable}
-use Rattle.gptp_faults.specs.Outcomes.{belongs, numbers_of, OutcomeState}
-use Rattle.gptp_faults.specs.Progress.{all_begun, begun, part_begun, part_of, TellsCases}
+use Rattle.gptp_faults.specs.Outcomes.{is_of_part, case_numbers, OutcomeState}
+use Rattle.gptp_faults.specs.Progress.{all_begun, begun, part_begun, part_count, TellsCases}
 use Rattle.gptp_faults.specs.declared.cases.Case.{Case}
 use Rattle.gptp_faults.specs.declared.cases.Planned.{Planned}
 use Rattle.gptp_faults.specs.declared.faults.Answer.{Answer}
@@ -21,13 +21,13 @@ use Rattle.gptp_faults.proofs.OutcomeLemmas.{no_number, one_number}
 
 -- ---- how many there are
 
--- one number more, which belongs to the part or doesn't
-pub part_more : (parts part number : ℕ) (test : Bool) → belongs parts part number ≡ test
-    → length (numbers_of parts part (number + 1)) ≡ length (numbers_of parts part number) + cond test 1 0
+-- one number more, which is_of_part to the part or doesn't
+pub part_more : (parts part number : ℕ) (test : Bool) → is_of_part parts part number ≡ test
+    → length (case_numbers parts part (number + 1)) ≡ length (case_numbers parts part number) + cond test 1 0
 part_more parts part number true is =
-    ap length (one_number parts part number is) ∙ length-append (numbers_of parts part number) (number ∷ [])
+    ap length (one_number parts part number is) ∙ length-append (case_numbers parts part number) (number ∷ [])
 part_more parts part number false is =
-    let none : length (numbers_of parts part number) ≡ length (numbers_of parts part number) + 0 = omega arith in
+    let none : length (case_numbers parts part number) ≡ length (case_numbers parts part number) + 0 = omega arith in
     ap length (no_number parts part number is) ∙ none
 
 -- as many as of the other list
@@ -66,13 +66,13 @@ told_still asked count before after old new same so =
 
 -- of all
 pub told_all : (options : FaultsOptions) (planned count told : ℕ) (old new : Option (List ℕ))
-    → count ≡ part_of options planned → told ≡ part_of options planned
+    → count ≡ part_count options planned → told ≡ part_count options planned
     → Appends old new (text_of (all_begun options.progress count told))
     → Appends old new (text_of (part_begun options planned))
 told_all options planned count told old new count_is told_is so =
     let lines : all_begun options.progress count told ≡ part_begun options planned =
     ap (λ n. all_begun options.progress n told) count_is
-    ∙ ap (all_begun options.progress (part_of options planned)) told_is in
+    ∙ ap (all_begun options.progress (part_count options planned)) told_is in
     subst (λ ls. Appends old new (text_of ls)) lines so
 
 pub tells : (d : DocumentState) (options : FaultsOptions) (t : Times) (cases : List Case) (planned : List Planned)

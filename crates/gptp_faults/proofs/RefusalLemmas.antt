@@ -2,7 +2,7 @@
 use Rattle.std.proofs.Common.{◌≡◌, ◌≤◌, ◌<◌, ◌+◌, ◌||◌, ℕ, zero, suc, Bool, true, false, nat_lt, List, [], ◌∷◌, Some, slice_get, refl, arith}
 use Rattle.std.proofs.lemmas.Bool.Decides.{nat_tests}
 use Rattle.gptp_faults.specs.Refusals.{any_late, is_late, latest_end, latest_event}
-use Rattle.gptp_faults.specs.Times.{IsInTime, last_moment}
+use Rattle.gptp_faults.specs.Times.{RunsEndInTime, last_moment}
 use Rattle.gptp_faults.specs.declared.cases.Planned.{Planned}
 use Rattle.gptp_faults.specs.declared.times.Times.{Times}
 
@@ -11,7 +11,7 @@ neither false false none = (refl, refl)
 neither false true none = absurd cc
 neither true b none = absurd cc
 
-in_time : (t : Times) (p : Planned) → is_late t p ≡ false → IsInTime t p
+in_time : (t : Times) (p : Planned) → is_late t p ≡ false → RunsEndInTime t p
 in_time t p none =
     let later = (neither (nat_lt latest_event (last_moment t + p.hold))
     (nat_lt latest_end (last_moment t + p.hold + t.behind)) none).1 in grind (arith, nat_tests)
@@ -34,7 +34,7 @@ not_late t (q ∷ qs) none (suc place) p there =
     not_late t qs (neither (is_late t q) (any_late t qs) none).1 place p there
 
 pub each_in_time : (t : Times) (planned : List Planned) → any_late t planned ≡ false → (place : ℕ) (p : Planned)
-    → slice_get planned place ≡ Some p → IsInTime t p
+    → slice_get planned place ≡ Some p → RunsEndInTime t p
 each_in_time t planned none place p there = in_time t p (not_late t planned none place p there)
 
 pub each_early : (t : Times) (planned : List Planned) → any_late t planned ≡ false → (place : ℕ) (p : Planned)

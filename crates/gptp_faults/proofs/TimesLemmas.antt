@@ -1,7 +1,7 @@
 -- Moments are within their bounds, and the last is the latest.
 use Rattle.std.proofs.Common.{◌≡◌, ◌≤◌, ◌<◌, ◌+◌, ◌-◌, ◌*◌, ◌/◌, ◌%◌, ℕ, arith}
 use Rattle.std.proofs.lemmas.Nat.{div-add-mod', div_below, le-div, mul-le}
-use Rattle.gptp_faults.specs.Times.{AreBounded, last_moment, moment}
+use Rattle.gptp_faults.specs.Times.{TimesAreBounded, last_moment, moment}
 use Rattle.gptp_faults.specs.declared.times.Times.{Times}
 
 -- a quotient is no more than what is divided
@@ -13,7 +13,7 @@ pub div_grows : (m n k : ℕ) → 0 < k → m ≤ n → m / k ≤ n / k
 div_grows m n k some more =
     let parts = div-add-mod' m k in le-div (m / k) n k some (omega (arith, parts, more))
 
-module _ (t : Times) (bounded : AreBounded t) where
+module _ (t : Times) (bounded : TimesAreBounded t) where
   -- how far behind the first a moment may be, before it is divided
   pub product_most : (number : ℕ) → number < t.moments → number * t.spread ≤ 32000000000000
   product_most number below =

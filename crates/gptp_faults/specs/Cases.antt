@@ -24,11 +24,11 @@ return_of (cases.Link a b) = changes.LinkUp a.clock a.port
 return_of (cases.System clock) = changes.Recover clock
 
 -- a link, and a live system, by its identity and the number of its ports
-abbrev pub port_id : PortIdentity → PortId
-port_id p = record { clock = p.clock; port = p.port }
+abbrev pub case_ports : PortIdentity → PortId
+case_ports p = record { clock = p.clock; port = p.port }
 
 abbrev pub link_case : Link → Case
-link_case l = cases.Link (port_id l.a) (port_id l.b)
+link_case l = cases.Link (case_ports l.a) (case_ports l.b)
 
 abbrev pub system_case : ℕ × ℕ → Case
 system_case live = cases.System (clock_of live.0)

@@ -30,8 +30,8 @@ of_one s = record {
 }
 
 -- of two: each the greater, of equals the first; the bound of the first
-abbrev pub joined : Extremes → Extremes → Extremes
-joined a b = record {
+abbrev pub greatest_of_two : Extremes → Extremes → Extremes
+greatest_of_two a b = record {
   choice = greater_if a.choice b.choice;
   holdover = better_if a.holdover b.holdover;
   error = better_if a.error b.error;
@@ -42,7 +42,7 @@ joined a b = record {
 -- of those of several stretches, behind others
 abbrev pub greatest_behind : Extremes → List Stretch → Extremes
 greatest_behind e [] = e
-greatest_behind e (s ∷ ss) = greatest_behind (joined e (of_one s)) ss
+greatest_behind e (s ∷ ss) = greatest_behind (greatest_of_two e (of_one s)) ss
 
 -- of no stretch
 abbrev pub of_none : Extremes

@@ -3,9 +3,9 @@ use Rattle.std.specs.Prelude.{◌≡◌, ℕ, Bool, false, List, None, string_by
 use Rattle.gptp_network.specs.Document.{DocumentState}
 use Rattle.gptp_spelling.specs.Lines.{text_of}
 use Rattle.gptp_faults.specs.Cases.{AreCases}
-use Rattle.gptp_faults.specs.FaultsText.{exceeds, table_lines}
+use Rattle.gptp_faults.specs.FaultsText.{exceeds_limit, table_lines}
 use Rattle.gptp_faults.specs.Outcomes.{AreOutcomes, OutcomeState}
-use Rattle.gptp_faults.specs.Ranking.{AreRanked}
+use Rattle.gptp_faults.specs.Ranking.{OutcomesAreRanked}
 use Rattle.gptp_faults.specs.Refusals.{any_late, fault_before, RefusesFaults}
 use Rattle.gptp_faults.specs.Times.{ArePlanned, AreTimes}
 use Rattle.gptp_faults.specs.declared.cases.Case.{Case}
@@ -30,19 +30,19 @@ pub record FaultsOf (d : DocumentState) (options : FaultsOptions) (lines : List 
     pub outcomes : List OutcomeState
     pub are_outcomes : AreOutcomes d times options planned outcomes
     pub told : List OutcomeState
-    pub are_told : AreRanked outcomes told
+    pub are_told : OutcomesAreRanked outcomes told
     pub are : lines ≡ table_lines options.limits times told
-    pub exceeded_is : exceeded ≡ exceeds options.limits told
+    pub exceeded_is : exceeded ≡ exceeds_limit options.limits told
 
 -- the table of cases of which none is refused
 abbrev pub IsTable : DocumentState → FaultsOptions → Times → List Planned → Answer → Type 0
 IsTable d options t planned (Refused fault) = ⊥
 IsTable d options t planned (Table text exceeded) =
-    (outcomes told : List OutcomeState) × AreOutcomes d t options planned outcomes × AreRanked outcomes told
-    × (string_bytes text ≡ text_of (table_lines options.limits t told)) × (exceeded ≡ exceeds options.limits told)
+    (outcomes told : List OutcomeState) × AreOutcomes d t options planned outcomes × OutcomesAreRanked outcomes told
+    × (string_bytes text ≡ text_of (table_lines options.limits t told)) × (exceeded ≡ exceeds_limit options.limits told)
 
 -- the table, or why there is none
-abbrev pub Answers : DocumentState → FaultsOptions → Answer → Type 0
-Answers d options (Refused fault) = RefusesFaults d options fault
-Answers d options (Table text exceeded) =
+abbrev pub AnswersFaultsOf : DocumentState → FaultsOptions → Answer → Type 0
+AnswersFaultsOf d options (Refused fault) = RefusesFaults d options fault
+AnswersFaultsOf d options (Table text exceeded) =
     (lines : List (List ℕ)) × FaultsOf d options lines exceeded × (string_bytes text ≡ text_of lines)

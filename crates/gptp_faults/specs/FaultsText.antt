@@ -11,7 +11,7 @@ use Rattle.gptp_timeline.specs.declared.limits.Limit.{Limit}
 use Rattle.gptp_timeline.specs.declared.limits.Limit.TheVariants.{Alone, Choice, Error, Holdover, Roots, Without}
 use Rattle.gptp_timeline.specs.declared.limits.Limits.{Limits}
 use Rattle.gptp_vector.specs.declared.port.PortId.{PortId}
-use Rattle.gptp_faults.specs.Extremes.{joined, of_none}
+use Rattle.gptp_faults.specs.Extremes.{greatest_of_two, of_none}
 use Rattle.gptp_faults.specs.Outcomes.{OutcomeState}
 use Rattle.gptp_faults.specs.Ranking.{amount_or_0}
 use Rattle.gptp_faults.specs.declared.cases.Case.{Case}
@@ -30,11 +30,11 @@ head_line count t =
 
 -- ---- a case
 
-abbrev pub port_text : PortId → List ℕ
-port_text p = clock_text p.clock ++ codes " " ++ decimal p.port
+abbrev pub case_port_text : PortId → List ℕ
+case_port_text p = clock_text p.clock ++ codes " " ++ decimal p.port
 
 abbrev pub case_text : Case → List ℕ
-case_text (cases.Link a b) = codes "link " ++ port_text a ++ codes " " ++ port_text b
+case_text (cases.Link a b) = codes "link " ++ case_port_text a ++ codes " " ++ case_port_text b
 case_text (cases.System clock) = codes "system " ++ clock_text clock
 
 abbrev pub case_line : ℕ → Case → List ℕ
@@ -72,7 +72,7 @@ outcome_lines o =
 -- the greatest of all, behind others
 abbrev pub worst_behind : Extremes → List OutcomeState → Extremes
 worst_behind e [] = e
-worst_behind e (o ∷ os) = worst_behind (joined (joined e o.down) o.back) os
+worst_behind e (o ∷ os) = worst_behind (greatest_of_two (greatest_of_two e o.down) o.back) os
 
 abbrev pub worst_of_all : List OutcomeState → Extremes
 worst_of_all = worst_behind of_none
@@ -96,12 +96,12 @@ worst_amount e Without = Some e.counts.without
 worst_amount e Roots = Some e.counts.roots
 worst_amount e Alone = Some e.counts.alone
 
--- the first limit that it exceeds
+-- the first limit that it exceeds_limit
 abbrev pub exceeded_by : Limits → Extremes → Option Limit
 exceeded_by limits e = first_exceeded limits (worst_amount e) all_limits
 
-abbrev pub exceeds : Limits → List OutcomeState → Bool
-exceeds limits outcomes = is_some (exceeded_by limits (worst_of_all outcomes))
+abbrev pub exceeds_limit : Limits → List OutcomeState → Bool
+exceeds_limit limits outcomes = is_some (exceeded_by limits (worst_of_all outcomes))
 
 -- of cases in the order in which they are told
 abbrev pub table_lines : Limits → Times → List OutcomeState → List (List ℕ)

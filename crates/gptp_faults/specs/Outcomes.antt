@@ -7,7 +7,7 @@ use Rattle.gptp_timeline.specs.declared.stretch.Stretch.{Stretch}
 use Rattle.gptp_faults.specs.Extremes.{greatest_behind, of_one}
 use Rattle.gptp_faults.specs.Follows.{AreFollows}
 use Rattle.gptp_timeline.specs.Each.{Each}
-use Rattle.gptp_faults.specs.Runs.{IsRun, runs_of}
+use Rattle.gptp_faults.specs.Runs.{CaseRunEnds, runs_of}
 use Rattle.gptp_faults.specs.declared.cases.Case.{Case}
 use Rattle.gptp_faults.specs.declared.extremes.Extremes.{Extremes}
 use Rattle.gptp_faults.specs.declared.follows.Follow.{Follow}
@@ -34,7 +34,7 @@ backs = map (λ (r : EndState × EndState). r.1.stretch)
 pub record IsOutcome (d : DocumentState) (t : Times) (number : ℕ) (p : Planned) (o : OutcomeState) : Type 0 where
   pub first : EndState × EndState
   pub others : List (EndState × EndState)
-  pub runs : Each (IsRun d t p) (range_with_len 0 (runs_of t)) (first ∷ others)
+  pub runs : Each (CaseRunEnds d t p) (range_with_len 0 (runs_of t)) (first ∷ others)
   pub number_is : o.number ≡ number
   pub failing : o.failing ≡ p.failing
   pub down : o.down ≡ greatest_behind (of_one first.0.stretch) (downs others)
@@ -43,12 +43,12 @@ pub record IsOutcome (d : DocumentState) (t : Times) (number : ℕ) (p : Planned
 
 -- ---- the cases of a part
 
--- a case by its number belongs to this part of so many, from 1
-abbrev pub belongs : ℕ → ℕ → ℕ → Bool
-belongs parts part number = number % parts + 1 == part
+-- a case by its number is_of_part to this part of so many, from 1
+abbrev pub is_of_part : ℕ → ℕ → ℕ → Bool
+is_of_part parts part number = number % parts + 1 == part
 
-abbrev pub numbers_of : ℕ → ℕ → ℕ → List ℕ
-numbers_of parts part count = filter (belongs parts part) (range_with_len 0 count)
+abbrev pub case_numbers : ℕ → ℕ → ℕ → List ℕ
+case_numbers parts part count = filter (is_of_part parts part) (range_with_len 0 count)
 
 -- a case by its number, with how long it stays down
 abbrev pub IsOutcomeAt : DocumentState → Times → List Planned → ℕ → OutcomeState → Type 0
@@ -58,4 +58,4 @@ IsOutcomeAt d t planned number o =
 -- those that belong to a part, in order
 abbrev pub AreOutcomes : DocumentState → Times → FaultsOptions → List Planned → List OutcomeState → Type 0
 AreOutcomes d t options planned outcomes =
-    Each (IsOutcomeAt d t planned) (numbers_of options.parts options.part (length planned)) outcomes
+    Each (IsOutcomeAt d t planned) (case_numbers options.parts options.part (length planned)) outcomes

@@ -5,7 +5,7 @@ use Rattle.std.specs.Io.KnownBytes.{Appends}
 use Rattle.gptp_network.specs.Document.{DocumentState}
 use Rattle.gptp_spelling.specs.Lines.{text_of}
 use Rattle.gptp_faults.specs.Cases.{AreCases}
-use Rattle.gptp_faults.specs.Outcomes.{numbers_of}
+use Rattle.gptp_faults.specs.Outcomes.{case_numbers}
 use Rattle.gptp_faults.specs.declared.cases.Case.{Case}
 use Rattle.gptp_faults.specs.declared.faults.Answer.{Answer}
 use Rattle.gptp_faults.specs.declared.faults.Answer.TheVariants.{Refused, Table}
@@ -25,12 +25,12 @@ all_begun asked count zero = []
 all_begun asked count (suc before) = all_begun asked count before ++ begun asked count (suc before)
 
 -- how many cases belong to the part, of so many
-abbrev pub part_of : FaultsOptions → ℕ → ℕ
-part_of options count = length (numbers_of options.parts options.part count)
+abbrev pub part_count : FaultsOptions → ℕ → ℕ
+part_count options count = length (case_numbers options.parts options.part count)
 
 -- the lines of all cases of the part
 abbrev pub part_begun : FaultsOptions → ℕ → List (List ℕ)
-part_begun options count = all_begun options.progress (part_of options count) (part_of options count)
+part_begun options count = all_begun options.progress (part_count options count) (part_count options count)
 
 -- Each case of the part is told as it begins, in their order, where none is refused.
 abbrev pub TellsCases : DocumentState → FaultsOptions → Option (List ℕ) → Option (List ℕ) → Answer → Type 0

@@ -1,11 +1,11 @@
--- Cases in the order in which they are told (profile).
+-- Cases in the outcome_order in which they are told (profile).
 use Rattle.std.specs.Prelude.{ℕ, Bool, List, [], ◌∷◌, Option, Some, None}
 use Rattle.std.specs.List.Sorted.{IsPermutation, IsSortedBy, IsStableBy}
 use Rattle.std.specs.declared.cmp.Ordering.{Ordering}
 use Rattle.std.specs.Cmp.Lexicographic.{slice_cmp}
 use Rattle.std.specs.Ordering.{is_lt, nat_cmp}
 use Rattle.gptp_timeline.specs.Limits.{amount_of}
-use Rattle.gptp_faults.specs.Extremes.{joined}
+use Rattle.gptp_faults.specs.Extremes.{greatest_of_two}
 use Rattle.gptp_faults.specs.Outcomes.{OutcomeState}
 use Rattle.gptp_faults.specs.declared.extremes.Extremes.{Extremes}
 
@@ -26,19 +26,19 @@ weight e =
     ∷ there e.choice ∷ amount_or_0 e.choice
     ∷ e.counts.alone ∷ []
 
-abbrev pub order : Extremes → Extremes → Ordering
-order a b = slice_cmp nat_cmp (weight a) (weight b)
+abbrev pub outcome_order : Extremes → Extremes → Ordering
+outcome_order a b = slice_cmp nat_cmp (weight a) (weight b)
 
 -- the greater of down and back
 abbrev pub worst_of : OutcomeState → Extremes
-worst_of o = joined o.down o.back
+worst_of o = greatest_of_two o.down o.back
 
 -- the first of these in which they differ is the greater
 abbrev pub is_worse : OutcomeState → OutcomeState → Bool
-is_worse a b = is_lt (order (worst_of b) (worst_of a))
+is_worse a b = is_lt (outcome_order (worst_of b) (worst_of a))
 
--- outcomes in the order in which they are told: the worst first, and of equals the first
-pub record AreRanked (outcomes told : List OutcomeState) : Type 0 where
+-- outcomes in the outcome_order in which they are told: the worst first, and of equals the first
+pub record OutcomesAreRanked (outcomes told : List OutcomeState) : Type 0 where
   pub same : IsPermutation outcomes told
   pub worst_first : IsSortedBy is_worse told
   pub equals : IsStableBy is_worse outcomes told

@@ -22,8 +22,8 @@ latest_end = 1000000000000000
 -- The document would be refused with any case from the first moment on: with two events more there would be more than
 -- 4,096, the fault would
 -- be later than an event may be, or earlier than the last.
-abbrev pub first_fault : DocumentState → Times → Option DocumentFault
-first_fault d t =
+abbrev pub first_refusal : DocumentState → Times → Option DocumentFault
+first_refusal d t =
     if nat_lt 4094 (length d.events) then Some TooMany
     else if nat_lt latest_event t.from then Some OutOfRange
     else if nat_lt t.from (last_change d.events) then Some EventOrder
@@ -32,7 +32,7 @@ first_fault d t =
 -- without a case nothing is refused
 abbrev pub fault_before : DocumentState → Times → List Case → Option DocumentFault
 fault_before d t [] = None
-fault_before d t (c ∷ cs) = first_fault d t
+fault_before d t (c ∷ cs) = first_refusal d t
 
 -- a case that would come back later than an event may be, or whose run would end later than one may
 abbrev pub is_late : Times → Planned → Bool

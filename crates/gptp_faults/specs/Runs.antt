@@ -22,8 +22,8 @@ abbrev pub generator : ℕ → Lcg
 generator seed = pcg64_of_seed (pcg32_seed 32 seed)
 
 -- runs are numbered from 0, by moment, then seed; seeds from 1
-abbrev pub moment_of : Times → ℕ → ℕ
-moment_of t run = moment t (run / t.seeds)
+abbrev pub run_moment : Times → ℕ → ℕ
+run_moment t run = moment t (run / t.seeds)
 
 abbrev pub seed_of : Times → ℕ → ℕ
 seed_of t run = run % t.seeds + 1
@@ -36,6 +36,6 @@ abbrev pub with_case : ℕ → Planned → DocumentState → DocumentState
 with_case at p d = with_event (at + p.hold) (return_of p.failing) (with_event at (fault_of p.failing) d)
 
 -- How the last two stretches of a run end, in which a case is down and is back.
-abbrev pub IsRun : DocumentState → Times → Planned → ℕ → EndState × EndState → Type 0
-IsRun d t p run ends = EndsOf draws (with_case (moment_of t run) p d) (moment_of t run + p.hold + t.behind)
+abbrev pub CaseRunEnds : DocumentState → Times → Planned → ℕ → EndState × EndState → Type 0
+CaseRunEnds d t p run ends = EndsOf draws (with_case (run_moment t run) p d) (run_moment t run + p.hold + t.behind)
     (generator (seed_of t run)) (Some ends)

@@ -38,7 +38,7 @@ pub record AreTimes (d : DocumentState) (options : FaultsOptions) (t : Times) : 
   pub behind_is : t.behind ≡ unwrap_or options.hold span
 
 -- so that they are bounded
-pub record AreBounded (t : Times) : Type 0 where
+pub record TimesAreBounded (t : Times) : Type 0 where
   pub from : t.from ≤ 1000000000000000
   pub spread : t.spread ≤ 32000000000
   pub some_moment : 1 ≤ t.moments
@@ -61,8 +61,8 @@ IsHold d t c (Some asked) hold = hold ≡ asked
 IsHold d t c None hold = IsSpan (with_event t.from (fault_of c) d) t.from hold
 
 -- Each of its runs ends no later than one may.
-abbrev pub IsInTime : Times → Planned → Type 0
-IsInTime t p = last_moment t + p.hold + t.behind ≤ 1000000000000000
+abbrev pub RunsEndInTime : Times → Planned → Type 0
+RunsEndInTime t p = last_moment t + p.hold + t.behind ≤ 1000000000000000
 
 -- what is planned of each case
 abbrev pub IsPlanned : DocumentState → FaultsOptions → Times → Case → Planned → Type 0

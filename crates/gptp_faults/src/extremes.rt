@@ -1,7 +1,7 @@
 //! The greatest of several stretches.
 
 ghost use Rattle.std.specs.Prelude.{◌≡◌};
-ghost use Rattle.gptp_faults.specs.Extremes.{greater_counts, greater_if, joined, of_none, of_one};
+ghost use Rattle.gptp_faults.specs.Extremes.{greater_counts, greater_if, greatest_of_two, of_none, of_one};
 
 use gptp_timeline::{Counts, Greatest, Stretch, better_if};
 
@@ -70,7 +70,7 @@ fn greater_counts(a: Counts, b: Counts) -> Counts
 
 /// Those of two, of equals the first.
 pub(crate) fn joined(a: &Extremes, b: &Extremes) -> Extremes
-    ensures { result ≡ joined a.now b.now }
+    ensures { result ≡ greatest_of_two a.now b.now }
 {
     Extremes {
         choice: greater_if(a.choice, b.choice),

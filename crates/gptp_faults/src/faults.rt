@@ -3,11 +3,11 @@
 ghost use Rattle.std.specs.Prelude.{◌≡◌, ◌≢◌, ◌≤◌, ◌+◌, ◌++◌, ◌∷◌, [], List, Err, IfOk, OnOk, false, length};
 ghost use Rattle.std.specs.Io.KnownBytes.{Appends};
 ghost use Rattle.gptp_spelling.specs.Lines.{text_of};
-ghost use Rattle.gptp_faults.specs.Faults.{Answers, IsTable};
-ghost use Rattle.gptp_faults.specs.Outcomes.{AreOutcomes, belongs, IsOutcome, OutcomeState};
-ghost use Rattle.gptp_faults.specs.Progress.{TellsCases, begun, begun_line, part_begun, part_of};
+ghost use Rattle.gptp_faults.specs.Faults.{AnswersFaultsOf, IsTable};
+ghost use Rattle.gptp_faults.specs.Outcomes.{AreOutcomes, is_of_part, IsOutcome, OutcomeState};
+ghost use Rattle.gptp_faults.specs.Progress.{TellsCases, begun, begun_line, part_begun, part_count};
 ghost use Rattle.gptp_faults.specs.Refusals.{any_late};
-ghost use Rattle.gptp_faults.specs.Times.{AreBounded, AreOptions, IsInTime};
+ghost use Rattle.gptp_faults.specs.Times.{TimesAreBounded, AreOptions, RunsEndInTime};
 
 use crate::cases::{Planned, cases_of};
 use crate::options::FaultsOptions;
@@ -33,7 +33,7 @@ pub enum Answer {
 /// Whether a case by its number belongs to a part of so many.
 fn belongs(options: &FaultsOptions, number: usize) -> bool
     requires { AreOptions options.now }
-    ensures { result ≡ belongs options.now.parts options.now.part number }
+    ensures { result ≡ is_of_part options.now.parts options.now.part number }
 {
     number as u64 % options.parts + 1 == options.part
 }
@@ -41,7 +41,7 @@ fn belongs(options: &FaultsOptions, number: usize) -> bool
 /// How many of so many cases belong to the part.
 fn count_of(options: &FaultsOptions, count: usize) -> usize
     requires { AreOptions options.now }
-    ensures { result ≡ part_of options.now count }
+    ensures { result ≡ part_count options.now count }
 {
     let mut found = 0;
     for number in 0..count {
@@ -99,8 +99,8 @@ fn try_next<P: Sink>(
     outcomes: &mut Vec<Outcome>,
     progress: &mut P,
 ) -> Result<(), Cut>
-    requires bounded { AreBounded times.now }
-    requires in_time { IsInTime times.now planned.now }
+    requires bounded { TimesAreBounded times.now }
+    requires in_time { RunsEndInTime times.now planned.now }
     ensures tried { OnOk result ((o : OutcomeState) × IsOutcome document.old times.now number planned.now o
         × (outcomes.new.items ≡ outcomes.old.items ++ (o ∷ []))) }
     ensures told { OnOk result (Appends (P.written progress.old) (P.written progress.new)
@@ -125,7 +125,7 @@ fn try_cases<P: Sink>(
     progress: &mut P,
 ) -> Result<Vec<Outcome>, Cut>
     requires options { AreOptions options.now }
-    requires bounded { AreBounded times.now }
+    requires bounded { TimesAreBounded times.now }
     requires in_time { any_late times.now planned.now ≡ false }
     ensures outcomes { IfOk result (λ v. AreOutcomes document.old times.now options.now planned.now v.items) }
     ensures told { OnOk result (Appends (P.written progress.old) (P.written progress.new)
@@ -163,7 +163,7 @@ fn table_of<P: Sink>(
     progress: &mut P,
 ) -> Result<Answer, Cut>
     requires options { AreOptions options.now }
-    requires bounded { AreBounded times.now }
+    requires bounded { TimesAreBounded times.now }
     requires in_time { any_late times.now planned.now ≡ false }
     ensures table { IfOk result (IsTable document.old options.now times.now planned.now) }
     ensures told { OnOk result (Appends (P.written progress.old) (P.written progress.new)
@@ -192,7 +192,7 @@ pub fn fail_each<P: Sink>(
     progress: &mut P,
 ) -> Result<Answer, Cut>
     requires { AreOptions options.now }
-    ensures answer { IfOk result (Answers document.old options.now) }
+    ensures answer { IfOk result (AnswersFaultsOf document.old options.now) }
     ensures told { IfOk result (TellsCases document.old options.now (P.written progress.old) (P.written progress.new)) }
     ensures works { result ≢ Err Cut.Write → P.failures progress.new ≡ P.failures progress.old }
     ensures fails { result ≡ Err Cut.Write → P.failures progress.new ≢ P.failures progress.old }

@@ -2,7 +2,7 @@
 
 ghost use Rattle.std.specs.Prelude.{◌≡◌, ◌≤◌, ◌<◌, ◌+◌, ◌++◌, ◌∷◌, [], IfErr, IfOk, OnOk};
 ghost use Rattle.gptp_faults.specs.Outcomes.{IsOutcome};
-ghost use Rattle.gptp_faults.specs.Times.{AreBounded, IsInTime};
+ghost use Rattle.gptp_faults.specs.Times.{TimesAreBounded, RunsEndInTime};
 
 use crate::cases::{Case, Planned};
 use crate::extremes::{Extremes, joined, of_one};
@@ -123,8 +123,8 @@ pub(crate) fn try_case(
     number: usize,
     planned: &Planned,
 ) -> Result<Outcome, Cut>
-    requires bounded { AreBounded times.now }
-    requires in_time { IsInTime times.now planned.now }
+    requires bounded { TimesAreBounded times.now }
+    requires in_time { RunsEndInTime times.now planned.now }
     ensures outcome { IfOk result (IsOutcome document.old times.now number planned.now) }
     ensures same { OnOk result (document.new ≡ document.old) }
     ensures memory { IfErr result (λ e. e ≡ Cut.Memory) }

@@ -1,7 +1,7 @@
 //! Cases in the order in which they are told.
 
 ghost use Rattle.std.specs.Prelude.{◌≡◌, OnOk};
-ghost use Rattle.gptp_faults.specs.Ranking.{AreRanked, amount_or_0, there, weight, worst_of};
+ghost use Rattle.gptp_faults.specs.Ranking.{OutcomesAreRanked, amount_or_0, there, weight, worst_of};
 
 use crate::extremes::joined;
 use crate::outcome::Outcome;
@@ -49,7 +49,7 @@ fn weight_of(outcome: &Outcome) -> [u128; 7]
 
 /// Puts cases in the order in which they are told: the worst first, and equals in theirs. Refused for want of memory alone.
 pub(crate) fn rank(outcomes: &mut Vec<Outcome>) -> Result<(), AllocError>
-    ensures { OnOk result (AreRanked outcomes.old.items outcomes.new.items) }
+    ensures { OnOk result (OutcomesAreRanked outcomes.old.items outcomes.new.items) }
 {
     outcomes.sort_by_key(|outcome| Reverse(weight_of(outcome)))
 }

@@ -1,8 +1,8 @@
 //! Why no case is run.
 
 ghost use Rattle.std.specs.Prelude.{◌≡◌, ◌≤◌};
-ghost use Rattle.gptp_faults.specs.Refusals.{any_late, fault_before, first_fault, is_late};
-ghost use Rattle.gptp_faults.specs.Times.{AreBounded};
+ghost use Rattle.gptp_faults.specs.Refusals.{any_late, fault_before, first_refusal, is_late};
+ghost use Rattle.gptp_faults.specs.Times.{TimesAreBounded};
 
 use crate::cases::{Case, Planned};
 use crate::times::{Times, last_moment};
@@ -16,7 +16,7 @@ const LATEST_END: u64 = 1_000_000_000_000_000;
 
 /// The first test that a document fails with any case from the first moment on.
 fn first_fault(document: &Document, times: &Times) -> Option<DocumentFault>
-    ensures { result ≡ first_fault document.now times.now }
+    ensures { result ≡ first_refusal document.now times.now }
 {
     if 4094 < document.events().len() {
         Some(DocumentFault::TooMany)
@@ -45,7 +45,7 @@ pub(crate) fn fault_before(
 
 /// Whether a case would come back later than an event may be, or its run end later than one may.
 fn is_late(times: &Times, planned: &Planned) -> bool
-    requires { AreBounded times.now }
+    requires { TimesAreBounded times.now }
     ensures { result ≡ is_late times.now planned.now }
 {
     let back = u128::from(last_moment(times)) + u128::from(planned.hold);
@@ -54,7 +54,7 @@ fn is_late(times: &Times, planned: &Planned) -> bool
 
 /// Whether one of several would.
 pub(crate) fn any_late(times: &Times, planned: &[Planned]) -> bool
-    requires { AreBounded times.now }
+    requires { TimesAreBounded times.now }
     ensures { result ≡ any_late times.now planned.now }
 {
     planned.iter().any(|planned| is_late(times, planned))

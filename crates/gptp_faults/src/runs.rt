@@ -1,8 +1,8 @@
 //! The runs of a case.
 
 ghost use Rattle.std.specs.Prelude.{◌≡◌, ◌≤◌, ◌<◌, ◌+◌, IfErr, IfOk, OnOk, Some};
-ghost use Rattle.gptp_faults.specs.Runs.{IsRun, moment_of, runs_of, seed_of};
-ghost use Rattle.gptp_faults.specs.Times.{AreBounded, IsInTime, last_moment};
+ghost use Rattle.gptp_faults.specs.Runs.{CaseRunEnds, run_moment, runs_of, seed_of};
+ghost use Rattle.gptp_faults.specs.Times.{TimesAreBounded, RunsEndInTime, last_moment};
 
 use crate::cases::{Planned, fault_of, return_of};
 use crate::times::{Times, add, moment};
@@ -14,7 +14,7 @@ use std::alloc::Global;
 
 /// In how many runs each case is tried.
 pub(crate) fn runs_of(times: &Times) -> u64
-    requires { AreBounded times.now }
+    requires { TimesAreBounded times.now }
     ensures is { result ≡ runs_of times.now }
     ensures some { 0 < result }
 {
@@ -23,9 +23,9 @@ pub(crate) fn runs_of(times: &Times) -> u64
 
 /// The moment of a run, in ns.
 fn moment_of(times: &Times, run: u64) -> u64
-    requires bounded { AreBounded times.now }
+    requires bounded { TimesAreBounded times.now }
     requires run { run < runs_of times.now }
-    ensures is { result ≡ moment_of times.now run }
+    ensures is { result ≡ run_moment times.now run }
     ensures last { result ≤ last_moment times.now }
     ensures bound { result ≤ 2000000000000000 }
 {
@@ -34,7 +34,7 @@ fn moment_of(times: &Times, run: u64) -> u64
 
 /// The seed of a run.
 fn seed_of(times: &Times, run: u64) -> u64
-    requires { AreBounded times.now }
+    requires { TimesAreBounded times.now }
     ensures { result ≡ seed_of times.now run }
 {
     run % times.seeds + 1
@@ -60,10 +60,10 @@ pub(crate) fn run_case(
     planned: &Planned,
     run: u64,
 ) -> Result<(StretchEnd, StretchEnd), Cut>
-    requires bounded { AreBounded times.now }
+    requires bounded { TimesAreBounded times.now }
     requires run { run < runs_of times.now }
-    requires in_time { IsInTime times.now planned.now }
-    ensures run { IfOk result (IsRun document.old times.now planned.now run) }
+    requires in_time { RunsEndInTime times.now planned.now }
+    ensures run { IfOk result (CaseRunEnds document.old times.now planned.now run) }
     ensures same { OnOk result (document.new ≡ document.old) }
     ensures memory { IfErr result (λ e. e ≡ Cut.Memory) }
 {

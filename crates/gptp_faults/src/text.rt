@@ -6,7 +6,7 @@ ghost use Rattle.std.specs.List.{flat_map};
 ghost use Rattle.gptp_spelling.specs.Lines.{text_of};
 ghost use Rattle.gptp_spelling.specs.Digits.{or_none};
 ghost use Rattle.gptp_timeline.specs.Limits.{first_exceeded};
-ghost use Rattle.gptp_faults.specs.FaultsText.{amounts_words, case_line, counts_text, exceeded_by, exceeds, extremes_line, follow_line, head_line, outcome_lines, table_lines, worst_amount, worst_line, worst_of_all, worst_words};
+ghost use Rattle.gptp_faults.specs.FaultsText.{amounts_words, case_line, counts_text, exceeded_by, exceeds_limit, extremes_line, follow_line, head_line, outcome_lines, table_lines, worst_amount, worst_line, worst_of_all, worst_words};
 
 use crate::cases::Case;
 use crate::extremes::{Extremes, OF_NONE, joined};
@@ -28,9 +28,9 @@ struct PortText(PortId);
 
 impl fmt::Display for PortText {
     ghost use Rattle.std.specs.Prelude.{Some};
-    ghost use Rattle.gptp_faults.specs.FaultsText.{port_text};
+    ghost use Rattle.gptp_faults.specs.FaultsText.{case_port_text};
 
-    ghost output = { λ port. Some (port_text port.0) };
+    ghost output = { λ port. Some (case_port_text port.0) };
 
     fn fmt<W: fmt::Write>(&self, f: &mut fmt::Formatter<W>) -> fmt::Result {
         write!(f, "{} {}", ClockDigits(self.0.clock), self.0.port)
@@ -271,7 +271,7 @@ pub(crate) fn write_table(
 ) -> Result<bool, AllocError>
     ensures text { OnOk result (string_bytes text.new
         ≡ string_bytes text.old ++ text_of (table_lines limits.now times.now outcomes.now)) }
-    ensures exceeded { IfOk result (λ exceeded. exceeded ≡ exceeds limits.now outcomes.now) }
+    ensures exceeded { IfOk result (λ exceeded. exceeded ≡ exceeds_limit limits.now outcomes.now) }
 {
     let worst = worst_of_all(outcomes);
     write_head(text, outcomes.len(), times)?;

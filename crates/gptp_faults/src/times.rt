@@ -3,7 +3,7 @@
 ghost use Rattle.std.specs.Prelude.{◌≡◌, ◌≤◌, ◌<◌, ◌++◌, ◌∷◌, [], IfOk, IfErr, IfSome, OnOk, None, length, take, unwrap_or};
 ghost use Rattle.gptp_network.specs.Adding.{with_event};
 ghost use Rattle.gptp_network.specs.Events.{IsInRange};
-ghost use Rattle.gptp_faults.specs.Times.{AreBounded, AreOptions, ArePlanned, AreTimes, IsHold, IsPlanned, last_moment, moment};
+ghost use Rattle.gptp_faults.specs.Times.{TimesAreBounded, AreOptions, ArePlanned, AreTimes, IsHold, IsPlanned, last_moment, moment};
 
 use crate::cases::{Case, Planned, fault_of, push_planned};
 use crate::options::FaultsOptions;
@@ -50,7 +50,7 @@ pub(crate) fn times_of(
 ) -> Result<Times, AllocError>
     requires { AreOptions options.now }
     ensures times { IfOk result (AreTimes document.now options.now) }
-    ensures bounded { IfOk result AreBounded }
+    ensures bounded { IfOk result TimesAreBounded }
 {
     document.well_formed();
     let network = document.network();
@@ -68,7 +68,7 @@ pub(crate) fn times_of(
 
 /// A moment by its number, in ns.
 pub(crate) fn moment(times: &Times, number: u64) -> u64
-    requires bounded { AreBounded times.now }
+    requires bounded { TimesAreBounded times.now }
     requires number { number < times.now.moments }
     ensures is { result ≡ moment times.now number }
     ensures last { result ≤ last_moment times.now }
@@ -79,7 +79,7 @@ pub(crate) fn moment(times: &Times, number: u64) -> u64
 
 /// The latest moment, in ns.
 pub(crate) fn last_moment(times: &Times) -> u64
-    requires { AreBounded times.now }
+    requires { TimesAreBounded times.now }
     ensures is { result ≡ last_moment times.now }
     ensures bound { result ≤ 2000000000000000 }
 {

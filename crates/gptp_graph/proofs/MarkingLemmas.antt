@@ -7,7 +7,7 @@ use Rattle.gptp_graph.specs.Path.{Route, Reaches}
 use Rattle.gptp_graph.specs.Best.{IsBest}
 use Rattle.gptp_graph.specs.Distance.{IsDistance}
 use Rattle.gptp_graph.specs.Marking.{Statement, IsStatedBeside, IsFar, IsLowestRoot, LeadsToNear, AreFarSteps}
-use Rattle.gptp_graph.specs.MarkingLaws.{AreBounded}
+use Rattle.gptp_graph.specs.MarkingLaws.{StatementsAreBounded}
 use Rattle.gptp_graph.proofs.LinkLemmas.{Adjacent-clock, Adjacent-sym}
 use Rattle.gptp_graph.proofs.SystemLemmas.{In-clocks}
 use Rattle.gptp_graph.proofs.PathLemmas.{Route-end}
@@ -38,7 +38,7 @@ module _ (g : Snapshot) (wf : IsWellFormed g) where
       let rest : f ≤ e + length us = no_farther_by us u w f e route.1 at there in
       omega arith
 
-  module _ (all : List Statement) (h : AreBounded g all) where
+  module _ (all : List Statement) (h : StatementsAreBounded g all) where
     -- each statement is of a system with a best
     has_best : (one : Statement) → In one all → (best : System) × IsBest g one.clock best
     has_best one stated = best_exists g one.clock wf (h.no_other one stated)

@@ -16,7 +16,7 @@ pub record IsBounded (g : Snapshot) (one : Statement) : Type 0 where
       → (one.root ≡ best.identity) × (one.steps ≡ d)
 
 -- each system has a statement, and each statement is a system's and so bounded
-pub record AreBounded (g : Snapshot) (all : List Statement) : Type 0 where
+pub record StatementsAreBounded (g : Snapshot) (all : List Statement) : Type 0 where
   pub stated : (v : ℕ) → In v (clocks g) → (one : Statement) × In one all × (one.clock ≡ v)
   pub no_other : (one : Statement) → In one all → In one.clock (clocks g)
   pub bounded : (one : Statement) → In one all → IsBounded g one
@@ -24,17 +24,17 @@ pub record AreBounded (g : Snapshot) (all : List Statement) : Type 0 where
 -- the far systems are those 255 or more steps from their best
 abbrev pub FarIsDistant : Type 0
 FarIsDistant = (g : Snapshot) (all : List Statement) (one : Statement) (d : ℕ)
-    → IsWellFormed g → AreBounded g all → In one all → IsDistance g one.clock d
+    → IsWellFormed g → StatementsAreBounded g all → In one all → IsDistance g one.clock d
     → IsFar g all one ↔ (255 ≤ d)
 
 -- the steps of a far system are its distance
 abbrev pub FarStepsAreDistance : Type 0
 FarStepsAreDistance = (g : Snapshot) (all : List Statement) (one : Statement) (d n : ℕ)
-    → IsWellFormed g → AreBounded g all → In one all → IsDistance g one.clock d → 255 ≤ d
+    → IsWellFormed g → StatementsAreBounded g all → In one all → IsDistance g one.clock d → 255 ≤ d
     → AreFarSteps g all one n ↔ (n ≡ d)
 
 -- the lowest root stated in a component is the identity of its best
 abbrev pub LowestRootIsBests : Type 0
 LowestRootIsBests = (g : Snapshot) (all : List Statement) (one : Statement) (best : System) (root : ℕ)
-    → IsWellFormed g → AreBounded g all → In one all → IsBest g one.clock best
+    → IsWellFormed g → StatementsAreBounded g all → In one all → IsBest g one.clock best
     → IsLowestRoot g all one root ↔ (root ≡ best.identity)

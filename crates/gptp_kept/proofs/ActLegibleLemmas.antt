@@ -19,7 +19,7 @@ use Rattle.gptp_plan.specs.Network.{IsNetwork, NetworkState, pace_of}
 use Rattle.gptp_acts.specs.Ahead.{IsPortAmong}
 use Rattle.gptp_acts.specs.Changing.{StartsAll}
 use Rattle.gptp_acts.specs.Sound.{IsSound}
-use Rattle.gptp_acts.specs.World.{Channel, WorldState, port_id, queue, sender}
+use Rattle.gptp_acts.specs.World.{Channel, WorldState, port_id, world_queue, sender}
 use Rattle.gptp_lists.proofs.MappedLemmas.{mapped}
 use Rattle.gptp_kept.specs.Legible.{ChannelFits, IsLegible, SayWhatFits, StationFits}
 use Rattle.gptp_kept.specs.LegibleLaws.{SetsAnOctet}
@@ -103,6 +103,6 @@ initial_legible n is = record { stations = stations; links = links }
         wire_fits : (wire : Wire) → wire.a.clock ≢ wire.b.clock → ChannelFits (channel_from wire)
         wire_fits wire apart = record { ends = λ e. apart (ap (λ (p : PortId). p.clock) e); frames = by }
           where
-            by : (direction : Direction) (f : Frame) → In f (queue direction (channel_from wire)) → SayWhatFits f.octets
+            by : (direction : Direction) (f : Frame) → In f (world_queue direction (channel_from wire)) → SayWhatFits f.octets
             by FromA f member = absurd member
             by FromB f member = absurd member

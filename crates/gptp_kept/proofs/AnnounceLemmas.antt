@@ -12,7 +12,7 @@ use Rattle.gptp_messages.specs.Grammar.{Reads, ReadsTlvs, StampIsRead, Written, 
 use Rattle.gptp_messages.specs.Head.{head_of, message_length}
 use Rattle.gptp_messages.specs.MessageType.{least_length}
 use Rattle.gptp_messages.proofs.WrittenLemmas.{reads_back}
-use Rattle.gptp_kept.specs.View.{identity_of, said}
+use Rattle.gptp_kept.specs.View.{port_identity_number, said}
 use Rattle.gptp_kept.proofs.SeenOctetLemmas.{body_read, head_read, kind_is, same_path}
 
 -- what carries over for one kind carries over for the kind that is the same
@@ -123,9 +123,9 @@ module _ (head : Head) (body : AnnounceBody) (path : List ℕ) where
               (ap messages.Announce seen_is);
         }
 
-    seen_source : identity_of (head_of octets).source ≡ identity_of head.source
+    seen_source : port_identity_number (head_of octets).source ≡ port_identity_number head.source
     seen_source =
-        ap identity_of (sym same_source ∙ sym (ap (λ (h : Head). h.source) (head_read bare_octets bare bare_reads)))
+        ap port_identity_number (sym same_source ∙ sym (ap (λ (h : Head). h.source) (head_read bare_octets bare bare_reads)))
 
     seen_log : (head_of octets).log_interval ≡ head.log_interval
     seen_log = sym same_log ∙ sym (ap (λ (h : Head). h.log_interval) (head_read bare_octets bare bare_reads))

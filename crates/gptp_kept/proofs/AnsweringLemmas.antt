@@ -10,7 +10,7 @@ use Rattle.gptp_system.specs.Input.{Input, IsTimely, PortUp}
 use Rattle.gptp_setup.specs.Intervals.{AreParams}
 use Rattle.gptp_system.specs.Start.{started}
 use Rattle.gptp_system.specs.State.{clock}
-use Rattle.gptp_system.specs.Steps.{IsPortOf}
+use Rattle.gptp_system.specs.Steps.{HasPortNumber}
 use Rattle.gptp_system.proofs.StartLemmas.{disabled_at}
 use Rattle.gptp_acts.specs.declared.station.Station.{Station}
 use Rattle.gptp_acts.specs.Act.{Calls, all_timers, in_state}
@@ -118,7 +118,7 @@ calls_all_answering place ports [] w draws w' is has among (none, same) = subst 
 calls_all_answering place ports (p ∷ ps) w draws w' is has among (first, rest, between, answer, same, k, more) =
     let (least, most) = among p (inl refl) in
     let count = has k.station k.here in
-    let of : IsPortOf k.station.system p = record { least = least; most = rw count most } in
+    let of : HasPortNumber k.station.system p = record { least = least; most = rw count most } in
     let next = calls_answering place (PortUp p) w first answer between is k of tt in
     calls_all_answering place ports ps between rest w' next
     (calls_ports place (PortUp p) w first answer between k place ports has) (λ q member. among q (inr member)) more

@@ -20,8 +20,8 @@ use Rattle.gptp_acts.specs.World.{WorldState}
 use Rattle.gptp_measuring.specs.Facts.{IsGood}
 use Rattle.gptp_measuring.proofs.FactLemmas.{timing_is_enough}
 use Rattle.gptp_kept.specs.LinkLaws.{IsGoneBy}
-use Rattle.gptp_kept.specs.Measured.{IsMeasured}
-use Rattle.gptp_kept.specs.LinkView.{IsLinkOf, LinkPlace, setting}
+use Rattle.gptp_kept.specs.Measured.{LinkIsMeasured}
+use Rattle.gptp_kept.specs.LinkView.{IsLinkOf, LinkPlace, link_setting}
 use Rattle.gptp_kept.proofs.ChangeKeptLemmas.{initially_measured, starts_measured}
 use Rattle.gptp_kept.proofs.LinkStandLemmas.{links_seen}
 use Rattle.gptp_kept.proofs.WatchLemmas.{watch_begins}
@@ -33,9 +33,9 @@ use Rattle.gptp_kept.specs.Watch.{Watches}
 
 -- the limits of the network leave an exchange over the link its time
 enough : (p : Pace) (w : WorldState) → KeepPace p → IsWorld p w → (at : LinkPlace) → (l : IsLinkOf at w)
-    → IsGood (setting at w l) (w.last_change + largest_interval p) (w.last_change + 2 * largest_interval p)
+    → IsGood (link_setting at w l) (w.last_change + largest_interval p) (w.last_change + 2 * largest_interval p)
 enough p w pace is at l =
-    timing_is_enough (setting at w l) l.asking.station.setup.params.threshold w.last_change (largest_interval p)
+    timing_is_enough (link_setting at w l) l.asking.station.setup.params.threshold w.last_change (largest_interval p)
     l.good short period
   where
     asking : l.asking.station.setup.params ≡ p.params
@@ -52,7 +52,7 @@ enough p w pace is at l =
     period = rw asking pace.requests
 
 -- where no time has passed since the last change, each good link in use is watched
-fresh_watches : (p : Pace) (w : WorldState) → KeepPace p → w.last_change ≡ w.time → IsWorld p w → IsMeasured w
+fresh_watches : (p : Pace) (w : WorldState) → KeepPace p → w.last_change ≡ w.time → IsWorld p w → LinkIsMeasured w
     → Watches p w
 fresh_watches p w pace now is measured at stands =
     watch_begins at (w.last_change + largest_interval p) (w.last_change + 2 * largest_interval p) w l is.sound
@@ -73,17 +73,17 @@ fresh_watches p w pace now is measured at stands =
 -- ---- after a change, and at first
 
 pub changes_begin : (p : Pace) (change : Change) (w : WorldState) (draws : List Draw) (done : Done) (w' : WorldState)
-    → KeepPace p → Acts (Changing change) w draws done w' → IsWorld p w' → IsMeasured w' → Watches p w'
+    → KeepPace p → Acts (Changing change) w draws done w' → IsWorld p w' → LinkIsMeasured w' → Watches p w'
 changes_begin p change w draws done w' pace k = fresh_watches p w' pace (change_is_last change w draws done w' k)
 
 pub first_begins : {F : Type 0} (answers : Bounds → ℕ → F → Option ℕ → F → Type 0) (n : NetworkState)
     (fate fate_after : F) (w : WorldState) → IsNetwork n → Begun answers n fate fate_after w → IsWorld (pace_of n) w
-    → IsMeasured w → Watches (pace_of n) w
+    → LinkIsMeasured w → Watches (pace_of n) w
 first_begins answers n fate fate_after w network k =
     fresh_watches (pace_of n) w (keeps_pace n network)
     (starts_are_last (range_with_len 0 (length n.systems)) (initial n) k.draws w refl k.starts)
 
 pub first_measured : {F : Type 0} (answers : Bounds → ℕ → F → Option ℕ → F → Type 0) (n : NetworkState)
-    (fate fate_after : F) (w : WorldState) → IsSound (initial n) → Begun answers n fate fate_after w → IsMeasured w
+    (fate fate_after : F) (w : WorldState) → IsSound (initial n) → Begun answers n fate fate_after w → LinkIsMeasured w
 first_measured answers n fate fate_after w sound k =
     starts_measured (range_with_len 0 (length n.systems)) (initial n) w k.draws sound (initially_measured n) k.starts

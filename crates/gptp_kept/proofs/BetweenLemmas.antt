@@ -19,12 +19,12 @@ use Rattle.gptp_acts.specs.World.{WorldState}
 use Rattle.gptp_lists.proofs.MappedLemmas.{mapped, mapped_there, same_there}
 use Rattle.gptp_lists.proofs.PlaceLemmas.{member_there}
 use Rattle.gptp_acts.proofs.StayLemmas.{Stays, acts_stay, starts_all_stay}
-use Rattle.gptp_kept.specs.Standing.{AreBetween, HasPort, IsBetween}
+use Rattle.gptp_kept.specs.Standing.{AreBetween, StationsHavePort, JoinsTwoOf}
 use Rattle.gptp_kept.proofs.OutlineLemmas.{acts_count, count, starts_all_count}
 
 -- ---- the world that a network makes
 
-port_made : (n : NetworkState) → IsNetwork n → (port : PortId) → IsPort n.systems port → HasPort (stations_of n) port
+port_made : (n : NetworkState) → IsNetwork n → (port : PortId) → IsPort n.systems port → StationsHavePort (stations_of n) port
 port_made n is port k =
     let setup = setup_of (pace_of n) k.system in
     let made : Station = station_of (pace_of n) k.system in
@@ -39,20 +39,20 @@ port_made n is port k =
     }
 
 wire_made : (n : NetworkState) → IsNetwork n → (place : ℕ) (wire : Wire) → IsWire n place wire
-    → IsBetween (stations_of n) (channel_from wire)
+    → JoinsTwoOf (stations_of n) (channel_from wire)
 wire_made n network place wire is =
     record { a = port_made n network wire.a is.a; b = port_made n network wire.b is.b; apart = is.apart }
 
 pub networks_between : (n : NetworkState) → IsNetwork n → AreBetween (initial n)
 networks_between n is link channel here =
     let (wire, stands, same) = mapped channel_from n.links link channel here in
-    subst (IsBetween (stations_of n)) same (wire_made n is link wire (is.links link wire stands))
+    subst (JoinsTwoOf (stations_of n)) same (wire_made n is link wire (is.links link wire stands))
 
 -- ---- what stays
 
 -- where systems stay, and are as many as they were, each has the ports that it had
-port_stays : (w w' : WorldState) → Stays w w' → count w' ≡ count w → (port : PortId) → HasPort w.stations port
-    → HasPort w'.stations port
+port_stays : (w w' : WorldState) → Stays w w' → count w' ≡ count w → (port : PortId) → StationsHavePort w.stations port
+    → StationsHavePort w'.stations port
 port_stays w w' stays same port k =
     let within = slice_get_within w.stations k.place k.station k.here in
     let (new, there) = member_there w'.stations k.place (omega arith) in
@@ -73,8 +73,8 @@ stays_between w w' stays same between link channel here =
     let is = between link was.old was.here in
     let number : PortId → ℕ = λ p. p.clock in
     record {
-      a = subst (HasPort w'.stations) (sym was.a) (port_stays w w' stays same was.old.a is.a);
-      b = subst (HasPort w'.stations) (sym was.b) (port_stays w w' stays same was.old.b is.b);
+      a = subst (StationsHavePort w'.stations) (sym was.a) (port_stays w w' stays same was.old.a is.a);
+      b = subst (StationsHavePort w'.stations) (sym was.b) (port_stays w w' stays same was.old.b is.b);
       apart = λ one. is.apart (ap number (sym was.a) ∙ one ∙ ap number was.b);
     }
 

@@ -20,7 +20,7 @@ use Rattle.gptp_acts.specs.declared.station.Station.{Station}
 use Rattle.gptp_acts.specs.World.{WorldState}
 use Rattle.gptp_settling.specs.Calm.{Calm}
 use Rattle.gptp_settling.specs.Levels.{Invariant}
-use Rattle.gptp_settling.specs.Network.{IsNetwork}
+use Rattle.gptp_settling.specs.Network.{IsSettlingNetwork}
 use Rattle.gptp_settling.proofs.SettledLemmas.{systems_bounded}
 use Rattle.gptp_kept.specs.Bounded.{IsBoundedWorld, statement_of, statements, statements_of}
 use Rattle.gptp_kept.specs.Calm.{SettlingTimes, at_once, in_turn, network_with, paths_with, sound_from}
@@ -28,8 +28,8 @@ use Rattle.gptp_kept.specs.CalmFor.{IsCalmFor, at_once_span, span_over}
 use Rattle.gptp_kept.specs.Claimed.{Claimed}
 use Rattle.gptp_kept.specs.Holds.{IsWorld, start_of}
 use Rattle.gptp_kept.specs.Settled.{Settled}
-use Rattle.gptp_kept.specs.Standing.{live_systems, snapshot_of, standing}
-use Rattle.gptp_kept.specs.View.{says, station_view, view}
+use Rattle.gptp_kept.specs.Standing.{live_stations, snapshot_of, standing_system}
+use Rattle.gptp_kept.specs.View.{says_announce, station_view, view}
 use Rattle.gptp_kept.proofs.ClaimLemmas.{claim_capable}
 use Rattle.gptp_kept.proofs.ClaimedLemmas.{reach_of, set_alike, settled_at_once, settled_by_paths, span_within}
 use Rattle.gptp_kept.proofs.HoldsLemmas.{is_calm, is_network, is_quick_calm, is_quick_network, systems_bound}
@@ -86,7 +86,7 @@ statement_there (first ∷ stations) (suc place) station here live =
 stated : (w : WorldState) (v : ℕ) → In v (clocks (snapshot_of w))
     → (one : Statement) × In one (statements_of w) × (one.clock ≡ v)
 stated w v known =
-    let (s, member, same) = from_map clock_in v (live_systems w.stations) known in
+    let (s, member, same) = from_map clock_in v (live_stations w.stations) known in
     let at = live_from w.stations s member in (
       statement_of at.station,
       statement_there w.stations at.place at.station at.here at.live,
@@ -97,7 +97,7 @@ pub stated_lives : (w : WorldState) (one : Statement) → In one (statements_of 
 stated_lives w one member =
     let at = statement_from w.stations one member in
     subst (λ (x : Statement). In x.clock (clocks (snapshot_of w))) (sym at.is)
-    (In-map clock_in (standing at.station) (live_systems w.stations)
+    (In-map clock_in (standing_system at.station) (live_stations w.stations)
     (live_there w.stations at.place at.station at.here at.live))
 
 -- ---- what is stated is bounded
@@ -116,11 +116,11 @@ AreAbove w = (place : ℕ) (station : Station) → slice_get w.stations place �
 
 -- they are where the world, as the machine sees it, holds what is sound
 pub are_above : (p : Pace) (m start : ℕ) (times : SettlingTimes) (w : WorldState)
-    → IsNetwork (network_with p m start times w) → Calm (network_with p m start times w) (view w)
-    → Invariant says (network_with p m start times w) (view w) → sound_from p m start times w ≤ w.time
+    → IsSettlingNetwork (network_with p m start times w) → Calm (network_with p m start times w) (view w)
+    → Invariant says_announce (network_with p m start times w) (view w) → sound_from p m start times w ≤ w.time
     → AreAbove w
 are_above p m start times w network calm invariant late place station here live best is_best =
-    systems_bounded says (network_with p m start times w) (view w) place (station_view station) best network calm
+    systems_bounded says_announce (network_with p m start times w) (view w) place (station_view station) best network calm
     invariant (station_there w.stations place station here) live is_best late
 
 -- so what a system of a settled world states is bounded

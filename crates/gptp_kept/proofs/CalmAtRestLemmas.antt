@@ -8,7 +8,7 @@ use Rattle.std.proofs.lemmas.Bool.Decides.{nat_tests}
 use Rattle.std.proofs.lemmas.Option.{none-some, same_Some}
 use Rattle.gptp_graph.specs.Order.{IsLower}
 use Rattle.gptp_vector.specs.declared.vector.Vector.{Vector}
-use Rattle.gptp_vector.specs.Vector.{lower, master_of, parts, path_of, system_of}
+use Rattle.gptp_vector.specs.Vector.{lower, master_of, parts, path_of, system_vector}
 use Rattle.gptp_receipt.specs.declared.held.Held.{Held}
 use Rattle.gptp_receipt.specs.declared.held.Reception.{Reception}
 use Rattle.gptp_receipt.specs.Held.{received}
@@ -16,7 +16,7 @@ use Rattle.gptp_roles.specs.Choice.{IsIn, path_vectors, slave_port}
 use Rattle.gptp_roles.proofs.ChoiceLemmas.{from_port}
 use Rattle.gptp_system.specs.Facts.{AreHeld, AreShown, IsAtRest}
 use Rattle.gptp_system.specs.State.{SystemState, clock}
-use Rattle.gptp_settling.specs.AtRest.{ChoosesItself, ChoosesPort, IsAtRest as SeenAtRest}
+use Rattle.gptp_settling.specs.AtRest.{ChoosesItself, ChoosesPort, StationIsAtRest as SeenAtRest}
 use Rattle.gptp_settling.specs.Station.{Reception as SeenReception, Port as SeenPort, HoldsAt}
 use Rattle.gptp_settling.specs.Vectors.{master, message, path_vector}
 use Rattle.gptp_kept.specs.AtRest.{IsPortAtRest}
@@ -104,7 +104,7 @@ module _ (live : Bool) (s : SystemState) (shown : AreShown s) (held : AreHeld s)
   chosen_seen : ChoosesItself (system_view live s) (parts v) ⊎ ChoosesPort (system_view live s) (parts v)
   chosen_seen = by rest.is_chosen.member
     where
-      by : (v ≡ system_of s.identity) ⊎ IsIn v (path_vectors s.held)
+      by : (v ≡ system_vector s.identity) ⊎ IsIn v (path_vectors s.held)
           → ChoosesItself (system_view live s) (parts v) ⊎ ChoosesPort (system_view live s) (parts v)
       by (inl own) = inl (ap parts own, rest.slave ∙ ap slave_port own)
       by (inr path) =
@@ -165,7 +165,7 @@ module _ (live : Bool) (s : SystemState) (shown : AreShown s) (held : AreHeld s)
   rest_seen = record {
     vector = parts v;
     chosen = chosen_seen;
-    own_not_lower = not_lower (system_of s.identity) v rest.is_chosen.least.0;
+    own_not_lower = not_lower (system_vector s.identity) v rest.is_chosen.least.0;
     held_not_lower = held_not_lower;
     source = source;
     is = ap (λ root. root ∷ v.steps ∷ source) (sym rest.root) ∙ ap (λ steps. s.root ∷ steps ∷ source) (sym rest.steps);

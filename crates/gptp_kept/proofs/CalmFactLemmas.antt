@@ -11,15 +11,15 @@ use Rattle.gptp_links.specs.Queue.{Frame}
 use Rattle.gptp_setup.specs.Intervals.{IsLog}
 use Rattle.gptp_setup.specs.Pace.{Pace, largest_interval, longest_span}
 use Rattle.gptp_setup.proofs.PaceLemmas.{span_longest}
-use Rattle.gptp_system.specs.Follows.{FollowsItself, FollowsPort}
+use Rattle.gptp_system.specs.Follows.{SystemIsRoot, SystemFollowsPort}
 use Rattle.gptp_system.specs.State.{clock}
 use Rattle.gptp_acts.specs.Ahead.{IsSteady}
 use Rattle.gptp_acts.specs.declared.station.Station.{Station}
 use Rattle.gptp_acts.specs.Sound.{IsSound}
-use Rattle.gptp_acts.specs.World.{Channel, WorldState, queue, receiver, sender}
-use Rattle.gptp_settling.specs.Facts.{Facts, FollowsItself as SeenItself, FollowsPort as SeenFollows, IsInTime, IsStation, Setting}
-use Rattle.gptp_settling.specs.Frame.{Frame as SeenFrame, Lane}
-use Rattle.gptp_settling.specs.Network.{setting}
+use Rattle.gptp_acts.specs.World.{Channel, WorldState, world_queue, receiver, sender}
+use Rattle.gptp_settling.specs.Facts.{StationFacts, SystemIsRoot as SeenItself, SystemFollowsPort as SeenFollows, HeldIsInTime, IsLiveStationState, NetworkSetting}
+use Rattle.gptp_settling.specs.Frame.{AnnounceFrame as SeenFrame, Lane}
+use Rattle.gptp_settling.specs.Network.{network_setting}
 use Rattle.gptp_settling.specs.Station.{Reception as SeenReception, Station as SeenStation, HoldsAt}
 use native.Mathlib.Decide.{dec_le}
 use Rattle.gptp_kept.specs.Known.{IsKnown}
@@ -32,7 +32,7 @@ use Rattle.gptp_kept.proofs.SeenLaneLemmas.{lane_from}
 use Rattle.gptp_kept.proofs.OrderLemmas.{in_contains}
 use Rattle.gptp_kept.proofs.PlaceLemmas.{station_from}
 use Rattle.gptp_kept.specs.Calm.{SettlingTimes, delay_in, network_of, network_with}
-use Rattle.gptp_kept.specs.Standing.{has_clock, is_used, live_systems, snapshot_of}
+use Rattle.gptp_kept.specs.Standing.{stations_have_clock, channel_is_used, live_stations, snapshot_of}
 use Rattle.gptp_kept.proofs.PortLemmas.{held_from, holds_there, same_standing}
 use Rattle.gptp_kept.proofs.SetLemmas.{span_is}
 use Rattle.gptp_kept.proofs.SystemLemmas.{clock_there, live_there}
@@ -48,14 +48,14 @@ pub record IsFrameAt (w : WorldState) (lane : Lane) (seen : SeenFrame) : Type 0 
   pub here : slice_get w.net.channels link ≡ Some channel
   pub lane_is : lane ≡ lane_view direction channel
   pub frame : Frame
-  pub among : In frame (queue direction channel)
+  pub among : In frame (world_queue direction channel)
   pub is : seen ≡ frame_view frame
 
 pub frame_from : (w : WorldState) (j : ℕ) (lane : Lane) (seen : SeenFrame)
     → slice_get (lanes_view w.net.channels) j ≡ Some lane → In seen lane.frames → IsFrameAt w lane seen
 frame_from w j lane seen there member =
     let at = lane_from w.net.channels j lane there in
-    let (frame, among, is) = from_map frame_view seen (queue at.direction at.channel)
+    let (frame, among, is) = from_map frame_view seen (world_queue at.direction at.channel)
     (subst (λ (l : Lane). In seen l.frames) at.is member) in
     record {
       link = at.link;
@@ -70,9 +70,9 @@ frame_from w j lane seen there member =
 
 -- a link that is up between two of the systems is used
 used_is : (systems : List System) (direction : Direction) (channel : Channel) → channel.up ≡ true
-    → has_clock systems (sender direction channel).clock ≡ true
-    → has_clock systems (receiver direction channel).clock ≡ true
-    → is_used systems channel ≡ true
+    → stations_have_clock systems (sender direction channel).clock ≡ true
+    → stations_have_clock systems (receiver direction channel).clock ≡ true
+    → channel_is_used systems channel ≡ true
 used_is systems FromA channel up from to = and_from channel.up _ up (and_from _ _ from to)
 used_is systems FromB channel up from to = and_from channel.up _ up (and_from _ _ to from)
 
@@ -82,7 +82,7 @@ linked : (w : WorldState) → IsSound w → (j : ℕ) (lane : Lane) (seen : Seen
     → In lane.from.clock (clocks (snapshot_of w)) → In lane.to.clock (clocks (snapshot_of w))
     → Joins (snapshot_of w) lane.from lane.to
 linked w sound j lane seen there member from to =
-    let systems = live_systems w.stations in
+    let systems = live_stations w.stations in
     let g = snapshot_of w in
     let at = frame_from w j lane seen there member in
     let up = frames_on_links w sound at.link at.direction at.channel at.frame at.here at.among in
@@ -96,7 +96,7 @@ linked w sound j lane seen there member from to =
 
 -- it follows itself, or what one of its ports is seen to hold
 pub follows_seen : (station : Station) → IsSteady station.system
-    → FollowsItself station.system ⊎ FollowsPort station.system
+    → SystemIsRoot station.system ⊎ SystemFollowsPort station.system
     → SeenItself (station_view station) ⊎ SeenFollows (station_view station)
 follows_seen station steady (inl k) = inl (record { root = k.root; steps = k.steps; trace = k.path })
 follows_seen station steady (inr k) =
@@ -113,13 +113,13 @@ follows_seen station steady (inr k) =
 
 module _ (p : Pace) (m start : ℕ) (w : WorldState) (sound : IsSound w) (legible : IsLegible w) (known : IsKnown p w)
   where
-    abbrev k : Setting
-    k = setting (network_of p m start w)
+    abbrev k : NetworkSetting
+    k = network_setting (network_of p m start w)
 
     -- what a port received is in time
     in_time : (place : ℕ) (station : Station) → slice_get w.stations place ≡ Some station → station.live ≡ true
         → (i : ℕ) (seen : SeenReception) → HoldsAt (station_view station) i seen
-        → IsInTime k w.time (clock station.system) seen
+        → HeldIsInTime k w.time (clock station.system) seen
     in_time place station here live i seen holds =
         let s = station.system in
         let steady = (sound.on_time.stations place station here).steady in
@@ -128,7 +128,7 @@ module _ (p : Pace) (m start : ℕ) (w : WorldState) (sound : IsSound w) (legibl
         let span = span_is p station set at.reception.interval in
         let within = (ports_known p w sound known place station here live i at.held at.port at.stands at.there).came
         at.reception at.got in
-        subst (IsInTime k w.time (clock s)) (sym at.is)
+        subst (HeldIsInTime k w.time (clock s)) (sym at.is)
         (record {
           came = within.least;
           stays = subst (λ n. w.time ≤ at.reception.at + n) (sym span) within.most;
@@ -139,11 +139,11 @@ module _ (p : Pace) (m start : ℕ) (w : WorldState) (sound : IsSound w) (legibl
         })
 
     station_seen : (place : ℕ) (station : Station) → slice_get w.stations place ≡ Some station → station.live ≡ true
-        → IsStation k w.time (station_view station)
+        → IsLiveStationState k w.time (station_view station)
     station_seen place station here live =
         let steady = (sound.on_time.stations place station here).steady in
         record {
-          known = subst (λ x. In x (live_systems w.stations)) (same_standing station steady.shown)
+          known = subst (λ x. In x (live_stations w.stations)) (same_standing station steady.shown)
               (live_there w.stations place station here live);
           follows = follows_seen station steady (systems_follow w sound place station here live);
           held = in_time place station here live;
@@ -159,7 +159,7 @@ module _ (p : Pace) (m start : ℕ) (w : WorldState) (sound : IsSound w) (legibl
         let one = one_way w sound legible way.link at.link way.direction at.direction way.channel at.channel way.here
         at.here (way.from ∙ ap (λ (z : Lane). z.from) at.lane_is) in
         let short = subst (λ (c : Channel). c.bounds.max ≤ delay_in w) one.same_channel
-        (delay_of_used (live_systems w.stations) w.net.channels way.link way.channel way.here way.used) in
+        (delay_of_used (live_stations w.stations) w.net.channels way.link way.channel way.here way.used) in
         let soon = known.fresh.frames at.link at.direction at.channel at.frame at.here at.among in
         subst (λ (x : SeenFrame). (x.due ≤ w.time + delay_in w) ⊎ (x.due < w.last_change + 2 * largest_interval p))
         (sym at.is)
@@ -168,12 +168,12 @@ module _ (p : Pace) (m start : ℕ) (w : WorldState) (sound : IsSound w) (legibl
           | no more ↦ inr (let since : w.last_change ≤ w.time = known.fresh.change in omega (arith, soon, short))
         ])
 
-    pub facts : Facts k (view w)
+    pub facts : StationFacts k (view w)
     facts = record {
       stations = λ i seen there lives.
           let at = station_from w.stations i seen there in
           let live = ap (λ (x : SeenStation). x.live) (sym at.is) ∙ lives in
-          subst (IsStation k w.time) (sym at.is) (station_seen i at.station at.here live);
+          subst (IsLiveStationState k w.time) (sym at.is) (station_seen i at.station at.here live);
       near = λ j lane seen there member.
           let at = frame_from w j lane seen there member in
           subst (λ (f : SeenFrame). f.due ≤ w.time + largest_interval p) (sym at.is)
@@ -185,7 +185,7 @@ module _ (p : Pace) (m start : ℕ) (w : WorldState) (sound : IsSound w) (legibl
 -- so it is at every pace, where frames of before the change are gone by the start
 pub facts_with : (p : Pace) (m start : ℕ) (times : SettlingTimes) (w : WorldState) → IsSound w → IsLegible w
     → IsKnown p w
-    → w.last_change + 2 * largest_interval p ≤ start → Facts (setting (network_with p m start times w)) (view w)
+    → w.last_change + 2 * largest_interval p ≤ start → StationFacts (network_setting (network_with p m start times w)) (view w)
 facts_with p m start times w sound legible known old = record {
   stations = λ i s there lives.
       let x = are.stations i s there lives in
@@ -201,7 +201,7 @@ facts_with p m start times w sound legible known old = record {
   linked = are.linked;
 }
   where
-    are : Facts (setting (network_of p m start w)) (view w)
+    are : StationFacts (network_setting (network_of p m start w)) (view w)
     are = facts p m start w sound legible known
 
     by : (past : Bool) (due : ℕ) → (due ≤ w.time + delay_in w) ⊎ (due < w.last_change + 2 * largest_interval p)

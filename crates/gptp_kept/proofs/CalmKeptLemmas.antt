@@ -14,7 +14,7 @@ use Rattle.gptp_setup.specs.Pace.{Pace, lapse_span, largest_interval}
 use Rattle.gptp_setup.specs.declared.setup.Setup.{Setup}
 use Rattle.gptp_setup.specs.declared.timer.Timer.{Timer}
 use Rattle.gptp_setup.specs.Intervals.{interval_of}
-use Rattle.gptp_system.specs.Input.{Input, Frame as FrameHeard, Priority, Expires as TimerExpires}
+use Rattle.gptp_system.specs.Input.{Input, Frame as FrameHeard, Priority, TimerRunsOut as TimerExpires}
 use Rattle.gptp_system.specs.State.{clock}
 use Rattle.gptp_system.proofs.StepLemmas.{steps_steady}
 use Rattle.gptp_plan.specs.Calm.{SyncsComeInTime}
@@ -23,7 +23,7 @@ use Rattle.gptp_plan.specs.declared.change.Act.TheVariants.{Deliver, Expire, Cha
 use Rattle.gptp_plan.specs.declared.sync_wait.SyncPaths.{SyncPaths}
 use Rattle.gptp_acts.specs.declared.done.Done.{Done}
 use Rattle.gptp_acts.specs.declared.station.Station.{Station}
-use Rattle.gptp_acts.specs.Act.{Calls, Delivers, Expires, Hears, in_state}
+use Rattle.gptp_acts.specs.Act.{Calls, Delivers, TimerRunsOut, Hears, in_state}
 use Rattle.gptp_acts.specs.Acts.{Acts, at}
 use Rattle.gptp_acts.specs.Agrees.{stopped}
 use Rattle.gptp_acts.specs.World.{Channel, Net, WorldState, receiver}
@@ -34,29 +34,29 @@ use Rattle.gptp_acts.proofs.SteadyLemmas.{same_clock, same_ports}
 use Rattle.gptp_settling.specs.Network.{Network}
 use Rattle.gptp_kept.specs.SeenLaws.{IsNoChange}
 use Rattle.gptp_kept.specs.View.{lane_place}
-use Rattle.gptp_kept.specs.Calm.{HaveQuietLinks, IsQuietWith, IsQuietWorld, delay_in, greatest_delay, is_port, lane_of, log_at, log_of, network_of, SettlingTimes, network_with, paths_with, place_of, setups_of, sync_paths_of, in_turn, at_once, network_at_once, sound_from}
-use Rattle.gptp_kept.specs.Standing.{is_used, joined, live_systems, snapshot_of, standing, used_links}
+use Rattle.gptp_kept.specs.Calm.{HaveQuietLinks, IsQuietWith, IsQuietWorld, delay_in, greatest_channel_delay, has_port_id, lane_of, log_at, log_of, network_of, SettlingTimes, network_with, paths_with, clock_place, setups_of, sync_paths_of, in_turn, at_once, network_at_once, sound_from}
+use Rattle.gptp_kept.specs.Standing.{channel_is_used, standing_link, live_stations, snapshot_of, standing_system, used_channels}
 
 -- ---- systems
 
 -- one system becomes another that stands as it stood
 pub systems_kept : (stations : List Station) (place : ℕ) (old new : Station) → slice_get stations place ≡ Some old
-    → new.live ≡ old.live → standing new ≡ standing old
-    → live_systems (slice_set stations place new) ≡ live_systems stations
+    → new.live ≡ old.live → standing_system new ≡ standing_system old
+    → live_stations (slice_set stations place new) ≡ live_stations stations
 systems_kept [] place old new here live same = refl
 systems_kept (first ∷ stations) zero old new here live same =
     let one = same_Some first old here in
     let lives : new.live ≡ first.live = live ∙ ap (λ (x : Station). x.live) (sym one) in
-    let stands : standing new ≡ standing first = same ∙ ap standing (sym one) in
+    let stands : standing_system new ≡ standing_system first = same ∙ ap standing_system (sym one) in
     rw (lives, stands) refl
 systems_kept (first ∷ stations) (suc place) old new here live same =
-    ap (λ rest. if first.live then standing first ∷ rest else rest)
+    ap (λ rest. if first.live then standing_system first ∷ rest else rest)
     (systems_kept stations place old new here live same)
 
 -- one of its clock
 places_kept : (stations : List Station) (place : ℕ) (old new : Station) → slice_get stations place ≡ Some old
     → clock new.system ≡ clock old.system → (number : ℕ)
-    → place_of (slice_set stations place new) number ≡ place_of stations number
+    → clock_place (slice_set stations place new) number ≡ clock_place stations number
 places_kept [] place old new here same number = refl
 places_kept (first ∷ stations) zero old new here same number =
     let one = same_Some first old here in
@@ -69,23 +69,23 @@ places_kept (first ∷ stations) (suc place) old new here same number =
 -- ---- what doesn't look at what is in flight
 
 used_bare : (systems : List System) (channels : List Channel)
-    → used_links systems (map bare channels) ≡ used_links systems channels
+    → used_channels systems (map bare channels) ≡ used_channels systems channels
 used_bare systems [] = refl
 used_bare systems (first ∷ channels) =
-    ap (λ rest. if is_used systems first then joined first ∷ rest else rest) (used_bare systems channels)
+    ap (λ rest. if channel_is_used systems first then standing_link first ∷ rest else rest) (used_bare systems channels)
 
 lane_bare : (port : PortIdentity) (channels : List Channel) → lane_of (map bare channels) port ≡ lane_of channels port
 lane_bare port [] = refl
 lane_bare port (first ∷ channels) =
-    ap (λ rest. if is_port first.a port then lane_place 0 FromA
-    else (if is_port first.b port then lane_place 0 FromB else suc (suc rest)))
+    ap (λ rest. if has_port_id first.a port then lane_place 0 FromA
+    else (if has_port_id first.b port then lane_place 0 FromB else suc (suc rest)))
     (lane_bare port channels)
 
 delay_bare : (systems : List System) (channels : List Channel)
-    → greatest_delay systems (map bare channels) ≡ greatest_delay systems channels
+    → greatest_channel_delay systems (map bare channels) ≡ greatest_channel_delay systems channels
 delay_bare systems [] = refl
 delay_bare systems (first ∷ channels) =
-    ap (λ rest. if is_used systems first then max first.bounds.max rest else rest) (delay_bare systems channels)
+    ap (λ rest. if channel_is_used systems first then max first.bounds.max rest else rest) (delay_bare systems channels)
 
 -- so it is the same of links that are kept
 pub of_kept : {X : Type 0} (f : List Channel → X) → ((channels : List Channel) → f (map bare channels) ≡ f channels)
@@ -97,8 +97,8 @@ of_kept f each before after kept = sym (each after) ∙ ap f kept ∙ each befor
 -- The systems live that did, stand where they stood, and start with what they started with; only what is in flight on
 -- the links is another; and the last change is the same.
 pub record KeepsNetwork (w w' : WorldState) : Type 0 where
-  pub systems : live_systems w'.stations ≡ live_systems w.stations
-  pub places : (number : ℕ) → place_of w'.stations number ≡ place_of w.stations number
+  pub systems : live_stations w'.stations ≡ live_stations w.stations
+  pub places : (number : ℕ) → clock_place w'.stations number ≡ clock_place w.stations number
   pub setups : setups_of w'.stations ≡ setups_of w.stations
   pub links : DifferInFlight w.net.channels w'.net.channels
   pub change : w'.last_change ≡ w.last_change
@@ -129,18 +129,18 @@ abbrev network_by : Pace → ℕ → ℕ → SyncPaths → WorldState → Networ
 network_by p m start paths w = network_with p m start (in_turn p paths) w
 
 module _ (w w' : WorldState) (k : KeepsNetwork w w') where
-  links_kept : used_links (live_systems w'.stations) w'.net.channels
-      ≡ used_links (live_systems w.stations) w.net.channels
+  links_kept : used_channels (live_stations w'.stations) w'.net.channels
+      ≡ used_channels (live_stations w.stations) w.net.channels
   links_kept =
-      let systems = live_systems w.stations in
-      ap (λ s. used_links s w'.net.channels) k.systems
-      ∙ of_kept (used_links systems) (used_bare systems) w.net.channels w'.net.channels k.links
+      let systems = live_stations w.stations in
+      ap (λ s. used_channels s w'.net.channels) k.systems
+      ∙ of_kept (used_channels systems) (used_bare systems) w.net.channels w'.net.channels k.links
 
   pub delay_kept : delay_in w' ≡ delay_in w
   delay_kept =
-      let systems = live_systems w.stations in
-      ap (λ s. greatest_delay s w'.net.channels) k.systems
-      ∙ of_kept (greatest_delay systems) (delay_bare systems) w.net.channels w'.net.channels k.links
+      let systems = live_stations w.stations in
+      ap (λ s. greatest_channel_delay s w'.net.channels) k.systems
+      ∙ of_kept (greatest_channel_delay systems) (delay_bare systems) w.net.channels w'.net.channels k.links
 
   lanes_kept : (port : PortIdentity) → lane_of w'.net.channels port ≡ lane_of w.net.channels port
   lanes_kept port =
@@ -207,8 +207,8 @@ module _ (w w' : WorldState) (k : KeepsNetwork w w') where
   pub links_quiet : (p : Params) → HaveQuietLinks p w → HaveQuietLinks p w'
   links_quiet p quiet link channel here used =
       let (old, stands, same) = alike bare bare w.net.channels w'.net.channels (sym k.links) link channel here in
-      let uses : is_used (live_systems w.stations) old ≡ true =
-      ap (is_used (live_systems w.stations)) same ∙ ap (λ s. is_used s channel) (sym k.systems) ∙ used in
+      let uses : channel_is_used (live_stations w.stations) old ≡ true =
+      ap (channel_is_used (live_stations w.stations)) same ∙ ap (λ s. channel_is_used s channel) (sym k.systems) ∙ used in
       let is = quiet link old stands uses in
       let bounds = ap (λ (c : Channel). c.bounds) same in
       record { lossless = rw⁻¹ bounds is.lossless; good = rw⁻¹ bounds is.good }
@@ -255,7 +255,7 @@ calls_keep place input w draws answer w' other k =
     named : clock k.after ≡ clock k.station.system
     named = same_clock input w.time k.station.system k.after k.sends answer k.steps
 
-    stands : standing called ≡ standing k.station
+    stands : standing_system called ≡ standing_system k.station
     stands =
         let same = (steps_steady input w.time k.station.system k.after k.sends answer other k.steps).identity in
         let count = same_ports input w.time k.station.system k.after k.sends answer k.steps in
@@ -276,7 +276,7 @@ delivers_keep link direction octets w draws answer w' k =
     (hears_keep k.place (receiver direction k.channel).port octets taken draws answer w' k.hears)
 
 pub expires_keep : (place : ℕ) (timer : Timer) (w : WorldState) (draws : List Draw) (w' : WorldState)
-    → Expires place timer w draws w' → KeepsNetwork w w'
+    → TimerRunsOut place timer w draws w' → KeepsNetwork w w'
 expires_keep place timer w draws w' k =
     let at : WorldState = stopped place timer w in
     keeps_on w at w' (net_keeps w at.net refl)

@@ -15,10 +15,10 @@ use Rattle.gptp_acts.specs.declared.station.Station.{Station}
 use Rattle.gptp_acts.specs.Sound.{IsSound}
 use Rattle.gptp_acts.specs.World.{Channel, WorldState, receiver, sender}
 use Rattle.gptp_settling.specs.Calm.{Calm, HasLane, HasStation, IsCalmPort, IsCalmStation}
-use Rattle.gptp_settling.specs.Frame.{Frame as SeenFrame, Lane}
-use Rattle.gptp_plan.specs.Calm.{NothingLapses as IsOff}
-use Rattle.gptp_settling.specs.Lapsing.{NothingLapses}
-use Rattle.gptp_settling.specs.Network.{IsNetwork, Network, setting}
+use Rattle.gptp_settling.specs.Frame.{AnnounceFrame as SeenFrame, Lane}
+use Rattle.gptp_plan.specs.Calm.{NothingNearLapses as IsOff}
+use Rattle.gptp_settling.specs.Lapsing.{NothingNearLapses}
+use Rattle.gptp_settling.specs.Network.{IsSettlingNetwork, Network, network_setting}
 use Rattle.gptp_settling.specs.Station.{Reception as SeenReception, Received, Station as SeenStation}
 use Rattle.gptp_settling.specs.Syncs.{SyncsAreExpected}
 use Rattle.gptp_settling.proofs.TimesLemmas.{times_fit}
@@ -26,16 +26,16 @@ use Rattle.gptp_settling.proofs.SyncLemmas.{none_lapses}
 use Rattle.gptp_kept.specs.Known.{IsKnown, IsSetTo}
 use Rattle.gptp_kept.proofs.DueLemmas.{frames_not_late, ports_known}
 use Rattle.gptp_kept.specs.Legible.{IsLegible}
-use Rattle.gptp_kept.specs.View.{held_view, identity_of, lane_place, lane_view, lanes_view, port_view, says_sync, span_at, station_view, view}
+use Rattle.gptp_kept.specs.View.{held_view, port_identity_number, lane_place, lane_view, lanes_view, port_view, says_sync, span_at, station_view, view}
 use Rattle.gptp_kept.proofs.SeenLaneLemmas.{lane_from, lane_there}
 use Rattle.gptp_kept.proofs.MidLemmas.{seen_on}
 use Rattle.gptp_kept.proofs.PlaceLemmas.{port_from, station_from, station_there}
 use Rattle.gptp_kept.proofs.ReactLemmas.{received_back}
-use Rattle.gptp_kept.specs.Calm.{AreCapableFrom, HaveQuietLinks, lane_of, log_of, network_of, SettlingTimes, network_with, paths_with, place_of, network_at_once}
-use Rattle.gptp_kept.specs.Standing.{AreBetween, live_systems, snapshot_of}
+use Rattle.gptp_kept.specs.Calm.{AreCapableFrom, HaveQuietLinks, lane_of, log_of, network_of, SettlingTimes, network_with, paths_with, clock_place, network_at_once}
+use Rattle.gptp_kept.specs.Standing.{AreBetween, live_stations, snapshot_of}
 use Rattle.gptp_kept.proofs.CalmAtRestLemmas.{rest_seen}
 use Rattle.gptp_kept.proofs.DelayLemmas.{delay_short, receipts_stay}
-use Rattle.gptp_settling.specs.Facts.{Facts}
+use Rattle.gptp_settling.specs.Facts.{StationFacts}
 use Rattle.gptp_kept.proofs.CalmFactLemmas.{frame_from}
 use Rattle.gptp_kept.proofs.FoundLemmas.{lane_is, place_is}
 use Rattle.gptp_kept.proofs.LogLemmas.{linked_log, log_is}
@@ -57,7 +57,7 @@ linked_interval p w sound known port linked =
 module _ (p : Pace) (m start : ℕ) (w : WorldState) (sound : IsSound w) (between : AreBetween w) (legible : IsLegible w)
     (known : IsKnown p w) (bounded : BoundsPaths (snapshot_of w) m) where
   -- a step of distance takes long enough for the wait for a Sync, the largest announce interval and the greatest delay
-  pub network : w.last_change + 2 * largest_interval p ≤ start → IsNetwork (network_of p m start w)
+  pub network : w.last_change + 2 * largest_interval p ≤ start → IsSettlingNetwork (network_of p m start w)
   network old =
       let paths = paths_with m w in
       let long = step_long p paths (delay_short p w known) in
@@ -73,7 +73,7 @@ module _ (p : Pace) (m start : ℕ) (w : WorldState) (sound : IsSound w) (betwee
       }))
 
   -- and it settles at once
-  pub network_quick : w.last_change + 2 * largest_interval p ≤ start → IsNetwork (network_at_once p m start w)
+  pub network_quick : w.last_change + 2 * largest_interval p ≤ start → IsSettlingNetwork (network_at_once p m start w)
   network_quick old =
       times_fit (network_at_once p m start w) (stands_well w sound between legible) bounded (omega arith) (inl (record {
         begun = omega (arith, old);
@@ -109,7 +109,7 @@ same_direction FromB FromA same = sym same
 
 module _ (p : Pace) (m start : ℕ) (times : SettlingTimes) (w : WorldState) (sound : IsSound w) (legible : IsLegible w)
     (known : IsKnown p w) (quiet : HaveQuietLinks p.params w)
-    (facts_are : Facts (setting (network_with p m start times w)) (view w))
+    (facts_are : StationFacts (network_setting (network_with p m start times w)) (view w))
     (capable : AreCapableFrom start w) where
   abbrev n : Network
   n = network_with p m start times w
@@ -182,12 +182,12 @@ module _ (p : Pace) (m start : ℕ) (times : SettlingTimes) (w : WorldState) (so
       }
 
   -- a system of the snapshot stands at its place
-  system_there : (s : System) → In s (live_systems w.stations) → HasStation n (view w) s
+  system_there : (s : System) → In s (live_stations w.stations) → HasStation n (view w) s
   system_there s member =
       let at = live_from w.stations s member in
       let steady = (sound.on_time.stations at.place at.station at.here).steady in
       let place = place_is w sound.wired.clocks at.place at.station at.here
-      ∙ ap (λ (x : System). place_of w.stations x.clock) (sym at.is) in
+      ∙ ap (λ (x : System). clock_place w.stations x.clock) (sym at.is) in
       record {
         station = station_view at.station;
         there = subst (λ k. slice_get (view w).stations k ≡ Some (station_view at.station)) place
@@ -211,7 +211,7 @@ module _ (p : Pace) (m start : ℕ) (times : SettlingTimes) (w : WorldState) (so
         from = way.from;
         to = way.to;
         loss = (quiet way.link way.channel way.here way.used).lossless;
-        is_up = used_up (live_systems w.stations) way.channel way.used;
+        is_up = used_up (live_stations w.stations) way.channel way.used;
       }
 
   -- no two lanes lead to one port
@@ -221,8 +221,8 @@ module _ (p : Pace) (m start : ℕ) (times : SettlingTimes) (w : WorldState) (so
       let x = lane_from w.net.channels i l at in
       let y = lane_from w.net.channels j m also in
       let lead = ap (λ (z : Lane). z.to) (sym x.is) ∙ same ∙ ap (λ (z : Lane). z.to) y.is in
-      let begin = ap identity_of (sym (hears_there x.direction x.channel)) ∙ lead
-      ∙ ap identity_of (hears_there y.direction y.channel) in
+      let begin = ap port_identity_number (sym (hears_there x.direction x.channel)) ∙ lead
+      ∙ ap port_identity_number (hears_there y.direction y.channel) in
       let one = one_way w sound legible x.link y.link (opposite x.direction) (opposite y.direction) x.channel y.channel
       x.here y.here begin in
       x.at
@@ -251,7 +251,7 @@ module _ (p : Pace) (m start : ℕ) (times : SettlingTimes) (w : WorldState) (so
     placed = λ i seen there.
         let at = station_from w.stations i seen there in
         place_is w sound.wired.clocks i at.station at.here
-        ∙ ap (λ (x : SeenStation). place_of w.stations x.clock) (sym at.is);
+        ∙ ap (λ (x : SeenStation). clock_place w.stations x.clock) (sym at.is);
     there = system_there;
     lanes = λ from to joins. lane_of_link from to (way_of w from to joins);
     apart = lead_apart;
@@ -267,7 +267,7 @@ module _ (p : Pace) (n : Network) (w : WorldState) (known : IsKnown p w) (off : 
       ap (λ (x : SeenStation). x.lapse) at.is ∙ (known.set i at.station at.here).lapses off
 
   -- so nothing lapses
-  pub nothing_lapses : NothingLapses n (view w)
+  pub nothing_lapses : NothingNearLapses n (view w)
   nothing_lapses = none_lapses n (view w) (λ i seen there live. no_timer i seen there)
 
   -- and no Sync is expected

@@ -26,15 +26,15 @@ use Rattle.gptp_acts.specs.World.{Channel, WorldState, receiver, sender}
 use Rattle.gptp_acts.proofs.BareLemmas.{bare}
 use Rattle.gptp_lists.proofs.MappedLemmas.{alike}
 use Rattle.gptp_acts.proofs.SoundLemmas.{later_sound}
-use Rattle.gptp_kept.specs.Measured.{IsLiveAt, IsMeasured, StandsAt}
+use Rattle.gptp_kept.specs.Measured.{StationIsLiveAt, LinkIsMeasured, LinkStandsAt}
 use Rattle.gptp_kept.specs.LinkView.{LinkPlace}
 use Rattle.gptp_kept.specs.Watched.{IsWatched}
 use Rattle.gptp_kept.proofs.ChangeKeptLemmas.{acts_measured, later_measured}
 use Rattle.gptp_kept.proofs.WatchLemmas.{watch_goes_on, watch_kept}
 use Rattle.gptp_kept.specs.LegibleLaws.{SetsAnOctet}
 use Rattle.gptp_kept.specs.SeenLaws.{IsNoChange}
-use Rattle.gptp_kept.specs.Calm.{place_of}
-use Rattle.gptp_kept.specs.Standing.{standing}
+use Rattle.gptp_kept.specs.Calm.{clock_place}
+use Rattle.gptp_kept.specs.Standing.{standing_system}
 use Rattle.gptp_kept.proofs.FoundLemmas.{place_is}
 use Rattle.gptp_kept.proofs.CalmKeptLemmas.{KeepsNetwork, acts_keep}
 use Rattle.gptp_kept.proofs.SystemLemmas.{live_from, live_there}
@@ -72,15 +72,15 @@ module _ (p : Pace) (w w' : WorldState) (clocks : HaveOwnClocks w) (set : HavePa
   link_stood = alike bare bare w.net.channels w'.net.channels (sym k.links)
 
   -- a live system stood where it stands
-  system_stood : (place number was : ℕ) → was ≡ number → IsLiveAt place number w' → IsLiveAt place was w
+  system_stood : (place number was : ℕ) → was ≡ number → StationIsLiveAt place number w' → StationIsLiveAt place was w
   system_stood place number was named at =
-      let member = subst (In (standing at.station)) k.systems (live_there w'.stations place at.station at.here at.live)
+      let member = subst (In (standing_system at.station)) k.systems (live_there w'.stations place at.station at.here at.live)
       in
-      let old = live_from w.stations (standing at.station) member in
+      let old = live_from w.stations (standing_system at.station) member in
       let same = ap (λ (s : System). s.clock) (sym old.is) in
       let same_place : old.place ≡ place =
       place_is w clocks old.place old.station old.here
-      ∙ ap (place_of w.stations) same
+      ∙ ap (clock_place w.stations) same
       ∙ sym (k.places (clock at.station.system))
       ∙ sym (place_is w' clocks' place at.station at.here) in
       record {
@@ -91,14 +91,14 @@ module _ (p : Pace) (w w' : WorldState) (clocks : HaveOwnClocks w) (set : HavePa
       }
 
   -- systems that live at two times have the same parameters, those of the network
-  same_params : (place number was : ℕ) (now : IsLiveAt place number w') (then : IsLiveAt place was w)
+  same_params : (place number was : ℕ) (now : StationIsLiveAt place number w') (then : StationIsLiveAt place was w)
       → then.station.setup.params ≡ now.station.setup.params
   same_params place number was now then =
       set place then.station then.here
       ∙ sym (set' place now.station now.here)
 
   -- so a good link in use was one
-  pub stood_among : (at : LinkPlace) → StandsAt at w' → StandsAt at w
+  pub stood_among : (at : LinkPlace) → LinkStandsAt at w' → LinkStandsAt at w
   stood_among at stands =
       let (old, here, same) = link_stood at.link stands.channel stands.here in
       let begins = ap (λ (q : PortId). q.clock) (same_sender at.direction old stands.channel same) in
@@ -120,7 +120,7 @@ module _ (p : Pace) (w w' : WorldState) (clocks : HaveOwnClocks w) (set : HavePa
       }
 
 pub stood : (p : Pace) (w w' : WorldState) → IsWorld p w → IsWorld p w' → KeepsNetwork w w' → (at : LinkPlace)
-    → StandsAt at w' → StandsAt at w
+    → LinkStandsAt at w' → LinkStandsAt at w
 stood p w w' is is' =
     stood_among p w w' is.sound.wired.clocks (known_params p w is.known.set) is'.sound.wired.clocks
     (known_params p w' is'.known.set)
@@ -160,7 +160,7 @@ later_watches p w time later first is watches at stands =
       good = stands.good;
     }))
   where
-    live_before : (place number : ℕ) → IsLiveAt place number (at_time time w) → IsLiveAt place number w
+    live_before : (place number : ℕ) → StationIsLiveAt place number (at_time time w) → StationIsLiveAt place number w
     live_before place number x = record { station = x.station; here = x.here; live = x.live; named = x.named }
 
 -- ---- from act to act
@@ -168,7 +168,7 @@ later_watches p w time later first is watches at stands =
 -- each port goes on measuring, and what is in flight fitting
 pub done_measured : {F : Type 0} (answers : Bounds → ℕ → F → Option ℕ → F → Type 0) (timed : Timed)
     (fate fate_after : F) (w w' : WorldState) (done : Done) → SetsAnOctet timed.act
-    → WasDone answers timed fate fate_after w w' done → IsSound w → IsMeasured w → IsMeasured w'
+    → WasDone answers timed fate fate_after w w' done → IsSound w → LinkIsMeasured w → LinkIsMeasured w'
 done_measured answers timed fate fate_after w w' done octet k sound is =
     let timely = k.ready.timely in
     acts_measured timed.act (at_time timed.at w) w' k.draws done
@@ -178,7 +178,7 @@ done_measured answers timed fate fate_after w w' done octet k sound is =
 pub done_watches : {F : Type 0} (answers : Bounds → ℕ → F → Option ℕ → F → Type 0) (p : Pace) (timed : Timed)
     (fate fate_after : F) (w w' : WorldState) (done : Done) → KeepPace p → IsFitAct timed.act
     → IsPromptIn w timed.act → SetsAnOctet timed.act → WasDone answers timed fate fate_after w w' done → IsWorld p w
-    → IsMeasured w → Watches p w → Watches p w'
+    → LinkIsMeasured w → Watches p w → Watches p w'
 done_watches answers p timed fate fate_after w w' done pace fit prompt octet k is measured watches =
     by timed.act k.acts
   where

@@ -9,9 +9,9 @@ use Rattle.gptp_system.specs.State.{own}
 use Rattle.gptp_acts.specs.declared.station.Station.{Station}
 use Rattle.gptp_plan.specs.Params.{KeepPace}
 use Rattle.gptp_acts.specs.World.{WorldState}
-use Rattle.gptp_kept.specs.LinkView.{setting}
+use Rattle.gptp_kept.specs.LinkView.{link_setting}
 use Rattle.gptp_kept.proofs.WatchLemmas.{watched_capable}
-use Rattle.gptp_kept.specs.View.{identity_of}
+use Rattle.gptp_kept.specs.View.{port_identity_number}
 use Rattle.gptp_kept.specs.Calm.{HaveQuietLinks}
 use Rattle.gptp_kept.specs.Standing.{snapshot_of}
 use Rattle.gptp_kept.specs.Holds.{IsWorld, start_of}
@@ -25,17 +25,17 @@ module _ (p : Pace) (w : WorldState) (pace : KeepPace p) (is : IsWorld p w) (qui
     (here : slice_get w.stations place ≡ Some station) (live : station.live ≡ true) where
   -- the link is watched, so its port is capable
   link_capable : (i : ℕ) (q : Port) (to : PortIdentity) → slice_get station.system.ports i ≡ Some q
-      → Joins (snapshot_of w) (identity_of (own station.system (suc i))) to → is_capable q.peer ≡ true
+      → Joins (snapshot_of w) (port_identity_number (own station.system (suc i))) to → is_capable q.peer ≡ true
   link_capable i q to there joins =
       let x = used_watched p w pace is quiet watches place station here live i q to there joins in
-      let past : w.last_change + ((setting x.at w x.watched.link).allowed + 5) * largest_interval p ≤ w.time =
+      let past : w.last_change + ((link_setting x.at w x.watched.link).allowed + 5) * largest_interval p ≤ w.time =
       rw x.allowed late in
       ap (λ (state : Port). is_capable state.peer) (sym x.state)
       ∙ watched_capable x.at w.last_change (largest_interval p) w x.watched x.period past
 
   port_capable : (i : ℕ) (h : Held) (q : Port) → slice_get station.system.held i ≡ Some h
       → slice_get station.system.ports i ≡ Some q
-      → IsLinked (snapshot_of w) (identity_of (own station.system (suc i))) → IsCapablePort h q
+      → IsLinked (snapshot_of w) (port_identity_number (own station.system (suc i))) → IsCapablePort h q
   port_capable i h q holds there (to, joins) =
       let shown = (is.sound.on_time.stations place station here).steady.shown in
       let capable = link_capable i q to there joins in

@@ -8,7 +8,7 @@ use Rattle.gptp_links.specs.Fate.{Draw}
 use Rattle.gptp_links.specs.Queue.{Frame, frame}
 use Rattle.gptp_system.specs.declared.answer.Answer.{Answer}
 use Rattle.gptp_setup.specs.declared.timer.Timer.{Timer}
-use Rattle.gptp_system.specs.Input.{PortUp, PortDown, Priority, Frame as FrameHeard, Expires as TimerExpires}
+use Rattle.gptp_system.specs.Input.{PortUp, PortDown, Priority, Frame as FrameHeard, TimerRunsOut as TimerExpires}
 use Rattle.gptp_system.specs.State.{number}
 use Rattle.gptp_system.specs.Steps.{IsUp}
 use Rattle.gptp_system.proofs.InTimeLemmas.{later_in_time}
@@ -18,14 +18,14 @@ use Rattle.gptp_plan.specs.declared.change.Change.TheVariants.{LinkDown, LinkUp,
 use Rattle.gptp_plan.specs.declared.network.Wire.{Wire}
 use Rattle.gptp_plan.specs.Network.{pace_of}
 use Rattle.gptp_acts.specs.declared.station.Station.{Station}
-use Rattle.gptp_acts.specs.Act.{Delivers, Expires, Hears, all_timers}
+use Rattle.gptp_acts.specs.Act.{Delivers, TimerRunsOut, Hears, all_timers}
 use Rattle.gptp_acts.specs.Acts.{Changes, set_to}
 use Rattle.gptp_acts.specs.Agrees.{stopped}
 use Rattle.gptp_acts.specs.Ahead.{IsPortAmong, IsSteady}
 use Rattle.gptp_acts.specs.Changing.{CallsIfLive, ComesUpIf, FailsIf, GoesDownIf, InjectsIf, RecoversIf, brought_up, failed, lost, taken_down, with_bounds, with_setup, with_station}
 use Rattle.gptp_acts.specs.Initial.{channel_from, setup_of, station_of}
 use Rattle.gptp_acts.specs.Sound.{HaveTheirSetups, IsSound, JoinPorts}
-use Rattle.gptp_acts.specs.World.{Channel, Net, WorldState, port_id, queue, receiver}
+use Rattle.gptp_acts.specs.World.{Channel, Net, WorldState, port_id, world_queue, receiver}
 use Rattle.gptp_lists.proofs.MappedLemmas.{mapped, same_there}
 use Rattle.gptp_lists.proofs.PlaceLemmas.{get-set_all}
 use Rattle.gptp_acts.proofs.SoundLemmas.{delivered_up}
@@ -33,7 +33,7 @@ use Rattle.gptp_acts.proofs.StayLemmas.{failed_stays, stays_setups, with_setup_s
 use Rattle.gptp_kept.specs.LegibleLaws.{SetsAnOctet}
 use Rattle.gptp_kept.specs.LinkLaws.{InitiallyMeasured, MeasuredHoldsLater, MeasuredIsKept, StartsMeasured}
 use Rattle.gptp_kept.specs.Measured.{AllFit, IsStationMeasured}
-use Rattle.gptp_kept.specs.LinkView.{SaysWhatFits}
+use Rattle.gptp_kept.specs.LinkView.{RequestSaysWhatFits}
 use Rattle.gptp_kept.proofs.LinkExpiryLemmas.{expires_timely}
 use Rattle.gptp_kept.proofs.LinkKeptLemmas.{calls_if_live_kept, is_down, is_up, started_measured, starts_all_kept, starts_kept, tells_kept}
 use Rattle.gptp_kept.proofs.MeasuredLemmas.{IsKept, calls_kept, entered_fits, queue_fits, sound_kept}
@@ -51,21 +51,21 @@ net_kept w net fit is = record {
 
 -- one link becomes another on which all fits
 channel_fits : (channels : List Channel) (link : ℕ) (channel new : Channel) → slice_get channels link ≡ Some channel
-    → ((direction : Direction) (f : Frame) → In f (queue direction new) → SaysWhatFits f.octets) → AllFit channels
+    → ((direction : Direction) (f : Frame) → In f (world_queue direction new) → RequestSaysWhatFits f.octets) → AllFit channels
     → AllFit (slice_set channels link new)
 channel_fits channels link channel new here fits all =
-    get-set_all (λ (c : Channel). (way : Direction) (f : Frame) → In f (queue way c) → SaysWhatFits f.octets)
+    get-set_all (λ (c : Channel). (way : Direction) (f : Frame) → In f (world_queue way c) → RequestSaysWhatFits f.octets)
     channels link
     channel new here fits all
 
-lost_fits : (channel : Channel) (direction : Direction) (f : Frame) → In f (queue direction (lost channel))
-    → SaysWhatFits f.octets
+lost_fits : (channel : Channel) (direction : Direction) (f : Frame) → In f (world_queue direction (lost channel))
+    → RequestSaysWhatFits f.octets
 lost_fits channel FromA f member = absurd member
 lost_fits channel FromB f member = absurd member
 
 same_fits : (channel new : Channel) → new.from_a ≡ channel.from_a → new.from_b ≡ channel.from_b
-    → ((direction : Direction) (f : Frame) → In f (queue direction channel) → SaysWhatFits f.octets)
-    → (direction : Direction) (f : Frame) → In f (queue direction new) → SaysWhatFits f.octets
+    → ((direction : Direction) (f : Frame) → In f (world_queue direction channel) → RequestSaysWhatFits f.octets)
+    → (direction : Direction) (f : Frame) → In f (world_queue direction new) → RequestSaysWhatFits f.octets
 same_fits channel new a b fits FromA f member = fits FromA f (subst (In f) a member)
 same_fits channel new a b fits FromB f member = fits FromB f (subst (In f) b member)
 
@@ -86,7 +86,7 @@ delivers_kept link direction octets w draws answer w' sound is k = go answer k.h
         (λ f member. is.measured.frames link k.channel k.takes.here direction f
         (subst (In f) (sym k.takes.front) (inr member))) is.measured.frames)
 
-    fits : SaysWhatFits octets
+    fits : RequestSaysWhatFits octets
     fits =
         is.measured.frames link k.channel k.takes.here direction (frame w.time octets)
         (subst (In (frame w.time octets)) (sym k.takes.front) (inl refl))
@@ -106,7 +106,7 @@ delivers_kept link direction octets w draws answer w' sound is k = go answer k.h
         calls up (λ n here. fits) (net_kept w k.net all_fit is)
 
 expires_kept : (place : ℕ) (timer : Timer) (w : WorldState) (draws : List Draw) (w' : WorldState) → IsKept w
-    → Expires place timer w draws w' → IsKept w'
+    → TimerRunsOut place timer w draws w' → IsKept w'
 expires_kept place timer w draws w' is k =
     calls_kept place (TimerExpires timer) (stopped place timer w) draws k.answer w' k.calls
     (expires_timely place timer w draws w' k) (λ n. tt)
@@ -203,7 +203,7 @@ prioritized_kept value place station w draws w' here is k =
 
 -- what octets say fits
 injects_kept : (up : Bool) (from : PortId) (octets : List ℕ) (w : WorldState) (draws : List Draw) (w' : WorldState)
-    → SaysWhatFits octets → IsKept w → InjectsIf up from octets w draws w' → IsKept w'
+    → RequestSaysWhatFits octets → IsKept w → InjectsIf up from octets w draws w' → IsKept w'
 injects_kept false from octets w draws w' fits is (none, same) = subst IsKept (sym same) is
 injects_kept true from octets w draws w' fits is k =
     let one = k.sent in
@@ -275,12 +275,12 @@ initially_measured n = record {
       subst (IsStationMeasured 0) made (started_measured (setup_of (pace_of n) member) 0 false);
   frames = λ link channel here.
       let (wire, at, made) = mapped channel_from n.links link channel here in
-      subst (λ (c : Channel). (direction : Direction) (f : Frame) → In f (queue direction c) → SaysWhatFits f.octets)
+      subst (λ (c : Channel). (direction : Direction) (f : Frame) → In f (world_queue direction c) → RequestSaysWhatFits f.octets)
       made
       (still wire);
 }
   where
-    still : (wire : Wire) (direction : Direction) (f : Frame) → In f (queue direction (channel_from wire))
-        → SaysWhatFits f.octets
+    still : (wire : Wire) (direction : Direction) (f : Frame) → In f (world_queue direction (channel_from wire))
+        → RequestSaysWhatFits f.octets
     still wire FromA f member = absurd member
     still wire FromB f member = absurd member

@@ -13,7 +13,7 @@ use Rattle.gptp_system.proofs.TouchedLemmas.{priority_clock}
 use Rattle.gptp_acts.specs.declared.station.Station.{Station}
 use Rattle.gptp_acts.specs.Ahead.{IsPortAmong}
 use Rattle.gptp_acts.specs.Changing.{CallsIfLive, ComesUpIf, FailsIf, GoesDownIf, InjectsIf, brought_up, lost, taken_down, with_bounds, with_setup, with_station}
-use Rattle.gptp_acts.specs.World.{Channel, Net, WorldState, queue}
+use Rattle.gptp_acts.specs.World.{Channel, Net, WorldState, world_queue}
 use Rattle.gptp_lists.proofs.PlaceLemmas.{get-set_all}
 use Rattle.gptp_kept.specs.Legible.{ChannelFits, IsLegible, SayWhatFits, StationFits}
 use Rattle.gptp_kept.proofs.LegibleLemmas.{LinksFit, entered_fits, net_legible, set_fits}
@@ -88,14 +88,14 @@ link_legible place old new w net is here fits legible = record {
 lost_fits : (channel : Channel) → ChannelFits channel → ChannelFits (lost channel)
 lost_fits channel fits = record { ends = fits.ends; frames = by }
   where
-    by : (direction : Direction) (f : Frame) → In f (queue direction (lost channel)) → SayWhatFits f.octets
+    by : (direction : Direction) (f : Frame) → In f (world_queue direction (lost channel)) → SayWhatFits f.octets
     by FromA f member = absurd member
     by FromB f member = absurd member
 
 pub up_fits : (channel : Channel) → ChannelFits channel → ChannelFits (record channel { up = true })
 up_fits channel fits = record { ends = fits.ends; frames = by }
   where
-    by : (direction : Direction) (f : Frame) → In f (queue direction (record channel { up = true }))
+    by : (direction : Direction) (f : Frame) → In f (world_queue direction (record channel { up = true }))
         → SayWhatFits f.octets
     by FromA = fits.frames FromA
     by FromB = fits.frames FromB
@@ -104,7 +104,7 @@ pub bounds_fits : (bounds : Bounds) (channel : Channel) → ChannelFits channel
     → ChannelFits (record channel { bounds = bounds })
 bounds_fits bounds channel fits = record { ends = fits.ends; frames = by }
   where
-    by : (direction : Direction) (f : Frame) → In f (queue direction (record channel { bounds = bounds }))
+    by : (direction : Direction) (f : Frame) → In f (world_queue direction (record channel { bounds = bounds }))
         → SayWhatFits f.octets
     by FromA = fits.frames FromA
     by FromB = fits.frames FromB

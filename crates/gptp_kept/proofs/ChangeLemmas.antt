@@ -14,7 +14,7 @@ use Rattle.gptp_setup.specs.Intervals.{AreIntervals, interval_of}
 use Rattle.gptp_system.specs.Input.{Input, IsTimely, PortUp, PortDown, Priority}
 use Rattle.gptp_system.specs.Start.{started}
 use Rattle.gptp_system.specs.State.{SystemState}
-use Rattle.gptp_system.specs.Steps.{IsPortOf}
+use Rattle.gptp_system.specs.Steps.{HasPortNumber}
 use Rattle.gptp_system.proofs.SpanLemmas.{starts_in_time}
 use Rattle.gptp_system.proofs.StartLemmas.{new_port_at}
 use Rattle.gptp_plan.specs.declared.change.Act.TheVariants.{Change as Changing}
@@ -45,8 +45,8 @@ use Rattle.gptp_kept.proofs.MeasuringLemmas.{started_measure}
 -- ---- ports
 
 -- a system at a place that has as many ports as this one has a port with this number
-port_at : (s : SystemState) (place n : ℕ) (w : WorldState) → HasPorts place (length s.ports) w → IsPortOf s n
-    → (station : Station) → slice_get w.stations place ≡ Some station → IsPortOf station.system n
+port_at : (s : SystemState) (place n : ℕ) (w : WorldState) → HasPorts place (length s.ports) w → HasPortNumber s n
+    → (station : Station) → slice_get w.stations place ≡ Some station → HasPortNumber station.system n
 port_at s place n w has port station there =
     let count = has station there in record { least = port.least; most = rw count port.most }
 
@@ -73,7 +73,7 @@ calls_if_live_kept p So place input w draws w' timely kept (inr (failed, none, i
 
 -- an input at a port of the system at a place, which has as many ports as this one
 tells_kept : (p : Pace) (So : ℤ → Type 0) (input : ℕ → Input) → IsOfPort input → (s : SystemState) (place n : ℕ)
-    (w : WorldState) (draws : List Draw) (w' : WorldState) → HasPorts place (length s.ports) w → IsPortOf s n
+    (w : WorldState) (draws : List Draw) (w' : WorldState) → HasPorts place (length s.ports) w → HasPortNumber s n
     → IsKept p So w → CallsIfLive place (input n) w draws w' → IsKept p So w'
 tells_kept p So input timely s place n w draws w' has port =
     calls_if_live_kept p So place (input n) w draws w'
@@ -100,7 +100,7 @@ tells_ends_kept p So input channel w draws w' timely ends kept k =
 
 -- ports of the system at a place come up, one after another
 calls_all_kept : (p : Pace) (So : ℤ → Type 0) (s : SystemState) (place : ℕ) (ns : List ℕ) (w : WorldState)
-    (draws : List Draw) (w' : WorldState) → HasPorts place (length s.ports) w → ((n : ℕ) → In n ns → IsPortOf s n)
+    (draws : List Draw) (w' : WorldState) → HasPorts place (length s.ports) w → ((n : ℕ) → In n ns → HasPortNumber s n)
     → IsKept p So w → CallsAll place (map PortUp ns) w draws w' → IsKept p So w'
 calls_all_kept p So s place [] w draws w' has ports kept (none, is) = subst (IsKept p So) (sym is) kept
 calls_all_kept p So s place (n ∷ ns) w draws w' has ports kept (first, rest, between, answer, is, calls, more) =

@@ -20,7 +20,7 @@ use Rattle.gptp_acts.specs.World.{WorldState}
 use Rattle.gptp_acts.proofs.SoundLemmas.{later_sound, starts_sound}
 use Rattle.gptp_acts.specs.Prompt.{IsPromptIn}
 use Rattle.gptp_kept.proofs.KnownLemmas.{begins_known}
-use Rattle.gptp_kept.specs.Measured.{IsMeasured}
+use Rattle.gptp_kept.specs.Measured.{LinkIsMeasured}
 use Rattle.gptp_kept.proofs.ChangeKeptLemmas.{later_measured}
 use Rattle.gptp_kept.specs.LegibleLaws.{SetsAnOctet}
 use Rattle.gptp_kept.proofs.ActLegibleLemmas.{initial_legible, starts_legible}
@@ -109,7 +109,7 @@ module _ {F : Type 0} (answers : Bounds → ℕ → F → Option ℕ → F → T
   world_after : IsWorld p w'
   world_after = done_stays answers p timed fate fate_after w w' done fit prompt octet k is.world
 
-  measured_after : IsMeasured w'
+  measured_after : LinkIsMeasured w'
   measured_after = done_measured answers timed fate fate_after w w' done octet k is.world.sound is.measured
 
   -- a change begins the silence anew

@@ -18,9 +18,9 @@ use Rattle.gptp_plan.specs.Params.{KeepPace}
 use Rattle.gptp_acts.specs.World.{Channel, WorldState, receiver, sender}
 use Rattle.gptp_kept.specs.Linked.{BeginsLink}
 use Rattle.gptp_kept.specs.LinkView.{LinkPlace}
-use Rattle.gptp_kept.specs.View.{identity_of}
+use Rattle.gptp_kept.specs.View.{port_identity_number}
 use Rattle.gptp_kept.specs.Calm.{HaveQuietLinks}
-use Rattle.gptp_kept.specs.Standing.{HasPort, IsBetween, has_clock, is_used, live_systems, snapshot_of, standing}
+use Rattle.gptp_kept.specs.Standing.{StationsHavePort, JoinsTwoOf, stations_have_clock, channel_is_used, live_stations, snapshot_of, standing_system}
 use Rattle.gptp_kept.proofs.SystemLemmas.{clock_in, clock_there, live_there}
 use Rattle.gptp_kept.proofs.WayLemmas.{used_joins}
 use Rattle.gptp_kept.specs.Holds.{BecomeCapable, IsWorld, start_of}
@@ -33,25 +33,25 @@ use Rattle.gptp_kept.specs.CalmFor.{ArePortsSettled, IsPortSettled}
 -- ---- links
 
 -- a link leads to a port of some system
-leads_to : (stations : List Station) (direction : Direction) (channel : Channel) → IsBetween stations channel
-    → HasPort stations (receiver direction channel)
+leads_to : (stations : List Station) (direction : Direction) (channel : Channel) → JoinsTwoOf stations channel
+    → StationsHavePort stations (receiver direction channel)
 leads_to stations FromA channel between = between.b
 leads_to stations FromB channel between = between.a
 
 -- a live system has its clock
 pub clock_has : (stations : List Station) (place : ℕ) (station : Station) (number : ℕ)
     → slice_get stations place ≡ Some station → station.live ≡ true → clock station.system ≡ number
-    → has_clock (live_systems stations) number ≡ true
+    → stations_have_clock (live_stations stations) number ≡ true
 clock_has stations place station number here live named =
-    subst (λ n. has_clock (live_systems stations) n ≡ true) named
-    (clock_there (live_systems stations) (clock station.system)
-    (In-map clock_in (standing station) (live_systems stations) (live_there stations place station here live)))
+    subst (λ n. stations_have_clock (live_stations stations) n ≡ true) named
+    (clock_there (live_stations stations) (clock station.system)
+    (In-map clock_in (standing_system station) (live_stations stations) (live_there stations place station here live)))
 
 -- a link that is up between two live systems is used
 pub used_if : (stations : List Station) (direction : Direction) (channel : Channel) → channel.up ≡ true
-    → has_clock (live_systems stations) (sender direction channel).clock ≡ true
-    → has_clock (live_systems stations) (receiver direction channel).clock ≡ true
-    → is_used (live_systems stations) channel ≡ true
+    → stations_have_clock (live_stations stations) (sender direction channel).clock ≡ true
+    → stations_have_clock (live_stations stations) (receiver direction channel).clock ≡ true
+    → channel_is_used (live_stations stations) channel ≡ true
 used_if stations FromA channel up from to = rw (up, from, to) refl
 used_if stations FromB channel up from to = rw (up, from, to) refl
 
@@ -67,11 +67,11 @@ module _ (p : Pace) (w : WorldState) (is : IsWorld p w)
 
   -- a link of the snapshot is at the port, or it isn't capable
   abbrev pub LinkedOrOff : Type 0
-  LinkedOrOff = IsLinked (snapshot_of w) (identity_of itself) ⊎ (is_capable q.peer ≡ false)
+  LinkedOrOff = IsLinked (snapshot_of w) (port_identity_number itself) ⊎ (is_capable q.peer ≡ false)
 
   module _ (begins : BeginsLink w.net.channels itself) where
     -- its link leads to a port of another system
-    other : HasPort w.stations (receiver begins.direction begins.channel)
+    other : StationsHavePort w.stations (receiver begins.direction begins.channel)
     other =
         leads_to w.stations begins.direction begins.channel (is.between begins.link begins.channel begins.here)
 
@@ -86,8 +86,8 @@ module _ (p : Pace) (w : WorldState) (is : IsWorld p w)
         let used = used_if w.stations begins.direction begins.channel begins.up from to in
         let joins = used_joins w begins.link begins.direction begins.channel begins.here used in
         inl (
-          identity_of (receiver begins.direction begins.channel),
-          subst (λ x. Joins (snapshot_of w) (identity_of x) (identity_of (receiver begins.direction begins.channel)))
+          port_identity_number (receiver begins.direction begins.channel),
+          subst (λ x. Joins (snapshot_of w) (port_identity_number x) (port_identity_number (receiver begins.direction begins.channel)))
               begins.begins joins,
         )
 
@@ -153,12 +153,12 @@ module _ (g : Snapshot) (itself : PortId) (h : Held) (q : Port) (shown : IsShown
       by false off = off
 
   -- a port at a link is capable, and one that isn't capable elsewhere is settled
-  port_settled : (IsLinked g (identity_of itself) → is_capable q.peer ≡ true)
-      → IsLinked g (identity_of itself) ⊎ (is_capable q.peer ≡ false) → IsPortSettled g itself h q
+  port_settled : (IsLinked g (port_identity_number itself) → is_capable q.peer ≡ true)
+      → IsLinked g (port_identity_number itself) ⊎ (is_capable q.peer ≡ false) → IsPortSettled g itself h q
   port_settled on either = record { capable = (by either, on); disabled = (off_if, shown.off) }
     where
-      by : IsLinked g (identity_of itself) ⊎ (is_capable q.peer ≡ false) → is_capable q.peer ≡ true
-          → IsLinked g (identity_of itself)
+      by : IsLinked g (port_identity_number itself) ⊎ (is_capable q.peer ≡ false) → is_capable q.peer ≡ true
+          → IsLinked g (port_identity_number itself)
       by (inl linked) on = linked
       by (inr off) on = absurd (not_both q on off)
 
@@ -172,7 +172,7 @@ ports_settled p w pace is watched silent quiet late place station here live i h 
     live i q
     there)
   where
-    used : IsLinked (snapshot_of w) (identity_of (own station.system (suc i))) → IsCapablePort h q
+    used : IsLinked (snapshot_of w) (port_identity_number (own station.system (suc i))) → IsCapablePort h q
     used = used_capable p w pace is quiet watched late place station here live i h q stands there
 
 -- so the ports are capable as the machine of gptp_settling wants them
@@ -185,7 +185,7 @@ are_capable p w pace is watched silent quiet late place station here live i h q 
       unlinked = λ none. by none settled (is_capable q.peer) refl;
     }
   where
-    by : (IsLinked (snapshot_of w) (identity_of (own station.system (suc i))) → ⊥)
+    by : (IsLinked (snapshot_of w) (port_identity_number (own station.system (suc i))) → ⊥)
         → IsPortSettled (snapshot_of w) (own station.system (suc i)) h q
         → (b : Bool) → is_capable q.peer ≡ b → h ≡ Disabled
     by none settled true is = absurd (none (settled.capable.0 is))

@@ -27,13 +27,13 @@ use Rattle.gptp_settling.specs.Network.{since}
 use Rattle.gptp_settling.specs.Settled.{FollowsBest}
 use Rattle.gptp_system.specs.Start.{role_at}
 use Rattle.gptp_system.specs.State.{clock}
-use Rattle.gptp_system.specs.Steps.{IsPortOf}
+use Rattle.gptp_system.specs.Steps.{HasPortNumber}
 use Rattle.gptp_acts.specs.Prompt.{IsPromptIn, HavePace}
 use Rattle.gptp_kept.specs.LegibleLaws.{SetsAnOctet}
 use Rattle.gptp_kept.specs.Calm.{HaveQuietLinks, IsQuietWith, IsQuietWorld, delay_in, paths_with, sync_paths_of}
 use Rattle.gptp_kept.specs.Holds.{IsWorld, settling_network}
 use Rattle.gptp_kept.specs.Standing.{snapshot_of}
-use Rattle.gptp_kept.specs.Settled.{Settled, role_of}
+use Rattle.gptp_kept.specs.Settled.{Settled, graph_role}
 use Rattle.gptp_kept.specs.Shown.{distance_span}
 use Rattle.gptp_kept.specs.Traces.{turn_of}
 use Rattle.gptp_kept.specs.View.{station_view}
@@ -177,8 +177,8 @@ module _ (m d : ℕ) (w : WorldState) (claimed : Claimed w) (bounded : BoundsPat
       follows_by_distance calm.pace w is.world (claim_capable calm.pace w is) is.settling r.reach r.bounded r.quiet
       place station here live d distance near (since_within calm.pace m w d is.world calm.late r)
 
-  pub distance_plays : IsCalmFor (distance_span m (suc d)) w → (port : ℕ) → IsPortOf station.system port
-      → IsSettledRole (snapshot_of w) (port_of (clock station.system) port) (role_of (role_at station.system port))
+  pub distance_plays : IsCalmFor (distance_span m (suc d)) w → (port : ℕ) → HasPortNumber station.system port
+      → IsSettledRole (snapshot_of w) (port_of (clock station.system) port) (graph_role (role_at station.system port))
   distance_plays calm =
       let is = set_alike w claimed calm.pace calm.set place station here in
       let r = reach_of calm.pace m w is.world bounded calm.quiet in

@@ -7,57 +7,57 @@ use Rattle.gptp_setup.specs.Intervals.{AreParams, interval_of}
 use Rattle.gptp_setup.specs.Pace.{Pace, largest_interval, span_by}
 use Rattle.gptp_acts.specs.World.{Channel, WorldState}
 use Rattle.gptp_kept.specs.Known.{IsKnown, IsLogAmong}
-use Rattle.gptp_kept.specs.Calm.{greatest_delay}
-use Rattle.gptp_kept.specs.Standing.{is_used, live_systems}
+use Rattle.gptp_kept.specs.Calm.{greatest_channel_delay}
+use Rattle.gptp_kept.specs.Standing.{channel_is_used, live_stations}
 use Rattle.gptp_kept.proofs.SetLemmas.{log_outlasts}
 
 -- it is no more than what no link exceeds
 delay_within : (systems : List System) (channels : List Channel) (bound : ℕ)
     → ((link : ℕ) (channel : Channel) → slice_get channels link ≡ Some channel → channel.bounds.max ≤ bound)
-    → greatest_delay systems channels ≤ bound
+    → greatest_channel_delay systems channels ≤ bound
 delay_within systems [] bound each = omega arith
 delay_within systems (first ∷ channels) bound each =
-    by (is_used systems first) (delay_within systems channels bound (λ link. each (suc link)))
+    by (channel_is_used systems first) (delay_within systems channels bound (λ link. each (suc link)))
   where
-    by : (used : Bool) → greatest_delay systems channels ≤ bound
-        → (if used then max first.bounds.max (greatest_delay systems channels) else greatest_delay systems channels)
+    by : (used : Bool) → greatest_channel_delay systems channels ≤ bound
+        → (if used then max first.bounds.max (greatest_channel_delay systems channels) else greatest_channel_delay systems channels)
         ≤ bound
     by true later = let one = each zero first refl in omega arith
     by false later = later
 
 -- and no less than the delay of any used link
 pub delay_of_used : (systems : List System) (channels : List Channel) (link : ℕ) (channel : Channel)
-    → slice_get channels link ≡ Some channel → is_used systems channel ≡ true
-    → channel.bounds.max ≤ greatest_delay systems channels
+    → slice_get channels link ≡ Some channel → channel_is_used systems channel ≡ true
+    → channel.bounds.max ≤ greatest_channel_delay systems channels
 delay_of_used systems [] link channel here used = absurd (none-some channel here)
 delay_of_used systems (first ∷ channels) zero channel here used =
     let same = same_Some first channel here in
-    let is : is_used systems first ≡ true = ap (is_used systems) same ∙ used in
+    let is : channel_is_used systems first ≡ true = ap (channel_is_used systems) same ∙ used in
     let most = ap (λ (c : Channel). c.bounds.max) same in
     rw is (omega arith)
 delay_of_used systems (first ∷ channels) (suc link) channel here used =
-    by (is_used systems first) (delay_of_used systems channels link channel here used)
+    by (channel_is_used systems first) (delay_of_used systems channels link channel here used)
   where
-    by : (is : Bool) → channel.bounds.max ≤ greatest_delay systems channels
+    by : (is : Bool) → channel.bounds.max ≤ greatest_channel_delay systems channels
         → channel.bounds.max
-        ≤ (if is then max first.bounds.max (greatest_delay systems channels) else greatest_delay systems channels)
+        ≤ (if is then max first.bounds.max (greatest_channel_delay systems channels) else greatest_channel_delay systems channels)
     by true later = omega arith
     by false later = later
 
 -- so it is at most the largest announce interval
 pub delay_short : (p : Pace) (w : WorldState) → IsKnown p w
-    → greatest_delay (live_systems w.stations) w.net.channels ≤ largest_interval p
+    → greatest_channel_delay (live_stations w.stations) w.net.channels ≤ largest_interval p
 delay_short p w known =
-    delay_within (live_systems w.stations) w.net.channels (largest_interval p)
+    delay_within (live_stations w.stations) w.net.channels (largest_interval p)
     (λ link channel here. (known.near link channel here).most)
 
 -- and what names the interval of a port stays longer than that interval and that delay
 pub receipts_stay : (p : Pace) (w : WorldState) → AreParams p.params → IsKnown p w → (log : ℤ)
     → IsLogAmong w.stations log
-    → interval_of log + greatest_delay (live_systems w.stations) w.net.channels
+    → interval_of log + greatest_channel_delay (live_stations w.stations) w.net.channels
     < span_by p.params.timeout p.largest log
 receipts_stay p w params known log among =
-    let short = delay_within (live_systems w.stations) w.net.channels (interval_of log)
+    let short = delay_within (live_stations w.stations) w.net.channels (interval_of log)
     (λ link channel here. (known.prompt log among link channel here).most) in
     let long = log_outlasts p w params known.set log among in
     omega arith

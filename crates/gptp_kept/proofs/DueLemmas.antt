@@ -13,19 +13,19 @@ use Rattle.gptp_setup.specs.declared.setup.Params.{Params}
 use Rattle.gptp_setup.specs.declared.timer.Timer.TheVariants as timers
 use Rattle.gptp_setup.specs.Intervals.{AreParams, interval_of}
 use Rattle.gptp_setup.specs.Pace.{Pace, largest_interval, span_by}
-use Rattle.gptp_system.specs.Measures.{part_of}
+use Rattle.gptp_system.specs.Measures.{measure_at}
 use Rattle.gptp_system.specs.State.{SystemState, age_due, announce_due, due, is_mine}
 use Rattle.gptp_system.specs.Steps.{IsUp}
 use Rattle.gptp_system.specs.Times.{IsPortInTime}
 use Rattle.gptp_acts.specs.declared.item.Item.TheVariants.{Arrival}
 use Rattle.gptp_acts.specs.declared.station.Station.{Station}
 use Rattle.gptp_acts.specs.Ahead.{NoneLate}
-use Rattle.gptp_acts.specs.Sends.{IsUnlinked}
+use Rattle.gptp_acts.specs.Sends.{IsUnlinkedPort}
 use Rattle.gptp_acts.specs.Sound.{IsSound}
-use Rattle.gptp_acts.specs.World.{Channel, WorldState, queue}
+use Rattle.gptp_acts.specs.World.{Channel, WorldState, world_queue}
 use Rattle.gptp_acts.proofs.MomentLemmas.{times-all}
 use Rattle.gptp_acts.proofs.SoundLemmas.{agrees_arrivals}
-use Rattle.gptp_kept.specs.Due.{IsPortKnown, IsWithin, OfEachPort}
+use Rattle.gptp_kept.specs.Due.{IsPortKnown, IsSoonAfter, OfEachPort}
 use Rattle.gptp_kept.specs.Known.{IsKnown, IsLogAmong, IsSetTo, OfEachFrame}
 use Rattle.gptp_kept.specs.Measuring.{IsIdle}
 use Rattle.gptp_kept.specs.View.{span_at}
@@ -53,13 +53,13 @@ frames_on_links w sound link direction channel f here among = by channel.up refl
 pub frames_not_late : (w : WorldState) → IsSound w → OfEachFrame (λ channel f. w.time ≤ f.due) w
 frames_not_late w sound link direction channel f here among =
     let pending = times-all (λ t. w.time ≤ t) (Arrival link direction) w.net.pending sound.on_time.pending in
-    of_each_due (λ t. w.time ≤ t) f (queue direction channel)
+    of_each_due (λ t. w.time ≤ t) f (world_queue direction channel)
     (subst (AllByRecursion (λ t. w.time ≤ t)) (agrees_arrivals w sound.agrees link direction channel here) pending)
     among
 
 pub frames_fresh : (p : Pace) (w : WorldState) → IsSound w → IsKnown p w
     → w.last_change + largest_interval p ≤ w.time
-    → OfEachFrame (λ channel f. IsWithin w.time channel.bounds.max f.due) w
+    → OfEachFrame (λ channel f. IsSoonAfter w.time channel.bounds.max f.due) w
 frames_fresh p w sound known passed link direction channel f here among = record {
   least = frames_not_late w sound link direction channel f here among;
   most = let soon = known.fresh.frames link direction channel f here among in omega arith;
@@ -138,11 +138,11 @@ receipts_outlast p w params known log among link channel here =
 -- ---- ports without a link
 
 -- a port that measured nothing isn't capable
-idle_off : (q : Port) → IsIdle (part_of q) → is_capable q.peer ≡ false
+idle_off : (q : Port) → IsIdle (measure_at q) → is_capable q.peer ≡ false
 idle_off q idle = rw idle.last refl
 
 pub unlinked_disabled : (p : Pace) (w : WorldState) → IsSound w → IsKnown p w
-    → OfEachPort (λ itself h q. IsUnlinked w.net itself → h ≡ helds.Disabled) w
+    → OfEachPort (λ itself h q. IsUnlinkedPort w.net itself → h ≡ helds.Disabled) w
 unlinked_disabled p w sound known place station here live i h q stands there unlinked = by q.pdelay refl
   where
     by : (due : Option ℕ) → q.pdelay ≡ due → h ≡ helds.Disabled

@@ -15,9 +15,9 @@ use Rattle.gptp_plan.specs.declared.change.Change.TheVariants.{LinkDown, LinkUp,
 use Rattle.gptp_setup.specs.Intervals.{AreParams, interval_of}
 use Rattle.gptp_system.specs.declared.answer.Answer.{Answer}
 use Rattle.gptp_system.specs.Input.{Input, IsTimely, PortUp, PortDown, Frame as FrameHeard, Expires as TimerExpires, Priority}
-use Rattle.gptp_system.specs.Measures.{IsPartAfter, Part, only_at, part_asked, part_down, part_of}
+use Rattle.gptp_system.specs.Measures.{IsPartAfter, Part, only_at, part_asked, part_down, measure_at}
 use Rattle.gptp_system.specs.State.{SystemState, clock}
-use Rattle.gptp_system.specs.Steps.{IsPortOf}
+use Rattle.gptp_system.specs.Steps.{HasPortNumber}
 use Rattle.gptp_pdelay.specs.Clock.{local_clock}
 use Rattle.gptp_pdelay.specs.Peer.{reset_peer}
 use Rattle.gptp_acts.specs.declared.done.Done.{Done}
@@ -39,8 +39,8 @@ use Rattle.gptp_measuring.proofs.FactLemmas.{facts_kept}
 use Rattle.gptp_measuring.proofs.CapabilityLemmas.{capable_from_calm}
 use Rattle.gptp_measuring.proofs.MeasuredLemmas.{measured_from_calm, meter_is_inv, meter_kept}
 use Rattle.gptp_kept.specs.LinkActs.{IsOneAct}
-use Rattle.gptp_kept.specs.LinkView.{IsEndAmong, IsEndOf, IsLinkOf, LinkPlace, asks, identity_of, least_delay, meter, opposite, pair, pair_view, replies, setting, waits_view}
-use Rattle.gptp_kept.specs.Measured.{IsMeasured}
+use Rattle.gptp_kept.specs.LinkView.{IsEndAmong, IsEndOf, IsLinkOf, LinkPlace, reads_as_request, link_identity, least_delay, meter, other_direction, pair, pair_view, reads_as_reply, link_setting, waits_view}
+use Rattle.gptp_kept.specs.Measured.{LinkIsMeasured}
 use Rattle.gptp_kept.specs.Watched.{IsWatched}
 use Rattle.gptp_kept.specs.ElsewhereLaws.{WatchGoesThrough, WatchSurvives, WatchedPortsStayCapable}
 use Rattle.gptp_kept.proofs.WatchLemmas.{watch_kept}
@@ -98,21 +98,21 @@ module _ (at : LinkPlace) (place : ℕ) (input : Input) (w : WorldState) (draws 
       (λ same. left_fits (sender at.direction l.channel).port input (aside.asking same))
       (λ same. left_fits (receiver at.direction l.channel).port input (aside.answering same))
 
-  asks_as_before : AsksAsBefore (interval_of l.asking.station.setup.params.pdelay) (part_of l.asking.state)
-      (part_of step.after.asking.state)
+  asks_as_before : AsksAsBefore (interval_of l.asking.station.setup.params.pdelay) (measure_at l.asking.state)
+      (measure_at step.after.asking.state)
   asks_as_before =
-      asks_still (interval_of l.asking.station.setup.params.pdelay) (part_of l.asking.state)
-      (part_of step.after.asking.state)
+      asks_still (interval_of l.asking.station.setup.params.pdelay) (measure_at l.asking.state)
+      (measure_at step.after.asking.state)
       (elim step.asking [
         | inl called ↦ part_left l.asking.station.system w.time input (sender at.direction l.channel).port
-            (part_of l.asking.state) (part_of step.after.asking.state) (aside.asking called.0) called.1
+            (measure_at l.asking.state) (measure_at step.after.asking.state) (aside.asking called.0) called.1
         | inr left ↦ left.1
       ])
 
-  waits_as_before : part_of step.after.answering.state ≡ part_of l.answering.state
+  waits_as_before : measure_at step.after.answering.state ≡ measure_at l.answering.state
   waits_as_before = elim step.answering [
     | inl called ↦ part_left l.answering.station.system w.time input (receiver at.direction l.channel).port
-        (part_of l.answering.state) (part_of step.after.answering.state) (aside.answering called.0) called.1
+        (measure_at l.answering.state) (measure_at step.after.answering.state) (aside.answering called.0) called.1
     | inr left ↦ left.1
   ]
 
@@ -155,7 +155,7 @@ calls_orderly place input w draws answer w' is k =
 -- What is known of a link that is seen, and kept by each act that is seen there, goes through changes elsewhere.
 module _ (at : LinkPlace) (P : WorldState → Type 0) (link_in : (w : WorldState) → P w → IsLinkOf at w)
     (acted : (w w' : WorldState) (h : P w) → IsOneAct at w w' (link_in w h) → P w')
-    (like : (w w' : WorldState) (h : P w) (l : IsLinkOf at w') → setting at w' l ≡ setting at w (link_in w h)
+    (like : (w w' : WorldState) (h : P w) (l : IsLinkOf at w') → link_setting at w' l ≡ link_setting at w (link_in w h)
     → meter at w' l ≡ meter at w (link_in w h) → least_delay at w' l ≡ least_delay at w (link_in w h) → P w') where
   -- ---- direct edits
 
@@ -312,10 +312,10 @@ module _ (at : LinkPlace) (P : WorldState → Type 0) (link_in : (w : WorldState
         fit = l.fit;
       }
 
-      set : setting at (with_station place (with_setup value station) w) after ≡ setting at w l
+      set : link_setting at (with_station place (with_setup value station) w) after ≡ link_setting at w l
       set = λ i. record {
-        asking = identity_of (sender at.direction l.channel);
-        answering = identity_of (receiver at.direction l.channel);
+        asking = link_identity (sender at.direction l.channel);
+        answering = link_identity (receiver at.direction l.channel);
         most = l.channel.bounds.max;
         turnaround = (answering.params i).turnaround;
         period = interval_of (asking.params i).pdelay;
@@ -326,8 +326,8 @@ module _ (at : LinkPlace) (P : WorldState → Type 0) (link_in : (w : WorldState
 
       seen : meter at (with_station place (with_setup value station) w) after ≡ meter at w l
       seen = λ i. record {
-        pair = pair_view w.time (interval_of (asking.params i).pdelay) at.direction l.channel (part_of (asking.state i))
-            (part_of (answering.state i));
+        pair = pair_view w.time (interval_of (asking.params i).pdelay) at.direction l.channel (measure_at (asking.state i))
+            (measure_at (answering.state i));
         last = (asking.state i).peer.last;
       }
 
@@ -361,7 +361,7 @@ module _ (at : LinkPlace) (P : WorldState → Type 0) (link_in : (w : WorldState
 
   -- an input of a port
   record IsOfPort (input : ℕ → Input) : Type 0 where
-    timely : (s : SystemState) (now p : ℕ) → IsPortOf s p → IsTimely s now (input p)
+    timely : (s : SystemState) (now p : ℕ) → HasPortNumber s p → IsTimely s now (input p)
     leaves : (n p : ℕ) → n ≢ p → LeavesPort n (input p)
 
   of_up : IsOfPort PortUp
@@ -379,7 +379,7 @@ module _ (at : LinkPlace) (P : WorldState → Type 0) (link_in : (w : WorldState
     asking = λ same. of.leaves (sender at.direction l.channel).port port.port
         (apart at.direction (sender at.direction l.channel) refl at.asking l.asking same);
     answering = λ same. of.leaves (receiver at.direction l.channel).port port.port
-        (apart (opposite at.direction) (receiver at.direction l.channel) (sender_opposite at.direction l.channel)
+        (apart (other_direction at.direction) (receiver at.direction l.channel) (sender_opposite at.direction l.channel)
         at.answering l.answering same);
   }
     where
@@ -527,7 +527,7 @@ module _ (at : LinkPlace) (P : WorldState → Type 0) (link_in : (w : WorldState
         (all_hold place (up_ports new w.net) begun draws w' (λ same. asking (sym same))
         (λ same. answering (sym same))
         (λ p member x there.
-        subst (λ (y : Station). IsPortOf y.system p)
+        subst (λ (y : Station). HasPortNumber y.system p)
         (same_Some new x (sym (get-set_same w.stations place k.station new k.here) ∙ there))
         (brought_ports new w.net p member))
         (record {
@@ -633,10 +633,10 @@ module _ (at : LinkPlace) (P : WorldState → Type 0) (link_in : (w : WorldState
 -- the change leaves the link alone
 pub goes_through : (at : LinkPlace) (P : WorldState → Type 0) (link_in : (w : WorldState) → P w → IsLinkOf at w)
     → ((w w' : WorldState) (h : P w) → IsOneAct at w w' (link_in w h) → P w')
-    → ((w w' : WorldState) (h : P w) (l : IsLinkOf at w') → setting at w' l ≡ setting at w (link_in w h)
+    → ((w w' : WorldState) (h : P w) (l : IsLinkOf at w') → link_setting at w' l ≡ link_setting at w (link_in w h)
     → meter at w' l ≡ meter at w (link_in w h) → least_delay at w' l ≡ least_delay at w (link_in w h) → P w')
     → (change : Change) (w w' : WorldState) (draws : List Draw) (done : Done)
-    → IsSound w → IsMeasured w → IsElsewhere at change w → Acts (Changing change) w draws done w' → P w → P w'
+    → IsSound w → LinkIsMeasured w → IsElsewhere at change w → Acts (Changing change) w draws done w' → P w → P w'
 goes_through at P link_in acted like change w w' draws done sound measured other acts h =
     let orderly = sound_orderly w sound in
     let now : WorldState = record w { last_change = w.time } in
@@ -670,36 +670,36 @@ goes_through at P link_in acted like change w w' draws done sound measured other
 pub act_watched : (at : LinkPlace) (gone calm : ℕ) (w w' : WorldState) (is : IsWatched gone calm at w)
     → IsOneAct at w w' is.link → IsWatched gone calm at w'
 act_watched at gone calm w w' is seen =
-    let k = setting at w is.link in
+    let k = link_setting at w is.link in
     let least = least_delay at w is.link in
     let m = meter at w is.link in
     let m' = meter at w' seen.after in
     let one = seen.so in
-    let facts = facts_kept k gone asks replies m.pair m'.pair (act_of k asks replies m m' one.acts) one.out one.back
+    let facts = facts_kept k gone reads_as_request reads_as_reply m.pair m'.pair (act_of k reads_as_request reads_as_reply m m' one.acts) one.out one.back
     is.facts in
     let same_least : least ≡ least_delay at w' seen.after = ap (λ (b : Bounds). b.min) (sym seen.bounds) in
-    let inv = meter_kept k least asks replies gone calm m m' is.good is.facts facts one.out_late one.back_late one.acts
+    let inv = meter_kept k least reads_as_request reads_as_reply gone calm m m' is.good is.facts facts one.out_late one.back_late one.acts
     is.inv in
     record {
       link = seen.after;
       good = subst (λ (x : Setting). IsGood x gone calm) (sym seen.settled) is.good;
       facts = subst (λ (x : Setting). Facts x gone m'.pair) (sym seen.settled) facts;
-      inv = subst (λ (x : Setting). MeterInv x (least_delay at w' seen.after) asks replies gone calm m')
-          (sym seen.settled) (subst (λ (n : ℕ). MeterInv k n asks replies gone calm m') same_least inv);
+      inv = subst (λ (x : Setting). MeterInv x (least_delay at w' seen.after) reads_as_request reads_as_reply gone calm m')
+          (sym seen.settled) (subst (λ (n : ℕ). MeterInv k n reads_as_request reads_as_reply gone calm m') same_least inv);
     }
 
 -- where the same is seen of the link it is watched too
 watched_as : (at : LinkPlace) (gone calm : ℕ) (w w' : WorldState) (is : IsWatched gone calm at w) (l : IsLinkOf at w')
-    → setting at w' l ≡ setting at w is.link → meter at w' l ≡ meter at w is.link
+    → link_setting at w' l ≡ link_setting at w is.link → meter at w' l ≡ meter at w is.link
     → least_delay at w' l ≡ least_delay at w is.link → IsWatched gone calm at w'
 watched_as at gone calm w w' is l set seen least = record {
   link = l;
   good = subst (λ (x : Setting). IsGood x gone calm) (sym set) is.good;
   facts = subst (λ (x : Setting). Facts x gone (pair at w' l)) (sym set)
-      (subst (λ (m : Meter). Facts (setting at w is.link) gone m.pair) (sym seen) is.facts);
-  inv = subst (λ (x : Setting). MeterInv x (least_delay at w' l) asks replies gone calm (meter at w' l)) (sym set)
-      (subst (λ (n : ℕ). MeterInv (setting at w is.link) n asks replies gone calm (meter at w' l)) (sym least)
-      (subst (λ (m : Meter). MeterInv (setting at w is.link) (least_delay at w is.link) asks replies gone calm m)
+      (subst (λ (m : Meter). Facts (link_setting at w is.link) gone m.pair) (sym seen) is.facts);
+  inv = subst (λ (x : Setting). MeterInv x (least_delay at w' l) reads_as_request reads_as_reply gone calm (meter at w' l)) (sym set)
+      (subst (λ (n : ℕ). MeterInv (link_setting at w is.link) n reads_as_request reads_as_reply gone calm (meter at w' l)) (sym least)
+      (subst (λ (m : Meter). MeterInv (link_setting at w is.link) (least_delay at w is.link) reads_as_request reads_as_reply gone calm m)
       (sym seen) is.inv));
 }
 
@@ -720,10 +720,10 @@ watch_goes_through at gone calm (Changing change) w w' draws done sound measured
 
 pub watched_stay_capable : WatchedPortsStayCapable
 watched_stay_capable at gone calm w l late =
-    let k = setting at w l.link in
+    let k = link_setting at w l.link in
     let least = least_delay at w l.link in
     let m = meter at w l.link in (
-      capable_from_calm k asks replies gone calm (pair at w l.link) l.facts
-          (meter_is_inv k least asks replies gone calm m l.inv) late,
-      measured_from_calm k least asks replies gone calm m l.facts l.inv late,
+      capable_from_calm k reads_as_request reads_as_reply gone calm (pair at w l.link) l.facts
+          (meter_is_inv k least reads_as_request reads_as_reply gone calm m l.inv) late,
+      measured_from_calm k least reads_as_request reads_as_reply gone calm m l.facts l.inv late,
     )

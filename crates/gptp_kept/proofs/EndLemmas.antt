@@ -25,7 +25,7 @@ use Rattle.gptp_setup.specs.declared.timer.Timer.TheVariants as timers
 use Rattle.gptp_system.specs.Facts.{Keeps}
 use Rattle.gptp_system.specs.Input.{Input, Steps, PortUp, PortDown, Frame as FrameHeard, Expires, Priority}
 use Rattle.gptp_setup.specs.Intervals.{interval_of}
-use Rattle.gptp_system.specs.Measures.{IsPartAfter, Part, only_at, part_answered, part_asked, part_down, part_heard, part_of, part_owing}
+use Rattle.gptp_system.specs.Measures.{IsPartAfter, Part, only_at, part_answered, part_asked, part_down, part_heard, measure_at, part_owing}
 use Rattle.gptp_system.specs.State.{SystemState, clock, local_time, number}
 use Rattle.gptp_system.proofs.MeasureLemmas.{steps_measure}
 use Rattle.gptp_system.proofs.StepLemmas.{steps_sound}
@@ -35,7 +35,7 @@ use Rattle.gptp_acts.specs.World.{WorldState}
 use Rattle.gptp_lists.proofs.MappedLemmas.{same_there}
 use Rattle.gptp_lists.proofs.PlaceLemmas.{get-set_other, get-set_same, member_there, same_place}
 use Rattle.gptp_acts.proofs.SteadyLemmas.{same_ports}
-use Rattle.gptp_kept.specs.LinkView.{IsEndOf, IsMeasuring, RequestFits, SaysWhatFits}
+use Rattle.gptp_kept.specs.LinkView.{IsEndOf, IsMeasuring, RequestFits, RequestSaysWhatFits}
 
 -- ---- peers
 
@@ -147,7 +147,7 @@ owing_measures s now head port x fits m = record {
 }
 
 heard_measures : (s : SystemState) (now : ℕ) (m : Message) (octets : List ℕ) (port : PortId) (x : Part)
-    → SaysWhatFits octets → Reads octets m
+    → RequestSaysWhatFits octets → Reads octets m
     → IsMeasuring s.params port x → IsMeasuring s.params port (part_heard s now m x)
 heard_measures s now (messages.Sync head) octets port x fit reads is = is
 heard_measures s now (messages.PdelayReq head) octets port x fit reads is =
@@ -163,7 +163,7 @@ heard_measures s now (messages.Announce a) octets port x fit reads is = is
 
 -- a frame that port n hears says what fits
 abbrev pub HearsWhatFits : ℕ → Input → Type 0
-HearsWhatFits n (FrameHeard p octets) = n ≡ p → SaysWhatFits octets
+HearsWhatFits n (FrameHeard p octets) = n ≡ p → RequestSaysWhatFits octets
 HearsWhatFits n _ = Unit {0}
 
 -- what happens at one port and at no other
@@ -208,7 +208,7 @@ part_measures s now (Priority value) n port x x' given k is = subst (IsMeasuring
 pub port_after : (input : Input) (now : ℕ) (s s' : SystemState) (sends : List Sending) (answer : Answer) (n : ℕ)
     (q : Port)
     → Steps input now s s' sends answer → number s.ports n ≡ Some q
-    → (q' : Port) × (number s'.ports n ≡ Some q') × IsPartAfter s now input n (part_of q) (part_of q')
+    → (q' : Port) × (number s'.ports n ≡ Some q') × IsPartAfter s now input n (measure_at q) (measure_at q')
 port_after input now s s' sends answer zero q k there = absurd (none-some q there)
 port_after input now s s' sends answer (suc i) q k there =
     let long : length s'.ports ≡ length s.ports = same_ports input now s s' sends answer k in
@@ -217,7 +217,7 @@ port_after input now s s' sends answer (suc i) q k there =
     let (p, was, after) = steps_measure input now s s' sends answer k i q' stands in (
       q',
       stands,
-      subst (λ (one : Port). IsPartAfter s now input (suc i) (part_of one) (part_of q'))
+      subst (λ (one : Port). IsPartAfter s now input (suc i) (measure_at one) (measure_at q'))
           (same_there s.ports i p q was there) after,
     )
 
@@ -233,7 +233,7 @@ renamed place p q w same e = record {
   set_up = e.set_up;
   named = e.named ∙ ap (λ (x : PortId). x.clock) same;
   there = ap (λ (x : PortId). number e.station.system.ports x.port) (sym same) ∙ e.there;
-  measures = subst (λ x. IsMeasuring e.station.setup.params x (part_of e.state)) same e.measures;
+  measures = subst (λ x. IsMeasuring e.station.setup.params x (measure_at e.state)) same e.measures;
 }
 
 -- What a system does at one place is a port's part of it there, and nothing elsewhere.
@@ -246,7 +246,7 @@ pub record EndStep (place : ℕ) (input : Input) (w w' : WorldState) (other : �
     (e : IsEndOf other port w) : Type 0 where
   pub after : IsEndOf other port w'
   pub setup : after.station.setup ≡ e.station.setup
-  pub part : PartStep place input w.time other e.station.system port.port (part_of e.state) (part_of after.state)
+  pub part : PartStep place input w.time other e.station.system port.port (measure_at e.state) (measure_at after.state)
 
 module _ (place : ℕ) (input : Input) (w : WorldState) (draws : List Draw) (answer : Answer) (w' : WorldState)
     (k : Calls place input w draws answer w') (other : ℕ) (port : PortId) (e : IsEndOf other port w)
@@ -267,12 +267,12 @@ module _ (place : ℕ) (input : Input) (w : WorldState) (draws : List Draw) (ans
       let setups : k.station.setup ≡ e.station.setup = ap (λ (x : Station). x.setup) one in
       let as_set : old.params ≡ k.station.setup.params =
       ap (λ (x : SystemState). x.params) is ∙ e.set_up.params ∙ sym (ap (λ (x : Setup). x.params) setups) in
-      let measures : IsMeasuring old.params port (part_of e.state) =
-      subst (λ p. IsMeasuring p port (part_of e.state)) (sym (as_set ∙ ap (λ (x : Setup). x.params) setups))
+      let measures : IsMeasuring old.params port (measure_at e.state) =
+      subst (λ p. IsMeasuring p port (measure_at e.state)) (sym (as_set ∙ ap (λ (x : Setup). x.params) setups))
       e.measures in
-      let measures_on : IsMeasuring k.station.setup.params port (part_of q') =
-      subst (λ p. IsMeasuring p port (part_of q')) as_set
-      (part_measures old w.time input port.port port (part_of e.state) (part_of q') (given same) part measures) in
+      let measures_on : IsMeasuring k.station.setup.params port (measure_at q') =
+      subst (λ p. IsMeasuring p port (measure_at q')) as_set
+      (part_measures old w.time input port.port port (measure_at e.state) (measure_at q') (given same) part measures) in
       record {
         after = record {
           station = new_station;
@@ -295,7 +295,7 @@ module _ (place : ℕ) (input : Input) (w : WorldState) (draws : List Draw) (ans
         setup = setups;
         part = inl (
           same,
-          subst (λ (x : SystemState). IsPartAfter x w.time input port.port (part_of e.state) (part_of q')) is part,
+          subst (λ (x : SystemState). IsPartAfter x w.time input port.port (measure_at e.state) (measure_at q')) is part,
         );
       }
 

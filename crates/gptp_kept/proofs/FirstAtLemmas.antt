@@ -15,10 +15,10 @@ use Rattle.gptp_setup.specs.declared.setup.Params.{Params}
 use Rattle.gptp_setup.specs.Intervals.{interval_of}
 use Rattle.gptp_system.specs.declared.answer.Answer.{Answer}
 use Rattle.gptp_system.specs.Input.{Input, PortUp}
-use Rattle.gptp_system.specs.Measures.{IsPartAfter, Part, part_asked, part_of}
+use Rattle.gptp_system.specs.Measures.{IsPartAfter, Part, part_asked, measure_at}
 use Rattle.gptp_system.specs.Messages.{AsksOnce}
 use Rattle.gptp_system.specs.State.{SystemState, local_time, number, own}
-use Rattle.gptp_system.specs.Steps.{IsPortOf}
+use Rattle.gptp_system.specs.Steps.{HasPortNumber}
 use Rattle.gptp_acts.specs.declared.done.Done.{Done}
 use Rattle.gptp_acts.specs.declared.station.Station.{Station}
 use Rattle.gptp_acts.specs.Act.{Calls}
@@ -33,7 +33,7 @@ use Rattle.gptp_measuring.specs.Asker.{Asker, asks_now}
 use Rattle.gptp_measuring.specs.Facts.{Facts, IsDueInTime}
 use Rattle.gptp_measuring.specs.First.{InvFirst}
 use Rattle.gptp_measuring.specs.FirstLaws.{exchange_span}
-use Rattle.gptp_measuring.specs.Lanes.{Frame as SeenFrame, AreMute, FirstIs}
+use Rattle.gptp_measuring.specs.Lanes.{LaneFrame as SeenFrame, AreMute, FirstIs}
 use Rattle.gptp_measuring.specs.Messages.{Request}
 use Rattle.gptp_measuring.specs.Meter.{Meter, act_of}
 use Rattle.gptp_measuring.specs.Setting.{Setting}
@@ -44,8 +44,8 @@ use Rattle.gptp_kept.specs.ElsewhereLaws.{LeavesAlone}
 use Rattle.gptp_kept.specs.FirstAt.{IsFirstAt, IsFirstBy}
 use Rattle.gptp_kept.specs.FirstAtLaws.{FirstGoesOn, FirstGoesThrough, FirstIsFull}
 use Rattle.gptp_kept.specs.LinkActs.{IsOneAct}
-use Rattle.gptp_kept.specs.LinkView.{IsLinkOf, LinkPlace, RequestFits, asker_view, asks, frame_view, least_delay, meter, opposite, pair, replies, request_from, setting, waits_view}
-use Rattle.gptp_kept.specs.Measured.{IsMeasured}
+use Rattle.gptp_kept.specs.LinkView.{IsLinkOf, LinkPlace, RequestFits, asker_view, reads_as_request, link_frame_view, least_delay, meter, other_direction, pair, reads_as_reply, request_from, link_setting, waits_view}
+use Rattle.gptp_kept.specs.Measured.{LinkIsMeasured}
 use Rattle.gptp_kept.specs.Said.{said_at}
 use Rattle.gptp_kept.proofs.ElsewhereLemmas.{calls_orderly, goes_through}
 use Rattle.gptp_kept.proofs.LinkActLemmas.{acts_seen}
@@ -61,35 +61,35 @@ use Rattle.gptp_kept.proofs.SentLemmas.{next_of, sends_request}
 module _ (at : LinkPlace) (first : ℕ) where
   pub first_acted : (w w' : WorldState) (is : IsFirstAt first at w) → IsOneAct at w w' is.link → IsFirstAt first at w'
   first_acted w w' is seen =
-      let k = setting at w is.link in
+      let k = link_setting at w is.link in
       let least = least_delay at w is.link in
       let m = meter at w is.link in
       let m' = meter at w' seen.after in
       let one = seen.so in
-      let facts = facts_kept k first asks replies m.pair m'.pair (act_of k asks replies m m' one.acts) one.out one.back
+      let facts = facts_kept k first reads_as_request reads_as_reply m.pair m'.pair (act_of k reads_as_request reads_as_reply m m' one.acts) one.out one.back
       is.facts in
       let same_least : least ≡ least_delay at w' seen.after = ap (λ (b : Bounds). b.min) (sym seen.bounds) in
-      let inv = first_kept k least asks replies first first m m' is.short (omega arith) is.facts facts one.out_late
+      let inv = first_kept k least reads_as_request reads_as_reply first first m m' is.short (omega arith) is.facts facts one.out_late
       one.back_late one.acts is.inv in
       record {
         link = seen.after;
         short = subst (λ (x : Setting). exchange_span x < x.period) (sym seen.settled) is.short;
         facts = subst (λ (x : Setting). Facts x first m'.pair) (sym seen.settled) facts;
-        inv = subst (λ (x : Setting). InvFirst x (least_delay at w' seen.after) asks replies first m')
-            (sym seen.settled) (subst (λ (n : ℕ). InvFirst k n asks replies first m') same_least inv);
+        inv = subst (λ (x : Setting). InvFirst x (least_delay at w' seen.after) reads_as_request reads_as_reply first m')
+            (sym seen.settled) (subst (λ (n : ℕ). InvFirst k n reads_as_request reads_as_reply first m') same_least inv);
       }
 
   first_like : (w w' : WorldState) (is : IsFirstAt first at w) (l : IsLinkOf at w')
-      → setting at w' l ≡ setting at w is.link → meter at w' l ≡ meter at w is.link
+      → link_setting at w' l ≡ link_setting at w is.link → meter at w' l ≡ meter at w is.link
       → least_delay at w' l ≡ least_delay at w is.link → IsFirstAt first at w'
   first_like w w' is l set seen least = record {
     link = l;
     short = subst (λ (x : Setting). exchange_span x < x.period) (sym set) is.short;
     facts = subst (λ (x : Setting). Facts x first (pair at w' l)) (sym set)
-        (subst (λ (m : Meter). Facts (setting at w is.link) first m.pair) (sym seen) is.facts);
-    inv = subst (λ (x : Setting). InvFirst x (least_delay at w' l) asks replies first (meter at w' l)) (sym set)
-        (subst (λ (n : ℕ). InvFirst (setting at w is.link) n asks replies first (meter at w' l)) (sym least)
-        (subst (λ (m : Meter). InvFirst (setting at w is.link) (least_delay at w is.link) asks replies first m)
+        (subst (λ (m : Meter). Facts (link_setting at w is.link) first m.pair) (sym seen) is.facts);
+    inv = subst (λ (x : Setting). InvFirst x (least_delay at w' l) reads_as_request reads_as_reply first (meter at w' l)) (sym set)
+        (subst (λ (n : ℕ). InvFirst (link_setting at w is.link) n reads_as_request reads_as_reply first (meter at w' l)) (sym least)
+        (subst (λ (m : Meter). InvFirst (link_setting at w is.link) (least_delay at w is.link) reads_as_request reads_as_reply first m)
         (sym seen) is.inv));
   }
 
@@ -104,13 +104,13 @@ module _ (at : LinkPlace) (first start : ℕ) where
       (first_acted at first w w' is seen, subst Before (sym seen.settled) by)
 
   by_like : (w w' : WorldState) (is : IsFirstBy first start at w) (l : IsLinkOf at w')
-      → setting at w' l ≡ setting at w is.0.link → meter at w' l ≡ meter at w is.0.link
+      → link_setting at w' l ≡ link_setting at w is.0.link → meter at w' l ≡ meter at w is.0.link
       → least_delay at w' l ≡ least_delay at w is.0.link → IsFirstBy first start at w'
   unfolding first_like
   by_like w w' (is, by) l set seen least = (first_like at first w w' is l set seen least, subst Before (sym set) by)
 
   pub by_goes_through : (act : Act) (w w' : WorldState) (draws : List Draw) (done : Done)
-      → IsSound w → IsMeasured w → LeavesAlone at act w → Acts act w draws done w' → IsFirstBy first start at w
+      → IsSound w → LinkIsMeasured w → LeavesAlone at act w → Acts act w draws done w' → IsFirstBy first start at w
       → IsFirstBy first start at w'
   by_goes_through (Deliver link direction) w w' draws done sound measured alone acts is =
       by_acted w w' is
@@ -135,13 +135,13 @@ first_goes_through at first (Changing change) w w' draws done sound measured alo
 
 pub first_goes_on : FirstGoesOn
 first_goes_on at first time w sound later nothing is =
-    let k = setting at w is.link in
+    let k = link_setting at w is.link in
     let p = pair at w is.link in
     record {
       link = is.link;
       short = is.short;
       facts = facts_later k first time p later (nothing_late at time w is.link sound nothing) is.facts;
-      inv = first_later k (least_delay at w is.link) asks replies first (meter at w is.link) _ (time, later, refl)
+      inv = first_later k (least_delay at w is.link) reads_as_request reads_as_reply first (meter at w is.link) _ (time, later, refl)
           is.inv;
     }
 
@@ -153,7 +153,7 @@ by_goes_on at first start time w sound later nothing (l, by) =
 
 pub first_full : FirstIsFull
 first_full at first w l late =
-    exchange_full (setting at w l.link) (least_delay at w l.link) asks replies first first (meter at w l.link) l.facts
+    exchange_full (link_setting at w l.link) (least_delay at w l.link) reads_as_request reads_as_reply first first (meter at w l.link) l.facts
     l.inv late
 
 -- ---- a port comes up
@@ -172,36 +172,36 @@ up_waits s now p n x x' k = elim (at_own p n (part_asked s now reset_peer) x x' 
 ]
 
 module _ (at : LinkPlace) (place p : ℕ) (w : WorldState) (draws : List Draw) (answer : Answer) (w' : WorldState)
-    (k : Calls place (PortUp p) w draws answer w') (of : IsPortOf k.station.system p) (orderly : IsOrderly w)
+    (k : Calls place (PortUp p) w draws answer w') (of : HasPortNumber k.station.system p) (orderly : IsOrderly w)
     (l : IsLinkOf at w) where
   pub up_step : LinkStep at place (PortUp p) w w' l k.station.system k.after k.sends
   up_step = link_called at place (PortUp p) w draws answer w' k of orderly l (λ same. tt) (λ same. tt)
 
-  pub up_waits_still : waits_view (part_of up_step.after.answering.state) ≡ waits_view (part_of l.answering.state)
+  pub up_waits_still : waits_view (measure_at up_step.after.answering.state) ≡ waits_view (measure_at l.answering.state)
   up_waits_still = elim up_step.answering [
     | inl called ↦ up_waits l.answering.station.system w.time p (receiver at.direction l.channel).port
-        (part_of l.answering.state) (part_of up_step.after.answering.state) called.1
+        (measure_at l.answering.state) (measure_at up_step.after.answering.state) called.1
     | inr left ↦ ap waits_view left.1
   ]
 
-  -- another port comes up than the one that asks: others send
+  -- another port comes up than the one that reads_as_request: others send
   module _ (other : at.asking ≡ place → (sender at.direction l.channel).port ≢ p) where
-    asks_on : AsksAsBefore (interval_of l.asking.station.setup.params.pdelay) (part_of l.asking.state)
-        (part_of up_step.after.asking.state)
+    asks_on : AsksAsBefore (interval_of l.asking.station.setup.params.pdelay) (measure_at l.asking.state)
+        (measure_at up_step.after.asking.state)
     asks_on =
-        asks_still (interval_of l.asking.station.setup.params.pdelay) (part_of l.asking.state)
-        (part_of up_step.after.asking.state)
+        asks_still (interval_of l.asking.station.setup.params.pdelay) (measure_at l.asking.state)
+        (measure_at up_step.after.asking.state)
         (elim up_step.asking [
           | inl called ↦ elim (at_own p (sender at.direction l.channel).port
-              (part_asked l.asking.station.system w.time reset_peer) (part_of l.asking.state)
-              (part_of up_step.after.asking.state) called.1) [
+              (part_asked l.asking.station.system w.time reset_peer) (measure_at l.asking.state)
+              (measure_at up_step.after.asking.state) called.1) [
                 | inl one ↦ absurd (other called.0 one.0)
                 | inr beside ↦ beside.1
               ]
           | inr left ↦ left.1
         ])
 
-    mute_on : AreMute asks (map frame_view (up_step.grows.news at.direction))
+    mute_on : AreMute reads_as_request (map link_frame_view (up_step.grows.news at.direction))
     mute_on =
         out_mute up_step (λ same e. absurd cc) (λ same e. subst (IsOtherUp (sender at.direction l.channel).port) e
         (other same) refl)
@@ -220,7 +220,7 @@ module _ (at : LinkPlace) (place p : ℕ) (w : WorldState) (draws : List Draw) (
       };
     }
 
-  -- the port that asks comes up: it sends its first request
+  -- the port that reads_as_request comes up: it sends its first request
   module _ (here : at.asking ≡ place) (port_is : (sender at.direction l.channel).port ≡ p) where
     abbrev now : ℕ
     now = w.time
@@ -229,15 +229,15 @@ module _ (at : LinkPlace) (place p : ℕ) (w : WorldState) (draws : List Draw) (
     period = interval_of l.asking.station.setup.params.pdelay
 
     abbrev x : Part
-    x = part_of l.asking.state
+    x = measure_at l.asking.state
 
     other_still : at.answering ≢ place
     other_still same = l.apart (here ∙ sym same)
 
-    part : part_of up_step.after.asking.state ≡ part_asked l.asking.station.system now reset_peer x
+    part : measure_at up_step.after.asking.state ≡ part_asked l.asking.station.system now reset_peer x
     part = elim up_step.asking [
       | inl called ↦ elim (at_own p (sender at.direction l.channel).port
-          (part_asked l.asking.station.system now reset_peer) x (part_of up_step.after.asking.state) called.1) [
+          (part_asked l.asking.station.system now reset_peer) x (measure_at up_step.after.asking.state) called.1) [
             | inl one ↦ one.1
             | inr other ↦ absurd (other.0 port_is)
           ]
@@ -270,9 +270,9 @@ module _ (at : LinkPlace) (place p : ℕ) (w : WorldState) (draws : List Draw) (
         (same_there w.stations place k.station l.asking.station k.here
         (ap (slice_get w.stations) (sym here) ∙ l.asking.here))
 
-    request_goes : FirstIs asks
-        (λ (f : SeenFrame). asks f.octets (request_from (sender at.direction l.channel) l.asking.state.peer.next))
-        (AreMute asks) (map frame_view (up_step.grows.news at.direction))
+    request_goes : FirstIs reads_as_request
+        (λ (f : SeenFrame). reads_as_request f.octets (request_from (sender at.direction l.channel) l.asking.state.peer.next))
+        (AreMute reads_as_request) (map link_frame_view (up_step.grows.news at.direction))
     request_goes =
         let port = sender at.direction l.channel in
         let mine : own k.station.system port.port ≡ port =
@@ -289,28 +289,28 @@ module _ (at : LinkPlace) (place p : ℕ) (w : WorldState) (draws : List Draw) (
           port = port.port;
         } in
         let said = up_step.grows.said at.direction ∙ ap (λ q. said_at k.after q k.sends) (sym mine) in
-        subst (λ (r : Request). FirstIs asks (λ (f : SeenFrame). asks f.octets r) (AreMute asks)
-        (map frame_view (up_step.grows.news at.direction)))
+        subst (λ (r : Request). FirstIs reads_as_request (λ (f : SeenFrame). reads_as_request f.octets r) (AreMute reads_as_request)
+        (map link_frame_view (up_step.grows.news at.direction)))
         (λ i. request_from (mine i) (number_is i))
         (sends_request k.station.system k.after port.port k.sends sent
         (orderly.params place k.station k.here).pdelay fits kept (up_step.grows.news at.direction) said)
 
     -- where nothing was in flight to the other port, nothing waited there, and no reply was in flight to this one
-    up_first : exchange_span (setting at w l) < (setting at w l).period → AreMute asks (pair at w l).out
-        → ((f : SeenFrame) → In f (pair at w l).out → IsDueInTime (setting at w l) now now f)
-        → (pair at w l).waits ≡ None → AreMute replies (pair at w l).back
-        → ((f : SeenFrame) → In f (pair at w l).back → IsDueInTime (setting at w l) now now f)
+    up_first : exchange_span (link_setting at w l) < (link_setting at w l).period → AreMute reads_as_request (pair at w l).out
+        → ((f : SeenFrame) → In f (pair at w l).out → IsDueInTime (link_setting at w l) now now f)
+        → (pair at w l).waits ≡ None → AreMute reads_as_reply (pair at w l).back
+        → ((f : SeenFrame) → In f (pair at w l).back → IsDueInTime (link_setting at w l) now now f)
         → IsFirstAt now at w'
     up_first short silent sent none mute dues = record {
       link = up_step.after;
       short = subst (λ (y : Setting). exchange_span y < y.period) (sym up_step.settled) short;
       facts = subst (λ (y : Setting). Facts y now m'.pair) (sym up_step.settled) facts;
-      inv = subst (λ (y : Setting). InvFirst y (least_delay at w' up_step.after) asks replies now m')
-          (sym up_step.settled) (subst (λ (n : ℕ). InvFirst set n asks replies now m') same_least inv);
+      inv = subst (λ (y : Setting). InvFirst y (least_delay at w' up_step.after) reads_as_request reads_as_reply now m')
+          (sym up_step.settled) (subst (λ (n : ℕ). InvFirst set n reads_as_request reads_as_reply now m') same_least inv);
     }
       where
         set : Setting
-        set = setting at w l
+        set = link_setting at w l
 
         m' : Meter
         m' = meter at w' up_step.after
@@ -348,10 +348,10 @@ module _ (at : LinkPlace) (place p : ℕ) (w : WorldState) (draws : List Draw) (
               back = λ f member. subst (λ t. IsDueInTime set now t f) (sym time) (dues f (subst (In f) back member));
             }
 
-        inv : InvFirst set (least_delay at w l) asks replies now m'
+        inv : InvFirst set (least_delay at w l) reads_as_request reads_as_reply now m'
         inv =
-            asked_first set (least_delay at w l) asks replies now (pair at w l) m'.pair m'.last
-            l.asking.state.peer.next left (map frame_view (up_step.grows.news at.direction)) (omega (arith, short))
+            asked_first set (least_delay at w l) reads_as_request reads_as_reply now (pair at w l) m'.pair m'.last
+            l.asking.state.peer.next left (map link_frame_view (up_step.grows.news at.direction)) (omega (arith, short))
             (omega arith) up_step.time facts (out_late up_step) asks_first waits back (out_is up_step) request_goes
             (record {
               out = silent;
@@ -362,29 +362,29 @@ module _ (at : LinkPlace) (place p : ℕ) (w : WorldState) (draws : List Draw) (
 -- ---- other ports come up
 
 -- a link that came up: no request is in flight to the port that answers, nothing waits there, and no reply is in flight
--- to the port that asks
+-- to the port that reads_as_request
 pub record IsReady (at : LinkPlace) (time port : ℕ) (w : WorldState) : Type 0 where
   pub link : IsLinkOf at w
   pub orderly : IsOrderly w
   pub now : w.time ≡ time
   pub port_is : (sender at.direction link.channel).port ≡ port
-  pub short : exchange_span (setting at w link) < (setting at w link).period
-  pub silent : AreMute asks (pair at w link).out
-  pub sent : (f : SeenFrame) → In f (pair at w link).out → IsDueInTime (setting at w link) w.time w.time f
+  pub short : exchange_span (link_setting at w link) < (link_setting at w link).period
+  pub silent : AreMute reads_as_request (pair at w link).out
+  pub sent : (f : SeenFrame) → In f (pair at w link).out → IsDueInTime (link_setting at w link) w.time w.time f
   pub waits : (pair at w link).waits ≡ None
-  pub mute : AreMute replies (pair at w link).back
-  pub dues : (f : SeenFrame) → In f (pair at w link).back → IsDueInTime (setting at w link) w.time w.time f
+  pub mute : AreMute reads_as_reply (pair at w link).back
+  pub dues : (f : SeenFrame) → In f (pair at w link).back → IsDueInTime (link_setting at w link) w.time w.time f
 
 -- another port comes up
 pub ready_beside : (at : LinkPlace) (time port place p : ℕ) (w : WorldState) (draws : List Draw) (answer : Answer)
-    (w' : WorldState) (k : Calls place (PortUp p) w draws answer w') → IsPortOf k.station.system p
+    (w' : WorldState) (k : Calls place (PortUp p) w draws answer w') → HasPortNumber k.station.system p
     → (at.asking ≡ place → port ≢ p) → IsReady at time port w → IsReady at time port w'
 ready_beside at time port place p w draws answer w' k of other is =
     let l = is.link in
     let step = up_step at place p w draws answer w' k of is.orderly l in
-    let news = map frame_view (step.grows.news (opposite at.direction)) in
+    let news = map link_frame_view (step.grows.news (other_direction at.direction)) in
     let back : (pair at w' step.after).back ≡ (pair at w l).back ++ news = back_is step in
-    let sends = map frame_view (step.grows.news at.direction) in
+    let sends = map link_frame_view (step.grows.news at.direction) in
     let out : (pair at w' step.after).out ≡ (pair at w l).out ++ sends = out_is step in
     let time_is = step.time in
     let beside : at.asking ≡ place → (sender at.direction l.channel).port ≢ p =
@@ -397,11 +397,11 @@ ready_beside at time port place p w draws answer w' k of other is =
           (sender_same at.direction l.channel step.after.channel step.grows.a step.grows.b)
           ∙ is.port_is;
       short = subst (λ (y : Setting). exchange_span y < y.period) (sym step.settled) is.short;
-      silent = subst (AreMute asks) (sym out)
-          (mute_append asks (pair at w l).out sends is.silent
+      silent = subst (AreMute reads_as_request) (sym out)
+          (mute_append reads_as_request (pair at w l).out sends is.silent
           (mute_on at place p w draws answer w' k of is.orderly l beside));
       sent = λ f member. subst (λ (y : Setting). IsDueInTime y w'.time w'.time f) (sym step.settled)
-          (subst (λ t. IsDueInTime (setting at w l) t t f) (sym time_is)
+          (subst (λ t. IsDueInTime (link_setting at w l) t t f) (sym time_is)
           (elim (out_in_time step f member) [
             | inl old ↦ is.sent f old
             | inr (since, inl by) ↦ record { earliest = since; latest = omega (arith, by) }
@@ -411,10 +411,10 @@ ready_beside at time port place p w draws answer w' k of other is =
             }
           ]));
       waits = up_waits_still at place p w draws answer w' k of is.orderly l ∙ is.waits;
-      mute = subst (AreMute replies) (sym back)
-          (mute_append replies (pair at w l).back news is.mute (back_mute step (λ same e. absurd cc)));
+      mute = subst (AreMute reads_as_reply) (sym back)
+          (mute_append reads_as_reply (pair at w l).back news is.mute (back_mute step (λ same e. absurd cc)));
       dues = λ f member. subst (λ (y : Setting). IsDueInTime y w'.time w'.time f) (sym step.settled)
-          (subst (λ t. IsDueInTime (setting at w l) t t f) (sym time_is)
+          (subst (λ t. IsDueInTime (link_setting at w l) t t f) (sym time_is)
           (elim (back_in_time step f member) [
             | inl old ↦ is.dues f old
             | inr (since, inl by) ↦ record { earliest = since; latest = omega (arith, by) }
@@ -434,7 +434,7 @@ pub record Came (at : LinkPlace) (time port : ℕ) (w : WorldState) : Type 0 whe
 
 -- the own port comes up
 pub ready_first : (at : LinkPlace) (time place p : ℕ) (w : WorldState) (draws : List Draw) (answer : Answer)
-    (w' : WorldState) (k : Calls place (PortUp p) w draws answer w') → IsPortOf k.station.system p → at.asking ≡ place
+    (w' : WorldState) (k : Calls place (PortUp p) w draws answer w') → HasPortNumber k.station.system p → at.asking ≡ place
     → IsReady at time p w → Came at time p w'
 unfolding up_first
 ready_first at time place p w draws answer w' k of here is =
@@ -447,8 +447,8 @@ ready_first at time place p w draws answer w' k of here is =
       first = record {
         link = first.link;
         short = first.short;
-        facts = subst (λ t. Facts (setting at w' first.link) t (pair at w' first.link)) is.now first.facts;
-        inv = subst (λ t. InvFirst (setting at w' first.link) (least_delay at w' first.link) asks replies t
+        facts = subst (λ t. Facts (link_setting at w' first.link) t (pair at w' first.link)) is.now first.facts;
+        inv = subst (λ t. InvFirst (link_setting at w' first.link) (least_delay at w' first.link) reads_as_request reads_as_reply t
             (meter at w' first.link)) is.now first.inv;
       };
       orderly = calls_orderly place (PortUp p) w draws answer w' is.orderly k;
@@ -460,7 +460,7 @@ ready_first at time place p w draws answer w' k of here is =
 
 -- and then another
 pub came_beside : (at : LinkPlace) (time port place p : ℕ) (w : WorldState) (draws : List Draw) (answer : Answer)
-    (w' : WorldState) (k : Calls place (PortUp p) w draws answer w') → IsPortOf k.station.system p
+    (w' : WorldState) (k : Calls place (PortUp p) w draws answer w') → HasPortNumber k.station.system p
     → (at.asking ≡ place → port ≢ p) → Came at time port w → Came at time port w'
 unfolding first_acted up_beside
 came_beside at time port place p w draws answer w' k of other is =

@@ -13,22 +13,22 @@ use Rattle.gptp_setup.specs.Pace.{Pace}
 use Rattle.gptp_system.specs.declared.answer.Answer.{Answer}
 use Rattle.gptp_system.specs.Input.{PortUp}
 use Rattle.gptp_system.specs.State.{clock, number, own}
-use Rattle.gptp_system.specs.Steps.{IsPortOf, IsUp}
+use Rattle.gptp_system.specs.Steps.{HasPortNumber, IsUp}
 use Rattle.gptp_acts.specs.declared.station.Station.{Station}
 use Rattle.gptp_acts.specs.Act.{Calls}
 use Rattle.gptp_acts.specs.Acts.{AtLink}
 use Rattle.gptp_acts.specs.Ahead.{IsPortAmong}
 use Rattle.gptp_acts.specs.Changing.{CallsIfLive, ComesUpIf, IsChannel, TellsEnds, brought_up}
 use Rattle.gptp_acts.specs.Sound.{IsSound}
-use Rattle.gptp_acts.specs.World.{Channel, Net, WorldState, port_id, queue, receiver, sender}
+use Rattle.gptp_acts.specs.World.{Channel, Net, WorldState, port_id, world_queue, receiver, sender}
 use Rattle.gptp_acts.proofs.StayLemmas.{Stays, calls_if_live_stay, set_join}
 use Rattle.gptp_measuring.specs.Lanes.{AreMute}
 use Rattle.gptp_measuring.proofs.LaneLemmas.{no_frames_mute}
 use Rattle.gptp_kept.specs.FirstAt.{IsFirstAt, StandsDown}
 use Rattle.gptp_kept.specs.FirstAtLaws.{LinkUpIsFirst}
 use Rattle.gptp_kept.specs.Known.{IsKnown}
-use Rattle.gptp_kept.specs.LinkView.{IsEndOf, IsLinkOf, LinkPlace, SaysWhatFits, asks, frame_view, opposite, replies, waits_by}
-use Rattle.gptp_kept.specs.Measured.{AllFit, IsMeasured}
+use Rattle.gptp_kept.specs.LinkView.{IsEndOf, IsLinkOf, LinkPlace, RequestSaysWhatFits, reads_as_request, link_frame_view, other_direction, reads_as_reply, waits_by}
+use Rattle.gptp_kept.specs.Measured.{AllFit, LinkIsMeasured}
 use Rattle.gptp_kept.proofs.EndLemmas.{renamed}
 use Rattle.gptp_kept.proofs.LinkLemmas.{IsOrderly, net_orderly, sender_opposite, sound_orderly}
 use Rattle.gptp_kept.proofs.LinkKeptLemmas.{among_stays}
@@ -38,7 +38,7 @@ use Rattle.gptp_kept.proofs.FirstAtLemmas.{Came, IsReady, came_beside, live_call
 -- ---- a link comes up
 
 queue_up : (direction : Direction) (channel : Channel)
-    → queue direction (record channel { up = true }) ≡ queue direction channel
+    → world_queue direction (record channel { up = true }) ≡ world_queue direction channel
 queue_up FromA channel = refl
 queue_up FromB channel = refl
 
@@ -57,7 +57,7 @@ begins_at : (port : PortId) (place : ℕ) (net : Net) (channel : Channel) → Is
     → (direction : Direction) × (sender direction channel ≡ port)
 begins_at port place net channel is = elim is.joined [ inl a ↦ (FromA, a) | inr b ↦ (FromB, b) ]
 
-module _ (p : Pace) (at : LinkPlace) (w : WorldState) (sound : IsSound w) (measured : IsMeasured w)
+module _ (p : Pace) (at : LinkPlace) (w : WorldState) (sound : IsSound w) (measured : LinkIsMeasured w)
     (known : IsKnown p w) (s : StandsDown at w) where
   abbrev up_channel : Channel
   up_channel = record s.channel { up = true }
@@ -65,7 +65,7 @@ module _ (p : Pace) (at : LinkPlace) (w : WorldState) (sound : IsSound w) (measu
   abbrev brought : WorldState
   brought = record w { last_change = w.time; net = brought_up at.link s.channel w.net }
 
-  none_flies : (direction : Direction) → queue direction up_channel ≡ []
+  none_flies : (direction : Direction) → world_queue direction up_channel ≡ []
   none_flies direction = queue_up direction s.channel ∙ (sound.wired.flow at.link direction s.channel s.here).still
       s.down
 
@@ -102,22 +102,22 @@ module _ (p : Pace) (at : LinkPlace) (w : WorldState) (sound : IsSound w) (measu
 
   all_fit : AllFit brought.net.channels
   all_fit =
-      get-set_all (λ (c : Channel). (way : Direction) (f : Frame) → In f (queue way c) → SaysWhatFits f.octets)
+      get-set_all (λ (c : Channel). (way : Direction) (f : Frame) → In f (world_queue way c) → RequestSaysWhatFits f.octets)
       w.net.channels at.link s.channel up_channel s.here
       (λ way f member. absurd (subst (In f) (none_flies way) member)) measured.frames
 
-  measured_up : IsMeasured brought
+  measured_up : LinkIsMeasured brought
   measured_up = record { stations = measured.stations; frames = all_fit }
 
-  asking_of : IsPortOf s.asking.station.system (sender at.direction s.channel).port
+  asking_of : HasPortNumber s.asking.station.system (sender at.direction s.channel).port
   asking_of = sound.wired.ports at.link at.asking at.direction s.channel s.asking.station s.here s.asking.here
       s.asking.named
 
-  answering_of : IsPortOf s.answering.station.system (receiver at.direction s.channel).port
+  answering_of : HasPortNumber s.answering.station.system (receiver at.direction s.channel).port
   answering_of =
       let begins = sender_opposite at.direction s.channel in
-      subst (λ (q : PortId). IsPortOf s.answering.station.system q.port) begins
-      (sound.wired.ports at.link at.answering (opposite at.direction) s.channel s.answering.station s.here
+      subst (λ (q : PortId). HasPortNumber s.answering.station.system q.port) begins
+      (sound.wired.ports at.link at.answering (other_direction at.direction) s.channel s.answering.station s.here
       s.answering.here (s.answering.named ∙ ap (λ (q : PortId). q.clock) (sym begins)))
 
   asking_before : IsEndOf at.asking (sender at.direction s.channel) w
@@ -159,13 +159,13 @@ module _ (p : Pace) (at : LinkPlace) (w : WorldState) (sound : IsSound w) (measu
     now = refl;
     port_is = ap (λ (q : PortId). q.port) (sender_up at.direction s.channel);
     short = let good = s.good in let short = s.short in omega (arith, good, short);
-    silent = subst (AreMute asks) (sym (ap (map frame_view) (none_flies at.direction))) (no_frames_mute asks);
-    sent = λ f member. absurd (subst (In f) (ap (map frame_view) (none_flies at.direction)) member);
+    silent = subst (AreMute reads_as_request) (sym (ap (map link_frame_view) (none_flies at.direction))) (no_frames_mute reads_as_request);
+    sent = λ f member. absurd (subst (In f) (ap (map link_frame_view) (none_flies at.direction)) member);
     waits = ap (λ o. waits_by o link_up.answering.state.peer.waiting) no_wait;
-    mute = subst (AreMute replies) (sym (ap (map frame_view) (none_flies (opposite at.direction))))
-        (no_frames_mute replies);
+    mute = subst (AreMute reads_as_reply) (sym (ap (map link_frame_view) (none_flies (other_direction at.direction))))
+        (no_frames_mute reads_as_reply);
     dues = λ f member.
-        absurd (subst (In f) (ap (map frame_view) (none_flies (opposite at.direction))) member);
+        absurd (subst (In f) (ap (map link_frame_view) (none_flies (other_direction at.direction))) member);
   }
     where
       orderly_up : IsOrderly brought
@@ -177,8 +177,8 @@ module _ (p : Pace) (at : LinkPlace) (w : WorldState) (sound : IsSound w) (measu
 
       no_wait : link_up.answering.state.respond ≡ None
       no_wait =
-          no_answer (opposite at.direction) at.answering
-          (renamed at.answering (receiver at.direction s.channel) (sender (opposite at.direction) s.channel) w
+          no_answer (other_direction at.direction) at.answering
+          (renamed at.answering (receiver at.direction s.channel) (sender (other_direction at.direction) s.channel) w
           (sym (sender_opposite at.direction s.channel)) answering_before)
 
   -- the ends are told, the end a first
@@ -214,11 +214,11 @@ module _ (p : Pace) (at : LinkPlace) (w : WorldState) (sound : IsSound w) (measu
         (same_there brought.stations k.place_b near.old k.station_b near.here k.is_b.here) ∙ k.is_b.named
 
     of_a : (station : Station) → slice_get brought.stations k.place_a ≡ Some station
-        → IsPortOf station.system s.channel.a.port
+        → HasPortNumber station.system s.channel.a.port
     of_a station there = port_among FromA k.place_a station there (named_a station there)
 
     of_b : (station : Station) → slice_get k.between.stations k.place_b ≡ Some station
-        → IsPortOf station.system s.channel.b.port
+        → HasPortNumber station.system s.channel.b.port
     of_b station there =
         among_stays brought k.between s.channel.b stays (port_among FromB) k.place_b station there
         (named_b station there)
@@ -249,7 +249,7 @@ module _ (p : Pace) (at : LinkPlace) (w : WorldState) (sound : IsSound w) (measu
     ready_port : (port : ℕ) → (sender at.direction s.channel).port ≡ port → IsReady at w.time port brought
     ready_port port is = subst (λ n. IsReady at w.time n brought) is ready
 
-    -- the end a asks
+    -- the end a reads_as_request
     from_a : at.direction ≡ FromA → IsFirstAt w.time at w'
     from_a is = second k.at_b
       where
@@ -271,7 +271,7 @@ module _ (p : Pace) (at : LinkPlace) (w : WorldState) (sound : IsSound w) (measu
             (of_b c.station c.here) (λ same. absurd (s.apart (same ∙ sym places.1))) first).first
         second (inr (failed, none, same)) = subst (IsFirstAt w.time at) (sym same) first.first
 
-    -- the end b asks
+    -- the end b reads_as_request
     from_b : at.direction ≡ FromB → IsFirstAt w.time at w'
     from_b is = second k.at_b
       where

@@ -13,7 +13,7 @@ use Rattle.gptp_receipt.specs.Held.{received}
 use Rattle.gptp_system.specs.declared.port.Port.{Port}
 use Rattle.gptp_system.specs.declared.sending.Sending.{Sending}
 use Rattle.gptp_system.specs.Facts.{AreHeld, AreShown, IsAtRest}
-use Rattle.gptp_system.specs.Follows.{FollowsItself, FollowsPort}
+use Rattle.gptp_system.specs.Follows.{SystemIsRoot, SystemFollowsPort}
 use Rattle.gptp_system.specs.Reacts.{PlaceReacts, PortEnds, Reacts}
 use Rattle.gptp_system.specs.State.{SystemState, clock, trace}
 use Rattle.gptp_system.specs.Touch.{Touch, Hear}
@@ -78,7 +78,7 @@ one_more path c all fits x member = by (In-parts x path (c ∷ []) member)
 pub rest_fits : (s : SystemState) → SystemFits s → AreHeld s → IsAtRest s → TellsWhatFits s
 rest_fits s fits held rest = by (follows s held rest)
   where
-    by : FollowsItself s ⊎ FollowsPort s → TellsWhatFits s
+    by : SystemIsRoot s ⊎ SystemFollowsPort s → TellsWhatFits s
     by (inl k) = record {
       root = subst (λ n. n < 2 ^ 112) (sym k.root) fits.identity;
       steps = let none = k.steps in omega arith;

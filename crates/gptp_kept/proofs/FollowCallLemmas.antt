@@ -12,11 +12,11 @@ use Rattle.gptp_acts.proofs.SteadyLemmas.{same_clock}
 use Rattle.gptp_acts.specs.Act.{Calls, in_state}
 use Rattle.gptp_acts.specs.declared.station.Station.{Station}
 use Rattle.gptp_acts.specs.Sound.{AreApart, HaveOwnClocks}
-use Rattle.gptp_acts.specs.World.{WorldState, queue, receiver, sender}
-use Rattle.gptp_kept.specs.Followers.{IsFollower, state_above, state_of}
+use Rattle.gptp_acts.specs.World.{WorldState, world_queue, receiver, sender}
+use Rattle.gptp_kept.specs.Followers.{IsFollower, state_above, follower_state}
 use Rattle.gptp_kept.specs.LinkView.{LinkPlace}
 use Rattle.gptp_kept.specs.Said.{said_at}
-use Rattle.gptp_kept.specs.Standing.{live_systems}
+use Rattle.gptp_kept.specs.Standing.{live_stations}
 use Rattle.gptp_kept.proofs.CalmKeptLemmas.{KeepsNetwork}
 use Rattle.gptp_kept.proofs.FollowLaneLemmas.{LaneGrows, call_lane}
 use Rattle.gptp_kept.proofs.FollowTreeLemmas.{FollowedBefore, WasBefore, followed_before, was_before}
@@ -32,11 +32,11 @@ pub record CallSeen (at : LinkPlace) (w w' : WorldState) (f' : IsFollower at w')
   pub a : f'.channel.a ≡ before.channel.a
   pub b : f'.channel.b ≡ before.channel.b
   pub bounds : f'.channel.bounds ≡ before.channel.bounds
-  pub own : ((at.answering ≡ place) × (state_of at w before ≡ s) × (state_of at w' f' ≡ s'))
-      ⊎ ((at.answering ≢ place) × (state_of at w' f' ≡ state_of at w before))
+  pub own : ((at.answering ≡ place) × (follower_state at w before ≡ s) × (follower_state at w' f' ≡ s'))
+      ⊎ ((at.answering ≢ place) × (follower_state at w' f' ≡ follower_state at w before))
   pub above : at.asking ≡ place → state_above at w before ≡ s
   pub news : List Frame
-  pub queue_is : queue at.direction f'.channel ≡ queue at.direction before.channel ++ news
+  pub queue_is : world_queue at.direction f'.channel ≡ world_queue at.direction before.channel ++ news
   pub said : octets_of news ≡ said_at s' (sender at.direction before.channel) sends
   pub quiet : at.asking ≢ place → news ≡ []
   pub late : (f : Frame) → In f news → w.time + before.channel.bounds.min ≤ f.due
@@ -65,7 +65,7 @@ module _ (place : ℕ) (input : Input) (w : WorldState) (draws : List Draw) (ans
       (said_at k.after (sender at.direction old.channel) k.sends) w'
   grows =
       call_lane place input w draws answer w' k at.link at.direction old.channel apart
-      (λ e. ends (was.a ∙ e ∙ sym was.b)) old.here (used_up (live_systems w.stations) old.channel old.used) old.lossless
+      (λ e. ends (was.a ∙ e ∙ sym was.b)) old.here (used_up (live_stations w.stations) old.channel old.used) old.lossless
 
   new_is : grows.new ≡ f'.channel
   new_is = same_there w'.net.channels at.link grows.new f'.channel grows.here f'.here
@@ -73,8 +73,8 @@ module _ (place : ℕ) (input : Input) (w : WorldState) (draws : List Draw) (ans
   own_by : ((at.answering ≡ place) × (own_was.before.station ≡ k.station)
       × (f'.own.station ≡ in_state k.after k.station))
       ⊎ ((at.answering ≢ place) × (f'.own.station ≡ own_was.before.station))
-      → ((at.answering ≡ place) × (state_of at w old ≡ k.station.system) × (state_of at w' f' ≡ k.after))
-      ⊎ ((at.answering ≢ place) × (state_of at w' f' ≡ state_of at w old))
+      → ((at.answering ≡ place) × (follower_state at w old ≡ k.station.system) × (follower_state at w' f' ≡ k.after))
+      ⊎ ((at.answering ≢ place) × (follower_state at w' f' ≡ follower_state at w old))
   own_by (inl (same, was_it, is_it)) =
       inl (
         same,
@@ -108,7 +108,7 @@ module _ (place : ℕ) (input : Input) (w : WorldState) (draws : List Draw) (ans
     own = own_by own_was.which;
     above = above_by above_was.which;
     news = grows.news;
-    queue_is = ap (queue at.direction) (sym new_is) ∙ grows.is;
+    queue_is = ap (world_queue at.direction) (sym new_is) ∙ grows.is;
     said = grows.said_is;
     quiet = quiet;
     late = grows.late;

@@ -28,17 +28,17 @@ use Rattle.gptp_acts.proofs.SteadyLemmas.{same_clock}
 use Rattle.gptp_acts.proofs.StayLemmas.{carry_join, sender_same, takes_carry}
 use Rattle.gptp_acts.specs.Act.{Calls, Delivers, HasFailed, Hears}
 use Rattle.gptp_acts.specs.declared.station.Station.{Station}
-use Rattle.gptp_acts.specs.World.{Channel, Net, WorldState, queue, receiver, sender, with_queue}
-use Rattle.gptp_timing.specs.Acts.{Acts, hears}
-use Rattle.gptp_timing.specs.Follower.{Setting}
-use Rattle.gptp_timing.specs.Invariant.{Inv}
+use Rattle.gptp_acts.specs.World.{Channel, Net, WorldState, world_queue, receiver, sender, with_queue}
+use Rattle.gptp_timing.specs.Acts.{FollowerActs, hears}
+use Rattle.gptp_timing.specs.Follower.{FollowerSetting}
+use Rattle.gptp_timing.specs.Invariant.{FollowerInvariant}
 use Rattle.gptp_kept.specs.FollowView.{follower_view, tells}
-use Rattle.gptp_kept.specs.Followers.{HasWay, IsFollower, follower, follower_setting, state_above, state_of}
-use Rattle.gptp_kept.specs.LinkView.{LinkPlace, frame_view, lane_view, opposite}
+use Rattle.gptp_kept.specs.Followers.{HasWay, IsFollower, follower, follower_setting, state_above, follower_state}
+use Rattle.gptp_kept.specs.LinkView.{LinkPlace, link_frame_view, link_lane_view, other_direction}
 use Rattle.gptp_kept.specs.Said.{said_at}
 use Rattle.gptp_kept.specs.Standing.{snapshot_of}
 use Rattle.gptp_kept.specs.Timed.{CarriesTime, IsSettledFrom, RootsAreFresh}
-use Rattle.gptp_kept.specs.View.{identity_of}
+use Rattle.gptp_kept.specs.View.{port_identity_number}
 use Rattle.gptp_kept.proofs.CalmKeptLemmas.{KeepsNetwork, calls_keep, keeps_on, net_keeps, same_snapshot}
 use Rattle.gptp_kept.proofs.FollowCallLemmas.{CallSeen, call_seen}
 use Rattle.gptp_kept.proofs.FollowExpiryLemmas.{known_ran, roots_kept}
@@ -62,19 +62,19 @@ same_way FromA FromB = inr (λ e. cc)
 same_way FromB FromA = inr (λ e. cc)
 same_way FromB FromB = inl refl
 
-pub opposite_same : (one other : Direction) → opposite one ≡ opposite other → one ≡ other
+pub opposite_same : (one other : Direction) → other_direction one ≡ other_direction other → one ≡ other
 opposite_same FromA FromA e = refl
 opposite_same FromA FromB e = absurd cc
 opposite_same FromB FromA e = absurd cc
 opposite_same FromB FromB e = refl
 
 queue_other : (one other : Direction) (frames : List Frame) (channel : Channel) → one ≢ other
-    → queue one (with_queue other frames channel) ≡ queue one channel
+    → world_queue one (with_queue other frames channel) ≡ world_queue one channel
 queue_other one other frames channel differs = elim (which_way one other) [
   | inl same ↦ absurd (differs same)
   | inr back ↦
-      ap (λ way. queue way (with_queue other frames channel)) back ∙ queue_left other frames channel
-      ∙ ap (λ way. queue way channel) (sym back)
+      ap (λ way. world_queue way (with_queue other frames channel)) back ∙ queue_left other frames channel
+      ∙ ap (λ way. world_queue way channel) (sym back)
 ]
 
 -- ---- a delivery
@@ -129,7 +129,7 @@ module _ (p : Pace) (settled longest : ℕ) (w : WorldState) (is : IsSettledFrom
     abbrev f : IsFollower at w
     f = was.before
 
-    state_is : state_of at w f ≡ state_of at emptied left
+    state_is : follower_state at w f ≡ follower_state at emptied left
     state_is = ap (λ (y : Station). y.system) was.own_is
 
     state_above_is : state_above at w f ≡ state_above at emptied left
@@ -142,15 +142,15 @@ module _ (p : Pace) (settled longest : ℕ) (w : WorldState) (is : IsSettledFrom
 
     -- the lane is as it was, and the frame came to another port
     record CameElsewhere : Type 0 where
-      lane : queue at.direction left.channel ≡ queue at.direction f.channel
+      lane : world_queue at.direction left.channel ≡ world_queue at.direction f.channel
       other : receiver direction d.channel ≢ receiver at.direction f.channel
 
     other_port : (link ≡ at.link → at.direction ≢ direction)
         → receiver direction d.channel ≢ receiver at.direction f.channel
     other_port off same =
         let begins = sender_opposite direction d.channel ∙ same ∙ sym (sender_opposite at.direction f.channel) in
-        let one = one_way w is.world.sound is.world.legible link at.link (opposite direction) (opposite at.direction)
-        d.channel f.channel d.takes.here f.here (ap identity_of begins) in
+        let one = one_way w is.world.sound is.world.legible link at.link (other_direction direction) (other_direction at.direction)
+        d.channel f.channel d.takes.here f.here (ap port_identity_number begins) in
         off one.same_link (sym (opposite_same direction at.direction one.same_way))
 
     which : CameHere ⊎ CameElsewhere
@@ -163,15 +163,15 @@ module _ (p : Pace) (settled longest : ℕ) (w : WorldState) (is : IsSettledFrom
             same_there w.net.channels at.link left.channel f.channel
             (sym (get-set_other w.net.channels link at.link _ (λ e. off (sym e)))
             ∙ ap (λ cs. slice_get cs at.link) (sym channels_are) ∙ left.here) f.here in
-            inr (record { lane = ap (queue at.direction) stands; other = other_port (λ here. absurd (off here)) })
+            inr (record { lane = ap (world_queue at.direction) stands; other = other_port (λ here. absurd (off here)) })
         by (inl here) (inl way) = inl (record { here = here; way = way })
         by (inl here) (inr other) =
             let same : d.channel ≡ f.channel =
             same_there w.net.channels at.link d.channel f.channel
             (ap (slice_get w.net.channels) (sym here) ∙ d.takes.here) f.here in
             inr (record {
-              lane = ap (queue at.direction) (popped here)
-                  ∙ queue_other at.direction direction d.takes.rest d.channel other ∙ ap (queue at.direction) same;
+              lane = ap (world_queue at.direction) (popped here)
+                  ∙ queue_other at.direction direction d.takes.rest d.channel other ∙ ap (world_queue at.direction) same;
               other = other_port (λ there. other);
             })
           where
@@ -200,19 +200,19 @@ module _ (p : Pace) (settled longest : ℕ) (w : WorldState) (is : IsSettledFrom
           (f.own.named ∙ ap (λ (q : PortId). q.clock) (sym port_is) ∙ sym d.is_end)
 
       -- the oldest frame is this one, and the others are left
-      front_is : queue at.direction f.channel ≡ frame w.time octets ∷ d.takes.rest
+      front_is : world_queue at.direction f.channel ≡ frame w.time octets ∷ d.takes.rest
       front_is =
-          ap (queue at.direction) (sym channel_is) ∙ ap (λ way. queue way d.channel) came.way ∙ d.takes.front
+          ap (world_queue at.direction) (sym channel_is) ∙ ap (λ way. world_queue way d.channel) came.way ∙ d.takes.front
 
-      left_is : queue at.direction left.channel ≡ d.takes.rest
+      left_is : world_queue at.direction left.channel ≡ d.takes.rest
       left_is =
-          ap (queue at.direction)
+          ap (world_queue at.direction)
           (same_there d.net.channels at.link left.channel (with_queue direction d.takes.rest d.channel) left.here
           (ap (λ cs. slice_get cs at.link) channels_are
           ∙ ap (slice_get (slice_set w.net.channels link (with_queue direction d.takes.rest d.channel)))
           (sym came.here)
           ∙ get-set_same w.net.channels link d.channel (with_queue direction d.takes.rest d.channel) d.takes.here))
-          ∙ ap (λ way. queue way (with_queue direction d.takes.rest d.channel)) came.way
+          ∙ ap (λ way. world_queue way (with_queue direction d.takes.rest d.channel)) came.way
           ∙ queue_set direction d.takes.rest d.channel
 
   -- ---- nobody hears it
@@ -221,14 +221,14 @@ module _ (p : Pace) (settled longest : ℕ) (w : WorldState) (is : IsSettledFrom
     module _ (at : LinkPlace) (left : IsFollower at emptied) (steps : ℕ) (h' : HasWay p.params at emptied left steps)
       where
         kept_by : CameHere at left ⊎ CameElsewhere at left
-            → Inv (follower_setting p.params settled longest at emptied left steps h') tells (follower at emptied left)
+            → FollowerInvariant (follower_setting p.params settled longest at emptied left steps h') tells (follower at emptied left)
         kept_by (inr elsewhere) =
             let g = f at left in
             inv_on p settled longest w emptied is is_left takes_keeps refl at g left (was at left).a (was at left).b
             (was at left).bounds steps h' carries
             (others p settled longest w emptied is is_left takes_keeps refl at g left (was at left).a (was at left).b
             (was at left).bounds steps h' []
-            (elsewhere.lane ∙ sym (append-nil (queue at.direction g.channel))) (λ x none. absurd none)
+            (elsewhere.lane ∙ sym (append-nil (world_queue at.direction g.channel))) (λ x none. absurd none)
             (record {
               sync_in = ap (λ (y : SystemState). y.sync_in) (sym (state_is at left));
               known = ap (λ (y : SystemState). y.known) (sym (state_is at left));
@@ -298,10 +298,10 @@ module _ (p : Pace) (settled longest : ℕ) (w : WorldState) (is : IsSettledFrom
       g = f at left
 
       abbrev x : SystemState
-      x = state_of at w g
+      x = follower_state at w g
 
       abbrev x' : SystemState
-      x' = state_of at w' f'
+      x' = follower_state at w' f'
 
       a : f'.channel.a ≡ g.channel.a
       a = seen.a ∙ (was at left).a
@@ -318,7 +318,7 @@ module _ (p : Pace) (settled longest : ℕ) (w : WorldState) (is : IsSettledFrom
       abbrev h : HasWay p.params at w g steps
       h = way_was p settled longest w w' is is' keeps time at g f' a b bounds steps h'
 
-      abbrev k : Setting
+      abbrev k : FollowerSetting
       k = follower_setting p.params settled longest at w g steps h
 
       own_is : ((at.answering ≡ d.place) × (x ≡ s) × (x' ≡ s')) ⊎ ((at.answering ≢ d.place) × (x' ≡ x))
@@ -356,7 +356,7 @@ module _ (p : Pace) (settled longest : ℕ) (w : WorldState) (is : IsSettledFrom
           off = not_slave (receiver at.direction g.channel).port slave_there other
 
       elsewhere_acts : CameElsewhere at left
-          → Acts k tells (follower at w g) (follower_view w.time at.direction f'.channel x')
+          → FollowerActs k tells (follower at w g) (follower_view w.time at.direction f'.channel x')
       elsewhere_acts elsewhere =
           step_seen p settled longest w w' is is' keeps time at g f' a b bounds steps h' d.place s s' c.sends seen.news
           (seen.queue_is ∙ ap (λ q. q ++ seen.news) elsewhere.lane)
@@ -366,7 +366,7 @@ module _ (p : Pace) (settled longest : ℕ) (w : WorldState) (is : IsSettledFrom
           (λ here. inl (heard_tells_none port octets w.time s s' c.sends (sender at.direction g.channel) sent))
 
       -- over its own
-      arrives : CameHere at left → Acts k tells (follower at w g) (follower_view w.time at.direction f'.channel x')
+      arrives : CameHere at left → FollowerActs k tells (follower at w g) (follower_view w.time at.direction f'.channel x')
       arrives came = by own_is
         where
           nothing : seen.news ≡ []
@@ -386,18 +386,18 @@ module _ (p : Pace) (settled longest : ℕ) (w : WorldState) (is : IsSettledFrom
           number = ap (λ (q : PortId). q.port) (port_is at left came)
 
           by : ((at.answering ≡ d.place) × (x ≡ s) × (x' ≡ s')) ⊎ ((at.answering ≢ d.place) × (x' ≡ x))
-              → Acts k tells (follower at w g) (follower_view w.time at.direction f'.channel x')
+              → FollowerActs k tells (follower at w g) (follower_view w.time at.direction f'.channel x')
           by (inr (other, still)) = absurd (other (place_is at left came))
           by (inl (here, before, now)) =
               hears (record {
-                front = frame_view (frame w.time octets);
-                rest = map frame_view d.takes.rest;
-                was = ap (map frame_view) (front_is at left came);
+                front = link_frame_view (frame w.time octets);
+                rest = map link_frame_view d.takes.rest;
+                was = ap (map link_frame_view) (front_is at left came);
                 now = refl;
                 lane = lane_seen at.direction left.channel f'.channel seen.news seen.queue_is
-                    ∙ ap (λ fs. lane_view at.direction left.channel ++ map frame_view fs) nothing
-                    ∙ append-nil (lane_view at.direction left.channel)
-                    ∙ ap (map frame_view) (left_is at left came);
+                    ∙ ap (λ fs. link_lane_view at.direction left.channel ++ map link_frame_view fs) nothing
+                    ∙ append-nil (link_lane_view at.direction left.channel)
+                    ∙ ap (map link_frame_view) (left_is at left came);
                 hears = hears_seen k w.time at.direction g.channel f'.channel (receiver at.direction g.channel).port
                     octets x x' c.sends told (takes_time p settled longest w is at g)
                     (subst (λ n. Steps (FrameHeard n octets) w.time x x' c.sends told) number
@@ -411,12 +411,12 @@ module _ (p : Pace) (settled longest : ℕ) (w : WorldState) (is : IsSettledFrom
                     on_time;
               })
 
-      follows_on : Inv (follower_setting p.params settled longest at w' f' steps h') tells (follower at w' f')
+      follows_on : FollowerInvariant (follower_setting p.params settled longest at w' f' steps h') tells (follower at w' f')
       follows_on =
           inv_on p settled longest w w' is is' keeps time at g f' a b bounds steps h' carries (by (which at left))
         where
           by : CameHere at left ⊎ CameElsewhere at left
-              → Acts k tells (follower at w g) (follower_view w.time at.direction f'.channel x')
+              → FollowerActs k tells (follower at w g) (follower_view w.time at.direction f'.channel x')
           by (inl came) = arrives came
           by (inr elsewhere) = elsewhere_acts elsewhere
 

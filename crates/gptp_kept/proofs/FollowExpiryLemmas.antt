@@ -10,19 +10,19 @@ use Rattle.gptp_setup.specs.declared.timer.Timer.{Timer}
 use Rattle.gptp_setup.specs.declared.timer.Timer.TheVariants as timers
 use Rattle.gptp_setup.specs.Pace.{Pace}
 use Rattle.gptp_system.specs.declared.answer.Answer.{Answer}
-use Rattle.gptp_system.specs.Input.{Input, Steps, Expires as TimerExpires}
+use Rattle.gptp_system.specs.Input.{Input, Steps, TimerRunsOut as TimerExpires}
 use Rattle.gptp_system.specs.Messages.{AreSent}
 use Rattle.gptp_system.specs.Selection.{kept_if}
 use Rattle.gptp_system.specs.State.{SystemState, clock, due}
-use Rattle.gptp_system.specs.Syncing.{LeadsTime, leads}
+use Rattle.gptp_system.specs.Syncing.{LeadsTime, is_leading}
 use Rattle.gptp_system.proofs.SentLemmas.{steps_send}
 use Rattle.gptp_acts.proofs.SteadyLemmas.{same_clock}
-use Rattle.gptp_acts.specs.Act.{Calls, Expires, in_state}
+use Rattle.gptp_acts.specs.Act.{Calls, TimerRunsOut, in_state}
 use Rattle.gptp_acts.specs.Agrees.{stopped}
 use Rattle.gptp_acts.specs.declared.station.Station.{Station}
 use Rattle.gptp_acts.specs.World.{WorldState, sender}
-use Rattle.gptp_timing.specs.Follower.{Setting}
-use Rattle.gptp_timing.specs.Invariant.{Inv}
+use Rattle.gptp_timing.specs.Follower.{FollowerSetting}
+use Rattle.gptp_timing.specs.Invariant.{FollowerInvariant}
 use Rattle.gptp_kept.specs.FollowView.{tells}
 use Rattle.gptp_kept.specs.Followers.{HasWay, IsFollower, follower, follower_setting, state_above}
 use Rattle.gptp_kept.specs.LinkView.{LinkPlace}
@@ -86,7 +86,7 @@ known_ran s s' t k runs = by k.same k.relay
 module _ (p : Pace) (settled longest : ℕ) (w w' : WorldState) (is : IsSettledFrom p settled longest w)
     (is' : IsSettledFrom p settled longest w') (right : AllMeasureRight p.params w)
     (carries : CarriesTime p.params settled longest w) (place : ℕ) (timer : Timer) (draws : List Draw)
-    (e : Expires place timer w draws w') where
+    (e : TimerRunsOut place timer w draws w') where
   abbrev at_rest : WorldState
   at_rest = stopped place timer w
 
@@ -162,7 +162,7 @@ module _ (p : Pace) (settled longest : ℕ) (w w' : WorldState) (is : IsSettledF
     abbrev h : HasWay p.params at w f steps
     h = way_was p settled longest w w' is is' keeps time at f f' seen.a seen.b seen.bounds steps h'
 
-    abbrev kset : Setting
+    abbrev kset : FollowerSetting
     kset = follower_setting p.params settled longest at w f steps h
 
     abbrev port : PortId
@@ -179,11 +179,11 @@ module _ (p : Pace) (settled longest : ℕ) (w w' : WorldState) (is : IsSettledF
         none_sent none octets member =
             absurd (subst (λ xs. In octets (said_at s' port xs)) none member)
 
-        leading : (leads s ≡ true) × LeadsTime w.time s s' e.calls.sends → TellsRight kset w.time s e.calls.sends
+        leading : (is_leading s ≡ true) × LeadsTime w.time s s' e.calls.sends → TellsRight kset w.time s e.calls.sends
         leading (leads_it, told) =
             subst (λ y. TellsRight kset w.time y e.calls.sends) above
             (leader_right p settled longest w is at f steps h s' e.calls.sends
-            (subst (λ y. leads y ≡ true) (sym above) leads_it)
+            (subst (λ y. is_leading y ≡ true) (sym above) leads_it)
             (subst (λ y. LeadsTime w.time y s' e.calls.sends) (sym above) told))
 
         sending : s.relay ≡ Some w.time → SendsOn w.time s s' e.calls.sends → TellsRight kset w.time s e.calls.sends
@@ -215,7 +215,7 @@ module _ (p : Pace) (settled longest : ℕ) (w w' : WorldState) (is : IsSettledF
         by timers.Lapse k all runs =
             inl (timer_tells_none timers.Lapse w.time s s' e.calls.sends port (λ q. cc) (λ q. cc) all)
 
-    follows_on : Inv (follower_setting p.params settled longest at w' f' steps h') tells (follower at w' f')
+    follows_on : FollowerInvariant (follower_setting p.params settled longest at w' f' steps h') tells (follower at w' f')
     follows_on =
         inv_on p settled longest w w' is is' keeps time at f f' seen.a seen.b seen.bounds steps h' carries
         (step_seen p settled longest w w' is is' keeps time at f f' seen.a seen.b seen.bounds steps h' place s s'

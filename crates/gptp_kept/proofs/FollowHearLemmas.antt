@@ -17,9 +17,9 @@ use Rattle.gptp_system.specs.declared.sending.Sending.{Sending}
 use Rattle.gptp_system.specs.Input.{Steps, Frame as FrameHeard}
 use Rattle.gptp_system.specs.Selection.{kept_if}
 use Rattle.gptp_system.specs.State.{SystemState, held_at, local_time}
-use Rattle.gptp_system.specs.Syncing.{KnowsBy, came_from, delay_at, is_followed, is_slave_at, rate_at, said_on}
+use Rattle.gptp_system.specs.Syncing.{KnowsBy, came_from, delay_at, is_followed, is_slave_at, root_rate_at, said_on}
 use Rattle.gptp_kept.specs.SyncView.{TakesTime}
-use Rattle.gptp_kept.specs.View.{identity_of}
+use Rattle.gptp_kept.specs.View.{port_identity_number}
 use Rattle.gptp_kept.proofs.SendLemmas.{same_identity}
 use Rattle.gptp_kept.proofs.SyncHeardLemmas.{belonging, follow_up_known, followed, sync_kept}
 use Rattle.gptp_kept.proofs.TimeStepLemmas.{KeepsHeard, StaysKnown, frame_heard}
@@ -111,7 +111,7 @@ hears_time p octets now s s' sends answer k = elim (frame_heard p octets now s s
     reads = learned.reads;
     info = learned.info;
     said = learned.said;
-    knows = knows_by (has_sync_timeout s.params) learned.info (delay_at s p) (rate_at s p) now s s' sends answer
+    knows = knows_by (has_sync_timeout s.params) learned.info (delay_at s p) (root_rate_at s p) now s s' sends answer
         learned.knows;
   }))
 ]
@@ -141,7 +141,7 @@ module _ (p : ℕ) (source : PortIdentity) (octets : List ℕ) (now : ℕ) (s s'
     (answer : Answer) (takes : TakesTime s p source) (k : Steps (FrameHeard p octets) now s s' sends answer) where
   -- a Sync of the parent is kept
   pub slave_keeps : (head : Head) → Reads octets (messages.Sync head) → head.two_step ≡ true
-      → identity_of head.source ≡ source → HasKept p octets now s s'
+      → port_identity_number head.source ≡ source → HasKept p octets now s s'
   slave_keeps head reads two_step from =
       has_kept p octets now s s' sends answer
       (record {
@@ -153,9 +153,9 @@ module _ (p : ℕ) (source : PortIdentity) (octets : List ℕ) (now : ℕ) (s s'
 
   -- and what its Follow_Up says with the Sync of its number is known, or nothing is
   pub slave_learns : (m : FollowUpFields) (kept : KeptSync) → Reads octets (messages.FollowUp m)
-      → s.sync_in ≡ Some kept → identity_of m.head.source ≡ identity_of kept.source
+      → s.sync_in ≡ Some kept → port_identity_number m.head.source ≡ port_identity_number kept.source
       → m.head.sequence ≡ kept.sequence → KnowsOrNot (together m kept) now s s'
   slave_learns m kept reads keeps from number =
-      knows_by (has_sync_timeout s.params) (together m kept) (delay_at s p) (rate_at s p) now s s' sends answer
+      knows_by (has_sync_timeout s.params) (together m kept) (delay_at s p) (root_rate_at s p) now s s' sends answer
       (follow_up_known p octets now s s' sends answer source m kept k takes reads keeps
       (belonging m kept (same_identity m.head.source kept.source from) number))

@@ -9,10 +9,10 @@ use Rattle.gptp_system.specs.declared.answer.Answer.{Answer}
 use Rattle.gptp_system.specs.Input.{Input}
 use Rattle.gptp_acts.specs.Act.{Calls, all_timers, in_state}
 use Rattle.gptp_acts.specs.Sound.{AreApart}
-use Rattle.gptp_acts.specs.World.{Channel, Net, WorldState, queue, sender}
-use Rattle.gptp_measuring.specs.Lanes.{Frame as SeenFrame}
-use Rattle.gptp_timing.specs.Acts.{AreInOrder}
-use Rattle.gptp_kept.specs.LinkView.{frame_view, lane_view}
+use Rattle.gptp_acts.specs.World.{Channel, Net, WorldState, world_queue, sender}
+use Rattle.gptp_measuring.specs.Lanes.{LaneFrame as SeenFrame}
+use Rattle.gptp_timing.specs.Acts.{FramesAreInOrder}
+use Rattle.gptp_kept.specs.LinkView.{link_frame_view, link_lane_view}
 use Rattle.gptp_kept.specs.Said.{said_at}
 use Rattle.gptp_kept.proofs.LinkLaneLemmas.{IsAlone, sends_grow}
 use Rattle.gptp_kept.proofs.SentLemmas.{octets_of}
@@ -26,13 +26,13 @@ order_behind (x ∷ []) (y ∷ ys) order = order.1
 order_behind (x ∷ (z ∷ xs)) ys order = order_behind (z ∷ xs) ys order.1
 
 first_least : (least : ℕ) (f : Frame) (fs : List Frame) → least ≤ f.due → AreDueInOrder (f ∷ fs) → (g : SeenFrame)
-    → In g (map frame_view (f ∷ fs)) → least ≤ g.due
+    → In g (map link_frame_view (f ∷ fs)) → least ≤ g.due
 first_least least f fs before order g (inl same) = subst (λ (x : SeenFrame). least ≤ x.due) (sym same) before
 first_least least f [] before order g (inr none) = absurd none
 first_least least f (h ∷ fs) before order g (inr later) =
     let next = order.0 in first_least least h fs (omega arith) order.1 g later
 
-pub in_order : (fs : List Frame) → AreDueInOrder fs → AreInOrder (map frame_view fs)
+pub in_order : (fs : List Frame) → AreDueInOrder fs → FramesAreInOrder (map link_frame_view fs)
 in_order [] order = tt
 in_order (f ∷ []) order = (λ g none. absurd none, tt)
 in_order (f ∷ (h ∷ fs)) order = (first_least f.due h fs order.0 order.1, in_order (h ∷ fs) order.1)
@@ -45,7 +45,7 @@ pub record LaneGrows (now link : ℕ) (direction : Direction) (old : Channel) (s
   pub new : Channel
   pub here : slice_get w'.net.channels link ≡ Some new
   pub news : List Frame
-  pub is : queue direction new ≡ queue direction old ++ news
+  pub is : world_queue direction new ≡ world_queue direction old ++ news
   pub said_is : octets_of news ≡ said
   pub late : (f : Frame) → In f news → now + old.bounds.min ≤ f.due
 
@@ -73,7 +73,7 @@ call_lane place input w draws answer w' k link direction old apart ends here up 
 
 -- so it is seen
 pub lane_seen : (direction : Direction) (old new : Channel) (news : List Frame)
-    → queue direction new ≡ queue direction old ++ news
-    → lane_view direction new ≡ lane_view direction old ++ map frame_view news
+    → world_queue direction new ≡ world_queue direction old ++ news
+    → link_lane_view direction new ≡ link_lane_view direction old ++ map link_frame_view news
 lane_seen direction old new news is =
-    ap (map frame_view) is ∙ map-append frame_view (queue direction old) news
+    ap (map link_frame_view) is ∙ map-append link_frame_view (world_queue direction old) news

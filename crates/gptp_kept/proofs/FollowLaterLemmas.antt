@@ -5,16 +5,16 @@ use Rattle.gptp_links.specs.Queue.{Frame}
 use Rattle.gptp_setup.specs.declared.setup.Params.{Params}
 use Rattle.gptp_setup.specs.Pace.{Pace}
 use Rattle.gptp_acts.specs.Acts.{at as at_time}
-use Rattle.gptp_acts.specs.World.{WorldState, queue}
-use Rattle.gptp_measuring.specs.Lanes.{Frame as SeenFrame}
-use Rattle.gptp_timing.specs.Follower.{Setting}
+use Rattle.gptp_acts.specs.World.{WorldState, world_queue}
+use Rattle.gptp_measuring.specs.Lanes.{LaneFrame as SeenFrame}
+use Rattle.gptp_timing.specs.Follower.{FollowerSetting}
 use Rattle.gptp_timing.specs.Follower as followers
-use Rattle.gptp_timing.specs.Invariant.{IsFresh}
+use Rattle.gptp_timing.specs.Invariant.{IsJustSettled}
 use Rattle.gptp_timing.proofs.FollowerLemmas.{inv_begins, inv_later}
 use Rattle.gptp_kept.specs.FollowView.{tells}
 use Rattle.gptp_kept.specs.Followers.{HasWay, IsFollower, follower, follower_setting}
 use Rattle.gptp_kept.specs.Known.{IsKnown}
-use Rattle.gptp_kept.specs.LinkView.{LinkPlace, frame_view}
+use Rattle.gptp_kept.specs.LinkView.{LinkPlace, link_frame_view}
 use Rattle.gptp_kept.specs.Timed.{CarriesTime, IsSettledFrom}
 use Rattle.gptp_kept.specs.TimedLaws.{TimeBegins, TimeCarriesTime}
 use Rattle.gptp_kept.proofs.FollowSettingLemmas.{is_setting, most_is, residence_is}
@@ -59,12 +59,12 @@ module _ (p : Pace) (settled longest : ℕ) (w : WorldState) (time : ℕ) (early
   later = at_time time w
 
   module _ (at : LinkPlace) (f' : IsFollower at later) (steps : ℕ) (h' : HasWay p.params at later f' steps) where
-    abbrev k : Setting
+    abbrev k : FollowerSetting
     k = follower_setting p.params settled longest at later f' steps h'
 
     -- what is in flight was sent before
-    old_frame : (one : Frame) → In one (queue at.direction f'.channel)
-        → one.due < settled + (followers.link_of k).most
+    old_frame : (one : Frame) → In one (world_queue at.direction f'.channel)
+        → one.due < settled + (followers.parent_link k).most
     old_frame one member =
         let due = known.fresh.frames at.link at.direction f'.channel one f'.here member in
         let fits = is.world.sound.on_time.links at.link f'.channel f'.here in
@@ -74,9 +74,9 @@ module _ (p : Pace) (settled longest : ℕ) (w : WorldState) (time : ℕ) (early
         let most = most_is p settled longest later is at f' steps h' in
         omega (arith, due, least, order, old, most, early)
 
-    fresh : IsFresh k (follower at later f')
+    fresh : IsJustSettled k (follower at later f')
     fresh = record {
-      lane = λ g member. by g (seen_from (queue at.direction f'.channel) g member);
+      lane = λ g member. by g (seen_from (world_queue at.direction f'.channel) g member);
       relay = λ due runs.
           let soon = (known.in_time at.answering f'.own.station f'.own.here f'.own.live).relay due runs in
           let params = ap (λ (x : Params). x.residence)
@@ -86,10 +86,10 @@ module _ (p : Pace) (settled longest : ℕ) (w : WorldState) (time : ℕ) (early
     }
       where
         by : (g : SeenFrame)
-            → ((one : Frame) × In one (queue at.direction f'.channel) × (g ≡ frame_view one))
-            → g.due < settled + (followers.link_of k).most
+            → ((one : Frame) × In one (world_queue at.direction f'.channel) × (g ≡ link_frame_view one))
+            → g.due < settled + (followers.parent_link k).most
         by g (one, member, same) =
-            subst (λ (y : SeenFrame). y.due < settled + (followers.link_of k).most) (sym same) (old_frame one member)
+            subst (λ (y : SeenFrame). y.due < settled + (followers.parent_link k).most) (sym same) (old_frame one member)
 
   pub begins : CarriesTime p.params settled longest later
   begins = record {

@@ -12,7 +12,7 @@ use Rattle.gptp_setup.specs.Intervals.{interval_of}
 use Rattle.gptp_setup.specs.Pace.{Pace}
 use Rattle.gptp_system.specs.declared.port.Port.{Port}
 use Rattle.gptp_system.specs.State.{SystemState, number, own}
-use Rattle.gptp_system.specs.Syncing.{delay_at, rate_at, slave_delay, slave_rate}
+use Rattle.gptp_system.specs.Syncing.{delay_at, root_rate_at, slave_delay, slave_rate}
 use Rattle.gptp_acts.specs.World.{Channel, WorldState, receiver, sender}
 use Rattle.gptp_measuring.specs.Measured.{HasMeasured}
 use Rattle.gptp_measuring.specs.Setting.{Setting as Measuring}
@@ -21,12 +21,12 @@ use Rattle.gptp_timing.specs.Tree.{Parts}
 use Rattle.gptp_timing.specs.TreeLaws.{MeasuresParent}
 use Rattle.gptp_timing.proofs.RightLemmas.{exchanges_measure_right}
 use Rattle.gptp_timing.proofs.TreeLemmas.{parents_are_measured}
-use Rattle.gptp_kept.specs.Followers.{HasWay, IsFollower, follower_clock, parent_link, parts_of, state_of}
-use Rattle.gptp_kept.specs.LinkView.{IsEndOf, LinkPlace, opposite, setting}
+use Rattle.gptp_kept.specs.Followers.{HasWay, IsFollower, follower_clock, parent_link, follower_parts, follower_state}
+use Rattle.gptp_kept.specs.LinkView.{IsEndOf, LinkPlace, other_direction, link_setting}
 use Rattle.gptp_kept.specs.MeasuredLinks.{HasMeasuredLink, HaveMeasuredLinks}
 use Rattle.gptp_kept.specs.Standing.{snapshot_of}
 use Rattle.gptp_kept.specs.Timed.{AllMeasureRight, IsSettledFrom}
-use Rattle.gptp_kept.specs.View.{identity_of}
+use Rattle.gptp_kept.specs.View.{port_identity_number}
 use Rattle.gptp_kept.proofs.FollowPartLemmas.{bound_is, set_up_is}
 use Rattle.gptp_kept.proofs.FollowSettingLemmas.{fit, least_is}
 use Rattle.gptp_kept.proofs.FollowTreeLemmas.{own_port, slave_is, steady}
@@ -37,7 +37,7 @@ use Rattle.gptp_kept.proofs.WayLemmas.{one_way}
 rate_seen : (s : SystemState) (i : ℕ) (q : Port) (one : Measurement) → s.slave ≡ Some (suc i)
     → slice_get s.ports i ≡ Some q → q.peer.last ≡ Some one → slave_rate s ≡ one.rate
 rate_seen s i q one slave there last =
-    ap (λ o. option_map_or (rate_at s) o (pos 0)) slave
+    ap (λ o. option_map_or (root_rate_at s) o (pos 0)) slave
     ∙ ap (λ o. option_map_or (λ (y : Port). rate_of_peer y.peer) o (pos 0)) there
     ∙ ap (λ o. option_map_or (λ (y : Measurement). y.rate) o (pos 0)) last
 
@@ -51,13 +51,13 @@ delay_seen s i q one slave there last =
 module _ (p : Pace) (settled longest : ℕ) (w : WorldState) (is : IsSettledFrom p settled longest w) (at : LinkPlace)
     (f : IsFollower at w) (steps : ℕ) (h : HasWay p.params at w f steps) where
   abbrev x : Parts
-  x = parts_of p.params w
+  x = follower_parts p.params w
 
   abbrev g : Snapshot
   g = snapshot_of w
 
   abbrev s : SystemState
-  s = state_of at w f
+  s = follower_state at w f
 
   abbrev to : PortId
   to = receiver at.direction f.channel
@@ -75,25 +75,25 @@ module _ (p : Pace) (settled longest : ℕ) (w : WorldState) (is : IsSettledFrom
       λ i. local_clock (phase i) (drift i) t
 
   -- the link that the port has measured is the one over which its system follows
-  module _ (q : Port) (m : HasMeasuredLink w (identity_of to) (identity_of (sender at.direction f.channel)) q) where
+  module _ (q : Port) (m : HasMeasuredLink w (port_identity_number to) (port_identity_number (sender at.direction f.channel)) q) where
     abbrev k : Measuring
-    k = setting m.at w m.link
+    k = link_setting m.at w m.link
 
     same_channel : m.link.channel ≡ f.channel
     same_channel =
-        (one_way w is.world.sound is.world.legible m.at.link at.link m.at.direction (opposite at.direction)
+        (one_way w is.world.sound is.world.legible m.at.link at.link m.at.direction (other_direction at.direction)
         m.link.channel f.channel m.link.here f.here
-        (m.from_is ∙ sym (ap identity_of (sender_opposite at.direction f.channel)))).same_channel
+        (m.from_is ∙ sym (ap port_identity_number (sender_opposite at.direction f.channel)))).same_channel
 
     set_to : (place : ℕ) (port : PortId) (e : IsEndOf place port w) → e.station.setup.params ≡ p.params
     set_to place port e = (is.world.known.set place e.station e.here).starts.params
 
-    most : k.most ≡ x.most (identity_of to)
+    most : k.most ≡ x.most (port_identity_number to)
     most =
         ap (λ (c : Channel). c.bounds.max) same_channel
         ∙ sym (bound_is (λ b. b.max) w is.world.sound is.world.legible at.link at.direction f.channel f.here f.used)
 
-    least : x.least (identity_of to) ≡ f.channel.bounds.min
+    least : x.least (port_identity_number to) ≡ f.channel.bounds.min
     least = bound_is (λ b. b.min) w is.world.sound is.world.legible at.link at.direction f.channel f.here f.used
 
     measures : MeasuresParent x (follower_clock at w f) (parent_link at.direction f.channel) k
@@ -137,11 +137,11 @@ module _ (p : Pace) (settled longest : ℕ) (w : WorldState) (is : IsSettledFrom
         let (q, there) = member_there s.ports i (omega (arith, most, number)) in
         let (holds, held) = member_there s.held i (omega (arith, most, number, places)) in
         let itself : to ≡ own s (suc i) = λ j. record { clock = sym f.own.named j; port = number j } in
-        let from = identity_of (sender at.direction f.channel) in
-        let joins : Joins g (identity_of (own s (suc i))) from =
-        subst (λ (y : PortId). Joins g (identity_of y) from) itself f.parent.nearer.joins in
-        let m : HasMeasuredLink w (identity_of to) from q =
-        subst (λ (y : PortId). HasMeasuredLink w (identity_of y) from q) (sym itself)
+        let from = port_identity_number (sender at.direction f.channel) in
+        let joins : Joins g (port_identity_number (own s (suc i))) from =
+        subst (λ (y : PortId). Joins g (port_identity_number y) from) itself f.parent.nearer.joins in
+        let m : HasMeasuredLink w (port_identity_number to) from q =
+        subst (λ (y : PortId). HasMeasuredLink w (port_identity_number y) from q) (sym itself)
         (all at.answering f.own.station f.own.here f.own.live i holds q held there from joins) in
         let (one, last, is_right) = right q m in
         let rate = rate_seen s i q one slave there last in

@@ -24,27 +24,27 @@ use Rattle.gptp_system.specs.declared.answer.Answer.TheVariants as answers
 use Rattle.gptp_system.specs.declared.sending.Sending.{Sending}
 use Rattle.gptp_system.specs.Input.{Frame as FrameHeard, Steps}
 use Rattle.gptp_system.specs.State.{SystemState, is_capable_at, local_time}
-use Rattle.gptp_system.specs.Syncing.{HearsFollowUpIf, IsOffset, KnowsBy, KnowsIf, OffsetFits, delay_at, is_slave_at, offset_of, rate_at, said_on, slave_delay, slave_rate}
+use Rattle.gptp_system.specs.Syncing.{HearsFollowUpIf, IsOffset, KnowsBy, KnowsIf, OffsetFits, delay_at, is_slave_at, offset_of, root_rate_at, said_on, slave_delay, slave_rate}
 use Rattle.gptp_accuracy.specs.TimeError.{time_error_at}
 use Rattle.gptp_acts.specs.Act.{Delivers, Hears, in_state}
-use Rattle.gptp_acts.specs.Acts.{Tells}
+use Rattle.gptp_acts.specs.Acts.{TellsHearing}
 use Rattle.gptp_acts.specs.declared.done.Done.{Done}
 use Rattle.gptp_acts.specs.declared.done.Done.TheVariants.{Heard, Quiet}
 use Rattle.gptp_acts.specs.declared.station.Station.{Station}
-use Rattle.gptp_acts.specs.World.{WorldState, port_id, queue, receiver}
-use Rattle.gptp_timing.specs.Follower.{Setting, from, own_clock, root_clock}
+use Rattle.gptp_acts.specs.World.{WorldState, port_id, world_queue, receiver}
+use Rattle.gptp_timing.specs.Follower.{FollowerSetting, from, own_clock, root_clock}
 use Rattle.gptp_timing.specs.Messages.{FollowUp, IsOneMessage}
 use Rattle.gptp_timing.specs.Right.{IsHeldAt, IsMeasuredAt}
 use Rattle.gptp_timing.proofs.ModestLemmas.{rates_are_held, ways_are_modest}
 use Rattle.gptp_timing.proofs.TellingLemmas.{offset_is_exact}
 use Rattle.gptp_timing.proofs.TreeLemmas.{way_leads_to}
 use Rattle.gptp_kept.specs.FollowView.{kept_sync, tells, told_in}
-use Rattle.gptp_kept.specs.Followers.{HasWay, IsFollower, follower, follower_clock, follower_setting, parts_of, state_of}
-use Rattle.gptp_kept.specs.LinkView.{LinkPlace, frame_view, opposite}
+use Rattle.gptp_kept.specs.Followers.{HasWay, IsFollower, follower, follower_clock, follower_setting, follower_parts, follower_state}
+use Rattle.gptp_kept.specs.LinkView.{LinkPlace, link_frame_view, other_direction}
 use Rattle.gptp_kept.specs.Standing.{snapshot_of}
 use Rattle.gptp_kept.specs.Timed.{AllMeasureRight, CarriesTime, IsSettledFrom}
 use Rattle.gptp_kept.specs.TimedLaws.{IsRootOf, OffsetsAreExact}
-use Rattle.gptp_kept.specs.View.{identity_of}
+use Rattle.gptp_kept.specs.View.{port_identity_number}
 use Rattle.gptp_kept.proofs.FollowDeliveryLemmas.{opposite_same}
 use Rattle.gptp_kept.proofs.FollowOctetLemmas.{told_alone}
 use Rattle.gptp_kept.proofs.FollowPartLemmas.{clock_shown}
@@ -65,9 +65,9 @@ pub record IsUsed (p : ℕ) (m : FollowUpFields) (s s' : SystemState) : Type 0 w
   pub belongs_to : belongs m kept ≡ true
   pub slave : is_slave_at s p ≡ true
   pub offset : (offset : ℤ) → s'.offset ≡ Some offset
-      → (OffsetFits (together m kept) (delay_at s p) (rate_at s p)
-      × (offset ≡ offset_of (together m kept) (delay_at s p) (rate_at s p)))
-      ⊎ (offset ≡ offset_of (held_sum (together m kept) (rate_at s p)) (delay_at s p) (rate_at s p))
+      → (OffsetFits (together m kept) (delay_at s p) (root_rate_at s p)
+      × (offset ≡ offset_of (together m kept) (delay_at s p) (root_rate_at s p)))
+      ⊎ (offset ≡ offset_of (held_sum (together m kept) (root_rate_at s p)) (delay_at s p) (root_rate_at s p))
 
 record IsSaid (p : ℕ) (m : FollowUpFields) (s : SystemState) (info : SyncInfo) : Type 0 where
   kept : KeptSync
@@ -107,7 +107,7 @@ module _ (p : ℕ) (m : FollowUpFields) (octets : List ℕ) (now : ℕ) (s s' : 
   delay = delay_at s p
 
   abbrev rate : ℤ
-  rate = rate_at s p
+  rate = root_rate_at s p
 
   abbrev Leaves : SyncInfo → Type 0
   Leaves info = (offset : ℤ) → s'.offset ≡ Some offset
@@ -163,12 +163,12 @@ module _ (p : ℕ) (m : FollowUpFields) (octets : List ℕ) (now : ℕ) (s s' : 
 module _ (p : Pace) (settled longest : ℕ) (w : WorldState) (is : IsSettledFrom p settled longest w)
     (right : AllMeasureRight p.params w) (carries : CarriesTime p.params settled longest w) (place : LinkPlace)
     (f : IsFollower place w) (steps : ℕ) (h : HasWay p.params place w f steps) (octets : List ℕ) (rest : List Frame)
-    (front : queue place.direction f.channel ≡ frame w.time octets ∷ rest) (m : FollowUpFields)
+    (front : world_queue place.direction f.channel ≡ frame w.time octets ∷ rest) (m : FollowUpFields)
     (reads : Reads octets (messages.FollowUp m)) where
   abbrev x : SystemState
-  x = state_of place w f
+  x = follower_state place w f
 
-  abbrev k : Setting
+  abbrev k : FollowerSetting
   k = follower_setting p.params settled longest place w f steps h
 
   abbrev n : ℕ
@@ -177,62 +177,62 @@ module _ (p : Pace) (settled longest : ℕ) (w : WorldState) (is : IsSettledFrom
   slave : x.slave ≡ Some n
   slave = slave_is p settled longest w is place f
 
-  same_rate : slave_rate x ≡ rate_at x n
-  same_rate = ap (λ o. option_map_or (rate_at x) o (pos 0)) slave
+  same_rate : slave_rate x ≡ root_rate_at x n
+  same_rate = ap (λ o. option_map_or (root_rate_at x) o (pos 0)) slave
 
   same_delay : slave_delay x ≡ delay_at x n
   same_delay = ap (λ o. option_map_or (delay_at x) o (pos 0)) slave
 
-  measured : IsMeasuredAt h.way steps (rate_at x n) (delay_at x n)
+  measured : IsMeasuredAt h.way steps (root_rate_at x n) (delay_at x n)
   measured =
-      subst (IsMeasuredAt h.way steps (rate_at x n)) same_delay
+      subst (IsMeasuredAt h.way steps (root_rate_at x n)) same_delay
       (subst (λ r. IsMeasuredAt h.way steps r (slave_delay x)) same_rate (right place f steps h))
 
   module _ (s' : SystemState) (used : IsUsed n m x s') (late : from k ≤ w.time) where
     abbrev sync : KeptSync
     sync = used.kept
 
-    one : IsOneMessage tells octets (FollowUp (identity_of sync.source) sync.sequence (told_in m))
+    one : IsOneMessage tells octets (FollowUp (port_identity_number sync.source) sync.sequence (told_in m))
     one =
         let own = used.belongs_to in
         let clock_same : sync.source.clock ≡ m.head.source.clock = grind (arith, nat_tests) in
         let port_same : sync.source.port ≡ m.head.source.port = grind (arith, nat_tests) in
         let number_same : sync.sequence ≡ m.head.sequence = grind (arith, nat_tests) in
-        let said : tells octets (FollowUp (identity_of sync.source) sync.sequence (told_in m)) =
+        let said : tells octets (FollowUp (port_identity_number sync.source) sync.sequence (told_in m)) =
         (m, reads, (λ i. record { clock = clock_same i; port = port_same i }), number_same, refl) in
         record {
           said = said;
-          only = told_alone octets (identity_of sync.source) sync.sequence (told_in m) said;
+          only = told_alone octets (port_identity_number sync.source) sync.sequence (told_in m) said;
         }
 
     -- with a rate that the laws allow
-    exact_with : (held : ℤ) → IsHeldAt h.way steps m.rate (rate_at x n) held
+    exact_with : (held : ℤ) → IsHeldAt h.way steps m.rate (root_rate_at x n) held
         → AreWithin (time_error_at h.way (suc steps))
-        (offset_of (record (together m sync) { rate = held }) (delay_at x n) (rate_at x n))
+        (offset_of (record (together m sync) { rate = held }) (delay_at x n) (root_rate_at x n))
         (own_clock k w.time -ℤ root_clock k w.time)
     exact_with held allowed =
-        offset_is_exact k tells (follower place w f) (frame_view (frame w.time octets)) (map frame_view rest)
-        (identity_of sync.source) sync.sequence (told_in m) sync.ingress (rate_at x n) (delay_at x n) held
+        offset_is_exact k tells (follower place w f) (link_frame_view (frame w.time octets)) (map link_frame_view rest)
+        (port_identity_number sync.source) sync.sequence (told_in m) sync.ingress (root_rate_at x n) (delay_at x n) held
         (is_setting p settled longest w is place f steps h) (carries.follow place f steps h)
-        (ap (map frame_view) front) refl late one (ap (option_map kept_sync) used.keeps) measured allowed
+        (ap (map link_frame_view) front) refl late one (ap (option_map kept_sync) used.keeps) measured allowed
 
     pub offset_exact : (offset : ℤ) → s'.offset ≡ Some offset
         → AreWithin (time_error_at h.way (suc steps)) offset (own_clock k w.time -ℤ root_clock k w.time)
     offset_exact offset left = by (used.offset offset left)
       where
-        by : (OffsetFits (together m sync) (delay_at x n) (rate_at x n)
-            × (offset ≡ offset_of (together m sync) (delay_at x n) (rate_at x n)))
-            ⊎ (offset ≡ offset_of (held_sum (together m sync) (rate_at x n)) (delay_at x n) (rate_at x n))
+        by : (OffsetFits (together m sync) (delay_at x n) (root_rate_at x n)
+            × (offset ≡ offset_of (together m sync) (delay_at x n) (root_rate_at x n)))
+            ⊎ (offset ≡ offset_of (held_sum (together m sync) (root_rate_at x n)) (delay_at x n) (root_rate_at x n))
             → AreWithin (time_error_at h.way (suc steps)) offset (own_clock k w.time -ℤ root_clock k w.time)
         by (inl (fits, same)) =
             subst (λ o. AreWithin (time_error_at h.way (suc steps)) o (own_clock k w.time -ℤ root_clock k w.time))
             (sym same)
-            (exact_with m.rate (rates_are_held.as_told h.way steps m.rate (rate_at x n) fits.receipt.rate))
+            (exact_with m.rate (rates_are_held.as_told h.way steps m.rate (root_rate_at x n) fits.receipt.rate))
         by (inr same) =
             subst (λ o. AreWithin (time_error_at h.way (suc steps)) o (own_clock k w.time -ℤ root_clock k w.time))
             (sym same)
-            (exact_with (held_sum (together m sync) (rate_at x n)).rate
-            (rates_are_held.by_limits h.way steps m.rate (rate_at x n)
+            (exact_with (held_sum (together m sync) (root_rate_at x n)).rate
+            (rates_are_held.by_limits h.way steps m.rate (root_rate_at x n)
             (ways_are_modest h.way steps (documented p settled longest w is place f steps h)
             (let same_length = long p settled longest w is place f steps h in omega (arith, same_length))
             (let less = few p settled longest w is place f steps h in omega (arith, less)))))
@@ -241,7 +241,7 @@ module _ (p : Pace) (settled longest : ℕ) (w : WorldState) (is : IsSettledFrom
   pub clocks_are : (root : Station) → IsRootOf w (follower_clock place w f) root
       → own_clock k w.time -ℤ root_clock k w.time ≡ local_time x w.time -ℤ local_time root.system w.time
   clocks_are root r =
-      let parts = parts_of p.params w in
+      let parts = follower_parts p.params w in
       let own = own_shown p settled longest w is place f steps h w.time in
       let root_is : root_clock k w.time ≡ local_time root.system w.time =
       way_leads_to.root parts (snapshot_of w) (suc steps) (follower_clock place w f) w.time r.best h.way h.phase
@@ -259,7 +259,7 @@ record ToldOnce (a b : PortId) (first second : Option Answer) (octets heard : Li
   octets_are : octets ≡ heard
 
 told_once : (a b : PortId) (first second : Option Answer) (octets heard : List ℕ) (done : Done)
-    → Tells a first octets done → Tells b second heard done → ToldOnce a b first second octets heard
+    → TellsHearing a first octets done → TellsHearing b second heard done → ToldOnce a b first second octets heard
 told_once a b first second octets heard Quiet k l = absurd k
 told_once a b first second octets heard (Heard number port told frame) (clocks, ports, answered, frames) (c, q, l, f) =
     record { clock_is = sym clocks ∙ c; answer_is = sym answered ∙ l; octets_are = sym frames ∙ f }
@@ -268,8 +268,8 @@ told_once a b first second octets heard (Heard number port told frame) (clocks, 
 record IsUsedHere (w : WorldState) (place : LinkPlace) (f : IsFollower place w) (octets : List ℕ) (m : FollowUpFields)
     (after : SystemState) : Type 0 where
   rest : List Frame
-  front : queue place.direction f.channel ≡ frame w.time octets ∷ rest
-  used : IsUsed (receiver place.direction f.channel).port m (state_of place w f) after
+  front : world_queue place.direction f.channel ≡ frame w.time octets ∷ rest
+  used : IsUsed (receiver place.direction f.channel).port m (follower_state place w f) after
 
 module _ (p : Pace) (settled longest : ℕ) (w : WorldState) (is : IsSettledFrom p settled longest w) (place : LinkPlace)
     (f : IsFollower place w) (link : ℕ) (direction : Direction) (octets : List ℕ) (draws : List Draw)
@@ -285,7 +285,7 @@ module _ (p : Pace) (settled longest : ℕ) (w : WorldState) (is : IsSettledFrom
       is.world.sound.wired.clocks place.answering d.place f.own.station d.station f.own.here d.there
       (f.own.named ∙ named ∙ sym d.is_end)
 
-  slave_port : is_slave_at (state_of place w f) port ≡ true → (receiver place.direction f.channel).port ≡ port
+  slave_port : is_slave_at (follower_state place w f) port ≡ true → (receiver place.direction f.channel).port ≡ port
   slave_port is_slave =
       eqb-true (receiver place.direction f.channel).port port
       (sym (ap (λ o. option_map_or (λ q. q == port) o false) (slave_is p settled longest w is place f)) ∙ is_slave)
@@ -301,7 +301,7 @@ module _ (p : Pace) (settled longest : ℕ) (w : WorldState) (is : IsSettledFrom
           let one : c.station ≡ f.own.station =
           same_there w.stations d.place c.station f.own.station c.here
           (ap (slice_get w.stations) (sym place_is) ∙ f.own.here) in
-          let state : s ≡ state_of place w f = ap (λ (y : Station). y.system) one in
+          let state : s ≡ follower_state place w f = ap (λ (y : Station). y.system) one in
           let called : Station = in_state c.after c.station in
           let after_is : called ≡ after =
           same_Some called after
@@ -310,22 +310,22 @@ module _ (p : Pace) (settled longest : ℕ) (w : WorldState) (is : IsSettledFrom
           ∙ ap (λ (v : WorldState). slice_get v.stations place.answering) (sym c.is) ∙ there) in
           let u : IsUsed port m s c.after =
           is_used port m octets w.time s c.after c.sends told (same_Some told answers.Used used) reads c.steps in
-          let v : IsUsed port m (state_of place w f) after.system =
-          subst (λ (y : Station). IsUsed port m (state_of place w f) y.system) after_is
+          let v : IsUsed port m (follower_state place w f) after.system =
+          subst (λ (y : Station). IsUsed port m (follower_state place w f) y.system) after_is
           (subst (λ y. IsUsed port m y c.after) state u) in
           let number = slave_port v.slave in
           let ends : receiver direction d.channel ≡ receiver place.direction f.channel =
           λ i. record { clock = sym named i; port = sym number i } in
-          let lane = one_way w is.world.sound is.world.legible link place.link (opposite direction)
-          (opposite place.direction) d.channel f.channel d.takes.here f.here
-          (ap identity_of (sender_opposite direction d.channel ∙ ends
+          let lane = one_way w is.world.sound is.world.legible link place.link (other_direction direction)
+          (other_direction place.direction) d.channel f.channel d.takes.here f.here
+          (ap port_identity_number (sender_opposite direction d.channel ∙ ends
           ∙ sym (sender_opposite place.direction f.channel))) in
           record {
             rest = d.takes.rest;
-            front = ap (queue place.direction) (sym lane.same_channel)
-                ∙ ap (λ way. queue way d.channel) (sym (opposite_same direction place.direction lane.same_way))
+            front = ap (world_queue place.direction) (sym lane.same_channel)
+                ∙ ap (λ way. world_queue way d.channel) (sym (opposite_same direction place.direction lane.same_way))
                 ∙ d.takes.front;
-            used = subst (λ q. IsUsed q m (state_of place w f) after.system) (sym number) v;
+            used = subst (λ q. IsUsed q m (follower_state place w f) after.system) (sym number) v;
           }
 
 pub offsets_are_exact : OffsetsAreExact

@@ -21,13 +21,13 @@ use Rattle.gptp_acts.specs.declared.station.Station.{Station}
 use Rattle.gptp_acts.specs.Sound.{HaveOwnClocks, HaveTheirSetups, IsSound}
 use Rattle.gptp_acts.specs.World.{Channel, WorldState, receiver, sender}
 use Rattle.gptp_timing.specs.TreeLaws.{ArePartsOf}
-use Rattle.gptp_kept.specs.Calm.{delay_in, greatest_delay, is_port, place_of, setups_of}
-use Rattle.gptp_kept.specs.Followers.{bound_at, parts_of, set_up_with}
+use Rattle.gptp_kept.specs.Calm.{delay_in, greatest_channel_delay, has_port_id, clock_place, setups_of}
+use Rattle.gptp_kept.specs.Followers.{bound_at, follower_parts, set_up_with}
 use Rattle.gptp_kept.specs.Legible.{IsLegible}
-use Rattle.gptp_kept.specs.LinkView.{opposite}
-use Rattle.gptp_kept.specs.Measured.{IsMeasured}
-use Rattle.gptp_kept.specs.Standing.{is_used, live_systems}
-use Rattle.gptp_kept.specs.View.{identity_of}
+use Rattle.gptp_kept.specs.LinkView.{other_direction}
+use Rattle.gptp_kept.specs.Measured.{LinkIsMeasured}
+use Rattle.gptp_kept.specs.Standing.{channel_is_used, live_stations}
+use Rattle.gptp_kept.specs.View.{port_identity_number}
 use Rattle.gptp_kept.proofs.CalmKeptLemmas.{KeepsNetwork, of_kept}
 use Rattle.gptp_kept.proofs.FoundLemmas.{is_port_from, is_port_there, place_is}
 use Rattle.gptp_kept.proofs.LinkLemmas.{sender_opposite}
@@ -42,15 +42,15 @@ pub set_up_is : {X : Type 0} (f : Setup → X) (none : X) (w : WorldState) → H
 set_up_is f none w own place station here =
     let setup_in : Station → Setup = λ x. x.setup in
     let there = mapped_there setup_in w.stations place station here in
-    let at : slice_get (setups_of w.stations) (place_of w.stations (clock station.system)) ≡ Some station.setup =
+    let at : slice_get (setups_of w.stations) (clock_place w.stations (clock station.system)) ≡ Some station.setup =
     ap (slice_get (setups_of w.stations)) (sym (place_is w own place station here)) ∙ there in
     ap (λ o. option_map_or f o none) at
 
 -- its clock is that of its phase and drift
-pub clock_shown : (p : Params) (w : WorldState) → IsSound w → IsMeasured w → (place : ℕ) (station : Station)
+pub clock_shown : (p : Params) (w : WorldState) → IsSound w → LinkIsMeasured w → (place : ℕ) (station : Station)
     → slice_get w.stations place ≡ Some station → (t : ℕ)
     → local_time station.system t
-    ≡ local_clock ((parts_of p w).phase (clock station.system)) ((parts_of p w).drift (clock station.system)) t
+    ≡ local_clock ((follower_parts p w).phase (clock station.system)) ((follower_parts p w).drift (clock station.system)) t
 clock_shown p w sound measured place station here t =
     let set_up = (measured.stations place station here).set_up in
     let own = sound.wired.clocks in
@@ -62,27 +62,27 @@ clock_shown p w sound measured place station here t =
 drifts_fit : (stations : List Station)
     → ((place : ℕ) (station : Station) → slice_get stations place ≡ Some station → IsDrift station.setup.drift)
     → (number : ℕ) → IsDrift (set_up_with (λ setup. setup.drift) (pos 0) stations number)
-drifts_fit stations each number = by (slice_get (setups_of stations) (place_of stations number)) refl
+drifts_fit stations each number = by (slice_get (setups_of stations) (clock_place stations number)) refl
   where
-    by : (found : Option Setup) → slice_get (setups_of stations) (place_of stations number) ≡ found
+    by : (found : Option Setup) → slice_get (setups_of stations) (clock_place stations number) ≡ found
         → IsDrift (option_map_or (λ (setup : Setup). setup.drift) found (pos 0))
     by None is = record { low = omega (arith, ints); high = omega (arith, ints) }
     by (Some setup) is =
         let (station, there, same) = mapped (λ (x : Station). x.setup) stations _ setup is in
-        subst (λ (x : Setup). IsDrift x.drift) same (each (place_of stations number) station there)
+        subst (λ (x : Setup). IsDrift x.drift) same (each (clock_place stations number) station there)
 
 -- ---- bounds
 
 -- no bound of a link in use is above the greatest delay
 bound_short : (systems : List System) (channels : List Channel) (port : PortIdentity)
-    → bound_at (λ b. b.max) systems channels port ≤ greatest_delay systems channels
+    → bound_at (λ b. b.max) systems channels port ≤ greatest_channel_delay systems channels
 bound_short systems [] port = omega arith
 bound_short systems (first ∷ channels) port =
-    by (is_used systems first) (is_port first.a port || is_port first.b port) (bound_short systems channels port)
+    by (channel_is_used systems first) (has_port_id first.a port || has_port_id first.b port) (bound_short systems channels port)
   where
-    by : (used at : Bool) → bound_at (λ b. b.max) systems channels port ≤ greatest_delay systems channels
+    by : (used at : Bool) → bound_at (λ b. b.max) systems channels port ≤ greatest_channel_delay systems channels
         → (if used && at then first.bounds.max else bound_at (λ b. b.max) systems channels port)
-        ≤ (if used then max first.bounds.max (greatest_delay systems channels) else greatest_delay systems channels)
+        ≤ (if used then max first.bounds.max (greatest_channel_delay systems channels) else greatest_channel_delay systems channels)
     by true true later = omega arith
     by true false later = omega arith
     by false at later = later
@@ -91,64 +91,64 @@ bound_short systems (first ∷ channels) port =
 abbrev FindsBound : (Bounds → ℕ) → List System → List Channel → PortIdentity → ℕ → Type 0
 FindsBound f systems channels port bound =
     (link : ℕ) × (direction : Direction) × (channel : Channel) × (slice_get channels link ≡ Some channel)
-    × (identity_of (sender direction channel) ≡ port) × (bound ≡ f channel.bounds)
+    × (port_identity_number (sender direction channel) ≡ port) × (bound ≡ f channel.bounds)
 
 at_end : (direction : Direction) (channel : Channel) (port : PortIdentity)
-    → identity_of (sender direction channel) ≡ port → (is_port channel.a port || is_port channel.b port) ≡ true
-at_end FromA channel port same = or_left (is_port channel.a port) _ (is_port_there channel.a port same)
-at_end FromB channel port same = or_right (is_port channel.a port) _ (is_port_there channel.b port same)
+    → port_identity_number (sender direction channel) ≡ port → (has_port_id channel.a port || has_port_id channel.b port) ≡ true
+at_end FromA channel port same = or_left (has_port_id channel.a port) _ (is_port_there channel.a port same)
+at_end FromB channel port same = or_right (has_port_id channel.a port) _ (is_port_there channel.b port same)
 
-from_end : (channel : Channel) (port : PortIdentity) → (is_port channel.a port || is_port channel.b port) ≡ true
-    → (direction : Direction) × (identity_of (sender direction channel) ≡ port)
-from_end channel port is = by (or_cases (is_port channel.a port) (is_port channel.b port) is)
+from_end : (channel : Channel) (port : PortIdentity) → (has_port_id channel.a port || has_port_id channel.b port) ≡ true
+    → (direction : Direction) × (port_identity_number (sender direction channel) ≡ port)
+from_end channel port is = by (or_cases (has_port_id channel.a port) (has_port_id channel.b port) is)
   where
-    by : (is_port channel.a port ≡ true) ⊎ (is_port channel.b port ≡ true)
-        → (direction : Direction) × (identity_of (sender direction channel) ≡ port)
+    by : (has_port_id channel.a port ≡ true) ⊎ (has_port_id channel.b port ≡ true)
+        → (direction : Direction) × (port_identity_number (sender direction channel) ≡ port)
     by (inl a) = (FromA, is_port_from channel.a port a)
     by (inr b) = (FromB, is_port_from channel.b port b)
 
 bound_found : (f : Bounds → ℕ) (systems : List System) (channels : List Channel) (link : ℕ) (direction : Direction)
     (channel : Channel) (port : PortIdentity) → slice_get channels link ≡ Some channel
-    → is_used systems channel ≡ true → identity_of (sender direction channel) ≡ port
+    → channel_is_used systems channel ≡ true → port_identity_number (sender direction channel) ≡ port
     → FindsBound f systems channels port (bound_at f systems channels port)
 bound_found f systems [] link direction channel port here used begins = absurd (none-some channel here)
 bound_found f systems (first ∷ channels) zero direction channel port here used begins =
     let same : first ≡ channel = same_Some first channel here in
-    let uses : is_used systems first ≡ true = ap (is_used systems) same ∙ used in
-    let at = at_end direction first port (ap (λ c. identity_of (sender direction c)) same ∙ begins) in
-    let both = and_from (is_used systems first) (is_port first.a port || is_port first.b port) uses at in (
+    let uses : channel_is_used systems first ≡ true = ap (channel_is_used systems) same ∙ used in
+    let at = at_end direction first port (ap (λ c. port_identity_number (sender direction c)) same ∙ begins) in
+    let both = and_from (channel_is_used systems first) (has_port_id first.a port || has_port_id first.b port) uses at in (
       zero,
       direction,
       first,
       refl,
-      ap (λ c. identity_of (sender direction c)) same ∙ begins,
+      ap (λ c. port_identity_number (sender direction c)) same ∙ begins,
       ap (λ b. if b then f first.bounds else bound_at f systems channels port) both,
     )
 bound_found f systems (first ∷ channels) (suc link) direction channel port here used begins =
-    by (is_used systems first && (is_port first.a port || is_port first.b port)) refl
+    by (channel_is_used systems first && (has_port_id first.a port || has_port_id first.b port)) refl
     (bound_found f systems channels link direction channel port here used begins)
   where
-    by : (b : Bool) → (is_used systems first && (is_port first.a port || is_port first.b port)) ≡ b
+    by : (b : Bool) → (channel_is_used systems first && (has_port_id first.a port || has_port_id first.b port)) ≡ b
         → FindsBound f systems channels port (bound_at f systems channels port)
         → FindsBound f systems (first ∷ channels) port
         (if b then f first.bounds else bound_at f systems channels port)
     by true is later =
         let (way, from) = from_end first port
-        (and_parts (is_used systems first) (is_port first.a port || is_port first.b port) is).1 in
+        (and_parts (channel_is_used systems first) (has_port_id first.a port || has_port_id first.b port) is).1 in
         (zero, way, first, refl, from, refl)
     by false is (other, way, at, there, from, same) = (suc other, way, at, there, from, same)
 
 -- that of the link, at the port that receives
 pub bound_is : (f : Bounds → ℕ) (w : WorldState) → IsSound w → IsLegible w → (link : ℕ) (direction : Direction)
     (channel : Channel) → slice_get w.net.channels link ≡ Some channel
-    → is_used (live_systems w.stations) channel ≡ true
-    → bound_at f (live_systems w.stations) w.net.channels (identity_of (receiver direction channel))
+    → channel_is_used (live_stations w.stations) channel ≡ true
+    → bound_at f (live_stations w.stations) w.net.channels (port_identity_number (receiver direction channel))
     ≡ f channel.bounds
 bound_is f w sound legible link direction channel here used =
-    let begins = ap identity_of (sender_opposite direction channel) in
-    let (other, way, at, there, from, same) = bound_found f (live_systems w.stations) w.net.channels link
-    (opposite direction) channel (identity_of (receiver direction channel)) here used begins in
-    let one = one_way w sound legible other link way (opposite direction) at channel there here
+    let begins = ap port_identity_number (sender_opposite direction channel) in
+    let (other, way, at, there, from, same) = bound_found f (live_stations w.stations) w.net.channels link
+    (other_direction direction) channel (port_identity_number (receiver direction channel)) here used begins in
+    let one = one_way w sound legible other link way (other_direction direction) at channel there here
     (from ∙ sym begins) in
     same ∙ ap (λ (c : Channel). f c.bounds) one.same_channel
 
@@ -159,13 +159,13 @@ interval_long : (log : ℤ) → IsLog log → 62500000 ≤ interval_of log
 interval_long log k = interval_rises (negsuc 3) log k.low
 
 pub parts_fit : (p : Params) (w : WorldState) (longest : ℕ) → AreParams p → HaveTheirSetups w → delay_in w ≤ longest
-    → ArePartsOf (parts_of p w) longest
+    → ArePartsOf (follower_parts p w) longest
 parts_fit p w longest params setups short = record {
   long = interval_long p.pdelay params.pdelay;
   waits = params.turnaround-least;
   drifts = drifts_fit w.stations (λ place station here. (setups place station here).drift);
   short = λ port.
-      let one = bound_short (live_systems w.stations) w.net.channels port in
+      let one = bound_short (live_stations w.stations) w.net.channels port in
       omega arith;
 }
 
@@ -175,18 +175,18 @@ bound_bare : (f : Bounds → ℕ) (systems : List System) (port : PortIdentity) 
     → bound_at f systems (map bare channels) port ≡ bound_at f systems channels port
 bound_bare f systems port [] = refl
 bound_bare f systems port (first ∷ channels) =
-    ap (λ rest. if is_used systems first && (is_port first.a port || is_port first.b port)
+    ap (λ rest. if channel_is_used systems first && (has_port_id first.a port || has_port_id first.b port)
     then f first.bounds
     else rest) (bound_bare f systems port channels)
 
-pub same_parts : (p : Params) (w w' : WorldState) → KeepsNetwork w w' → parts_of p w' ≡ parts_of p w
+pub same_parts : (p : Params) (w w' : WorldState) → KeepsNetwork w w' → follower_parts p w' ≡ follower_parts p w
 same_parts p w w' k =
     let bounds : (f : Bounds → ℕ) (port : PortIdentity)
-    → bound_at f (live_systems w'.stations) w'.net.channels port
-    ≡ bound_at f (live_systems w.stations) w.net.channels port = λ f port.
+    → bound_at f (live_stations w'.stations) w'.net.channels port
+    ≡ bound_at f (live_stations w.stations) w.net.channels port = λ f port.
     ap (λ s. bound_at f s w'.net.channels port) k.systems
-    ∙ of_kept (λ channels. bound_at f (live_systems w.stations) channels port)
-    (bound_bare f (live_systems w.stations) port) w.net.channels w'.net.channels k.links in
+    ∙ of_kept (λ channels. bound_at f (live_stations w.stations) channels port)
+    (bound_bare f (live_stations w.stations) port) w.net.channels w'.net.channels k.links in
     λ i. record {
       drift = λ number. option_map_or (λ (setup : Setup). setup.drift)
           (slice_get (k.setups i) (k.places number i)) (pos 0);

@@ -19,23 +19,23 @@ use Rattle.gptp_correction.specs.Correction.{bridge, carried, carried_on, held_s
 use Rattle.gptp_setup.specs.Pace.{Pace}
 use Rattle.gptp_system.specs.declared.sending.Sending.{Sending}
 use Rattle.gptp_system.specs.State.{SystemState, can_lead, clock, local_time}
-use Rattle.gptp_system.specs.Syncing.{HopFits, IsRelayed, IsSentOn, IsTold, LeadsTime, hop_of, leads, own_time, slave_delay, slave_rate, told_by}
+use Rattle.gptp_system.specs.Syncing.{HopFits, IsRelayed, IsSentOn, IsToldAtLimits, LeadsTime, hop_of, is_leading, own_time, slave_delay, slave_rate, told_by}
 use Rattle.gptp_acts.specs.declared.station.Station.{Station}
 use Rattle.gptp_acts.specs.World.{WorldState, sender}
 use Rattle.gptp_accuracy.specs.TimeError.{Way}
-use Rattle.gptp_timing.specs.Follower.{Setting, from, own_clock, root_clock}
+use Rattle.gptp_timing.specs.Follower.{FollowerSetting, from, own_clock, root_clock}
 use Rattle.gptp_timing.specs.Follower as followers
 use Rattle.gptp_timing.specs.FollowerLaws.{IsParentOf}
-use Rattle.gptp_timing.specs.Right.{IsHeldAt, IsMeasuredAt, IsRight}
+use Rattle.gptp_timing.specs.Right.{IsHeldAt, IsMeasuredAt, FollowUpIsRight}
 use Rattle.gptp_timing.specs.Tree.{IsWayTo, Parts}
 use Rattle.gptp_timing.proofs.ModestLemmas.{rates_are_held, ways_are_modest}
 use Rattle.gptp_timing.proofs.TellingLemmas.{parent_tells_right, parents_numbers_fit, root_tells}
 use Rattle.gptp_timing.proofs.TreeLemmas.{parents_are_parents, way_ends_at_parent}
 use Rattle.gptp_kept.specs.FollowView.{tells}
-use Rattle.gptp_kept.specs.Followers.{HasWay, IsFollower, follower, follower_clock, follower_setting, parent_link, parts_of, state_above, state_of}
+use Rattle.gptp_kept.specs.Followers.{HasWay, IsFollower, follower, follower_clock, follower_setting, parent_link, follower_parts, state_above, follower_state}
 use Rattle.gptp_kept.specs.LinkView.{LinkPlace}
 use Rattle.gptp_kept.specs.Settled.{IsSettledSystem}
-use Rattle.gptp_kept.specs.Standing.{snapshot_of, standing}
+use Rattle.gptp_kept.specs.Standing.{snapshot_of, standing_system}
 use Rattle.gptp_kept.specs.Timed.{AllMeasureRight, CarriesTime, IsSettledFrom}
 use Rattle.gptp_kept.proofs.FollowOctetLemmas.{ToldFits}
 use Rattle.gptp_kept.proofs.FollowPartLemmas.{clock_shown}
@@ -56,12 +56,12 @@ pub record SaysOn (now : ℕ) (s : SystemState) (sends : List Sending) : Type 0 
   pub told : Relayed
   pub origin : told.origin ≡ info.origin
   pub are : sends ≡ told_by told s
-  pub is : (HopFits info now s × (told ≡ relayed info (hop_of info now s))) ⊎ IsTold info now s told
+  pub is : (HopFits info now s × (told ≡ relayed info (hop_of info now s))) ⊎ IsToldAtLimits info now s told
 
 says_on : (now : ℕ) (s s' : SystemState) (sends : List Sending) → SendsOn now s s' sends → SaysOn now s sends
 says_on now s s' sends k = by k.sends_it
   where
-    told_origin : (told : Relayed) → IsTold k.info now s told → told.origin ≡ k.info.origin
+    told_origin : (told : Relayed) → IsToldAtLimits k.info now s told → told.origin ≡ k.info.origin
     told_origin told (inl (fits, is)) = ap (λ (x : Relayed). x.origin) is
     told_origin told (inr (unfit, is)) = ap (λ (x : Relayed). x.origin) is
 
@@ -87,7 +87,7 @@ says_on now s s' sends k = by k.sends_it
 
 module _ (p : Pace) (settled longest : ℕ) (w : WorldState) (is : IsSettledFrom p settled longest w) where
   abbrev x : Parts
-  x = parts_of p.params w
+  x = follower_parts p.params w
 
   abbrev g : Snapshot
   g = snapshot_of w
@@ -122,33 +122,33 @@ module _ (p : Pace) (settled longest : ℕ) (w : WorldState) (is : IsSettledFrom
   above_settled : (at : LinkPlace) (f : IsFollower at w) → IsSettledSystem g (state_above at w f)
   above_settled at f = is.choice at.asking f.above.station f.above.here f.above.live (above_near at f)
 
-  -- one that leads has no parent
-  leads_alone : (at : LinkPlace) (f : IsFollower at w) → leads (state_above at w f) ≡ true → (l : ParentLink)
+  -- one that is_leading has no parent
+  leads_alone : (at : LinkPlace) (f : IsFollower at w) → is_leading (state_above at w f) ≡ true → (l : ParentLink)
       → IsParent g (clock (state_above at w f)) l → ⊥
   leads_alone at f leading l follows =
       let s = state_above at w f in
       let own : s.root ≡ s.identity =
       eqb-true s.root s.identity (and_parts (s.root == s.identity) (can_lead s.identity) leading).0 in
       let (best, is_best, root_is) = (above_settled at f).root in
-      let itself : best ≡ standing f.above.station =
-      same_identity g best (standing f.above.station) wf is_best.live
+      let itself : best ≡ standing_system f.above.station =
+      same_identity g best (standing_system f.above.station) wf is_best.live
       (live_there w.stations at.asking f.above.station f.above.here f.above.live) (sym root_is ∙ own) in
       best_has_no_parent g (clock s) best l wf is_best (ap (λ (y : System). y.clock) itself) follows
 
 -- ---- what it tells
 
 -- It tells this, which is right where it may come after what comes is right, and fits its octets then.
-pub record TellsRight (k : Setting) (now : ℕ) (s : SystemState) (sends : List Sending) : Type 0 where
+pub record TellsRight (k : FollowerSetting) (now : ℕ) (s : SystemState) (sends : List Sending) : Type 0 where
   pub told : Relayed
   pub small : told.origin.nanos < 1000000000
   pub are : sends ≡ told_by told s
-  pub right : from k ≤ now + (followers.link_of k).most → IsRight k.way k.phase k.place told now
-  pub fits : from k ≤ now + (followers.link_of k).most → ToldFits told
+  pub right : from k ≤ now + (followers.parent_link k).most → FollowUpIsRight k.way k.phase k.place told now
+  pub fits : from k ≤ now + (followers.parent_link k).most → ToldFits told
 
--- its own time, where it leads
+-- its own time, where it is_leading
 pub leader_right : (p : Pace) (settled longest : ℕ) (w : WorldState) → IsSettledFrom p settled longest w
     → (at : LinkPlace) (f : IsFollower at w) (steps : ℕ) (h : HasWay p.params at w f steps) (s' : SystemState)
-    (sends : List Sending) → leads (state_above at w f) ≡ true → LeadsTime w.time (state_above at w f) s' sends
+    (sends : List Sending) → is_leading (state_above at w f) ≡ true → LeadsTime w.time (state_above at w f) s' sends
     → TellsRight (follower_setting p.params settled longest at w f steps h) w.time (state_above at w f) sends
 leader_right p settled longest w is at f (suc steps) h s' sends leading k =
     let (l, above, follows, to, way_is, phase_is) = (way_above p settled longest w is at f (suc steps) h).leads_there in
@@ -171,7 +171,7 @@ leader_right p settled longest w is at f zero h s' sends leading k = record {
     shown : local_time (state_above at w f) w.time
         ≡ root_clock (follower_setting p.params settled longest at w f zero h) w.time
     shown =
-        let x = parts_of p.params w in
+        let x = follower_parts p.params w in
         clock_shown p.params w is.world.sound is.measured at.asking f.above.station f.above.here w.time
         ∙ ap (λ n. local_clock (x.phase n) (x.drift n) w.time) f.above.named
         ∙ sym (way_ends_at_parent.clock x (snapshot_of w) zero (follower_clock at w f) w.time
@@ -187,7 +187,7 @@ record BridgeFitsTold (told : Relayed) : Type 0 where
 module _ (p : Pace) (settled longest : ℕ) (w : WorldState) (is : IsSettledFrom p settled longest w)
     (right : AllMeasureRight p.params w) (carries : CarriesTime p.params settled longest w) (at : LinkPlace)
     (f : IsFollower at w) (steps : ℕ) (h : HasWay p.params at w f (suc steps)) where
-  abbrev kset : Setting
+  abbrev kset : FollowerSetting
   kset = follower_setting p.params settled longest at w f (suc steps) h
 
   up : WayAbove p settled longest w is at f (suc steps) h
@@ -208,7 +208,7 @@ module _ (p : Pace) (settled longest : ℕ) (w : WorldState) (is : IsSettledFrom
   f2 = bridge_follows.follower
 
   abbrev s2 : SystemState
-  s2 = state_of at2 w f2
+  s2 = follower_state at2 w f2
 
   bridge_is : state_above at w f ≡ s2
   bridge_is = ap (λ (y : Station). y.system) (sym bridge_follows.own_is)
@@ -217,21 +217,21 @@ module _ (p : Pace) (settled longest : ℕ) (w : WorldState) (is : IsSettledFrom
   h2 = record {
     way = up.way;
     phase = h.phase;
-    is = subst (λ n. IsWayTo (parts_of p.params w) (snapshot_of w) (suc steps) n up.way h.phase)
+    is = subst (λ n. IsWayTo (follower_parts p.params w) (snapshot_of w) (suc steps) n up.way h.phase)
         (sym f.above.named ∙ sym bridge_follows.named) up.leads_there;
   }
 
-  abbrev k2 : Setting
+  abbrev k2 : FollowerSetting
   k2 = follower_setting p.params settled longest at2 w f2 steps h2
 
   is_parent : IsParentOf k2 kset
   is_parent =
-      parents_are_parents (parts_of p.params w) (snapshot_of w) steps (follower_clock at w f) settled longest
+      parents_are_parents (follower_parts p.params w) (snapshot_of w) steps (follower_clock at w f) settled longest
       (parent_link at.direction f.channel) k2.parent kset.parent up.way h.way h.phase h.phase f.parent up.leads_there
       h.is
 
   module _ (info : SyncInfo) (known : s2.known ≡ Some info) (relay : s2.relay ≡ Some w.time)
-      (late : from kset ≤ w.time + (followers.link_of kset).most) where
+      (late : from kset ≤ w.time + (followers.parent_link kset).most) where
     own : local_time s2 w.time ≡ own_clock k2 w.time
     own = own_shown p settled longest w is at2 f2 steps h2 w.time
 
@@ -240,11 +240,11 @@ module _ (p : Pace) (settled longest : ℕ) (w : WorldState) (is : IsSettledFrom
 
     -- what it tells with a rate that the laws allow is right
     told_right : (held : ℤ) → IsHeldAt h2.way steps info.rate (slave_rate s2) held
-        → IsRight kset.way kset.phase kset.place
+        → FollowUpIsRight kset.way kset.phase kset.place
         (relayed (record info { rate = held }) (hop_of (record info { rate = held }) w.time s2)) w.time
     told_right held allowed =
         let used : SyncInfo = record info { rate = held } in
-        subst (λ t. IsRight kset.way kset.phase kset.place
+        subst (λ t. FollowUpIsRight kset.way kset.phase kset.place
         (relayed used (bridge used (slave_delay s2) (slave_rate s2) t)) w.time) (sym own)
         (parent_tells_right k2 tells kset (follower at2 w f2) info (slave_rate s2) (slave_delay s2) held
         (is_setting p settled longest w is at2 f2 steps h2) (is_setting p settled longest w is at f (suc steps) h)
@@ -286,10 +286,10 @@ module _ (p : Pace) (settled longest : ℕ) (w : WorldState) (is : IsSettledFrom
 
     -- what is told is right, and its numbers fit
     abbrev IsGood : Relayed → Type 0
-    IsGood told = IsRight kset.way kset.phase kset.place told w.time
+    IsGood told = FollowUpIsRight kset.way kset.phase kset.place told w.time
         × ((told.origin.nanos < 1000000000) → ToldFits told)
 
-    room : (told : Relayed) → IsRight kset.way kset.phase kset.place told w.time
+    room : (told : Relayed) → FollowUpIsRight kset.way kset.phase kset.place told w.time
         → BridgeFitsTold told → told.origin.nanos < 1000000000 → ToldFits told
     room told is_right fits small = record {
       origin = origin_fits h.way (short_way p settled longest w is at f (suc steps) h) h.phase (suc steps) told w.time
@@ -300,7 +300,7 @@ module _ (p : Pace) (settled longest : ℕ) (w : WorldState) (is : IsSettledFrom
     }
 
     good : (told : Relayed)
-        → (HopFits info w.time s2 × (told ≡ relayed info (hop_of info w.time s2))) ⊎ IsTold info w.time s2 told
+        → (HopFits info w.time s2 × (told ≡ relayed info (hop_of info w.time s2))) ⊎ IsToldAtLimits info w.time s2 told
         → IsGood told
     good told (inl (fits, same)) =
         let is_right = told_right info.rate
@@ -322,7 +322,7 @@ module _ (p : Pace) (settled longest : ℕ) (w : WorldState) (is : IsSettledFrom
       let relay : s2.relay ≡ Some w.time = ap (λ (y : SystemState). y.relay) (sym bridge_is) ∙ runs in
       let told_is = subst (λ y. (HopFits said.info w.time y
       × (said.told ≡ relayed said.info (hop_of said.info w.time y)))
-      ⊎ IsTold said.info w.time y said.told) bridge_is said.is in
+      ⊎ IsToldAtLimits said.info w.time y said.told) bridge_is said.is in
       let small : said.told.origin.nanos < 1000000000 =
       subst (λ (t : Timestamp). t.nanos < 1000000000) (sym said.origin)
       ((is.world.known.time at.asking f.above.station f.above.here f.above.live).stamped said.info said.known) in
@@ -351,7 +351,7 @@ relay_right p settled longest w is right carries at f zero h s' sends runs sent 
     (subst (λ v. IsDistance (snapshot_of w) v 0) (sym f.above.named) there) runs in
     let short = (is_setting p settled longest w is at f zero h).short in
     let residence = residence_is p settled longest w is at f zero h in
-    let never : from k ≤ w.time + (followers.link_of k).most → ⊥ = λ late.
+    let never : from k ≤ w.time + (followers.parent_link k).most → ⊥ = λ late.
     omega (arith, late, early, short, residence) in
     record {
       told = said.told;

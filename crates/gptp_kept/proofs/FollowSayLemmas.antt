@@ -22,16 +22,16 @@ use Rattle.gptp_system.specs.declared.port.Port.{Port}
 use Rattle.gptp_system.specs.declared.sending.Sending.{Sending}
 use Rattle.gptp_system.specs.Input.{Steps, Expires, Frame as FrameHeard}
 use Rattle.gptp_system.specs.Measuring.{owed_at}
-use Rattle.gptp_system.specs.Messages.{AllAre, Announcing, AreSent, Telling, kind_of}
+use Rattle.gptp_system.specs.Messages.{AllAre, Announcing, AreSent, Telling, message_kind}
 use Rattle.gptp_system.specs.State.{SystemState, clock, is_mine, own, trace}
-use Rattle.gptp_system.specs.Syncing.{IsRelayed, IsSentOn, LeadsTime, RelaysBy, RelaysIf, SyncsIf, follow_up_of, leads, sync_of, syncs as all_syncs, told_by}
+use Rattle.gptp_system.specs.Syncing.{IsRelayed, IsSentOn, LeadsTime, RelaysBy, RelaysIf, SyncsIf, follow_up_of, is_leading, sync_of, syncs as all_syncs, told_by}
 use Rattle.gptp_measuring.specs.Lanes.{AreMute}
 use Rattle.gptp_timing.specs.Acts.{SendsTime}
 use Rattle.gptp_timing.specs.Messages.{FollowUp, Message, Sync}
 use Rattle.gptp_kept.specs.FollowView.{tells}
-use Rattle.gptp_kept.specs.LinkView.{frame_view}
+use Rattle.gptp_kept.specs.LinkView.{link_frame_view}
 use Rattle.gptp_kept.specs.Said.{said_at}
-use Rattle.gptp_kept.specs.View.{identity_of}
+use Rattle.gptp_kept.specs.View.{port_identity_number}
 use Rattle.gptp_kept.proofs.FollowOctetLemmas.{TellsFollowUp, ToldFits, tells_follow_up, tells_sync, timeless_tells, told_as_written}
 use Rattle.gptp_kept.proofs.SentLemmas.{first_news, mute_news, octets_of, said_from}
 use Rattle.gptp_kept.proofs.SyncOctetLemmas.{follow_up_said, sync_said, timeless}
@@ -44,17 +44,17 @@ abbrev pub NoneTells : List (List ℕ) → Type 0
 NoneTells all = (octets : List ℕ) → In octets all → (m : Message) → tells octets m → ⊥
 
 pub none_mute : (news : List Frame) (all : List (List ℕ)) → octets_of news ≡ all → NoneTells all
-    → AreMute tells (map frame_view news)
+    → AreMute tells (map link_frame_view news)
 none_mute news all is none = mute_news tells news (λ octets member. none octets (subst (In octets) is member))
 
 pub said_tells_none : (s' : SystemState) (port : PortId) (sends : List Sending)
-    → ((x : Sending) → In x sends → kind_of x.body ≢ Telling) → NoneTells (said_at s' port sends)
+    → ((x : Sending) → In x sends → message_kind x.body ≢ Telling) → NoneTells (said_at s' port sends)
 said_tells_none s' port sends other octets member m told =
     let (x, among, from, is) = said_from s' port sends octets member in
     timeless_tells (Written _) (timeless (trace s') x.head x.body (other x among)) m
     (subst (λ o. tells o m) is told)
 
-announcing : (sends : List Sending) → AllAre Announcing sends → (x : Sending) → In x sends → kind_of x.body ≢ Telling
+announcing : (sends : List Sending) → AllAre Announcing sends → (x : Sending) → In x sends → message_kind x.body ≢ Telling
 announcing sends all x member kind = let e = all x member in cc
 
 -- what is heard is answered with Announces alone
@@ -70,7 +70,7 @@ timer_tells_none timer now s s' sends port no_sync no_relay sent =
     said_tells_none s' port sends (by timer no_sync no_relay sent)
   where
     by : (t : Timer) → t ≢ timers.Sync → t ≢ timers.Relay → AreSent s now (Expires t) sends → (x : Sending)
-        → In x sends → kind_of x.body ≢ Telling
+        → In x sends → message_kind x.body ≢ Telling
     by (timers.Announce p) a b k = announcing sends k
     by (timers.Age p) a b k = announcing sends k
     by (timers.Pdelay p) a b k = asks_no_time s p sends k
@@ -97,13 +97,13 @@ PairOrNone source told all = TellsPair source told all ⊎ (all ≡ [])
 
 module _ (s' : SystemState) (log : ℤ) (told : Relayed) where
   written_pair : (n : ℕ) (q : Port) → PortFits (own s' n) → told.origin.nanos < 1000000000
-      → TellsPair (identity_of (own s' n)) told (pair_if s' log told true n q)
+      → TellsPair (port_identity_number (own s' n)) told (pair_if s' log told true n q)
   written_pair n q fits small =
       let first = sync_of (own s' n) log q in
       let second = follow_up_of (own s' n) log told q in
       let m : FollowUpFields = record { head = second.head; origin = told.origin; rate = told.rate } in
       let number = (head_of (Written (messages.Sync first.head) ++ [])).sequence in
-      let id : SyncId = record { source = identity_of (own s' n); sequence = number } in
+      let id : SyncId = record { source = port_identity_number (own s' n); sequence = number } in
       let whole : TellsFollowUp (Written (messages.FollowUp m)) id =
       tells_follow_up (Written (messages.FollowUp m)) id (follow_up_said m fits small first.head refl) in
       record {
@@ -122,13 +122,13 @@ module _ (s' : SystemState) (log : ℤ) (told : Relayed) where
       }
 
   held_pair : (mine : Bool) (n : ℕ) (q : Port) (all : List (List ℕ)) → all ≡ pair_if s' log told mine n q
-      → PortFits (own s' n) → told.origin.nanos < 1000000000 → PairOrNone (identity_of (own s' n)) told all
+      → PortFits (own s' n) → told.origin.nanos < 1000000000 → PairOrNone (port_identity_number (own s' n)) told all
   held_pair true n q all is fits small =
-      inl (subst (TellsPair (identity_of (own s' n)) told) (sym is) (written_pair n q fits small))
+      inl (subst (TellsPair (port_identity_number (own s' n)) told) (sym is) (written_pair n q fits small))
   held_pair false n q all is fits small = inr is
 
   there_pair : (h : Option Held) (q : Option Port) (n : ℕ) (all : List (List ℕ)) → all ≡ pair_at s' log told h q n
-      → PortFits (own s' n) → told.origin.nanos < 1000000000 → PairOrNone (identity_of (own s' n)) told all
+      → PortFits (own s' n) → told.origin.nanos < 1000000000 → PairOrNone (port_identity_number (own s' n)) told all
   there_pair None q n all is fits small = inr is
   there_pair (Some h) None n all is fits small = inr is
   there_pair (Some h) (Some q) n all is fits small = held_pair (is_mine h) n q all is fits small
@@ -136,7 +136,7 @@ module _ (s' : SystemState) (log : ℤ) (told : Relayed) where
 -- so at each port of a system that tells this time
 pub told_pair : (s s' : SystemState) (told : Relayed) (sends : List Sending) (n : ℕ) → clock s' ≡ clock s
     → PortFits (own s' n) → told.origin.nanos < 1000000000 → sends ≡ told_by told s
-    → PairOrNone (identity_of (own s' n)) told (said_at s' (own s' n) sends)
+    → PairOrNone (port_identity_number (own s' n)) told (said_at s' (own s' n) sends)
 told_pair s s' told sends zero same fits small are =
     inr (ap (said_at s' (own s' zero)) are'
     ∙ none_before s' s.params.sync told zero 1 s.held s.ports (omega arith))
@@ -155,7 +155,7 @@ told_pair s s' told sends (suc i) same fits small are =
 -- frames of which the octets are a pair send time
 pub pair_sends : (source : PortIdentity) (told : Relayed) (news : List Frame)
     → (pair : TellsPair source told (octets_of news))
-    → SendsTime tells source pair.sequence pair.read (map frame_view news)
+    → SendsTime tells source pair.sequence pair.read (map link_frame_view news)
 pair_sends source told news pair =
     first_news tells (Sync source pair.sequence) _ news [] pair.sync (pair.follow_up ∷ []) pair.are
     (λ o none. absurd none) pair.first
@@ -168,11 +168,11 @@ pair_sends source told news pair =
 -- the Sync timer of a root tells its own time, and any other nothing
 pub syncs_tell : (now : ℕ) (s s' : SystemState) (sends : List Sending) (answer : Answer)
     → Steps (Expires timers.Sync) now s s' sends answer
-    → ((leads s ≡ true) × LeadsTime now s s' sends) ⊎ (sends ≡ [])
-syncs_tell now s s' sends answer k = by (leads s) refl k
+    → ((is_leading s ≡ true) × LeadsTime now s s' sends) ⊎ (sends ≡ [])
+syncs_tell now s s' sends answer k = by (is_leading s) refl k
   where
-    by : (b : Bool) → leads s ≡ b → SyncsIf b now s s' sends
-        → ((leads s ≡ true) × LeadsTime now s s' sends) ⊎ (sends ≡ [])
+    by : (b : Bool) → is_leading s ≡ b → SyncsIf b now s s' sends
+        → ((is_leading s ≡ true) × LeadsTime now s s' sends) ⊎ (sends ≡ [])
     by true is h = inl (is, h)
     by false is h = inr h.silent
 

@@ -14,7 +14,7 @@ use Rattle.gptp_correction.specs.declared.correction.Relayed.{Relayed}
 use Rattle.gptp_correction.specs.Sum.{sum_below}
 use Rattle.gptp_accuracy.specs.TimeError.{Way, clock_at, drift_at, hop_error_at, jitter_at, link_at, rate_error_at, rates_error_at, steady_rate_at, time_error_at, total_below, unlike_at, wait_error_at}
 use Rattle.gptp_accuracy.specs.WayLaws.{IsDocumented, shown_at}
-use Rattle.gptp_timing.specs.Right.{IsRight, sent_error_at}
+use Rattle.gptp_timing.specs.Right.{FollowUpIsRight, sent_error_at}
 use Rattle.gptp_timing.proofs.ModestLemmas.{ways_are_modest}
 
 -- ---- numbers
@@ -133,7 +133,7 @@ module _ (w : Way) (is : IsShortWay w) where
 
   -- so what is right on the way has seconds of 48 bits
   pub origin_fits : (phase : ℕ → ℕ) (i : ℕ) (told : Relayed) (sent : ℕ) → i ≤ length w.links
-      → IsTime (shown_at w phase 0 sent) → told.origin.nanos < 1000000000 → IsRight w phase i told sent
+      → IsTime (shown_at w phase 0 sent) → told.origin.nanos < 1000000000 → FollowUpIsRight w phase i told sent
       → IsTimestamp told.origin
   origin_fits phase i told sent on time small right =
       let error = sent_error_small i on in

@@ -15,23 +15,23 @@ use Rattle.gptp_setup.specs.Pace.{Pace}
 use Rattle.gptp_system.specs.declared.sending.Sending.{Sending}
 use Rattle.gptp_system.specs.State.{SystemState, clock, own}
 use Rattle.gptp_acts.specs.declared.station.Station.{Station}
-use Rattle.gptp_acts.specs.World.{WorldState, queue, receiver, sender}
+use Rattle.gptp_acts.specs.World.{WorldState, world_queue, receiver, sender}
 use Rattle.gptp_acts.proofs.StayLemmas.{sender_same}
-use Rattle.gptp_measuring.specs.Lanes.{AreMute, Frame as SeenFrame}
-use Rattle.gptp_timing.specs.Acts.{Acts, AreSentInTime, IsUnmoved, others_send, parent_tells, relays}
-use Rattle.gptp_timing.specs.Follower.{Follower, Setting}
+use Rattle.gptp_measuring.specs.Lanes.{AreMute, LaneFrame as SeenFrame}
+use Rattle.gptp_timing.specs.Acts.{FollowerActs, AreSentInTime, IsUnmoved, others_send, parent_tells, relays}
+use Rattle.gptp_timing.specs.Follower.{Follower, FollowerSetting}
 use Rattle.gptp_timing.specs.Follower as followers
-use Rattle.gptp_timing.specs.Invariant.{Inv}
-use Rattle.gptp_timing.specs.Right.{IsRight}
+use Rattle.gptp_timing.specs.Invariant.{FollowerInvariant}
+use Rattle.gptp_timing.specs.Right.{FollowUpIsRight}
 use Rattle.gptp_timing.specs.Tree.{IsWayTo, follower_of}
 use Rattle.gptp_timing.proofs.FollowerLemmas.{inv_kept}
 use Rattle.gptp_kept.specs.FollowView.{follower_view, kept_sync, tells}
-use Rattle.gptp_kept.specs.Followers.{HasWay, IsFollower, follower, follower_clock, follower_setting, parts_of, state_above, state_of}
-use Rattle.gptp_kept.specs.LinkView.{LinkPlace, frame_view}
+use Rattle.gptp_kept.specs.Followers.{HasWay, IsFollower, follower, follower_clock, follower_setting, follower_parts, state_above, follower_state}
+use Rattle.gptp_kept.specs.LinkView.{LinkPlace, link_frame_view}
 use Rattle.gptp_kept.specs.Said.{said_at}
 use Rattle.gptp_kept.specs.Standing.{snapshot_of}
 use Rattle.gptp_kept.specs.Timed.{CarriesTime, IsSettledFrom}
-use Rattle.gptp_kept.specs.View.{identity_of}
+use Rattle.gptp_kept.specs.View.{port_identity_number}
 use Rattle.gptp_kept.proofs.CalmKeptLemmas.{KeepsNetwork, same_snapshot}
 use Rattle.gptp_kept.proofs.FollowHeardLemmas.{put_unmoved}
 use Rattle.gptp_kept.proofs.FollowHearLemmas.{StaysPut}
@@ -58,10 +58,10 @@ module _ (p : Pace) (settled longest : ℕ) (w w' : WorldState) (is : IsSettledF
     (f : IsFollower at w) (f' : IsFollower at w') (a : f'.channel.a ≡ f.channel.a) (b : f'.channel.b ≡ f.channel.b)
     (bounds : f'.channel.bounds ≡ f.channel.bounds) where
   abbrev x : SystemState
-  x = state_of at w f
+  x = follower_state at w f
 
   abbrev x' : SystemState
-  x' = state_of at w' f'
+  x' = follower_state at w' f'
 
   pub same_from : sender at.direction f'.channel ≡ sender at.direction f.channel
   same_from = sender_same at.direction f.channel f'.channel a b
@@ -100,37 +100,37 @@ module _ (p : Pace) (settled longest : ℕ) (w w' : WorldState) (is : IsSettledF
       phase = h'.phase;
       is = subst (λ y. IsWayTo y (snapshot_of w) (suc steps) (follower_clock at w f) h'.way h'.phase)
           (same_parts p.params w w' keeps)
-          (subst (λ g. IsWayTo (parts_of p.params w') g (suc steps) (follower_clock at w f) h'.way h'.phase)
+          (subst (λ g. IsWayTo (follower_parts p.params w') g (suc steps) (follower_clock at w f) h'.way h'.phase)
           (same_snapshot w w' keeps)
-          (subst (λ (q : PortId). IsWayTo (parts_of p.params w') (snapshot_of w') (suc steps) q.clock h'.way h'.phase)
+          (subst (λ (q : PortId). IsWayTo (follower_parts p.params w') (snapshot_of w') (suc steps) q.clock h'.way h'.phase)
           same_to h'.is));
     }
 
-    abbrev pub k : Setting
+    abbrev pub k : FollowerSetting
     k = follower_setting p.params settled longest at w f steps way_was
 
     abbrev pub after : Follower
     after = follower_view w.time at.direction f'.channel x'
 
     -- so an act of the machine keeps the invariant
-    pub inv_on : CarriesTime p.params settled longest w → Acts k tells (follower at w f) after
-        → Inv (follower_setting p.params settled longest at w' f' steps h') tells (follower at w' f')
+    pub inv_on : CarriesTime p.params settled longest w → FollowerActs k tells (follower at w f) after
+        → FollowerInvariant (follower_setting p.params settled longest at w' f' steps h') tells (follower at w' f')
     inv_on carries acts =
         let kept = inv_kept k tells (follower at w f) after acts (carries.follow at f steps way_was) in
-        subst (λ t. Inv (follower_setting p.params settled longest at w' f' steps h') tells
+        subst (λ t. FollowerInvariant (follower_setting p.params settled longest at w' f' steps h') tells
         (follower_view t at.direction f'.channel x')) (sym time)
-        (subst (λ (q : PortId). Inv (follower_of h'.way h'.phase steps (identity_of q) settled longest) tells after)
+        (subst (λ (q : PortId). FollowerInvariant (follower_of h'.way h'.phase steps (port_identity_number q) settled longest) tells after)
         (sym same_from) kept)
 
     -- ---- what is sent
 
-    module _ (news : List Frame) (queue_is : queue at.direction f'.channel ≡ queue at.direction f.channel ++ news)
+    module _ (news : List Frame) (queue_is : world_queue at.direction f'.channel ≡ world_queue at.direction f.channel ++ news)
         (late : (g : Frame) → In g news → w.time + f.channel.bounds.min ≤ g.due) where
-      lane_is : after.lane ≡ (follower at w f).lane ++ map frame_view news
+      lane_is : after.lane ≡ (follower at w f).lane ++ map link_frame_view news
       lane_is = lane_seen at.direction f.channel f'.channel news queue_is
 
-      among : (g : Frame) → In g news → In g (queue at.direction f'.channel)
-      among g member = subst (In g) (sym queue_is) (In-right g (queue at.direction f.channel) news member)
+      among : (g : Frame) → In g news → In g (world_queue at.direction f'.channel)
+      among g member = subst (In g) (sym queue_is) (In-right g (world_queue at.direction f.channel) news member)
 
       soon : (g : Frame) → In g news → g.due ≤ w.time + f.channel.bounds.max
       soon g member =
@@ -140,45 +140,45 @@ module _ (p : Pace) (settled longest : ℕ) (w w' : WorldState) (is : IsSettledF
           let most = ap (λ (y : Bounds). y.max) bounds in
           omega (arith, fresh, old, here, most, time)
 
-      in_time : AreSentInTime k w.time (map frame_view news)
+      in_time : AreSentInTime k w.time (map link_frame_view news)
       in_time = record {
         long = λ g member. long_by g (seen_from news g member);
         short = λ g member. short_by g (seen_from news g member);
         order = in_order news
-            (order_behind (queue at.direction f.channel) news
+            (order_behind (world_queue at.direction f.channel) news
             (subst AreDueInOrder queue_is
             (is'.world.sound.wired.flow at.link at.direction f'.channel f'.here).order));
       }
         where
-          long_by : (g : SeenFrame) → ((one : Frame) × In one news × (g ≡ frame_view one))
-              → w.time + (followers.link_of k).least ≤ g.due
+          long_by : (g : SeenFrame) → ((one : Frame) × In one news × (g ≡ link_frame_view one))
+              → w.time + (followers.parent_link k).least ≤ g.due
           long_by g (one, member, same) =
               let least = least_is p settled longest w is at f steps way_was in
               let due = late one member in
-              subst (λ (y : SeenFrame). w.time + (followers.link_of k).least ≤ y.due) (sym same)
+              subst (λ (y : SeenFrame). w.time + (followers.parent_link k).least ≤ y.due) (sym same)
               (omega (arith, least, due))
 
-          short_by : (g : SeenFrame) → ((one : Frame) × In one news × (g ≡ frame_view one))
-              → g.due ≤ w.time + (followers.link_of k).most
+          short_by : (g : SeenFrame) → ((one : Frame) × In one news × (g ≡ link_frame_view one))
+              → g.due ≤ w.time + (followers.parent_link k).most
           short_by g (one, member, same) =
               let most = most_is p settled longest w is at f steps way_was in
               let due = soon one member in
-              subst (λ (y : SeenFrame). y.due ≤ w.time + (followers.link_of k).most) (sym same)
+              subst (λ (y : SeenFrame). y.due ≤ w.time + (followers.parent_link k).most) (sym same)
               (omega (arith, most, due))
 
       unmoved : StaysPut x x' → IsUnmoved (follower at w f) after
       unmoved put = put_unmoved w.time at.direction f.channel f'.channel x x' put
 
       -- others send
-      pub others : StaysPut x x' → AreMute tells (map frame_view news) → Acts k tells (follower at w f) after
+      pub others : StaysPut x x' → AreMute tells (map link_frame_view news) → FollowerActs k tells (follower at w f) after
       others put mute =
-          others_send (record { unmoved = unmoved put; news = map frame_view news; lane = lane_is; mute = mute })
+          others_send (record { unmoved = unmoved put; news = map link_frame_view news; lane = lane_is; mute = mute })
 
       -- the parent tells
       pub tells_time : StaysPut x x' → (s s' : SystemState) (sends : List Sending) → clock s' ≡ clock s
           → clock s ≡ (sender at.direction f.channel).clock
           → octets_of news ≡ said_at s' (sender at.direction f.channel) sends → TellsRight k w.time s sends
-          → Acts k tells (follower at w f) after
+          → FollowerActs k tells (follower at w f) after
       tells_time put s s' sends same named said t =
           by (told_pair s s' t.told sends (sender at.direction f.channel).port same fits t.small t.are)
         where
@@ -197,41 +197,41 @@ module _ (p : Pace) (settled longest : ℕ) (w w' : WorldState) (is : IsSettledF
               let most = of.most in
               own_fits s' (sender at.direction f.channel).port (omega (arith, most, count, few))
 
-          by : PairOrNone (identity_of (own s' (sender at.direction f.channel).port)) t.told
-              (said_at s' (own s' (sender at.direction f.channel).port) sends) → Acts k tells (follower at w f) after
+          by : PairOrNone (port_identity_number (own s' (sender at.direction f.channel).port)) t.told
+              (said_at s' (own s' (sender at.direction f.channel).port) sends) → FollowerActs k tells (follower at w f) after
           by (inr none) =
               let nothing : octets_of news ≡ [] =
               said ∙ ap (λ q. said_at s' q sends) (sym mine) ∙ none in
               others put (none_mute news [] nothing (λ o member. absurd member))
           by (inl pair) =
               let here : TellsPair k.parent t.told (octets_of news) =
-              subst (λ q. TellsPair (identity_of q) t.told (octets_of news)) mine
-              (subst (TellsPair (identity_of (own s' (sender at.direction f.channel).port)) t.told)
+              subst (λ q. TellsPair (port_identity_number q) t.told (octets_of news)) mine
+              (subst (TellsPair (port_identity_number (own s' (sender at.direction f.channel).port)) t.told)
               (sym (said ∙ ap (λ q. said_at s' q sends) (sym mine))) pair) in
               parent_tells (record {
                 unmoved = unmoved put;
                 sequence = here.sequence;
                 told = here.read;
-                news = map frame_view news;
+                news = map link_frame_view news;
                 lane = lane_is;
                 sent = pair_sends k.parent t.told news here;
                 in_time = in_time;
                 right = λ from_then.
-                    subst (λ told. IsRight k.way k.phase k.place told w.time) (sym (here.exact (t.fits from_then)))
+                    subst (λ told. FollowUpIsRight k.way k.phase k.place told w.time) (sym (here.exact (t.fits from_then)))
                     (t.right from_then);
               })
 
   -- ---- a call
 
   module _ (steps : ℕ) (h' : HasWay p.params at w' f' steps) (place : ℕ) (s s' : SystemState) (sends : List Sending)
-      (news : List Frame) (queue_is : queue at.direction f'.channel ≡ queue at.direction f.channel ++ news)
+      (news : List Frame) (queue_is : world_queue at.direction f'.channel ≡ world_queue at.direction f.channel ++ news)
       (late : (g : Frame) → In g news → w.time + f.channel.bounds.min ≤ g.due)
       (said : octets_of news ≡ said_at s' (sender at.direction f.channel) sends)
       (quiet : at.asking ≢ place → news ≡ []) (same : clock s' ≡ clock s) where
-    abbrev kset : Setting
+    abbrev kset : FollowerSetting
     kset = follower_setting p.params settled longest at w f steps (way_was steps h')
 
-    none_seen : news ≡ [] → AreMute tells (map frame_view news)
+    none_seen : news ≡ [] → AreMute tells (map link_frame_view news)
     none_seen none = none_mute news [] (ap octets_of none) (λ o member. absurd member)
 
     pub step_seen : ((at.answering ≡ place) × (x ≡ s) × (x' ≡ s')) ⊎ ((at.answering ≢ place) × (x' ≡ x))
@@ -239,7 +239,7 @@ module _ (p : Pace) (settled longest : ℕ) (w w' : WorldState) (is : IsSettledF
         → (at.answering ≡ place → s'.root ≡ s.root → s'.slave ≡ s.slave → StaysPut s s' ⊎ RelayStops w.time s s')
         → (at.asking ≡ place → NoneTells (said_at s' (sender at.direction f.channel) sends)
         ⊎ TellsRight kset w.time s sends)
-        → Acts kset tells (follower at w f) (after steps h')
+        → FollowerActs kset tells (follower at w f) (after steps h')
     step_seen (inl (here, was, now)) above moves speaks =
         by
         (moves here
@@ -249,7 +249,7 @@ module _ (p : Pace) (settled longest : ℕ) (w w' : WorldState) (is : IsSettledF
         nothing : news ≡ []
         nothing = quiet (λ there. apart (there ∙ sym here))
 
-        by : StaysPut s s' ⊎ RelayStops w.time s s' → Acts kset tells (follower at w f) (after steps h')
+        by : StaysPut s s' ⊎ RelayStops w.time s s' → FollowerActs kset tells (follower at w f) (after steps h')
         by (inl put) =
             others steps h' news queue_is late
             (subst (λ y. StaysPut y x') (sym was) (subst (StaysPut s) (sym now) put)) (none_seen nothing)
@@ -259,7 +259,7 @@ module _ (p : Pace) (settled longest : ℕ) (w w' : WorldState) (is : IsSettledF
               now = stops'.runs;
               kept = ap (option_map kept_sync) stops'.sync_in;
               lane = lane_is steps h' news queue_is late
-                  ∙ ap (λ fs. (follower at w f).lane ++ map frame_view fs) nothing ∙ append-nil (follower at w f).lane;
+                  ∙ ap (λ fs. (follower at w f).lane ++ map link_frame_view fs) nothing ∙ append-nil (follower at w f).lane;
               relay = stops'.relay;
             })
     step_seen (inr (other, still)) above moves speaks = by (same_place at.asking place)
@@ -271,7 +271,7 @@ module _ (p : Pace) (settled longest : ℕ) (w w' : WorldState) (is : IsSettledF
           relay = ap (λ (y : SystemState). y.relay) still;
         }
 
-        by : (at.asking ≡ place) ⊎ (at.asking ≢ place) → Acts kset tells (follower at w f) (after steps h')
+        by : (at.asking ≡ place) ⊎ (at.asking ≢ place) → FollowerActs kset tells (follower at w f) (after steps h')
         by (inr apart_too) = others steps h' news queue_is late put (none_seen (quiet apart_too))
         by (inl here) = elim (speaks here) [
           | inl none ↦ others steps h' news queue_is late put (none_mute news _ said none)

@@ -18,8 +18,8 @@ use Rattle.gptp_lists.proofs.PlaceLemmas.{get-set_other, get-set_same, same_plac
 use Rattle.gptp_setup.specs.Pace.{Pace}
 use Rattle.gptp_system.specs.declared.answer.Answer.{Answer}
 use Rattle.gptp_system.specs.Input.{Input}
-use Rattle.gptp_system.specs.State.{SystemState, clock, held_at, parent, source_of}
-use Rattle.gptp_system.specs.Steps.{IsPortOf}
+use Rattle.gptp_system.specs.State.{SystemState, clock, held_at, parent, held_source}
+use Rattle.gptp_system.specs.Steps.{HasPortNumber}
 use Rattle.gptp_acts.proofs.BareLemmas.{bare}
 use Rattle.gptp_acts.proofs.StayLemmas.{sender_same}
 use Rattle.gptp_acts.proofs.SteadyLemmas.{same_clock}
@@ -28,14 +28,14 @@ use Rattle.gptp_acts.specs.Ahead.{IsSteady}
 use Rattle.gptp_acts.specs.declared.station.Station.{Station}
 use Rattle.gptp_acts.specs.World.{Channel, WorldState, receiver, sender}
 use Rattle.gptp_settling.specs.Settled.{IsSlaveOf}
-use Rattle.gptp_kept.specs.Followers.{IsFollower, parent_link, state_of}
-use Rattle.gptp_kept.specs.LinkView.{LinkPlace, opposite}
-use Rattle.gptp_kept.specs.Measured.{IsLiveAt}
-use Rattle.gptp_kept.specs.Settled.{IsSettledSystem, link_of}
-use Rattle.gptp_kept.specs.Standing.{is_used, live_systems, snapshot_of}
+use Rattle.gptp_kept.specs.Followers.{IsFollower, parent_link, follower_state}
+use Rattle.gptp_kept.specs.LinkView.{LinkPlace, other_direction}
+use Rattle.gptp_kept.specs.Measured.{StationIsLiveAt}
+use Rattle.gptp_kept.specs.Settled.{IsSettledSystem, followed_link}
+use Rattle.gptp_kept.specs.Standing.{channel_is_used, live_stations, snapshot_of}
 use Rattle.gptp_kept.specs.SyncView.{TakesTime}
 use Rattle.gptp_kept.specs.Timed.{IsSettledFrom}
-use Rattle.gptp_kept.specs.View.{identity_of}
+use Rattle.gptp_kept.specs.View.{port_identity_number}
 use Rattle.gptp_kept.proofs.CalmKeptLemmas.{KeepsNetwork, same_snapshot}
 use Rattle.gptp_kept.proofs.LinkLemmas.{receiver_same, sender_opposite}
 use Rattle.gptp_kept.proofs.StandsLemmas.{stands_well}
@@ -51,13 +51,13 @@ well_formed p settled longest w is = stands_well w is.world.sound is.world.betwe
 parent_from : (x : SystemState) (n : ℕ) (r : Reception) → x.slave ≡ Some n → received (held_at x n) ≡ Some r
     → parent x ≡ Some (n, r.vector.source)
 parent_from x n r slave holds =
-    ap (option_and_then (λ q. option_map (λ source. (q, source)) (source_of (held_at x q)))) slave
+    ap (option_and_then (λ q. option_map (λ source. (q, source)) (held_source (held_at x q)))) slave
     ∙ ap (λ o. option_map (λ source. (n, source)) (option_map (λ (y : Reception). y.vector.source) o)) holds
 
 module _ (p : Pace) (settled longest : ℕ) (w : WorldState) (is : IsSettledFrom p settled longest w) (at : LinkPlace)
     (f : IsFollower at w) where
   abbrev s : SystemState
-  s = state_of at w f
+  s = follower_state at w f
 
   abbrev g : Snapshot
   g = snapshot_of w
@@ -91,27 +91,27 @@ module _ (p : Pace) (settled longest : ℕ) (w : WorldState) (is : IsSettledFrom
           let one = IsParent-unique g (clock s) l (parent_link at.direction f.channel) follows own_parent in
           same ∙ ap Some (sym own ∙ ap (λ (x : ParentLink). x.own_port) one)
 
-  pub own_port : IsPortOf s to.port
+  pub own_port : HasPortNumber s to.port
   own_port =
       let back = sender_opposite at.direction f.channel in
-      subst (λ (q : PortId). IsPortOf s q.port) back
-      (is.world.sound.wired.ports at.link at.answering (opposite at.direction) f.channel f.own.station f.here f.own.here
+      subst (λ (q : PortId). HasPortNumber s q.port) back
+      (is.world.sound.wired.ports at.link at.answering (other_direction at.direction) f.channel f.own.station f.here f.own.here
       (f.own.named ∙ ap (λ (q : PortId). q.clock) (sym back)))
 
   -- there it takes its time from the parent
-  pub takes_time : TakesTime s to.port (identity_of from)
+  pub takes_time : TakesTime s to.port (port_identity_number from)
   takes_time = by to.port slave_is own_port.least
     where
-      by : (n : ℕ) → s.slave ≡ Some n → 1 ≤ n → TakesTime s n (identity_of from)
+      by : (n : ℕ) → s.slave ≡ Some n → 1 ≤ n → TakesTime s n (port_identity_number from)
       by zero slave first = absurd (omega arith)
       by (suc i) slave first =
           let t = (slave_takes s steady i slave).takes in
           let holds = t.holds in
           let follows : parent s ≡ Some (suc i, t.reception.vector.source) =
           parent_from s (suc i) t.reception slave holds in
-          let is_parent : IsParent g (clock s) (link_of (suc i, t.reception.vector.source)) =
-          subst (λ o. IsParentIfAny g (clock s) (option_map link_of o)) follows settled_system.parent in
-          let one = IsParent-unique g (clock s) (link_of (suc i, t.reception.vector.source))
+          let is_parent : IsParent g (clock s) (followed_link (suc i, t.reception.vector.source)) =
+          subst (λ o. IsParentIfAny g (clock s) (option_map followed_link o)) follows settled_system.parent in
+          let one = IsParent-unique g (clock s) (followed_link (suc i, t.reception.vector.source))
           (parent_link at.direction f.channel) is_parent own_parent in
           record {
             capable = t.capable;
@@ -130,14 +130,14 @@ same_root g v a b wf (x, is_x, a_is) (y, is_y, b_is) =
 
 -- what has a live station of a clock had it before, by a call: it is the one that was called, or unchanged
 pub record WasBefore (place : ℕ) (input : Input) (w : WorldState) (draws : List Draw) (answer : Answer)
-    (w' : WorldState) (k : Calls place input w draws answer w') (other number : ℕ) (new : IsLiveAt other number w')
+    (w' : WorldState) (k : Calls place input w draws answer w') (other number : ℕ) (new : StationIsLiveAt other number w')
     : Type 0 where
-  pub before : IsLiveAt other number w
+  pub before : StationIsLiveAt other number w
   pub which : ((other ≡ place) × (before.station ≡ k.station) × (new.station ≡ in_state k.after k.station))
       ⊎ ((other ≢ place) × (new.station ≡ before.station))
 
 pub was_before : (place : ℕ) (input : Input) (w : WorldState) (draws : List Draw) (answer : Answer) (w' : WorldState)
-    (k : Calls place input w draws answer w') (other number : ℕ) (new : IsLiveAt other number w')
+    (k : Calls place input w draws answer w') (other number : ℕ) (new : StationIsLiveAt other number w')
     → WasBefore place input w draws answer w' k other number new
 was_before place input w draws answer w' k other number new = by (same_place other place)
   where
@@ -175,8 +175,8 @@ was_before place input w draws answer w' k other number new = by (same_place oth
     }
 
 -- What follows in the later world followed in the one before, over the same link, where the network stayed.
-pub record FollowedBefore (at : LinkPlace) (w w' : WorldState) (f' : IsFollower at w') (above : IsLiveAt at.asking
-    (sender at.direction f'.channel).clock w) (own : IsLiveAt at.answering (receiver at.direction f'.channel).clock w)
+pub record FollowedBefore (at : LinkPlace) (w w' : WorldState) (f' : IsFollower at w') (above : StationIsLiveAt at.asking
+    (sender at.direction f'.channel).clock w) (own : StationIsLiveAt at.answering (receiver at.direction f'.channel).clock w)
     : Type 0 where
   pub before : IsFollower at w
   pub a : f'.channel.a ≡ before.channel.a
@@ -185,13 +185,13 @@ pub record FollowedBefore (at : LinkPlace) (w w' : WorldState) (f' : IsFollower 
   pub above_is : before.above.station ≡ above.station
   pub own_is : before.own.station ≡ own.station
 
-abbrev renamed : (w : WorldState) (place a b : ℕ) → a ≡ b → (e : IsLiveAt place a w) → IsLiveAt place b w
+abbrev renamed : (w : WorldState) (place a b : ℕ) → a ≡ b → (e : StationIsLiveAt place a w) → StationIsLiveAt place b w
 renamed w place a b same e =
     record { station = e.station; here = e.here; live = e.live; named = e.named ∙ same }
 
 pub followed_before : (at : LinkPlace) (w w' : WorldState) (f' : IsFollower at w') → KeepsNetwork w w'
-    → (above : IsLiveAt at.asking (sender at.direction f'.channel).clock w)
-    → (own : IsLiveAt at.answering (receiver at.direction f'.channel).clock w)
+    → (above : StationIsLiveAt at.asking (sender at.direction f'.channel).clock w)
+    → (own : StationIsLiveAt at.answering (receiver at.direction f'.channel).clock w)
     → FollowedBefore at w w' f' above own
 followed_before at w w' f' k above own =
     let (old, stands, same) = alike bare bare w.net.channels w'.net.channels (sym k.links) at.link f'.channel f'.here
@@ -213,7 +213,7 @@ followed_before at w w' f' k above own =
       before = record {
         channel = old;
         here = stands;
-        used = ap (is_used (live_systems w.stations)) same ∙ ap (λ s. is_used s f'.channel) (sym k.systems) ∙ f'.used;
+        used = ap (channel_is_used (live_stations w.stations)) same ∙ ap (λ s. channel_is_used s f'.channel) (sym k.systems) ∙ f'.used;
         lossless = ap (λ (x : Bounds). x.loss) (sym bounds) ∙ f'.lossless;
         above = renamed w at.asking _ _ (ap (λ (q : PortId). q.clock) from) above;
         own = renamed w at.answering _ _ (ap (λ (q : PortId). q.clock) to) own;

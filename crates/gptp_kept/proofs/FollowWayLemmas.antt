@@ -16,7 +16,7 @@ use Rattle.gptp_setup.specs.Pace.{Pace}
 use Rattle.gptp_system.specs.State.{clock}
 use Rattle.gptp_acts.specs.declared.station.Station.{Station}
 use Rattle.gptp_acts.specs.World.{WorldState, receiver, sender}
-use Rattle.gptp_accuracy.specs.TimeError.{Link, Way, drift_at, link_at}
+use Rattle.gptp_accuracy.specs.TimeError.{WayLink, Way, drift_at, link_at}
 use Rattle.gptp_accuracy.specs.WayLaws.{IsDocumented, shown_at}
 use Rattle.gptp_accuracy.proofs.LongerLemmas.{link_same}
 use Rattle.gptp_timing.specs.Follower.{own_clock}
@@ -25,10 +25,10 @@ use Rattle.gptp_timing.specs.Tree.{IsWayTo, Parts, last_link}
 use Rattle.gptp_timing.specs.TreeLaws.{ArePartsOf}
 use Rattle.gptp_timing.proofs.SizeLemmas.{corrections_are_small}
 use Rattle.gptp_timing.proofs.TreeLemmas.{way_ends_at_parent, way_leads_to}
-use Rattle.gptp_kept.specs.Calm.{place_of, setups_of}
-use Rattle.gptp_kept.specs.Followers.{HasWay, IsFollower, follower_clock, follower_setting, parent_link, parts_of, set_up_with, state_of}
+use Rattle.gptp_kept.specs.Calm.{clock_place, setups_of}
+use Rattle.gptp_kept.specs.Followers.{HasWay, IsFollower, follower_clock, follower_setting, parent_link, follower_parts, set_up_with, follower_state}
 use Rattle.gptp_kept.specs.LinkView.{LinkPlace}
-use Rattle.gptp_kept.specs.Standing.{live_systems, snapshot_of}
+use Rattle.gptp_kept.specs.Standing.{live_stations, snapshot_of}
 use Rattle.gptp_kept.specs.Timed.{IsSettledFrom}
 use Rattle.gptp_kept.proofs.FollowSettingLemmas.{fit, is_setting, own_shown}
 use Rattle.gptp_kept.proofs.FollowSizeLemmas.{IsShortWay}
@@ -61,14 +61,14 @@ links_short x g (suc steps) clock longest w phase fits (parent, above, follows, 
         let long = way_leads_to.long x g steps parent.clock above phase is in
         let same : link_at w i ≡ link_at above i =
         ap (λ v. link_at v i) w_is ∙ link_same above (last_link x clock parent) i (omega (arith, before, long)) in
-        subst (λ (l : Link). l.most ≤ longest) (sym same) (shorter before)
+        subst (λ (l : WayLink). l.most ≤ longest) (sym same) (shorter before)
     by (inr last) shorter =
         let here : i ≡ steps = omega (arith, on, last) in
         let same : link_at w i ≡ last_link x clock parent =
         ap (link_at w) here
         ∙ way_ends_at_parent.link x g steps clock parent w phase follows
         (parent, above, follows, is, w_is, phase_is) in
-        subst (λ (l : Link). l.most ≤ longest) (sym same) (fits.short (port_of clock parent.own_port))
+        subst (λ (l : WayLink). l.most ≤ longest) (sym same) (fits.short (port_of clock parent.own_port))
 
 -- its first clock has the phase of a system
 first_phase : (x : Parts) (g : Snapshot) (steps clock most : ℕ) (w : Way) (phase : ℕ → ℕ)
@@ -80,21 +80,21 @@ first_phase x g (suc steps) clock most w phase each (parent, above, follows, is,
 phases_fit : (stations : List Station)
     → ((place : ℕ) (station : Station) → slice_get stations place ≡ Some station → station.setup.phase ≤ 10 ^ 18)
     → (number : ℕ) → set_up_with (λ setup. setup.phase) 0 stations number ≤ 10 ^ 18
-phases_fit stations each number = by (slice_get (setups_of stations) (place_of stations number)) refl
+phases_fit stations each number = by (slice_get (setups_of stations) (clock_place stations number)) refl
   where
-    by : (found : Option Setup) → slice_get (setups_of stations) (place_of stations number) ≡ found
+    by : (found : Option Setup) → slice_get (setups_of stations) (clock_place stations number) ≡ found
         → option_map_or (λ (setup : Setup). setup.phase) found 0 ≤ 10 ^ 18
     by None is = omega arith
     by (Some setup) is =
         let (station, there, same) = mapped (λ (x : Station). x.setup) stations _ setup is in
-        subst (λ (x : Setup). x.phase ≤ 10 ^ 18) same (each (place_of stations number) station there)
+        subst (λ (x : Setup). x.phase ≤ 10 ^ 18) same (each (clock_place stations number) station there)
 
 -- ---- the way of a system that follows
 
 module _ (p : Pace) (settled longest : ℕ) (w : WorldState) (is : IsSettledFrom p settled longest w) (at : LinkPlace)
     (f : IsFollower at w) (steps : ℕ) (h : HasWay p.params at w f steps) where
   abbrev x : Parts
-  x = parts_of p.params w
+  x = follower_parts p.params w
 
   abbrev g : Snapshot
   g = snapshot_of w
@@ -165,7 +165,7 @@ module _ (p : Pace) (settled longest : ℕ) (w : WorldState) (is : IsSettledFrom
       let its = is.world.sound.wired.setups at.answering f.own.station f.own.here in
       let set_up = (is.measured.stations at.answering f.own.station f.own.here).set_up in
       subst IsTime (own_shown p settled longest w is at f steps h t)
-      (clock_shows_time (state_of at w f).phase (state_of at w f).drift t
+      (clock_shows_time (follower_state at w f).phase (follower_state at w f).drift t
       (subst (λ n. n ≤ 10 ^ 18) (sym set_up.phase) its.phase) (omega (arith, before, shown))
       (subst IsDrift (sym set_up.drift) its.drift))
 
@@ -189,7 +189,7 @@ follows_parent p settled longest w is place station here live near l follows =
     let joins = Joins-sym g (port_of v l.own_port) (port_of l.clock l.port) follows.nearer.joins in
     let way = way_of w (port_of l.clock l.port) (port_of v l.own_port) joins in
     let (s, member, same) = clock_lives w.stations (sender way.direction way.channel).clock
-    (sender_lives (live_systems w.stations) way.direction way.channel way.used) in
+    (sender_lives (live_stations w.stations) way.direction way.channel way.used) in
     let there = live_from w.stations s member in
     let to : v ≡ (receiver way.direction way.channel).clock =
     ap (λ (q : PortIdentity). q.clock) (sym way.to) in

@@ -16,9 +16,9 @@ use Rattle.gptp_acts.specs.Course.{WasDone}
 use Rattle.gptp_acts.specs.declared.done.Done.{Done}
 use Rattle.gptp_acts.specs.World.{Channel, WorldState}
 use Rattle.gptp_timing.proofs.TreeLemmas.{way_exists}
-use Rattle.gptp_kept.specs.Calm.{greatest_delay}
-use Rattle.gptp_kept.specs.Followers.{follower_clock, parts_of}
-use Rattle.gptp_kept.specs.Standing.{is_used, live_systems, snapshot_of}
+use Rattle.gptp_kept.specs.Calm.{greatest_channel_delay}
+use Rattle.gptp_kept.specs.Followers.{follower_clock, follower_parts}
+use Rattle.gptp_kept.specs.Standing.{channel_is_used, live_stations, snapshot_of}
 use Rattle.gptp_kept.specs.Known.{IsKnown}
 use Rattle.gptp_kept.specs.SeenLaws.{IsNoChange}
 use Rattle.gptp_kept.specs.Timed.{AllMeasureRight, CarriesTime, IsSettledFrom}
@@ -57,15 +57,15 @@ module _ {F : Type 0} (answers : Bounds → ℕ → F → Option ℕ → F → T
 
 -- the greatest delay of links in use is no more than what none of them exceeds
 used_within : (systems : List System) (channels : List Channel) (bound : ℕ)
-    → ((link : ℕ) (channel : Channel) → slice_get channels link ≡ Some channel → is_used systems channel ≡ true
+    → ((link : ℕ) (channel : Channel) → slice_get channels link ≡ Some channel → channel_is_used systems channel ≡ true
     → channel.bounds.max ≤ bound)
-    → greatest_delay systems channels ≤ bound
+    → greatest_channel_delay systems channels ≤ bound
 used_within systems [] bound each = omega arith
 used_within systems (first ∷ channels) bound each =
-    by (is_used systems first) refl (used_within systems channels bound (λ link. each (suc link)))
+    by (channel_is_used systems first) refl (used_within systems channels bound (λ link. each (suc link)))
   where
-    by : (used : Bool) → is_used systems first ≡ used → greatest_delay systems channels ≤ bound
-        → (if used then max first.bounds.max (greatest_delay systems channels) else greatest_delay systems channels)
+    by : (used : Bool) → channel_is_used systems first ≡ used → greatest_channel_delay systems channels ≤ bound
+        → (if used then max first.bounds.max (greatest_channel_delay systems channels) else greatest_channel_delay systems channels)
         ≤ bound
     by true is later = let one = each zero first refl is in omega (arith, one, later)
     by false is later = later
@@ -80,7 +80,7 @@ claimed_is_settled_from p settled w claimed quiet choice old late shown = record
   old = old;
   late = late;
   shown = shown;
-  short = used_within (live_systems w.stations) w.net.channels p.params.threshold
+  short = used_within (live_stations w.stations) w.net.channels p.params.threshold
       (λ link channel here used. let good = (quiet link channel here used).good in omega (arith, good));
   limit = claimed.pace.params.ranges.threshold;
 }
@@ -99,7 +99,7 @@ others_follow p settled longest w place station best is here live near is_best o
     let there : IsDistance g (follower_clock f.at w f.follower) (suc follows.nearer.distance) =
     subst (λ n. IsDistance g n (suc follows.nearer.distance)) (sym f.named)
     (subst (IsDistance g (clock station.system)) farther distance) in
-    let (way, phase, leads) = way_exists (parts_of p.params w) g (suc follows.nearer.distance)
+    let (way, phase, leads) = way_exists (follower_parts p.params w) g (suc follows.nearer.distance)
     (follower_clock f.at w f.follower) wf there in
     record {
       place = f.at;

@@ -13,10 +13,10 @@ use Rattle.gptp_acts.specs.Sound.{HaveOwnClocks, IsSound}
 use Rattle.gptp_acts.specs.World.{Channel, WorldState, sender}
 use Rattle.gptp_settling.specs.Frame.{Lane}
 use Rattle.gptp_kept.specs.Legible.{IsLegible}
-use Rattle.gptp_kept.specs.View.{identity_of, lane_place, lane_view, lanes_view}
+use Rattle.gptp_kept.specs.View.{port_identity_number, lane_place, lane_view, lanes_view}
 use Rattle.gptp_kept.proofs.SeenLaneLemmas.{lane_there}
 use Rattle.gptp_kept.proofs.SendLemmas.{world_apart}
-use Rattle.gptp_kept.specs.Calm.{is_port, lane_of, place_of}
+use Rattle.gptp_kept.specs.Calm.{has_port_id, lane_of, clock_place}
 
 -- ---- systems
 
@@ -27,7 +27,7 @@ FindsClock stations number place =
 
 clock_found : (stations : List Station) (number place : ℕ) (station : Station)
     → slice_get stations place ≡ Some station → clock station.system ≡ number
-    → FindsClock stations number (place_of stations number)
+    → FindsClock stations number (clock_place stations number)
 clock_found [] number place station here is = absurd (none-some station here)
 clock_found (first ∷ stations) number zero station here is =
     let same = ap (λ (x : Station). clock x.system) (same_Some first station here) ∙ is in
@@ -36,30 +36,30 @@ clock_found (first ∷ stations) number zero station here is =
 clock_found (first ∷ stations) number (suc place) station here is =
     by (clock first.system == number) refl (clock_found stations number place station here is)
   where
-    by : (b : Bool) → (clock first.system == number) ≡ b → FindsClock stations number (place_of stations number)
-        → FindsClock (first ∷ stations) number (if b then 0 else suc (place_of stations number))
+    by : (b : Bool) → (clock first.system == number) ≡ b → FindsClock stations number (clock_place stations number)
+        → FindsClock (first ∷ stations) number (if b then 0 else suc (clock_place stations number))
     by true one later = (first, refl, eqb-true (clock first.system) number one)
     by false other later = later
 
 -- and no other system has it
 pub place_is : (w : WorldState) → HaveOwnClocks w → (place : ℕ) (station : Station)
-    → slice_get w.stations place ≡ Some station → place ≡ place_of w.stations (clock station.system)
+    → slice_get w.stations place ≡ Some station → place ≡ clock_place w.stations (clock station.system)
 place_is w own place station here =
     let number = clock station.system in
     let (at, there, same) = clock_found w.stations number place station here refl in
-    own place (place_of w.stations number) station at here there (sym same)
+    own place (clock_place w.stations number) station at here there (sym same)
 
 -- ---- lanes
 
 -- a port by its clock and number
-pub is_port_from : (p : PortId) (port : PortIdentity) → is_port p port ≡ true → identity_of p ≡ port
+pub is_port_from : (p : PortId) (port : PortIdentity) → has_port_id p port ≡ true → port_identity_number p ≡ port
 is_port_from p port same =
     let both = and_parts (p.clock == port.clock) (p.port == port.port) same in
     let clocks = eqb-true p.clock port.clock both.0 in
     let ports = eqb-true p.port port.port both.1 in
     λ i. record { clock = clocks i; port = ports i }
 
-pub is_port_there : (p : PortId) (port : PortIdentity) → identity_of p ≡ port → is_port p port ≡ true
+pub is_port_there : (p : PortId) (port : PortIdentity) → port_identity_number p ≡ port → has_port_id p port ≡ true
 is_port_there p port same =
     and_from (p.clock == port.clock) (p.port == port.port)
     (eq-eqb p.clock port.clock (ap (λ (x : PortIdentity). x.clock) same))
@@ -72,12 +72,12 @@ FindsLane channels port place =
 
 -- Among the lanes of a link and those behind it one is found, where it is found behind if it isn't of this link.
 first_or_later : (first : Channel) (channels : List Channel) (port : PortIdentity)
-    → (is_port first.a port ≡ false → is_port first.b port ≡ false
+    → (has_port_id first.a port ≡ false → has_port_id first.b port ≡ false
     → FindsLane channels port (lane_of channels port))
     → FindsLane (first ∷ channels) port (lane_of (first ∷ channels) port)
-first_or_later first channels port later = by (is_port first.a port) (is_port first.b port) refl refl
+first_or_later first channels port later = by (has_port_id first.a port) (has_port_id first.b port) refl refl
   where
-    by : (a b : Bool) → is_port first.a port ≡ a → is_port first.b port ≡ b
+    by : (a b : Bool) → has_port_id first.a port ≡ a → has_port_id first.b port ≡ b
         → FindsLane (first ∷ channels) port
         (if a then lane_place 0 FromA else (if b then lane_place 0 FromB else suc (suc (lane_of channels port))))
     by true b is is_b = (lane_view FromA first, refl, is_port_from first.a port is)
@@ -85,17 +85,17 @@ first_or_later first channels port later = by (is_port first.a port) (is_port fi
     by false false is is_b = later is is_b
 
 lane_found : (channels : List Channel) (port : PortIdentity) (link : ℕ) (direction : Direction) (channel : Channel)
-    → slice_get channels link ≡ Some channel → identity_of (sender direction channel) ≡ port
+    → slice_get channels link ≡ Some channel → port_identity_number (sender direction channel) ≡ port
     → FindsLane channels port (lane_of channels port)
 lane_found [] port link direction channel here begins = absurd (none-some channel here)
 lane_found (first ∷ channels) port zero FromA channel here begins =
-    let same = ap (λ (c : Channel). identity_of c.a) (same_Some first channel here) ∙ begins in
+    let same = ap (λ (c : Channel). port_identity_number c.a) (same_Some first channel here) ∙ begins in
     first_or_later first channels port
-    (λ off_a off_b. absurd (both_ways (is_port first.a port) off_a (is_port_there first.a port same)))
+    (λ off_a off_b. absurd (both_ways (has_port_id first.a port) off_a (is_port_there first.a port same)))
 lane_found (first ∷ channels) port zero FromB channel here begins =
-    let same = ap (λ (c : Channel). identity_of c.b) (same_Some first channel here) ∙ begins in
+    let same = ap (λ (c : Channel). port_identity_number c.b) (same_Some first channel here) ∙ begins in
     first_or_later first channels port
-    (λ off_a off_b. absurd (both_ways (is_port first.b port) off_b (is_port_there first.b port same)))
+    (λ off_a off_b. absurd (both_ways (has_port_id first.b port) off_b (is_port_there first.b port same)))
 lane_found (first ∷ channels) port (suc link) direction channel here begins =
     let later = lane_found channels port link direction channel here begins in
     first_or_later first channels port (λ off_a off_b. later)
@@ -103,9 +103,9 @@ lane_found (first ∷ channels) port (suc link) direction channel here begins =
 -- and no other lane begins there
 pub lane_is : (w : WorldState) → IsSound w → IsLegible w → (link : ℕ) (direction : Direction) (channel : Channel)
     → slice_get w.net.channels link ≡ Some channel
-    → lane_place link direction ≡ lane_of w.net.channels (identity_of (sender direction channel))
+    → lane_place link direction ≡ lane_of w.net.channels (port_identity_number (sender direction channel))
 lane_is w sound legible link direction channel here =
-    let port = identity_of (sender direction channel) in
+    let port = port_identity_number (sender direction channel) in
     let (lane, there, begins) = lane_found w.net.channels port link direction channel here refl in
     world_apart w sound legible (lane_place link direction) (lane_of w.net.channels port)
     (lane_view direction channel) lane (lane_there w.net.channels link direction channel here) there (sym begins)

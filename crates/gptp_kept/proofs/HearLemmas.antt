@@ -1,4 +1,4 @@
--- What a port makes of octets that it hears, as one that asks and as one that answers.
+-- What a port makes of octets that it hears, as one that reads_as_request and as one that answers.
 use Rattle.std.proofs.Common.{◌≡◌, ◌≢◌, ◌⊎◌, ◌*◌, ℕ, ℤ, ◌-ℤ◌, pos, int_le, Bool, true, List, Some, None, refl, sym, ap, subst, ◌∙◌, inl, inr, eq-eqb, rules}
 use Rattle.std.specs.Prelude.{if◌then◌else◌, ◌==◌}
 use Rattle.std.specs.Option.{option_map_or}
@@ -23,14 +23,14 @@ use Rattle.gptp_pdelay.specs.Progress.{is_follow_up_to, is_response_to, response
 use Rattle.gptp_pdelay.proofs.ExchangeLemmas.{neighbor_rate_is_within}
 use Rattle.gptp_system.specs.Measures.{Part, part_heard}
 use Rattle.gptp_system.specs.State.{SystemState, local_time}
-use Rattle.gptp_measuring.specs.Asker.{Asked, Answered, Takes, own_request, completed as completes}
+use Rattle.gptp_measuring.specs.Asker.{Asked, Answered, TakesReply, own_request, asker_completed as completes}
 use Rattle.gptp_measuring.specs.Answerer.{Notes}
 use Rattle.gptp_measuring.specs.ExchangeLaws.{HasLocalClocks}
 use Rattle.gptp_measuring.specs.Messages.{Request as SeenRequest, Reply, Response as SaidResponse, FollowUp as SaidFollowUp}
 use Rattle.gptp_measuring.specs.Meter.{Measures, TakesMeasure}
 use Rattle.gptp_measuring.specs.Setting.{Setting, IsExchange}
 use Rattle.gptp_measuring.proofs.ExchangeLemmas.{exchanges_are_good}
-use Rattle.gptp_kept.specs.LinkView.{asked_at, asker_view, asks, follow_up_view, identity_of, replies, request_from, response_view, waits_view}
+use Rattle.gptp_kept.specs.LinkView.{asked_at, asker_view, reads_as_request, follow_up_view, link_identity, reads_as_reply, request_from, response_view, waits_view}
 use Rattle.gptp_kept.proofs.LinkLaneLemmas.{same_true}
 use Rattle.gptp_kept.proofs.LinkOctetLemmas.{one_request}
 use Rattle.gptp_kept.proofs.PartLemmas.{AsksAsBefore, answered_is, asks_still, heard_asked, heard_asks, heard_waits, response_passes, same_identity, sent_is}
@@ -54,11 +54,11 @@ heard_message s now octets x x' m (inr (none, is)) here = absurd (none m here)
 module _ (k : Setting) (s : SystemState) (now : ℕ) (octets : List ℕ) (x x' : Part) (hears : Hears s now octets x x')
     (clock_is : k.answering_clock now ≡ local_time s now) (turnaround_is : k.turnaround ≡ s.params.turnaround) where
   -- a request is noted, and anything else leaves what waited
-  pub hears_notes : Notes k asks now octets (waits_view x) (waits_view x')
+  pub hears_notes : Notes k reads_as_request now octets (waits_view x) (waits_view x')
   hears_notes = go hears
     where
       note : (head : Head) → Reads octets (messages.PdelayReq head)
-          → Notes k asks now octets (waits_view x) (waits_view x')
+          → Notes k reads_as_request now octets (waits_view x) (waits_view x')
       note head reads =
           inr (
             request_from head.source head.sequence,
@@ -73,14 +73,14 @@ module _ (k : Setting) (s : SystemState) (now : ℕ) (octets : List ℕ) (x x' :
           )
 
       leave : (m : Message) → Reads octets m → ((head : Head) → m ≢ messages.PdelayReq head)
-          → Notes k asks now octets (waits_view x) (waits_view x')
+          → Notes k reads_as_request now octets (waits_view x) (waits_view x')
       leave m reads other =
           inl (
             λ request said. other said.0 (one_reading octets m (messages.PdelayReq said.0) reads said.1),
             ap waits_view (heard_message s now octets x x' m hears reads) ∙ heard_waits s now m x other,
           )
 
-      by : (m : Message) → Reads octets m → Notes k asks now octets (waits_view x) (waits_view x')
+      by : (m : Message) → Reads octets m → Notes k reads_as_request now octets (waits_view x) (waits_view x')
       by (messages.Sync head) reads = leave (messages.Sync head) reads (λ h e. absurd cc)
       by (messages.PdelayReq head) reads = note head reads
       by (messages.PdelayResp m) reads = leave (messages.PdelayResp m) reads (λ h e. absurd cc)
@@ -88,11 +88,11 @@ module _ (k : Setting) (s : SystemState) (now : ℕ) (octets : List ℕ) (x x' :
       by (messages.PdelayRespFollowUp m) reads = leave (messages.PdelayRespFollowUp m) reads (λ h e. absurd cc)
       by (messages.Announce a) reads = leave (messages.Announce a) reads (λ h e. absurd cc)
 
-      go : Hears s now octets x x' → Notes k asks now octets (waits_view x) (waits_view x')
+      go : Hears s now octets x x' → Notes k reads_as_request now octets (waits_view x) (waits_view x')
       go (inl (m, reads, is)) = by m reads
       go (inr (none, is)) = inl (λ request said. none (messages.PdelayReq said.0) said.1, ap waits_view is)
 
--- ---- as one that asks
+-- ---- as one that reads_as_request
 
 -- a delay within the threshold passes the test
 is_at_most : (threshold : ℕ) (delay : ℤ) → IsWithinThreshold threshold delay
@@ -112,7 +112,7 @@ follow_up_passes own request response m requester sequence source =
 -- what a response says is what was said of it
 response_parts : (source : PortIdentity) (request : SeenRequest) (t : ℤ) (m : PdelayResp)
     → SaidResponse source request t ≡ response_view m
-    → (identity_of m.head.source ≡ source) × (identity_of m.requester ≡ request.source)
+    → (link_identity m.head.source ≡ source) × (link_identity m.requester ≡ request.source)
     × (m.head.sequence ≡ request.sequence) × (carried_time m.stamp m.head.correction ≡ t)
 response_parts source request t m e =
     let named : request_from m.requester m.head.sequence ≡ request = cc in
@@ -120,19 +120,19 @@ response_parts source request t m e =
 
 follow_up_parts : (source : PortIdentity) (request : SeenRequest) (t : ℤ) (m : PdelayRespFollowUp)
     → SaidFollowUp source request t ≡ follow_up_view m
-    → (identity_of m.head.source ≡ source) × (identity_of m.requester ≡ request.source)
+    → (link_identity m.head.source ≡ source) × (link_identity m.requester ≡ request.source)
     × (m.head.sequence ≡ request.sequence) × (carried_time m.stamp m.head.correction ≡ t)
 follow_up_parts source request t m e =
     let named : request_from m.requester m.head.sequence ≡ request = cc in
     (cc, ap (λ (r : SeenRequest). r.source) named, ap (λ (r : SeenRequest). r.sequence) named, cc)
 
 module _ (k : Setting) (s : SystemState) (now period : ℕ) (octets : List ℕ) (x x' : Part)
-    (hears : Hears s now octets x x') (own answering : PortId) (asking_is : k.asking ≡ identity_of own)
-    (answering_is : k.answering ≡ identity_of answering) (clock_is : k.asking_clock now ≡ local_time s now)
+    (hears : Hears s now octets x x') (own answering : PortId) (asking_is : k.asking ≡ link_identity own)
+    (answering_is : k.answering ≡ link_identity answering) (clock_is : k.asking_clock now ≡ local_time s now)
     (named : x.peer.own ≡ own) (apart : own.clock ≢ answering.clock)
     (good : IsGoodLink k.most k.turnaround x.peer.threshold) (clocks : HasLocalClocks k) where
   -- octets that are no reply leave what the port asked and measured
-  nothing : ((r : Reply) → replies octets r → ⊥) → AsksAsBefore period x x'
+  nothing : ((r : Reply) → reads_as_reply octets r → ⊥) → AsksAsBefore period x x'
   nothing none = go hears
     where
       go : Hears s now octets x x' → AsksAsBefore period x x'
@@ -154,7 +154,7 @@ module _ (k : Setting) (s : SystemState) (now period : ℕ) (octets : List ℕ) 
 
   -- a response to the open request is recorded, and measures nothing
   response_heard : (sequence : ℕ) (t1 t2 : ℤ) → (asker_view period x).progress ≡ Asked sequence t1
-      → replies octets (SaidResponse k.answering (own_request k sequence) t2)
+      → reads_as_reply octets (SaidResponse k.answering (own_request k sequence) t2)
       → (asker_view period x'
       ≡ record (asker_view period x) { progress = Answered sequence k.answering t1 t2 (k.asking_clock now) })
       × (x'.peer.last ≡ x.peer.last)
@@ -163,7 +163,7 @@ module _ (k : Setting) (s : SystemState) (now period : ℕ) (octets : List ℕ) 
       let (request, sent, number, first) = sent_is x.peer.progress sequence t1 was in
       let (source, requester, numbered, time) = response_parts k.answering (own_request k sequence) t2 m e in
       let here : m.requester ≡ x.peer.own =
-      same_identity m.requester x.peer.own (requester ∙ asking_is ∙ ap identity_of (sym named)) in
+      same_identity m.requester x.peer.own (requester ∙ asking_is ∙ ap link_identity (sym named)) in
       let from : m.head.source ≡ answering = same_identity m.head.source answering (source ∙ answering_is) in
       let passes : is_response_to x.peer.own request m ≡ true =
       response_passes x.peer.own answering request m here (numbered ∙ sym number) from
@@ -198,7 +198,7 @@ module _ (k : Setting) (s : SystemState) (now period : ℕ) (octets : List ℕ) 
   -- a follow-up to the recorded response completes the exchange, and measures
   follow_up_heard : (sequence : ℕ) (t1 t2 t3 t4 : ℤ)
       → (asker_view period x).progress ≡ Answered sequence k.answering t1 t2 t4
-      → replies octets (SaidFollowUp k.answering (own_request k sequence) t3)
+      → reads_as_reply octets (SaidFollowUp k.answering (own_request k sequence) t3)
       → ((fine : Bool) × (IsExchange k t1 t2 t3 t4 → fine ≡ true)
       × (asker_view period x' ≡ completes fine (asker_view period x)))
       × Measures x.peer.last x'.peer.last t1 t2 t3 t4
@@ -208,7 +208,7 @@ module _ (k : Setting) (s : SystemState) (now period : ℕ) (octets : List ℕ) 
       answered_is x.peer.progress sequence k.answering t1 t2 t4 was in
       let (source, requester, numbered, time) = follow_up_parts k.answering (own_request k sequence) t3 m e in
       let here : m.requester ≡ x.peer.own =
-      same_identity m.requester x.peer.own (requester ∙ asking_is ∙ ap identity_of (sym named)) in
+      same_identity m.requester x.peer.own (requester ∙ asking_is ∙ ap link_identity (sym named)) in
       let from : m.head.source ≡ response.source =
       same_identity m.head.source response.source (source ∙ sym answered) in
       let passes : is_follow_up_to x.peer.own request response m ≡ true =
@@ -236,7 +236,7 @@ module _ (k : Setting) (s : SystemState) (now period : ℕ) (octets : List ℕ) 
         measures request response third t1 t2 t3 t4 first second time fourth (ap (λ (y : Part). y.peer.last) part),
       )
 
-  pub hears_takes : Takes k replies now octets (asker_view period x) (asker_view period x')
+  pub hears_takes : TakesReply k reads_as_reply now octets (asker_view period x) (asker_view period x')
   hears_takes = record {
     nothing = λ none. (nothing none).0;
     asked = asked;
@@ -244,7 +244,7 @@ module _ (k : Setting) (s : SystemState) (now period : ℕ) (octets : List ℕ) 
     follow_up = λ sequence t1 t2 t3 t4 was said. (follow_up_heard sequence t1 t2 t3 t4 was said).0;
   }
 
-  pub hears_measure : TakesMeasure k replies octets (asker_view period x) x.peer.last x'.peer.last
+  pub hears_measure : TakesMeasure k reads_as_reply octets (asker_view period x) x.peer.last x'.peer.last
   hears_measure = record {
     nothing = λ none. (nothing none).1;
     response = λ sequence t1 t2 was said. (response_heard sequence t1 t2 was said).1;

@@ -10,7 +10,7 @@ use Rattle.gptp_links.specs.Fate.{Draw}
 use Rattle.gptp_setup.specs.Intervals.{IsLog}
 use Rattle.gptp_setup.specs.Pace.{Pace, lapse_span, largest_interval, longest_span}
 use Rattle.gptp_setup.proofs.IntervalLemmas.{interval_positive}
-use Rattle.gptp_plan.specs.Calm.{NothingLapses as IsOff, SyncsComeInTime}
+use Rattle.gptp_plan.specs.Calm.{NothingNearLapses as IsOff, SyncsComeInTime}
 use Rattle.gptp_plan.specs.SyncWait.{sync_wait}
 use Rattle.gptp_plan.specs.declared.change.Act.{Act}
 use Rattle.gptp_plan.specs.declared.change.Act.TheVariants.{Deliver, Expire, Change as Changing}
@@ -21,18 +21,18 @@ use Rattle.gptp_acts.specs.Acts.{Acts, at}
 use Rattle.gptp_plan.specs.Allowed.{IsFitAct}
 use Rattle.gptp_acts.specs.Course.{Begun, WasDone}
 use Rattle.gptp_acts.specs.Initial.{initial}
-use Rattle.gptp_plan.specs.Network.{IsNetwork as IsSimulated, NetworkState, pace_of}
+use Rattle.gptp_plan.specs.Network.{IsSettlingNetwork as IsSimulated, NetworkState, pace_of}
 use Rattle.gptp_acts.specs.Prompt.{IsPromptIn}
 use Rattle.gptp_plan.specs.SettlingTime.{capability_span}
 use Rattle.gptp_plan.proofs.LogLemmas.{largest_log}
 use Rattle.gptp_acts.specs.World.{WorldState}
-use Rattle.gptp_settling.specs.Acts.{Steps, Waits}
+use Rattle.gptp_settling.specs.Acts.{MachineSteps, MomentComes}
 use Rattle.gptp_settling.specs.Calm.{Calm}
-use Rattle.gptp_settling.specs.Lapsing.{NothingLapses}
+use Rattle.gptp_settling.specs.Lapsing.{NothingNearLapses}
 use Rattle.gptp_settling.specs.Levels.{Invariant}
 use Rattle.gptp_settling.specs.EarlyPorts.{ClaimsWhenReady}
 use Rattle.gptp_settling.specs.CleanInvariant.{TracesAreClean}
-use Rattle.gptp_settling.specs.Network.{BecomesClean, IsNetwork, Network, setting}
+use Rattle.gptp_settling.specs.Network.{BecomesClean, IsSettlingNetwork, Network, network_setting}
 use Rattle.gptp_settling.specs.SyncActs.{SyncSteps}
 use Rattle.gptp_settling.specs.Syncs.{HaveSyncTimers, IsPrompt}
 use Rattle.gptp_settling.proofs.CleanLemmas.{clean_begins, clean_kept}
@@ -45,7 +45,7 @@ use Rattle.gptp_kept.specs.Known.{IsKnown}
 use Rattle.gptp_kept.proofs.DelayLemmas.{delay_short}
 use Rattle.gptp_kept.specs.LegibleLaws.{SetsAnOctet}
 use Rattle.gptp_kept.specs.SeenLaws.{IsNoChange}
-use Rattle.gptp_kept.specs.View.{says, says_sync, view}
+use Rattle.gptp_kept.specs.View.{says_announce, says_sync, view}
 use Rattle.gptp_kept.proofs.SeenActLemmas.{acts_seen}
 use Rattle.gptp_kept.specs.Calm.{HaveQuietLinks, IsQuietWith, delay_in, SettlingTimes, network_with, at_once, in_turn, network_at_once, network_of, paths_with}
 use Rattle.gptp_kept.proofs.CalmFactLemmas.{facts}
@@ -63,13 +63,13 @@ use Rattle.gptp_kept.proofs.WaitLemmas.{has_timeout, wait_is}
 
 -- so is that at which it settles at once
 pub is_quick_network : (p : Pace) (m : ℕ) (w : WorldState) → IsWorld p w → BoundsPaths (snapshot_of w) m
-    → IsNetwork (quick_network p m w)
+    → IsSettlingNetwork (quick_network p m w)
 is_quick_network p m w is bounded =
     network_quick p m (start_of p w) w is.sound is.between is.legible is.known bounded (omega arith)
 
 -- its network is one of the machine
 pub is_network : (p : Pace) (m : ℕ) (w : WorldState) → IsWorld p w → BoundsPaths (snapshot_of w) m
-    → IsNetwork (settling_network p m w)
+    → IsSettlingNetwork (settling_network p m w)
 is_network p m w is bounded =
     network p m (start_of p w) w is.sound is.between is.legible is.known bounded (omega arith)
 
@@ -115,12 +115,12 @@ begins p w is early m bounded quiet =
     let state = is_calm p m w is quiet.links (λ still begun. absurd (omega arith)) in
     let before : w.time < (settling_network p m w).sound = omega arith in
     record {
-      traces = clean_begins says (setting (settling_network p m w)) (view w) state.facts
+      traces = clean_begins says_announce (network_setting (settling_network p m w)) (view w) state.facts
           (λ j l f at flies late. let near =
           state.facts.near j l f at flies in absurd (omega (arith, early, near, late)))
           (omega arith);
-      invariant = invariant_begins says (settling_network p m w) (is_network p m w is bounded) (view w) before;
-      at_once = λ off. invariant_begins says (quick_network p m w) (is_quick_network p m w is bounded) (view w) before;
+      invariant = invariant_begins says_announce (settling_network p m w) (is_network p m w is bounded) (view w) before;
+      at_once = λ off. invariant_begins says_announce (quick_network p m w) (is_quick_network p m w is bounded) (view w) before;
       expected = expected_begins says_sync (settling_network p m w) (view w) before;
     }
 
@@ -153,9 +153,9 @@ module _ (p : Pace) (w w' : WorldState) (is : IsWorld p w) (is' : IsWorld p w') 
     (capable' : BecomeCapable p w') (same : (m : ℕ) → settling_network p m w' ≡ settling_network p m w)
     (same_quick : (m : ℕ) → quick_network p m w' ≡ quick_network p m w)
     (back : (m : ℕ) → IsQuietWith p.params (paths_with m w') w' → IsQuietWith p.params (paths_with m w) w)
-    (step : Steps says (view w) (view w'))
+    (step : MachineSteps says_announce (view w) (view w'))
     (told : (m : ℕ) → 0 < p.params.sync_timeout
-    → SyncSteps says says_sync (settling_network p m w) (view w) (view w')) where
+    → SyncSteps says_announce says_sync (settling_network p m w) (view w) (view w')) where
   module _ (m : ℕ) (bounded : BoundsPaths (snapshot_of w) m) (quiet : IsQuietWith p.params (paths_with m w) w)
       (quiet' : HaveQuietLinks p.params w')
       (settling : IsSettling p (settling_network p m w) (quick_network p m w) (view w)) where
@@ -165,7 +165,7 @@ module _ (p : Pace) (w w' : WorldState) (is : IsWorld p w) (is' : IsWorld p w') 
     abbrev quick : Network
     quick = quick_network p m w
 
-    net : IsNetwork n
+    net : IsSettlingNetwork n
     net = is_network p m w is bounded
 
     before : Calm n (view w)
@@ -183,24 +183,24 @@ module _ (p : Pace) (w w' : WorldState) (is : IsWorld p w) (is' : IsWorld p w') 
     cleans = becomes_clean p m w
 
     -- traces are as clean as they must be, so that what is held is sound once it is wholly clean
-    traces' : TracesAreClean says (setting n) (view w')
-    traces' = clean_kept says (setting n) cleans.begins (view w) (view w') before.facts after.facts step settling.traces
+    traces' : TracesAreClean says_announce (network_setting n) (view w')
+    traces' = clean_kept says_announce (network_setting n) cleans.begins (view w) (view w') before.facts after.facts step settling.traces
 
-    kept : NothingLapses n (view w) → Invariant says n (view w')
+    kept : NothingNearLapses n (view w) → Invariant says_announce n (view w')
     kept nothing =
-        invariant_kept says n net (view w) (view w') before after nothing
-        (no_early_ports says n (view w) (view w')
+        invariant_kept says_announce n net (view w) (view w') before after nothing
+        (no_early_ports says_announce n (view w) (view w')
         (claims_when_ready p m (start_of p w) w (in_turn p (paths_with m w)))) step
-        (clean_sound says n net (view w') after traces' cleans.late) settling.invariant
+        (clean_sound says_announce n net (view w') after traces' cleans.late) settling.invariant
 
-    kept_at_once : IsOff p.params → Invariant says quick (view w')
+    kept_at_once : IsOff p.params → Invariant says_announce quick (view w')
     kept_at_once off =
-        invariant_kept says quick (is_quick_network p m w is bounded) (view w) (view w')
+        invariant_kept says_announce quick (is_quick_network p m w is bounded) (view w) (view w')
         (is_quick_calm p m w is quiet.links capable)
         (subst (λ x. Calm x (view w')) (same_quick m) (is_quick_calm p m w' is' quiet' capable'))
         (nothing_lapses p quick w is.known off)
-        (no_early_ports says quick (view w) (view w') (claims_when_ready p m (start_of p w) w (at_once p w))) step
-        (clean_sound says n net (view w') after traces' cleans.late)
+        (no_early_ports says_announce quick (view w) (view w') (claims_when_ready p m (start_of p w) w (at_once p w))) step
+        (clean_sound says_announce n net (view w') after traces' cleans.late)
         (settling.at_once off)
 
     -- nothing lapses without a syncReceiptTimeout
@@ -220,14 +220,14 @@ module _ (p : Pace) (w w' : WorldState) (is : IsWorld p w) (is' : IsWorld p w') 
         (λ d port. omega arith) in
         let timers = timers_of w is in
         let timers' = subst (λ x. HaveSyncTimers x (view w')) (same m) (timers_of w' is') in
-        let nothing : NothingLapses n (view w) =
-        lapses_in_time says says_sync n net (view w) before settling.invariant timers timely settling.expected in
-        let invariant : Invariant says n (view w') = kept nothing in
+        let nothing : NothingNearLapses n (view w) =
+        lapses_in_time says_announce says_sync n net (view w) before settling.invariant timers timely settling.expected in
+        let invariant : Invariant says_announce n (view w') = kept nothing in
         record {
           traces = traces';
           invariant = invariant;
           at_once = kept_at_once;
-          expected = expected_kept says says_sync n net timely.bare (view w) (view w') before after timers timers'
+          expected = expected_kept says_announce says_sync n net timely.bare (view w) (view w') before after timers timers'
               (told m (has_timeout p.params (paths_with m w) short)) settling.invariant invariant settling.expected;
         }
 
@@ -283,7 +283,7 @@ acts_hold p act w draws done w' none k is capable capable' =
 pub later_holds : (p : Pace) (w : WorldState) (time : ℕ) → w.time ≤ time → IsWorld p w → IsWorld p (at time w)
     → BecomeCapable p w → BecomeCapable p (at time w) → Holds p w → Holds p (at time w)
 later_holds p w time later is is' capable capable' =
-    let waits : Waits (view w) (view (at time w)) = record { time = time; later = later; is = refl } in
+    let waits : MomentComes (view w) (view (at time w)) = record { time = time; later = later; is = refl } in
     step_keeps p w (at time w) is is' capable capable' (λ m. refl) (λ m. refl) (λ m. earlier_quiet p.params m w time)
     (inl waits)
     (λ m on. inl waits)

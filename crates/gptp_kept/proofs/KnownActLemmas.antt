@@ -5,11 +5,11 @@ use Rattle.gptp_links.specs.Fate.{Draw}
 use Rattle.gptp_system.specs.declared.answer.Answer.{Answer}
 use Rattle.gptp_setup.specs.Pace.{Pace}
 use Rattle.gptp_setup.specs.declared.timer.Timer.{Timer}
-use Rattle.gptp_system.specs.Input.{Frame as FrameHeard, Expires as TimerExpires}
+use Rattle.gptp_system.specs.Input.{Frame as FrameHeard, TimerRunsOut as TimerExpires}
 use Rattle.gptp_system.specs.State.{due}
 use Rattle.gptp_system.specs.Steps.{IsDue, IsUp}
 use Rattle.gptp_acts.specs.declared.station.Station.{Station}
-use Rattle.gptp_acts.specs.Act.{Calls, Delivers, Expires, Hears}
+use Rattle.gptp_acts.specs.Act.{Calls, Delivers, TimerRunsOut, Hears}
 use Rattle.gptp_acts.specs.Agrees.{stopped}
 use Rattle.gptp_acts.specs.Sound.{IsWired}
 use Rattle.gptp_acts.specs.World.{WorldState, receiver, station_due}
@@ -54,7 +54,7 @@ module _ (p : Pace) (So : ℤ → Type 0) (link : ℕ) (direction : Direction) (
 
 -- the timer is due
 pub out_due : (place : ℕ) (timer : Timer) (w : WorldState) (draws : List Draw) (w' : WorldState)
-    → (k : Expires place timer w draws w') → IsDue k.calls.station.system timer w.time
+    → (k : TimerRunsOut place timer w draws w') → IsDue k.calls.station.system timer w.time
 out_due place timer w draws w' k =
     let same : k.calls.station ≡ k.station =
     same_there w.stations place k.calls.station k.station k.calls.here k.here in
@@ -63,7 +63,7 @@ out_due place timer w draws w' k =
     let least : w.time ≤ w.time = omega arith in rw now least
 
 pub expires_kept : (p : Pace) (So : ℤ → Type 0) (place : ℕ) (timer : Timer) (w : WorldState) (draws : List Draw)
-    (w' : WorldState) → Expires place timer w draws w' → IsKept p So w → IsKept p So w'
+    (w' : WorldState) → TimerRunsOut place timer w draws w' → IsKept p So w → IsKept p So w'
 expires_kept p So place timer w draws w' k kept =
     calls_kept p So place (TimerExpires timer) (stopped place timer w) draws k.answer w' k.calls
     (out_due place timer w draws w' k)

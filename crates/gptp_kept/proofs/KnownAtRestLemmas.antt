@@ -10,9 +10,9 @@ use Rattle.gptp_receipt.specs.declared.held.Held.TheVariants.{Disabled, Aged, Mi
 use Rattle.gptp_receipt.specs.declared.held.Reception.{Reception}
 use Rattle.gptp_receipt.specs.Held.{received}
 use Rattle.gptp_roles.specs.Choice.{slave_port}
-use Rattle.gptp_roles.specs.Role.{held_after}
+use Rattle.gptp_roles.specs.Role.{held_after_selection}
 use Rattle.gptp_system.specs.Facts.{AreHeld, IsAtRest}
-use Rattle.gptp_system.specs.Follows.{FollowsItself, FollowsPort}
+use Rattle.gptp_system.specs.Follows.{SystemIsRoot, SystemFollowsPort}
 use Rattle.gptp_system.specs.State.{SystemState, clock}
 use Rattle.gptp_system.proofs.ChangedLemmas.{each_port-get}
 use Rattle.gptp_system.proofs.FollowLemmas.{follows}
@@ -24,13 +24,13 @@ use Rattle.gptp_kept.specs.AtRest.{IsPortAtRest, OfEachSystem}
 -- ---- what a choice leaves as it is
 
 module _ (v : Vector) (c i : ℕ) where
-  not_aged : (h : Held) → h ≡ held_after v c (suc i) h → h ≡ Aged → ⊥
+  not_aged : (h : Held) → h ≡ held_after_selection v c (suc i) h → h ≡ Aged → ⊥
   not_aged Disabled stays aged = absurd cc
   not_aged Aged stays aged = absurd cc
   not_aged (Mine root steps) stays aged = absurd cc
   not_aged (Received r) stays aged = absurd cc
 
-  mine_is : (root steps : ℕ) → Mine root steps ≡ held_after v c (suc i) (Mine root steps)
+  mine_is : (root steps : ℕ) → Mine root steps ≡ held_after_selection v c (suc i) (Mine root steps)
       → (root ≡ v.root) × (steps ≡ v.steps)
   mine_is root steps stays = (cc, cc)
 
@@ -43,7 +43,7 @@ module _ (v : Vector) (c i : ℕ) where
   IsPassive vector = lower (master_of v.root v.steps c (suc i)) vector ≡ false
 
   -- a port that received something and stays so is Slave, or its master vector isn't lower
-  received_stays : (h : Held) (r : Reception) → h ≡ held_after v c (suc i) h → received h ≡ Some r
+  received_stays : (h : Held) (r : Reception) → h ≡ held_after_selection v c (suc i) h → received h ≡ Some r
       → (slave_port v ≡ Some (suc i)) ⊎ IsPassive r.vector
   received_stays Disabled r stays got = absurd (none-some r got)
   received_stays Aged r stays got = absurd (none-some r got)
@@ -67,7 +67,7 @@ pub port_at_rest : (s : SystemState) → AreHeld s → IsAtRest s → (i : ℕ) 
 port_at_rest s held rest i h stands = record {
   fresh = not_aged v (clock s) i h stays;
   mine = λ root steps is.
-      let same = mine_is v (clock s) i root steps (subst (λ x. x ≡ held_after v (clock s) (suc i) x) is stays) in
+      let same = mine_is v (clock s) i root steps (subst (λ x. x ≡ held_after_selection v (clock s) (suc i) x) is stays) in
       (same.0 ∙ sym rest.root, same.1 ∙ sym rest.steps);
   passive = λ r got. by r (received_stays v (clock s) i h r stays got);
   came = held i h stands;
@@ -76,11 +76,11 @@ port_at_rest s held rest i h stands = record {
     v : Vector
     v = rest.vector
 
-    stays : h ≡ held_after v (clock s) (suc i) h
+    stays : h ≡ held_after_selection v (clock s) (suc i) h
     stays =
-        let made = each_port-get (held_after v (clock s)) s.held i h
+        let made = each_port-get (held_after_selection v (clock s)) s.held i h
         (ap (λ hs. slice_get hs i) (sym rest.stays) ∙ stands) in
-        made.2 ∙ ap (held_after v (clock s) (suc i)) (same_there s.held i made.0 h made.1 stands)
+        made.2 ∙ ap (held_after_selection v (clock s) (suc i)) (same_there s.held i made.0 h made.1 stands)
 
     by : (r : Reception)
         → (slave_port v ≡ Some (suc i)) ⊎ (lower (master_of v.root v.steps (clock s) (suc i)) r.vector ≡ false)
@@ -94,7 +94,7 @@ ports_at_rest w sound place station here live =
     let steady = (sound.on_time.stations place station here).steady in
     port_at_rest station.system steady.held steady.rest
 
-pub systems_follow : (w : WorldState) → IsSound w → OfEachSystem (λ s. FollowsItself s ⊎ FollowsPort s) w
+pub systems_follow : (w : WorldState) → IsSound w → OfEachSystem (λ s. SystemIsRoot s ⊎ SystemFollowsPort s) w
 systems_follow w sound place station here live =
     let steady = (sound.on_time.stations place station here).steady in
     follows station.system steady.held steady.rest

@@ -14,7 +14,7 @@ use Rattle.gptp_system.specs.Input.{Input, IsTimely, Steps}
 use Rattle.gptp_setup.specs.Intervals.{AreParams, interval_of}
 use Rattle.gptp_setup.specs.Pace.{Pace, largest_interval}
 use Rattle.gptp_system.specs.State.{SystemState}
-use Rattle.gptp_system.specs.Times.{IsInTime, RunsOn, Waits, WaitsAnew}
+use Rattle.gptp_system.specs.Times.{IsInTime, RunsOn, LapseRunsOn, WaitsAnew}
 use Rattle.gptp_system.proofs.InTimeLemmas.{stays_in_time}
 use Rattle.gptp_system.proofs.StepLemmas.{steps_sound}
 use Rattle.gptp_system.proofs.TimeLemmas.{steps_run_on}
@@ -184,7 +184,7 @@ stays_off input now s s' sends answer steps nothing off = by s'.lapse refl
     runs : RunsOn s now s'
     runs = steps_run_on input now s s' sends answer steps
 
-    ran : (t : ℕ) → Waits s s' t ⊎ WaitsAnew s now t → ⊥
+    ran : (t : ℕ) → LapseRunsOn s s' t ⊎ WaitsAnew s now t → ⊥
     ran t (inl waits) = none-some t (sym off ∙ waits.before)
     ran t (inr anew) = let on = anew.on in omega (arith, nothing)
 

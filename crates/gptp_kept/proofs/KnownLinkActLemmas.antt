@@ -8,7 +8,7 @@ use Rattle.gptp_links.specs.Fate.{Draw}
 use Rattle.gptp_system.specs.declared.answer.Answer.{Answer}
 use Rattle.gptp_setup.specs.declared.timer.Timer.{Timer}
 use Rattle.gptp_setup.specs.declared.timer.Timer.TheVariants as timers
-use Rattle.gptp_system.specs.Input.{Frame, Expires as TimerExpires, Priority}
+use Rattle.gptp_system.specs.Input.{Frame, TimerRunsOut as TimerExpires, Priority}
 use Rattle.gptp_system.specs.State.{due}
 use Rattle.gptp_plan.specs.declared.change.Act.{Act}
 use Rattle.gptp_plan.specs.declared.change.Act.TheVariants.{Deliver, Expire, Change as Changing}
@@ -16,7 +16,7 @@ use Rattle.gptp_plan.specs.declared.change.Change.{Change}
 use Rattle.gptp_plan.specs.declared.change.Change.TheVariants.{LinkDown, LinkUp, LinkSet, Fail, Recover, Priority1, Inject}
 use Rattle.gptp_acts.specs.declared.done.Done.{Done}
 use Rattle.gptp_acts.specs.declared.station.Station.{Station}
-use Rattle.gptp_acts.specs.Act.{Delivers, Expires, Hears}
+use Rattle.gptp_acts.specs.Act.{Delivers, TimerRunsOut, Hears}
 use Rattle.gptp_acts.specs.Acts.{Acts, Changes, set_to}
 use Rattle.gptp_acts.specs.Agrees.{stopped}
 use Rattle.gptp_acts.specs.Changing.{CallsIfLive, FailsIf, InjectsIf, with_bounds, with_setup, with_station}
@@ -57,7 +57,7 @@ some_of None So some = absurd some
 some_of (Some x) So some = refl
 
 expires_measure : (place : ℕ) (timer : Timer) (w : WorldState) (draws : List Draw) (w' : WorldState)
-    → Expires place timer w draws w' → MeasureLinks w → MeasureLinks w'
+    → TimerRunsOut place timer w draws w' → MeasureLinks w → MeasureLinks w'
 expires_measure place timer w draws w' k =
     calls_measure place (TimerExpires timer) (stopped place timer w) draws k.answer w' k.calls
     (λ n is. let same : timer ≡ timers.Pdelay n = cc in

@@ -9,15 +9,15 @@ use Rattle.gptp_links.specs.Queue.{Frame, due_after, frame}
 use Rattle.gptp_system.specs.declared.answer.Answer.{Answer}
 use Rattle.gptp_system.specs.declared.sending.Sending.{Sending}
 use Rattle.gptp_setup.specs.declared.timer.Timer.{Timer}
-use Rattle.gptp_system.specs.Input.{Input, IsTimely, Frame as FrameHeard, Expires as TimerExpires}
+use Rattle.gptp_system.specs.Input.{Input, IsTimely, Frame as FrameHeard, TimerRunsOut as TimerExpires}
 use Rattle.gptp_system.specs.State.{SystemState}
 use Rattle.gptp_acts.specs.declared.station.Station.{Station}
-use Rattle.gptp_acts.specs.Act.{Calls, Delivers, Expires, Hears, Takes, all_timers, in_state}
+use Rattle.gptp_acts.specs.Act.{Calls, Delivers, TimerRunsOut, Hears, TakesFrame, all_timers, in_state}
 use Rattle.gptp_acts.specs.Agrees.{stopped}
 use Rattle.gptp_acts.specs.Ahead.{IsSteady}
 use Rattle.gptp_acts.specs.Sends.{SendsAll, entered, written}
 use Rattle.gptp_acts.specs.Sound.{IsItsSetup, IsSound}
-use Rattle.gptp_acts.specs.World.{Channel, Net, WorldState, queue, receiver, with_queue}
+use Rattle.gptp_acts.specs.World.{Channel, Net, WorldState, world_queue, receiver, with_queue}
 use Rattle.gptp_lists.proofs.PlaceLemmas.{get-set_all}
 use Rattle.gptp_kept.specs.Legible.{ChannelFits, IsLegible, SayWhatFits, StationFits}
 use Rattle.gptp_kept.proofs.SeenDeliveryLemmas.{receiver_up}
@@ -35,7 +35,7 @@ pub set_fits : (channels : List Channel) (place : ℕ) (old new : Channel) → s
     → ChannelFits new → LinksFit channels → LinksFit (slice_set channels place new)
 set_fits channels place old new here is fit = get-set_all ChannelFits channels place old new here is fit
 
--- all in a queue says what fits
+-- all in a world_queue says what fits
 abbrev FramesFit : List Frame → Type 0
 FramesFit frames = (f : Frame) → In f frames → SayWhatFits f.octets
 
@@ -43,12 +43,12 @@ queue_fits : (direction : Direction) (frames : List Frame) (channel : Channel) �
     → ChannelFits (with_queue direction frames channel)
 queue_fits FromA frames channel all fits = record { ends = fits.ends; frames = by }
   where
-    by : (way : Direction) → FramesFit (queue way (with_queue FromA frames channel))
+    by : (way : Direction) → FramesFit (world_queue way (with_queue FromA frames channel))
     by FromA = all
     by FromB = fits.frames FromB
 queue_fits FromB frames channel all fits = record { ends = fits.ends; frames = by }
   where
-    by : (way : Direction) → FramesFit (queue way (with_queue FromB frames channel))
+    by : (way : Direction) → FramesFit (world_queue way (with_queue FromB frames channel))
     by FromA = fits.frames FromA
     by FromB = all
 
@@ -65,7 +65,7 @@ pub entered_fits : (now place : ℕ) (direction : Direction) (channel : Channel)
     → LinksFit (entered place direction channel now octets answer net).channels
 entered_fits now place direction channel octets None net here says fit = fit
 entered_fits now place direction channel octets (Some delay) net here says fit =
-    let fs = queue direction channel in
+    let fs = world_queue direction channel in
     let g : Frame = frame (due_after fs now delay) octets in
     let old = fit place channel here in
     set_fits net.channels place channel (with_queue direction (fs ++ g ∷ []) channel) here
@@ -85,7 +85,7 @@ sends_links_fit now s (x ∷ xs) draws net net' says fit (inr (none, more)) =
     sends_links_fit now s xs draws net net' (λ y member. says y (inr member)) fit more
 
 takes_fits : (place : ℕ) (direction : Direction) (now : ℕ) (octets : List ℕ) (channel : Channel) (net net' : Net)
-    → LinksFit net.channels → Takes place direction now octets channel net net' → LinksFit net'.channels
+    → LinksFit net.channels → TakesFrame place direction now octets channel net net' → LinksFit net'.channels
 takes_fits place direction now octets channel net net' fit k =
     let old = fit place channel k.here in
     subst (λ (n : Net). LinksFit n.channels) (sym k.is)
@@ -132,7 +132,7 @@ pub net_legible : (w : WorldState) (net : Net) → LinksFit net.channels → IsL
 net_legible w net fit legible = record { stations = legible.stations; links = fit }
 
 pub expires_legible : (place : ℕ) (timer : Timer) (w : WorldState) (draws : List Draw) (w' : WorldState) → IsSound w
-    → IsLegible w → Expires place timer w draws w' → IsLegible w'
+    → IsLegible w → TimerRunsOut place timer w draws w' → IsLegible w'
 expires_legible place timer w draws w' sound legible k =
     calls_legible place (TimerExpires timer) (stopped place timer w) draws k.answer w' k.calls
     (sound.on_time.stations place k.calls.station k.calls.here).steady

@@ -11,10 +11,10 @@ use Rattle.gptp_links.specs.Fate.{Draw}
 use Rattle.gptp_links.specs.Queue.{Frame, due_after, frame, newest_due}
 use Rattle.gptp_system.specs.declared.sending.Sending.{Sending}
 use Rattle.gptp_system.specs.State.{SystemState, own}
-use Rattle.gptp_acts.specs.Act.{Takes}
+use Rattle.gptp_acts.specs.Act.{TakesFrame}
 use Rattle.gptp_acts.specs.Changing.{lost}
 use Rattle.gptp_acts.specs.Sends.{SendsAll, SendsOne, entered, written}
-use Rattle.gptp_acts.specs.World.{Channel, Net, queue, with_queue}
+use Rattle.gptp_acts.specs.World.{Channel, Net, world_queue, with_queue}
 use Rattle.gptp_lists.proofs.PlaceLemmas.{get-set_all}
 
 -- ---- queues
@@ -51,7 +51,7 @@ AreLimited limit now channels =
     (link : ℕ) (channel : Channel) → slice_get channels link ≡ Some channel → IsLimited limit now channel
 
 pub in_queue : (limit : Bounds → ℕ) (now : ℕ) (direction : Direction) (channel : Channel) → IsLimited limit now channel
-    → AreDueBy (limit channel.bounds) (queue direction channel)
+    → AreDueBy (limit channel.bounds) (world_queue direction channel)
 in_queue limit now FromA channel is = is.from_a
 in_queue limit now FromB channel is = is.from_b
 
@@ -104,7 +104,7 @@ entered_keep : (place : ℕ) (direction : Direction) (channel : Channel) (now : 
     → KeepLimits now net.channels (entered place direction channel now octets answer net).channels
 entered_keep place direction channel now octets None net here lawful = keep_all now net.channels
 entered_keep place direction channel now octets (Some delay) net here lawful =
-    let before : List Frame = queue direction channel in
+    let before : List Frame = world_queue direction channel in
     let new : Frame = frame (due_after before now delay) octets in
     relinked_keep now net.channels place channel (with_queue direction (before ++ new ∷ []) channel) here
     (λ limit is.
@@ -135,7 +135,7 @@ sends_keep now s (x ∷ xs) draws net net' (inr (unlinked, sends)) = sends_keep 
 
 -- the oldest frame leaves
 pub takes_keep : (place : ℕ) (direction : Direction) (now : ℕ) (octets : List ℕ) (channel : Channel) (net net' : Net)
-    → Takes place direction now octets channel net net' → KeepLimits now net.channels net'.channels
+    → TakesFrame place direction now octets channel net net' → KeepLimits now net.channels net'.channels
 takes_keep place direction now octets channel net net' takes =
     subst (λ (n : Net). KeepLimits now net.channels n.channels) (sym takes.is)
     (relinked_keep now net.channels place channel (with_queue direction takes.rest channel) takes.here

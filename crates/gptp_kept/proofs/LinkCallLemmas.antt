@@ -1,4 +1,4 @@
--- A call, seen at a link: what becomes of the two lanes, of the port that asks and of the port that answers.
+-- A call, seen at a link: what becomes of the two lanes, of the port that reads_as_request and of the port that answers.
 use Rattle.std.proofs.Common.{◌≡◌, ◌≢◌, ◌⊎◌, ◌+◌, ◌≤◌, ℕ, Bool, true, false, List, [], ◌∷◌, ◌++◌, map, refl, sym, ap, subst, ◌∙◌, inl, inr, eqb-true, eq-eqb}
 use Rattle.std.specs.Prelude.{if◌then◌else◌, ◌==◌}
 use Rattle.std.proofs.lemmas.List.{append-nil, map-append}
@@ -14,16 +14,16 @@ use Rattle.gptp_setup.specs.declared.timer.Timer.{Timer}
 use Rattle.gptp_setup.specs.declared.timer.Timer.TheVariants as timers
 use Rattle.gptp_system.specs.Input.{Input, Expires, PortUp}
 use Rattle.gptp_setup.specs.Intervals.{interval_of}
-use Rattle.gptp_system.specs.Measures.{IsPartAfter, Part, only_at, part_answered, part_asked, part_of}
+use Rattle.gptp_system.specs.Measures.{IsPartAfter, Part, only_at, part_answered, part_asked, measure_at}
 use Rattle.gptp_system.specs.State.{SystemState}
-use Rattle.gptp_acts.specs.World.{WorldState, queue, receiver, sender}
+use Rattle.gptp_acts.specs.World.{WorldState, world_queue, receiver, sender}
 use Rattle.gptp_lists.proofs.PlaceLemmas.{same_place}
 use Rattle.gptp_measuring.specs.Acts.{OthersSend}
 use Rattle.gptp_measuring.specs.Meter.{MeterActs, meter_rests}
 use Rattle.gptp_measuring.specs.Facts.{IsSentInTime, IsSentLate}
-use Rattle.gptp_measuring.specs.Lanes.{Frame as SeenFrame, AreMute}
+use Rattle.gptp_measuring.specs.Lanes.{LaneFrame as SeenFrame, AreMute}
 use Rattle.gptp_measuring.specs.Setting.{Setting}
-use Rattle.gptp_kept.specs.LinkView.{IsEndOf, IsLinkOf, LinkPlace, asker_view, asks, frame_view, lane_view, least_delay, meter, opposite, pair, replies, setting, waits_view}
+use Rattle.gptp_kept.specs.LinkView.{IsEndOf, IsLinkOf, LinkPlace, asker_view, reads_as_request, link_frame_view, link_lane_view, least_delay, meter, other_direction, pair, reads_as_reply, link_setting, waits_view}
 use Rattle.gptp_kept.specs.Said.{said_at}
 use Rattle.gptp_kept.proofs.LinkLaneLemmas.{IsDueSoon}
 use Rattle.gptp_kept.proofs.LinkLemmas.{LinkStep, sender_opposite}
@@ -47,7 +47,7 @@ same_pdelay p q e = cc
 same_respond : (p q : ℕ) → timers.Respond p ≡ timers.Respond q → p ≡ q
 same_respond p q e = cc
 
--- what a timer makes of a port that asks: its own Pdelay timer sends the next request, and any other leaves what it
+-- what a timer makes of a port that reads_as_request: its own Pdelay timer sends the next request, and any other leaves what it
 -- asked
 pub asker_timer : (s : SystemState) (now period : ℕ) (timer : Timer) (n : ℕ) (x x' : Part)
     → IsPartAfter s now (Expires timer) n x x'
@@ -89,25 +89,25 @@ answerer_timer s now timers.Lapse n x x' k = inr (λ e. absurd cc, ap waits_view
 -- ---- lanes
 
 -- a frame that is seen is one of those in flight
-pub seen_from : (fs : List Frame) (g : SeenFrame) → In g (map frame_view fs)
-    → (f : Frame) × In f fs × (g ≡ frame_view f)
+pub seen_from : (fs : List Frame) (g : SeenFrame) → In g (map link_frame_view fs)
+    → (f : Frame) × In f fs × (g ≡ link_frame_view f)
 seen_from [] g member = absurd member
 seen_from (f ∷ fs) g (inl here) = (f, inl refl, here)
 seen_from (f ∷ fs) g (inr later) = let (h, among, is) = seen_from fs g later in (h, inr among, is)
 
 -- frames that are due soon are sent in time
 pub sent_in_time : (k : Setting) (time : ℕ) (old news : List Frame) (was now : List SeenFrame)
-    → now ≡ map frame_view old ++ map frame_view news
-    → ((g : SeenFrame) → In g (map frame_view old) → In g was)
+    → now ≡ map link_frame_view old ++ map link_frame_view news
+    → ((g : SeenFrame) → In g (map link_frame_view old) → In g was)
     → ((f : Frame) → In f news → IsDueSoon time k.most old f)
     → IsSentInTime k time was now
 sent_in_time k time old news was now is kept dues g member =
-    elim (In-parts g (map frame_view old) (map frame_view news) (subst (In g) is member)) [
+    elim (In-parts g (map link_frame_view old) (map link_frame_view news) (subst (In g) is member)) [
       | inl stays ↦ inl (kept g stays)
       | inr added ↦ inr (new (seen_from news g added))
     ]
   where
-    new : ((f : Frame) × In f news × (g ≡ frame_view f))
+    new : ((f : Frame) × In f news × (g ≡ link_frame_view f))
         → (time ≤ g.due) × ((g.due ≤ time + k.most) ⊎ ((h : SeenFrame) × In h was × (g.due ≤ h.due)))
     new (f, among, same) =
         subst
@@ -118,21 +118,21 @@ sent_in_time k time old news was now is kept dues g member =
             → (time ≤ f.due) × ((f.due ≤ time + k.most) ⊎ ((h : SeenFrame) × In h was × (f.due ≤ h.due)))
         by (later, inl soon) = (later, inl soon)
         by (later, inr (h, there, before)) =
-            (later, inr (frame_view h, kept (frame_view h) (In-map frame_view h old there), before))
+            (later, inr (link_frame_view h, kept (link_frame_view h) (In-map link_frame_view h old there), before))
 
 -- frames that take so long are sent so late
 pub sent_late : (least time : ℕ) (old news : List Frame) (was now : List SeenFrame)
-    → now ≡ map frame_view old ++ map frame_view news
-    → ((g : SeenFrame) → In g (map frame_view old) → In g was)
+    → now ≡ map link_frame_view old ++ map link_frame_view news
+    → ((g : SeenFrame) → In g (map link_frame_view old) → In g was)
     → ((f : Frame) → In f news → time + least ≤ f.due)
     → IsSentLate least time was now
 sent_late least time old news was now is kept lates g member =
-    elim (In-parts g (map frame_view old) (map frame_view news) (subst (In g) is member)) [
+    elim (In-parts g (map link_frame_view old) (map link_frame_view news) (subst (In g) is member)) [
       | inl stays ↦ inl (kept g stays)
       | inr added ↦ inr (new (seen_from news g added))
     ]
   where
-    new : ((f : Frame) × In f news × (g ≡ frame_view f)) → time + least ≤ g.due
+    new : ((f : Frame) × In f news × (g ≡ link_frame_view f)) → time + least ≤ g.due
     new (f, among, same) = subst (λ (x : SeenFrame). time + least ≤ x.due) (sym same) (lates f among)
 
 -- ---- the link
@@ -149,22 +149,22 @@ module _ {at : LinkPlace} {place : ℕ} {input : Input} {w w' : WorldState} {l :
   abbrev news : Direction → List Frame
   news = step.grows.news
 
-  -- what is seen of the port that asks
-  pub asker_is : (pair at w' step.after).asker ≡ asker_view period (part_of step.after.asking.state)
+  -- what is seen of the port that reads_as_request
+  pub asker_is : (pair at w' step.after).asker ≡ asker_view period (measure_at step.after.asking.state)
   asker_is =
-      ap (λ (x : Setup). asker_view (interval_of x.params.pdelay) (part_of step.after.asking.state)) step.period
+      ap (λ (x : Setup). asker_view (interval_of x.params.pdelay) (measure_at step.after.asking.state)) step.period
 
   lane_is : (direction : Direction)
-      → lane_view direction step.after.channel ≡ lane_view direction l.channel ++ map frame_view (news direction)
+      → link_lane_view direction step.after.channel ≡ link_lane_view direction l.channel ++ map link_frame_view (news direction)
   lane_is direction =
-      ap (map frame_view) (step.grows.queues direction)
-      ∙ map-append frame_view (queue direction l.channel) (news direction)
+      ap (map link_frame_view) (step.grows.queues direction)
+      ∙ map-append link_frame_view (world_queue direction l.channel) (news direction)
 
-  pub out_is : (pair at w' step.after).out ≡ (pair at w l).out ++ map frame_view (news at.direction)
+  pub out_is : (pair at w' step.after).out ≡ (pair at w l).out ++ map link_frame_view (news at.direction)
   out_is = lane_is at.direction
 
-  pub back_is : (pair at w' step.after).back ≡ (pair at w l).back ++ map frame_view (news (opposite at.direction))
-  back_is = lane_is (opposite at.direction)
+  pub back_is : (pair at w' step.after).back ≡ (pair at w l).back ++ map link_frame_view (news (other_direction at.direction))
+  back_is = lane_is (other_direction at.direction)
 
   -- a system sends nothing from the end of another
   quiet : (direction : Direction) (port : PortId) (other : ℕ) → sender direction l.channel ≡ port → IsEndOf other port w
@@ -177,88 +177,88 @@ module _ {at : LinkPlace} {place : ℕ} {input : Input} {w w' : WorldState} {l :
   pub asking_quiet : at.asking ≢ place → news at.direction ≡ []
   asking_quiet = quiet at.direction (sender at.direction l.channel) at.asking refl l.asking
 
-  pub answering_quiet : at.answering ≢ place → news (opposite at.direction) ≡ []
+  pub answering_quiet : at.answering ≢ place → news (other_direction at.direction) ≡ []
   answering_quiet =
-      quiet (opposite at.direction) (receiver at.direction l.channel) at.answering
+      quiet (other_direction at.direction) (receiver at.direction l.channel) at.answering
       (sender_opposite at.direction l.channel) l.answering
 
   pub out_stays : at.asking ≢ place → (pair at w' step.after).out ≡ (pair at w l).out
   out_stays apart =
-      out_is ∙ ap (λ fs. (pair at w l).out ++ map frame_view fs) (asking_quiet apart) ∙ append-nil (pair at w l).out
+      out_is ∙ ap (λ fs. (pair at w l).out ++ map link_frame_view fs) (asking_quiet apart) ∙ append-nil (pair at w l).out
 
   pub back_stays : at.answering ≢ place → (pair at w' step.after).back ≡ (pair at w l).back
   back_stays apart =
-      back_is ∙ ap (λ fs. (pair at w l).back ++ map frame_view fs) (answering_quiet apart)
+      back_is ∙ ap (λ fs. (pair at w l).back ++ map link_frame_view fs) (answering_quiet apart)
       ∙ append-nil (pair at w l).back
 
-  none_mute : {X : Type 0} (says : List ℕ → X → Type 0) (fs : List Frame) → fs ≡ [] → AreMute says (map frame_view fs)
-  none_mute says fs none f member = absurd (subst (λ gs. In f (map frame_view gs)) none member)
+  none_mute : {X : Type 0} (says : List ℕ → X → Type 0) (fs : List Frame) → fs ≡ [] → AreMute says (map link_frame_view fs)
+  none_mute says fs none f member = absurd (subst (λ gs. In f (map link_frame_view gs)) none member)
 
-  -- what is sent to the port that answers asks nothing, unless the other's Pdelay timer expires
+  -- what is sent to the port that answers reads_as_request nothing, unless the other's Pdelay timer expires
   pub out_mute : (at.asking ≡ place → input ≢ Expires (timers.Pdelay (sender at.direction l.channel).port))
       → (at.asking ≡ place → input ≢ PortUp (sender at.direction l.channel).port)
-      → AreMute asks (map frame_view (news at.direction))
+      → AreMute reads_as_request (map link_frame_view (news at.direction))
   out_mute timer up = elim (same_place at.asking place) [
     | inl same ↦
         asks_nothing s s' w.time input sends step.sent (sender at.direction l.channel) (news at.direction)
         (step.grows.said at.direction) (timer same) (up same)
-    | inr apart ↦ none_mute asks (news at.direction) (asking_quiet apart)
+    | inr apart ↦ none_mute reads_as_request (news at.direction) (asking_quiet apart)
   ]
 
-  said_back : octets_of (news (opposite at.direction)) ≡ said_at s' (receiver at.direction l.channel) sends
+  said_back : octets_of (news (other_direction at.direction)) ≡ said_at s' (receiver at.direction l.channel) sends
   said_back =
-      step.grows.said (opposite at.direction)
+      step.grows.said (other_direction at.direction)
       ∙ ap (λ p. said_at s' p sends) (sender_opposite at.direction l.channel)
 
-  -- what is sent to the port that asks is no reply, unless the other's Respond timer expires
+  -- what is sent to the port that reads_as_request is no reply, unless the other's Respond timer expires
   pub back_mute : (at.answering ≡ place → input ≢ Expires (timers.Respond (receiver at.direction l.channel).port))
-      → AreMute replies (map frame_view (news (opposite at.direction)))
+      → AreMute reads_as_reply (map link_frame_view (news (other_direction at.direction)))
   back_mute timer = elim (same_place at.answering place) [
     | inl same ↦
         replies_nothing s s' w.time input sends step.sent (receiver at.direction l.channel)
-        (news (opposite at.direction)) said_back (timer same)
-    | inr apart ↦ none_mute replies (news (opposite at.direction)) (answering_quiet apart)
+        (news (other_direction at.direction)) said_back (timer same)
+    | inr apart ↦ none_mute reads_as_reply (news (other_direction at.direction)) (answering_quiet apart)
   ]
 
   -- what is sent is due in time
-  pub out_in_time : IsSentInTime (setting at w l) w.time (pair at w l).out (pair at w' step.after).out
+  pub out_in_time : IsSentInTime (link_setting at w l) w.time (pair at w l).out (pair at w' step.after).out
   out_in_time =
-      sent_in_time (setting at w l) w.time (queue at.direction l.channel) (news at.direction) (pair at w l).out
+      sent_in_time (link_setting at w l) w.time (world_queue at.direction l.channel) (news at.direction) (pair at w l).out
       (pair at w' step.after).out out_is (λ g member. member) (step.grows.dues at.direction)
 
-  pub back_in_time : IsSentInTime (setting at w l) w.time (pair at w l).back (pair at w' step.after).back
+  pub back_in_time : IsSentInTime (link_setting at w l) w.time (pair at w l).back (pair at w' step.after).back
   back_in_time =
-      sent_in_time (setting at w l) w.time (queue (opposite at.direction) l.channel) (news (opposite at.direction))
+      sent_in_time (link_setting at w l) w.time (world_queue (other_direction at.direction) l.channel) (news (other_direction at.direction))
       (pair at w l).back (pair at w' step.after).back back_is (λ g member. member)
-      (step.grows.dues (opposite at.direction))
+      (step.grows.dues (other_direction at.direction))
 
   -- and takes the least delay of the link or more
   pub out_late : IsSentLate (least_delay at w l) w.time (pair at w l).out (pair at w' step.after).out
   out_late =
-      sent_late (least_delay at w l) w.time (queue at.direction l.channel) (news at.direction) (pair at w l).out
+      sent_late (least_delay at w l) w.time (world_queue at.direction l.channel) (news at.direction) (pair at w l).out
       (pair at w' step.after).out out_is (λ g member. member) (step.grows.lates at.direction)
 
   pub back_late : IsSentLate (least_delay at w l) w.time (pair at w l).back (pair at w' step.after).back
   back_late =
-      sent_late (least_delay at w l) w.time (queue (opposite at.direction) l.channel) (news (opposite at.direction))
+      sent_late (least_delay at w l) w.time (world_queue (other_direction at.direction) l.channel) (news (other_direction at.direction))
       (pair at w l).back (pair at w' step.after).back back_is (λ g member. member)
-      (step.grows.lates (opposite at.direction))
+      (step.grows.lates (other_direction at.direction))
 
   -- an act that leaves what the one port asked and measured and what waits at the other
-  pub others_send : AsksAsBefore period (part_of l.asking.state) (part_of step.after.asking.state)
-      → waits_view (part_of step.after.answering.state) ≡ waits_view (part_of l.answering.state)
-      → AreMute asks (map frame_view (news at.direction))
-      → AreMute replies (map frame_view (news (opposite at.direction)))
-      → MeterActs (setting at w l) asks replies (meter at w l) (meter at w' step.after)
+  pub others_send : AsksAsBefore period (measure_at l.asking.state) (measure_at step.after.asking.state)
+      → waits_view (measure_at step.after.answering.state) ≡ waits_view (measure_at l.answering.state)
+      → AreMute reads_as_request (map link_frame_view (news at.direction))
+      → AreMute reads_as_reply (map link_frame_view (news (other_direction at.direction)))
+      → MeterActs (link_setting at w l) reads_as_request reads_as_reply (meter at w l) (meter at w' step.after)
   others_send asker waits out back = meter_rests send asker.1
     where
-      send : OthersSend (setting at w l) asks replies (pair at w l) (pair at w' step.after)
+      send : OthersSend (link_setting at w l) reads_as_request reads_as_reply (pair at w l) (pair at w' step.after)
       send = record {
         time = step.time;
         asker = asker_is ∙ asker.0;
         waits = waits;
-        ahead = map frame_view (news at.direction);
-        behind = map frame_view (news (opposite at.direction));
+        ahead = map link_frame_view (news at.direction);
+        behind = map link_frame_view (news (other_direction at.direction));
         out = out_is;
         back = back_is;
         asks_nothing = out;

@@ -1,4 +1,4 @@
--- A delivery, seen at a link: the port that asks hears, the port that answers hears, or others send.
+-- A delivery, seen at a link: the port that reads_as_request hears, the port that answers hears, or others send.
 use Rattle.std.proofs.Common.{◌≡◌, ◌≢◌, ◌+◌, ◌≤◌, ℕ, Bool, true, false, List, [], ◌∷◌, ◌++◌, map, Option, Some, None, slice_get, slice_set, refl, sym, ap, subst, ◌∙◌, inl, inr, eq-eqb, eqb-true}
 use Rattle.std.specs.Prelude.{if◌then◌else◌, ◌==◌}
 use Rattle.std.proofs.lemmas.List.{append-nil, map-append}
@@ -13,25 +13,25 @@ use Rattle.gptp_system.specs.declared.answer.Answer.{Answer}
 use Rattle.gptp_setup.specs.declared.setup.Params.{Params}
 use Rattle.gptp_system.specs.Input.{Frame as FrameHeard}
 use Rattle.gptp_setup.specs.Intervals.{interval_of}
-use Rattle.gptp_system.specs.Measures.{IsPartAfter, Part, part_heard, part_of}
+use Rattle.gptp_system.specs.Measures.{IsPartAfter, Part, part_heard, measure_at}
 use Rattle.gptp_system.specs.State.{SystemState, clock}
 use Rattle.gptp_system.specs.Steps.{IsUp}
 use Rattle.gptp_acts.specs.declared.station.Station.{Station}
 use Rattle.gptp_acts.specs.Act.{Calls, Delivers, HasFailed, Hears}
 use Rattle.gptp_acts.specs.Sound.{IsSound}
-use Rattle.gptp_acts.specs.World.{Net, WorldState, queue, receiver, sender, with_queue}
+use Rattle.gptp_acts.specs.World.{Net, WorldState, world_queue, receiver, sender, with_queue}
 use Rattle.gptp_lists.proofs.MappedLemmas.{same_there}
 use Rattle.gptp_lists.proofs.PlaceLemmas.{get-set_other, get-set_same, same_place}
 use Rattle.gptp_acts.proofs.StayLemmas.{carry_join, takes_carry}
 use Rattle.gptp_measuring.specs.Acts.{AskerHears, AnswererHears}
 use Rattle.gptp_measuring.specs.Answerer.{Notes}
-use Rattle.gptp_measuring.specs.Asker.{Takes}
+use Rattle.gptp_measuring.specs.Asker.{TakesReply}
 use Rattle.gptp_measuring.specs.ExchangeLaws.{HasLocalClocks}
 use Rattle.gptp_measuring.specs.Facts.{IsSentInTime, IsSentLate}
-use Rattle.gptp_measuring.specs.Lanes.{Frame as SeenFrame}
+use Rattle.gptp_measuring.specs.Lanes.{LaneFrame as SeenFrame}
 use Rattle.gptp_measuring.specs.Meter.{MeterActs, TakesMeasure, meter_heard, meter_hears, meter_rests}
-use Rattle.gptp_kept.specs.LinkView.{IsEndOf, IsLinkOf, LinkPlace, SaysWhatFits, asker_view, asks, frame_view, lane_view, least_delay, meter, opposite, pair, replies, setting, waits_view}
-use Rattle.gptp_kept.specs.LinkActs.{IsOneAct, IsSeen}
+use Rattle.gptp_kept.specs.LinkView.{IsEndOf, IsLinkOf, LinkPlace, RequestSaysWhatFits, asker_view, reads_as_request, link_frame_view, link_lane_view, least_delay, meter, other_direction, pair, reads_as_reply, link_setting, waits_view}
+use Rattle.gptp_kept.specs.LinkActs.{IsOneAct, IsSeenAtLink}
 use Rattle.gptp_kept.proofs.LinkCallLemmas.{asker_is, back_in_time, back_is, back_late, back_mute, back_stays, others_send as others_seen, out_in_time, out_is, out_late, out_mute, out_stays, seen_from, sent_in_time, sent_late}
 use Rattle.gptp_kept.proofs.PoppedLemmas.{carried, least_same, left_there, most_same, opposite_twice, popped_link, popped_receiver, popped_sender, popped_settled, queue_left, queue_set, receiver_opposite, which_way}
 use Rattle.gptp_kept.proofs.EndLemmas.{PartStep}
@@ -79,9 +79,9 @@ module _ (link : ℕ) (direction : Direction) (octets : List ℕ) (w : WorldStat
         → IsUp station.system port.port
     is_up station there live =
         let one : k.station ≡ station = same_there w.stations k.place k.station station k.there there in
-        let begins : sender (opposite direction) k.channel ≡ port = sender_opposite direction k.channel in
+        let begins : sender (other_direction direction) k.channel ≡ port = sender_opposite direction k.channel in
         subst (λ (p : PortId). IsUp station.system p.port) begins
-        (sound.wired.linked link k.place (opposite direction) k.channel station k.takes.here channel_up there live
+        (sound.wired.linked link k.place (other_direction direction) k.channel station k.takes.here channel_up there live
         (ap (λ (x : Station). clock x.system) (sym one) ∙ k.is_end ∙ ap (λ (p : PortId). p.clock) (sym begins)))
 
     -- the station at an end of its clock is the one that hears
@@ -113,7 +113,7 @@ module _ (link : ℕ) (direction : Direction) (octets : List ℕ) (w : WorldStat
       -- the port that hears isn't one of this link
       not_here : (way : Direction) → sender way l.channel ≢ port
       not_here way e =
-          other (sound.wired.apart link at.link (opposite direction) way k.channel l.channel k.takes.here l.here
+          other (sound.wired.apart link at.link (other_direction direction) way k.channel l.channel k.takes.here l.here
           (sender_opposite direction k.channel ∙ sym e))
 
       not_asker : (place : ℕ) (end : PortId) (way : Direction) → sender way l.channel ≡ end → IsEndOf place end w
@@ -171,20 +171,20 @@ module _ (link : ℕ) (direction : Direction) (octets : List ℕ) (w : WorldStat
           (is_up calls.station calls.here calls.live) orderly left_link
           (λ same number. absurd (not_asker at.asking (sender at.direction l.channel) at.direction refl l.asking same
           number))
-          (λ same number. absurd (not_asker at.answering (receiver at.direction l.channel) (opposite at.direction)
+          (λ same number. absurd (not_asker at.answering (receiver at.direction l.channel) (other_direction at.direction)
           answerer_begins l.answering same number)) in
           let asker = part_left at.asking (sender at.direction l.channel) at.direction refl l.asking
-          (part_of l.asking.state) (part_of step.after.asking.state) step.asking in
-          let answerer = part_left at.answering (receiver at.direction l.channel) (opposite at.direction)
-          answerer_begins l.answering (part_of l.answering.state) (part_of step.after.answering.state) step.answering in
+          (measure_at l.asking.state) (measure_at step.after.asking.state) step.asking in
+          let answerer = part_left at.answering (receiver at.direction l.channel) (other_direction at.direction)
+          answerer_begins l.answering (measure_at l.answering.state) (measure_at step.after.answering.state) step.answering in
           record {
             after = step.after;
             settled = step.settled;
             bounds = step.grows.bounds;
             so = record {
               acts = others_seen step
-                  (asks_still (interval_of l.asking.station.setup.params.pdelay) (part_of l.asking.state)
-                  (part_of step.after.asking.state) asker) (ap waits_view answerer)
+                  (asks_still (interval_of l.asking.station.setup.params.pdelay) (measure_at l.asking.state)
+                  (measure_at step.after.asking.state) asker) (ap waits_view answerer)
                   (out_mute step (λ same e. absurd cc) (λ p e. absurd cc))
                   (back_mute step (λ same e. absurd cc));
               out = out_in_time step;
@@ -206,8 +206,8 @@ module _ (link : ℕ) (direction : Direction) (octets : List ℕ) (w : WorldStat
       channel_is =
           same_there w.net.channels link k.channel l.channel k.takes.here (ap (slice_get w.net.channels) here ∙ l.here)
 
-      was : queue direction l.channel ≡ frame w.time octets ∷ k.takes.rest
-      was = ap (queue direction) (sym channel_is) ∙ k.takes.front
+      was : world_queue direction l.channel ≡ frame w.time octets ∷ k.takes.rest
+      was = ap (world_queue direction) (sym channel_is) ∙ k.takes.front
 
       stands_now : slice_get k.net.channels at.link ≡ Some (with_queue direction k.takes.rest l.channel)
       stands_now =
@@ -223,7 +223,7 @@ module _ (link : ℕ) (direction : Direction) (octets : List ℕ) (w : WorldStat
       port_is = ap (receiver direction) channel_is
 
       -- what is heard is one of the frames in flight
-      octets_fit : SaysWhatFits octets
+      octets_fit : RequestSaysWhatFits octets
       octets_fit =
           l.fit direction (frame w.time octets)
           (subst (In (frame w.time octets)) (sym was) (inl refl))
@@ -244,7 +244,7 @@ module _ (link : ℕ) (direction : Direction) (octets : List ℕ) (w : WorldStat
             (is_up calls.station calls.here calls.live) orderly less (λ same number. octets_fit)
             (λ same number. octets_fit)
 
-        settled : setting at w' step.after ≡ setting at w l
+        settled : link_setting at w' step.after ≡ link_setting at w l
         settled =
             step.settled
             ∙ popped_settled at w l direction (frame w.time octets) k.takes.rest was k.net stands_now
@@ -277,20 +277,20 @@ module _ (link : ℕ) (direction : Direction) (octets : List ℕ) (w : WorldStat
           asks_elsewhere : at.asking ≢ k.place
           asks_elsewhere same = l.apart (same ∙ sym answers_here)
 
-          asker_left : AsksAsBefore period (part_of l.asking.state) (part_of step.after.asking.state)
+          asker_left : AsksAsBefore period (measure_at l.asking.state) (measure_at step.after.asking.state)
           asker_left = elim step.asking [
             | inl called ↦ absurd (asks_elsewhere called.0)
-            | inr left ↦ asks_still period (part_of l.asking.state) (part_of step.after.asking.state) left.1
+            | inr left ↦ asks_still period (measure_at l.asking.state) (measure_at step.after.asking.state) left.1
           ]
 
-          request_noted : Notes (setting at w l) asks w.time octets (waits_view (part_of l.answering.state))
-              (waits_view (part_of step.after.answering.state))
+          request_noted : Notes (link_setting at w l) reads_as_request w.time octets (waits_view (measure_at l.answering.state))
+              (waits_view (measure_at step.after.answering.state))
           request_noted = elim step.answering [
             | inl called ↦
-                hears_notes (setting at w l) l.answering.station.system w.time octets (part_of l.answering.state)
-                (part_of step.after.answering.state)
-                (hears_here (receiver at.direction less.channel) l.answering.station.system (part_of l.answering.state)
-                (part_of step.after.answering.state)
+                hears_notes (link_setting at w l) l.answering.station.system w.time octets (measure_at l.answering.state)
+                (measure_at step.after.answering.state)
+                (hears_here (receiver at.direction less.channel) l.answering.station.system (measure_at l.answering.state)
+                (measure_at step.after.answering.state)
                 (ap (λ (p : PortId). p.port)
                 (popped_receiver at w l direction (frame w.time octets) k.takes.rest was k.net stands_now
                 ∙ sym port_answers)) called.1)
@@ -299,29 +299,29 @@ module _ (link : ℕ) (direction : Direction) (octets : List ℕ) (w : WorldStat
             | inr left ↦ absurd (left.0 answers_here)
           ]
 
-          answerer_seen : AnswererHears (setting at w l) asks replies (pair at w l) (pair at w' step.after)
+          answerer_seen : AnswererHears (link_setting at w l) reads_as_request reads_as_reply (pair at w l) (pair at w' step.after)
           answerer_seen = record {
             time = step.time;
             asker = asker_is step ∙ asker_left.0;
-            front = frame_view (frame w.time octets);
-            rest = map frame_view k.takes.rest;
-            was = ap (map frame_view) (ap (λ d. queue d l.channel) (sym way) ∙ was);
+            front = link_frame_view (frame w.time octets);
+            rest = map link_frame_view k.takes.rest;
+            was = ap (map link_frame_view) (ap (λ d. world_queue d l.channel) (sym way) ∙ was);
             now = refl;
             out = out_stays step asks_elsewhere
-                ∙ ap (map frame_view)
-                (ap (λ d. queue d less.channel) (sym way) ∙ queue_set direction k.takes.rest l.channel);
+                ∙ ap (map link_frame_view)
+                (ap (λ d. world_queue d less.channel) (sym way) ∙ queue_set direction k.takes.rest l.channel);
             waits = request_noted;
-            news = map frame_view (step.grows.news (opposite at.direction));
+            news = map link_frame_view (step.grows.news (other_direction at.direction));
             back = back_is step
-                ∙ ap (λ fs. map frame_view fs ++ map frame_view (step.grows.news (opposite at.direction)))
-                (ap (λ d. queue (opposite d) less.channel) (sym way) ∙ queue_left direction k.takes.rest l.channel
-                ∙ ap (λ d. queue (opposite d) l.channel) way);
+                ∙ ap (λ fs. map link_frame_view fs ++ map link_frame_view (step.grows.news (other_direction at.direction)))
+                (ap (λ d. world_queue (other_direction d) less.channel) (sym way) ∙ queue_left direction k.takes.rest l.channel
+                ∙ ap (λ d. world_queue (other_direction d) l.channel) way);
             mute = back_mute step (λ same e. absurd cc);
           }
 
-        -- ---- at the port that asks
+        -- ---- at the port that reads_as_request
 
-        module _ (way : direction ≡ opposite at.direction) where
+        module _ (way : direction ≡ other_direction at.direction) where
           port_asks : port ≡ sender at.direction l.channel
           port_asks = port_is ∙ ap (λ d. receiver d l.channel) way ∙ receiver_opposite at.direction l.channel
 
@@ -332,13 +332,13 @@ module _ (link : ℕ) (direction : Direction) (octets : List ℕ) (w : WorldStat
           answers_elsewhere : at.answering ≢ k.place
           answers_elsewhere same = l.apart (asks_here ∙ sym same)
 
-          waits_left : waits_view (part_of step.after.answering.state) ≡ waits_view (part_of l.answering.state)
+          waits_left : waits_view (measure_at step.after.answering.state) ≡ waits_view (measure_at l.answering.state)
           waits_left = elim step.answering [
             | inl called ↦ absurd (answers_elsewhere called.0)
             | inr left ↦ ap waits_view left.1
           ]
 
-          local_clocks : HasLocalClocks (setting at w l)
+          local_clocks : HasLocalClocks (link_setting at w l)
           local_clocks = record {
             asking_phase = l.asking.station.setup.phase;
             asking_drift = l.asking.station.setup.drift;
@@ -350,12 +350,12 @@ module _ (link : ℕ) (direction : Direction) (octets : List ℕ) (w : WorldStat
             answering = λ t. refl;
           }
 
-          asker_hears : PartHears l.asking.station.system w.time octets (part_of l.asking.state)
-              (part_of step.after.asking.state)
+          asker_hears : PartHears l.asking.station.system w.time octets (measure_at l.asking.state)
+              (measure_at step.after.asking.state)
           asker_hears = elim step.asking [
             | inl called ↦
-                hears_here (sender at.direction less.channel) l.asking.station.system (part_of l.asking.state)
-                (part_of step.after.asking.state)
+                hears_here (sender at.direction less.channel) l.asking.station.system (measure_at l.asking.state)
+                (measure_at step.after.asking.state)
                 (ap (λ (p : PortId). p.port)
                 (popped_sender at w l direction (frame w.time octets) k.takes.rest was k.net stands_now
                 ∙ sym port_asks)) called.1
@@ -368,49 +368,49 @@ module _ (link : ℕ) (direction : Direction) (octets : List ℕ) (w : WorldStat
               subst (IsGoodLink l.channel.bounds.max l.answering.station.setup.params.turnaround)
               (sym l.asking.measures.threshold) l.good
 
-          reply_taken : Takes (setting at w l) replies w.time octets (asker_view period (part_of l.asking.state))
-              (asker_view period (part_of step.after.asking.state))
+          reply_taken : TakesReply (link_setting at w l) reads_as_reply w.time octets (asker_view period (measure_at l.asking.state))
+              (asker_view period (measure_at step.after.asking.state))
           reply_taken =
-              hears_takes (setting at w l) l.asking.station.system w.time period octets (part_of l.asking.state)
-              (part_of step.after.asking.state) asker_hears (sender at.direction l.channel)
+              hears_takes (link_setting at w l) l.asking.station.system w.time period octets (measure_at l.asking.state)
+              (measure_at step.after.asking.state) asker_hears (sender at.direction l.channel)
               (receiver at.direction l.channel) refl refl
               (clock_is at.asking (sender at.direction l.channel) w l.asking w.time) l.asking.measures.own
               (clocks_apart at w l sound.wired.clocks) good_here local_clocks
 
-          reply_measured : TakesMeasure (setting at w l) replies octets (asker_view period (part_of l.asking.state))
+          reply_measured : TakesMeasure (link_setting at w l) reads_as_reply octets (asker_view period (measure_at l.asking.state))
               l.asking.state.peer.last step.after.asking.state.peer.last
           reply_measured =
-              hears_measure (setting at w l) l.asking.station.system w.time period octets (part_of l.asking.state)
-              (part_of step.after.asking.state) asker_hears (sender at.direction l.channel)
+              hears_measure (link_setting at w l) l.asking.station.system w.time period octets (measure_at l.asking.state)
+              (measure_at step.after.asking.state) asker_hears (sender at.direction l.channel)
               (receiver at.direction l.channel) refl refl
               (clock_is at.asking (sender at.direction l.channel) w l.asking w.time) l.asking.measures.own
               (clocks_apart at w l sound.wired.clocks) good_here local_clocks
 
-          other_way : at.direction ≡ opposite direction
-          other_way = sym (opposite_twice at.direction) ∙ ap opposite (sym way)
+          other_way : at.direction ≡ other_direction direction
+          other_way = sym (opposite_twice at.direction) ∙ ap other_direction (sym way)
 
-          asker_seen : AskerHears (setting at w l) asks replies (pair at w l) (pair at w' step.after)
+          asker_seen : AskerHears (link_setting at w l) reads_as_request reads_as_reply (pair at w l) (pair at w' step.after)
           asker_seen = record {
             time = step.time;
             waits = waits_left;
-            front = frame_view (frame w.time octets);
-            rest = map frame_view k.takes.rest;
-            was = ap (map frame_view) (ap (λ d. queue d l.channel) (sym way) ∙ was);
+            front = link_frame_view (frame w.time octets);
+            rest = map link_frame_view k.takes.rest;
+            was = ap (map link_frame_view) (ap (λ d. world_queue d l.channel) (sym way) ∙ was);
             now = refl;
             back = back_stays step answers_elsewhere
-                ∙ ap (map frame_view)
-                (ap (λ d. queue d less.channel) (sym way) ∙ queue_set direction k.takes.rest l.channel);
-            asker = subst (Takes (setting at w l) replies w.time octets (asker_view period (part_of l.asking.state)))
+                ∙ ap (map link_frame_view)
+                (ap (λ d. world_queue d less.channel) (sym way) ∙ queue_set direction k.takes.rest l.channel);
+            asker = subst (TakesReply (link_setting at w l) reads_as_reply w.time octets (asker_view period (measure_at l.asking.state)))
                 (sym (asker_is step)) reply_taken;
-            news = map frame_view (step.grows.news at.direction);
+            news = map link_frame_view (step.grows.news at.direction);
             out = out_is step
-                ∙ ap (λ fs. map frame_view fs ++ map frame_view (step.grows.news at.direction))
-                (ap (λ d. queue d less.channel) other_way ∙ queue_left direction k.takes.rest l.channel
-                ∙ ap (λ d. queue d l.channel) (sym other_way));
+                ∙ ap (λ fs. map link_frame_view fs ++ map link_frame_view (step.grows.news at.direction))
+                (ap (λ d. world_queue d less.channel) other_way ∙ queue_left direction k.takes.rest l.channel
+                ∙ ap (λ d. world_queue d l.channel) (sym other_way));
             mute = out_mute step (λ same e. absurd cc) (λ p e. absurd cc);
           }
 
-        heard_act : MeterActs (setting at w l) asks replies (meter at w l) (meter at w' step.after)
+        heard_act : MeterActs (link_setting at w l) reads_as_request reads_as_reply (meter at w l) (meter at w' step.after)
         unfolding asker_seen
         heard_act = elim (which_way direction at.direction) [
           | inl way ↦ meter_heard (answerer_seen way) (asker_left way).1
@@ -418,35 +418,35 @@ module _ (link : ℕ) (direction : Direction) (octets : List ℕ) (w : WorldStat
         ]
 
         -- what is left in a lane and what is sent onto it
-        lane_is : (way : Direction) → lane_view way step.after.channel
-            ≡ map frame_view (queue way less.channel) ++ map frame_view (step.grows.news way)
+        lane_is : (way : Direction) → link_lane_view way step.after.channel
+            ≡ map link_frame_view (world_queue way less.channel) ++ map link_frame_view (step.grows.news way)
         lane_is way =
-            ap (map frame_view) (step.grows.queues way)
-            ∙ map-append frame_view (queue way less.channel) (step.grows.news way)
+            ap (map link_frame_view) (step.grows.queues way)
+            ∙ map-append link_frame_view (world_queue way less.channel) (step.grows.news way)
 
-        lane_left : (way : Direction) (g : SeenFrame) → In g (map frame_view (queue way less.channel))
-            → In g (lane_view way l.channel)
+        lane_left : (way : Direction) (g : SeenFrame) → In g (map link_frame_view (world_queue way less.channel))
+            → In g (link_lane_view way l.channel)
         lane_left way g member =
-            let (f, among, is) = seen_from (queue way less.channel) g member in
-            subst (λ x. In x (lane_view way l.channel)) (sym is)
-            (In-map frame_view f (queue way l.channel)
+            let (f, among, is) = seen_from (world_queue way less.channel) g member in
+            subst (λ x. In x (link_lane_view way l.channel)) (sym is)
+            (In-map link_frame_view f (world_queue way l.channel)
             (left_there at w l direction (frame w.time octets) k.takes.rest was k.net stands_now way f among))
 
         -- what is sent is due in time, and takes the least delay or more, though a frame is gone
         lane_in_time : (way : Direction)
-            → IsSentInTime (setting at w l) w.time (lane_view way l.channel) (lane_view way step.after.channel)
+            → IsSentInTime (link_setting at w l) w.time (link_lane_view way l.channel) (link_lane_view way step.after.channel)
         lane_in_time way =
-            sent_in_time (setting at w l) w.time (queue way less.channel) (step.grows.news way)
-            (lane_view way l.channel) (lane_view way step.after.channel) (lane_is way) (lane_left way)
-            (λ f member. subst (λ most. IsDueSoon w.time most (queue way less.channel) f)
+            sent_in_time (link_setting at w l) w.time (world_queue way less.channel) (step.grows.news way)
+            (link_lane_view way l.channel) (link_lane_view way step.after.channel) (lane_is way) (lane_left way)
+            (λ f member. subst (λ most. IsDueSoon w.time most (world_queue way less.channel) f)
             (most_same at w l direction (frame w.time octets) k.takes.rest was k.net stands_now)
             (step.grows.dues way f member))
 
         lane_late : (way : Direction)
-            → IsSentLate (least_delay at w l) w.time (lane_view way l.channel) (lane_view way step.after.channel)
+            → IsSentLate (least_delay at w l) w.time (link_lane_view way l.channel) (link_lane_view way step.after.channel)
         lane_late way =
-            sent_late (least_delay at w l) w.time (queue way less.channel) (step.grows.news way)
-            (lane_view way l.channel) (lane_view way step.after.channel) (lane_is way) (lane_left way)
+            sent_late (least_delay at w l) w.time (world_queue way less.channel) (step.grows.news way)
+            (link_lane_view way l.channel) (link_lane_view way step.after.channel) (lane_is way) (lane_left way)
             (λ f member. subst (λ least. w.time + least ≤ f.due)
             (least_same at w l direction (frame w.time octets) k.takes.rest was k.net stands_now)
             (step.grows.lates way f member))
@@ -481,20 +481,20 @@ module _ (link : ℕ) (direction : Direction) (octets : List ℕ) (w : WorldStat
         so = record {
           acts = heard_act told calls;
           out = lane_in_time told calls at.direction;
-          back = lane_in_time told calls (opposite at.direction);
+          back = lane_in_time told calls (other_direction at.direction);
           out_late = lane_late told calls at.direction;
-          back_late = lane_late told calls (opposite at.direction);
+          back_late = lane_late told calls (other_direction at.direction);
         };
       }
       here_seen None (failed, none, is) = absurd (no_one_failed failed)
 
     -- a frame on this link is heard by the port at its end
     pub answerer_hears_seen : (at : LinkPlace) (l : IsLinkOf at w) → link ≡ at.link → direction ≡ at.direction
-        → IsSeen (λ k m m'. AnswererHears k asks replies m.pair m'.pair) at w w' l
+        → IsSeenAtLink (λ k m m'. AnswererHears k reads_as_request reads_as_reply m.pair m'.pair) at w w' l
     answerer_hears_seen at l here way = go answer k.hears
       where
         go : (told : Option Answer) → Hears k.place port.port octets emptied draws told w'
-            → IsSeen (λ k m m'. AnswererHears k asks replies m.pair m'.pair) at w w' l
+            → IsSeenAtLink (λ k m m'. AnswererHears k reads_as_request reads_as_reply m.pair m'.pair) at w w' l
         go None (failed, none, is) = absurd (no_one_failed at l here failed)
         go (Some told) calls = record {
           after = (step at l here told calls).after;
@@ -503,12 +503,12 @@ module _ (link : ℕ) (direction : Direction) (octets : List ℕ) (w : WorldStat
           so = answerer_seen at l here told calls way;
         }
 
-    pub asker_hears_seen : (at : LinkPlace) (l : IsLinkOf at w) → link ≡ at.link → direction ≡ opposite at.direction
-        → IsSeen (λ k m m'. AskerHears k asks replies m.pair m'.pair) at w w' l
+    pub asker_hears_seen : (at : LinkPlace) (l : IsLinkOf at w) → link ≡ at.link → direction ≡ other_direction at.direction
+        → IsSeenAtLink (λ k m m'. AskerHears k reads_as_request reads_as_reply m.pair m'.pair) at w w' l
     asker_hears_seen at l here way = go answer k.hears
       where
         go : (told : Option Answer) → Hears k.place port.port octets emptied draws told w'
-            → IsSeen (λ k m m'. AskerHears k asks replies m.pair m'.pair) at w w' l
+            → IsSeenAtLink (λ k m m'. AskerHears k reads_as_request reads_as_reply m.pair m'.pair) at w w' l
         go None (failed, none, is) = absurd (no_one_failed at l here failed)
         go (Some told) calls = record {
           after = (step at l here told calls).after;

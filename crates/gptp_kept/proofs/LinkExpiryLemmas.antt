@@ -12,15 +12,15 @@ use Rattle.gptp_system.specs.declared.sending.Sending.{Sending}
 use Rattle.gptp_setup.specs.declared.setup.Params.{Params}
 use Rattle.gptp_setup.specs.declared.timer.Timer.{Timer}
 use Rattle.gptp_setup.specs.declared.timer.Timer.TheVariants as timers
-use Rattle.gptp_system.specs.Input.{Expires as TimerExpires}
+use Rattle.gptp_system.specs.Input.{TimerRunsOut as TimerExpires}
 use Rattle.gptp_setup.specs.Intervals.{interval_of}
-use Rattle.gptp_system.specs.Measures.{Part, part_answered, part_asked, part_of}
+use Rattle.gptp_system.specs.Measures.{Part, part_answered, part_asked, measure_at}
 use Rattle.gptp_system.specs.Measuring.{Responds, RespondsIf, owed_at}
 use Rattle.gptp_system.specs.Messages.{AreSent}
 use Rattle.gptp_system.specs.State.{SystemState, clock, due, local_time, number, own}
 use Rattle.gptp_system.specs.Steps.{IsDue}
 use Rattle.gptp_acts.specs.declared.station.Station.{Station}
-use Rattle.gptp_acts.specs.Act.{Expires}
+use Rattle.gptp_acts.specs.Act.{TimerRunsOut}
 use Rattle.gptp_acts.specs.Agrees.{stopped}
 use Rattle.gptp_acts.specs.Sound.{IsSound}
 use Rattle.gptp_acts.specs.World.{WorldState, receiver, sender, station_due}
@@ -29,12 +29,12 @@ use Rattle.gptp_lists.proofs.MappedLemmas.{same_there}
 use Rattle.gptp_acts.proofs.SteadyLemmas.{same_clock}
 use Rattle.gptp_measuring.specs.Answerer.{Waiting}
 use Rattle.gptp_measuring.specs.Acts.{SendsAnswer, RequestTimerExpires, AnswerTimerExpires}
-use Rattle.gptp_measuring.specs.Asker.{Closed, asks_now, after_interval as gives_up}
+use Rattle.gptp_measuring.specs.Asker.{Closed, asks_now, asker_after_interval as gives_up}
 use Rattle.gptp_measuring.specs.Meter.{MeterActs, meter_answered, meter_asks}
-use Rattle.gptp_measuring.specs.Lanes.{Frame as SeenFrame, AreMute, FirstIs}
+use Rattle.gptp_measuring.specs.Lanes.{LaneFrame as SeenFrame, AreMute, FirstIs}
 use Rattle.gptp_measuring.specs.Messages.{Request, Response, FollowUp}
-use Rattle.gptp_kept.specs.LinkView.{IsEndOf, IsLinkOf, LinkPlace, RequestFits, asked_at, asker_view, asks, frame_view, identity_of, meter, opposite, pair, progress_view, replies, request_from, setting, waits_by, waits_view}
-use Rattle.gptp_kept.specs.LinkActs.{IsOneAct, IsSeen}
+use Rattle.gptp_kept.specs.LinkView.{IsEndOf, IsLinkOf, LinkPlace, RequestFits, asked_at, asker_view, reads_as_request, link_frame_view, link_identity, meter, other_direction, pair, progress_view, reads_as_reply, request_from, link_setting, waits_by, waits_view}
+use Rattle.gptp_kept.specs.LinkActs.{IsOneAct, IsSeenAtLink}
 use Rattle.gptp_kept.proofs.LinkCallLemmas.{answerer_timer, asker_is, asker_timer, back_in_time, back_is, back_late, back_mute, back_stays, others_send as others_seen, out_in_time, out_is, out_late, out_mute, out_stays}
 use Rattle.gptp_kept.specs.Said.{said_at}
 use Rattle.gptp_kept.proofs.LinkLemmas.{IsOrderly, LinkStep, end_fits, end_named, end_next, end_request, link_called, sender_opposite, sound_orderly}
@@ -50,18 +50,18 @@ clock_is place port w e t = λ i. local_clock (sym e.set_up.phase i) (sym e.set_
 
 -- the timer that expires is due now
 pub expires_due : (place : ℕ) (timer : Timer) (w : WorldState) (draws : List Draw) (w' : WorldState)
-    → (k : Expires place timer w draws w') → due timer k.calls.station.system ≡ Some w.time
+    → (k : TimerRunsOut place timer w draws w') → due timer k.calls.station.system ≡ Some w.time
 expires_due place timer w draws w' k =
     sym (live_due k.calls.station timer k.calls.live)
     ∙ ap (station_due timer) (same_there w.stations place k.calls.station k.station k.calls.here k.here) ∙ k.now_due
 
 pub expires_timely : (place : ℕ) (timer : Timer) (w : WorldState) (draws : List Draw) (w' : WorldState)
-    → (k : Expires place timer w draws w') → IsDue k.calls.station.system timer w.time
+    → (k : TimerRunsOut place timer w draws w') → IsDue k.calls.station.system timer w.time
 expires_timely place timer w draws w' k =
     let least : w.time ≤ w.time = omega arith in rw (expires_due place timer w draws w' k) least
 
 module _ (at : LinkPlace) (place : ℕ) (timer : Timer) (w : WorldState) (draws : List Draw) (w' : WorldState)
-    (k : Expires place timer w draws w') (sound : IsSound w) (l : IsLinkOf at w) where
+    (k : TimerRunsOut place timer w draws w') (sound : IsSound w) (l : IsLinkOf at w) where
   abbrev s : SystemState
   s = k.calls.station.system
 
@@ -119,15 +119,15 @@ module _ (at : LinkPlace) (place : ℕ) (timer : Timer) (w : WorldState) (draws 
       sym (is ∙ ap (λ (x : SystemState). option_and_then f (number x.ports port.port)) (one_system port other e same)
       ∙ ap (option_and_then f) e.there) ∙ expires_due place timer w draws w' k
 
-  -- ---- the Pdelay timer of the port that asks
+  -- ---- the Pdelay timer of the port that reads_as_request
 
   module _ (here : at.asking ≡ place) (timer_is : timer ≡ timers.Pdelay asker_port.port)
-      (part : part_of step.after.asking.state
-      ≡ part_asked l.asking.station.system w.time after_interval (part_of l.asking.state)) where
+      (part : measure_at step.after.asking.state
+      ≡ part_asked l.asking.station.system w.time after_interval (measure_at l.asking.state)) where
     others_still : at.answering ≢ place
     others_still same = l.apart (here ∙ sym same)
 
-    waits_still : waits_view (part_of step.after.answering.state) ≡ waits_view (part_of l.answering.state)
+    waits_still : waits_view (measure_at step.after.answering.state) ≡ waits_view (measure_at l.answering.state)
     waits_still = elim step.answering [
       | inl called ↦ absurd (others_still called.0)
       | inr left ↦ ap waits_view left.1
@@ -146,9 +146,9 @@ module _ (at : LinkPlace) (place : ℕ) (timer : Timer) (w : WorldState) (draws 
         ≡ asks_now w.time l.asking.state.peer.next
         (local_clock l.asking.station.setup.phase l.asking.station.setup.drift w.time)
         (gives_up l.asking.station.setup.params.lost (progress_view l.asking.state.peer.progress)
-        (asker_view period (part_of l.asking.state)))
+        (asker_view period (measure_at l.asking.state)))
     asks_next =
-        let x : Part = part_of l.asking.state in
+        let x : Part = measure_at l.asking.state in
         let old : SystemState = l.asking.station.system in
         let seen : asker_view period (part_asked old w.time after_interval x)
         ≡ asks_now w.time x.peer.next (local_time old w.time)
@@ -167,9 +167,9 @@ module _ (at : LinkPlace) (place : ℕ) (timer : Timer) (w : WorldState) (draws 
         (gives_up n (progress_view x.peer.progress) (asker_view period x)))
         l.asking.measures.allowed
 
-    request_goes : FirstIs asks
-        (λ (f : SeenFrame). asks f.octets (request_from asker_port l.asking.state.peer.next)) (AreMute asks)
-        (map frame_view (step.grows.news at.direction))
+    request_goes : FirstIs reads_as_request
+        (λ (f : SeenFrame). reads_as_request f.octets (request_from asker_port l.asking.state.peer.next)) (AreMute reads_as_request)
+        (map link_frame_view (step.grows.news at.direction))
     request_goes =
         let p = asker_port.port in
         let system = one_system asker_port at.asking l.asking here in
@@ -180,13 +180,13 @@ module _ (at : LinkPlace) (place : ℕ) (timer : Timer) (w : WorldState) (draws 
         let number_is : next_of s p ≡ l.asking.state.peer.next =
         ap (λ x. next_of x p) system ∙ end_next at.asking asker_port w l.asking in
         let said = step.grows.said at.direction ∙ ap (λ port. said_at s' port sends) (sym mine) in
-        subst (λ (r : Request). FirstIs asks (λ (f : SeenFrame). asks f.octets r) (AreMute asks)
-        (map frame_view (step.grows.news at.direction)))
+        subst (λ (r : Request). FirstIs reads_as_request (λ (f : SeenFrame). reads_as_request f.octets r) (AreMute reads_as_request)
+        (map link_frame_view (step.grows.news at.direction)))
         (λ i. request_from (mine i) (number_is i))
         (sends_request s s' p sends sent (orderly.params place k.calls.station k.calls.here).pdelay fits (own_kept p)
         (step.grows.news at.direction) said)
 
-    pub request_seen : RequestTimerExpires (setting at w l) asks replies (pair at w l) (pair at w' step.after)
+    pub request_seen : RequestTimerExpires (link_setting at w l) reads_as_request reads_as_reply (pair at w l) (pair at w' step.after)
     request_seen = record {
       time = step.time;
       waits = waits_still;
@@ -194,7 +194,7 @@ module _ (at : LinkPlace) (place : ℕ) (timer : Timer) (w : WorldState) (draws 
       now = request_now;
       sequence = l.asking.state.peer.next;
       asker = asks_next;
-      news = map frame_view (step.grows.news at.direction);
+      news = map link_frame_view (step.grows.news at.direction);
       out = out_is step;
       sent = request_goes;
     }
@@ -204,19 +204,19 @@ module _ (at : LinkPlace) (place : ℕ) (timer : Timer) (w : WorldState) (draws 
         → step.after.asking.state.peer.last ≡ l.asking.state.peer.last
     measured_still shut =
         ap (λ (x : Part). x.peer.last) part
-        ∙ asked_measured l.asking.station.system w.time (part_of l.asking.state) shut
+        ∙ asked_measured l.asking.station.system w.time (measure_at l.asking.state) shut
 
   -- ---- the Respond timer of the port that answers
 
   module _ (here : at.answering ≡ place) (timer_is : timer ≡ timers.Respond answerer_port.port)
-      (part : part_of step.after.answering.state ≡ part_answered (part_of l.answering.state)) where
+      (part : measure_at step.after.answering.state ≡ part_answered (measure_at l.answering.state)) where
     asker_apart : at.asking ≢ place
     asker_apart same = l.apart (same ∙ sym here)
 
-    asker_still : AsksAsBefore period (part_of l.asking.state) (part_of step.after.asking.state)
+    asker_still : AsksAsBefore period (measure_at l.asking.state) (measure_at step.after.asking.state)
     asker_still = elim step.asking [
       | inl called ↦ absurd (asker_apart called.0)
-      | inr left ↦ asks_still period (part_of l.asking.state) (part_of step.after.asking.state) left.1
+      | inr left ↦ asks_still period (measure_at l.asking.state) (measure_at step.after.asking.state) left.1
     ]
 
     answers_then : l.answering.state.respond ≡ Some w.time
@@ -242,33 +242,33 @@ module _ (at : LinkPlace) (place : ℕ) (timer : Timer) (w : WorldState) (draws 
     abbrev waiting : Waiting
     waiting = record { request = request_from owed.requester owed.sequence; t2 = owed.t2; due = w.time }
 
-    answer_goes : SendsAnswer (setting at w l) replies waiting w.time
-        (map frame_view (step.grows.news (opposite at.direction)))
+    answer_goes : SendsAnswer (link_setting at w l) reads_as_reply waiting w.time
+        (map link_frame_view (step.grows.news (other_direction at.direction)))
     answer_goes =
         let p = answerer_port.port in
         let system = one_system answerer_port at.answering l.answering here in
         let mine = own_before answerer_port at.answering l.answering here in
         let fits = (l.answering.measures.owes w.time answers_then).2 in
         let own_fits = subst PortFits (sym mine) (end_fits at.answering answerer_port w orderly.setups l.answering) in
-        let said = step.grows.said (opposite at.direction)
+        let said = step.grows.said (other_direction at.direction)
         ∙ ap (λ port. said_at s' port sends) (sender_opposite at.direction l.channel ∙ sym mine) in
         let shows : local_time s w.time
         ≡ local_clock l.answering.station.setup.phase l.answering.station.setup.drift w.time =
         ap (λ x. local_time x w.time) system ∙ sym (clock_is at.answering answerer_port w l.answering w.time) in
-        subst (λ (t : ℤ). FirstIs replies
-        (λ (f : SeenFrame). replies f.octets (Response (identity_of answerer_port) waiting.request owed.t2))
-        (FirstIs replies
-        (λ (f : SeenFrame). replies f.octets (FollowUp (identity_of answerer_port) waiting.request t))
-        (AreMute replies)) (map frame_view (step.grows.news (opposite at.direction)))) shows
-        (subst (λ (port : PortId). FirstIs replies
-        (λ (f : SeenFrame). replies f.octets (Response (identity_of port) waiting.request owed.t2))
-        (FirstIs replies
-        (λ (f : SeenFrame). replies f.octets (FollowUp (identity_of port) waiting.request (local_time s w.time)))
-        (AreMute replies)) (map frame_view (step.grows.news (opposite at.direction)))) mine
+        subst (λ (t : ℤ). FirstIs reads_as_reply
+        (λ (f : SeenFrame). reads_as_reply f.octets (Response (link_identity answerer_port) waiting.request owed.t2))
+        (FirstIs reads_as_reply
+        (λ (f : SeenFrame). reads_as_reply f.octets (FollowUp (link_identity answerer_port) waiting.request t))
+        (AreMute reads_as_reply)) (map link_frame_view (step.grows.news (other_direction at.direction)))) shows
+        (subst (λ (port : PortId). FirstIs reads_as_reply
+        (λ (f : SeenFrame). reads_as_reply f.octets (Response (link_identity port) waiting.request owed.t2))
+        (FirstIs reads_as_reply
+        (λ (f : SeenFrame). reads_as_reply f.octets (FollowUp (link_identity port) waiting.request (local_time s w.time)))
+        (AreMute reads_as_reply)) (map link_frame_view (step.grows.news (other_direction at.direction)))) mine
         (sends_answer s s' p w.time owed sends responds own_fits fits (own_kept p)
-        (step.grows.news (opposite at.direction)) said))
+        (step.grows.news (other_direction at.direction)) said))
 
-    pub answer_seen : AnswerTimerExpires (setting at w l) asks replies (pair at w l) (pair at w' step.after)
+    pub answer_seen : AnswerTimerExpires (link_setting at w l) reads_as_request reads_as_reply (pair at w l) (pair at w' step.after)
     answer_seen = record {
       time = step.time;
       asker = asker_is step ∙ asker_still.0;
@@ -277,38 +277,38 @@ module _ (at : LinkPlace) (place : ℕ) (timer : Timer) (w : WorldState) (draws 
       was = λ i. waits_by (answers_then i) (waiting_is i);
       now = refl;
       waits = ap waits_view part;
-      news = map frame_view (step.grows.news (opposite at.direction));
+      news = map link_frame_view (step.grows.news (other_direction at.direction));
       back = back_is step;
       sent = answer_goes;
     }
 
   -- ---- any timer
 
-  -- what becomes of the port that asks
+  -- what becomes of the port that reads_as_request
   asker_becomes : ((at.asking ≡ place) × (timer ≡ timers.Pdelay asker_port.port)
-      × (part_of step.after.asking.state
-      ≡ part_asked l.asking.station.system w.time after_interval (part_of l.asking.state)))
+      × (measure_at step.after.asking.state
+      ≡ part_asked l.asking.station.system w.time after_interval (measure_at l.asking.state)))
       ⊎ ((at.asking ≡ place → timer ≢ timers.Pdelay asker_port.port)
-      × AsksAsBefore period (part_of l.asking.state) (part_of step.after.asking.state))
+      × AsksAsBefore period (measure_at l.asking.state) (measure_at step.after.asking.state))
   asker_becomes = elim step.asking [
     | inl called ↦ elim (asker_timer l.asking.station.system w.time period timer asker_port.port
-        (part_of l.asking.state) (part_of step.after.asking.state) called.1) [
+        (measure_at l.asking.state) (measure_at step.after.asking.state) called.1) [
           | inl own_timer ↦ inl (called.0, own_timer.0, own_timer.1)
           | inr other ↦ inr (λ same. other.0, other.1)
         ]
     | inr left ↦ inr (
       λ same. absurd (left.0 same),
-      asks_still period (part_of l.asking.state) (part_of step.after.asking.state) left.1,
+      asks_still period (measure_at l.asking.state) (measure_at step.after.asking.state) left.1,
     )
   ]
 
   answerer_becomes : ((at.answering ≡ place) × (timer ≡ timers.Respond answerer_port.port)
-      × (part_of step.after.answering.state ≡ part_answered (part_of l.answering.state)))
+      × (measure_at step.after.answering.state ≡ part_answered (measure_at l.answering.state)))
       ⊎ ((at.answering ≡ place → timer ≢ timers.Respond answerer_port.port)
-      × (waits_view (part_of step.after.answering.state) ≡ waits_view (part_of l.answering.state)))
+      × (waits_view (measure_at step.after.answering.state) ≡ waits_view (measure_at l.answering.state)))
   answerer_becomes = elim step.answering [
     | inl called ↦ elim (answerer_timer l.answering.station.system w.time timer answerer_port.port
-        (part_of l.answering.state) (part_of step.after.answering.state) called.1) [
+        (measure_at l.answering.state) (measure_at step.after.answering.state) called.1) [
           | inl own_timer ↦ inl (called.0, own_timer.0, own_timer.1)
           | inr other ↦ inr (λ same. other.0, other.1)
         ]
@@ -318,7 +318,7 @@ module _ (at : LinkPlace) (place : ℕ) (timer : Timer) (w : WorldState) (draws 
   same_timer : (t : Timer) → TimerExpires timer ≡ TimerExpires t → timer ≡ t
   same_timer t e = cc
 
-  one_act : MeterActs (setting at w l) asks replies (meter at w l) (meter at w' step.after)
+  one_act : MeterActs (link_setting at w l) reads_as_request reads_as_reply (meter at w l) (meter at w' step.after)
   one_act = elim asker_becomes [
     | inl asks_next ↦ meter_asks (request_seen asks_next.0 asks_next.1 asks_next.2)
         (measured_still asks_next.0 asks_next.1 asks_next.2)
@@ -346,7 +346,7 @@ module _ (at : LinkPlace) (place : ℕ) (timer : Timer) (w : WorldState) (draws 
 
   -- the own timers are seen as themselves
   pub request_timer_seen : at.asking ≡ place → timer ≡ timers.Pdelay asker_port.port
-      → IsSeen (λ k m m'. RequestTimerExpires k asks replies m.pair m'.pair) at w w' l
+      → IsSeenAtLink (λ k m m'. RequestTimerExpires k reads_as_request reads_as_reply m.pair m'.pair) at w w' l
   request_timer_seen here own_timer = elim asker_becomes [
     | inl a ↦ record {
       after = step.after;
@@ -358,7 +358,7 @@ module _ (at : LinkPlace) (place : ℕ) (timer : Timer) (w : WorldState) (draws 
   ]
 
   pub answer_timer_seen : at.answering ≡ place → timer ≡ timers.Respond answerer_port.port
-      → IsSeen (λ k m m'. AnswerTimerExpires k asks replies m.pair m'.pair) at w w' l
+      → IsSeenAtLink (λ k m m'. AnswerTimerExpires k reads_as_request reads_as_reply m.pair m'.pair) at w w' l
   answer_timer_seen here own_timer = elim answerer_becomes [
     | inl a ↦ record {
       after = step.after;

@@ -17,18 +17,18 @@ use Rattle.gptp_system.specs.State.{SystemState, number}
 use Rattle.gptp_system.specs.Times.{IsPortInTime}
 use Rattle.gptp_acts.specs.declared.item.Item.TheVariants.{Arrival}
 use Rattle.gptp_acts.specs.Ahead.{NoneLate}
-use Rattle.gptp_acts.specs.Pending.{NothingBefore, listed}
+use Rattle.gptp_acts.specs.Pending.{NothingBefore, timer_time}
 use Rattle.gptp_acts.specs.Sound.{IsSound}
-use Rattle.gptp_acts.specs.World.{Channel, WorldState, queue, receiver, sender}
+use Rattle.gptp_acts.specs.World.{Channel, WorldState, world_queue, receiver, sender}
 use Rattle.gptp_acts.proofs.AheadLemmas.{live_due, pending_none_late}
 use Rattle.gptp_acts.proofs.MomentLemmas.{times-all}
 use Rattle.gptp_lists.proofs.PlaceLemmas.{member_there}
 use Rattle.gptp_acts.proofs.SoundLemmas.{agrees_arrivals, agrees_pending}
 use Rattle.gptp_measuring.specs.Answerer.{Waiting}
-use Rattle.gptp_measuring.specs.Lanes.{Frame as SeenFrame}
+use Rattle.gptp_measuring.specs.Lanes.{LaneFrame as SeenFrame}
 use Rattle.gptp_kept.specs.LinkLaws.{FactsBegin, LinksAreFresh, NothingIsLate}
-use Rattle.gptp_kept.specs.Measured.{IsMeasured}
-use Rattle.gptp_kept.specs.LinkView.{IsEndOf, IsLinkOf, LinkPlace, asked_at, frame_view, opposite, waits_by}
+use Rattle.gptp_kept.specs.Measured.{LinkIsMeasured}
+use Rattle.gptp_kept.specs.LinkView.{IsEndOf, IsLinkOf, LinkPlace, asked_at, link_frame_view, other_direction, waits_by}
 
 -- ---- nothing is late
 
@@ -39,7 +39,7 @@ waits_due (Some then_due) None x is = absurd (none-some x is)
 waits_due (Some then_due) (Some owed) x is = ap (λ (y : Waiting). Some y.due) (same_Some _ x is)
 
 all_dues : (time : ℕ) (fs : List Frame) → AllByRecursion (λ u. time ≤ u) (map (λ (f : Frame). f.due) fs)
-    → (g : SeenFrame) → In g (map frame_view fs) → time ≤ g.due
+    → (g : SeenFrame) → In g (map link_frame_view fs) → time ≤ g.due
 all_dues time [] all g member = absurd member
 all_dues time (f ∷ fs) all g (inl here) = subst (λ (x : SeenFrame). time ≤ x.due) (sym here) all.0
 all_dues time (f ∷ fs) all g (inr later) = all_dues time fs all.1 g later
@@ -57,12 +57,12 @@ module _ (w : WorldState) (sound : IsSound w) (time : ℕ) (first : NothingBefor
   end_none_late place port e =
       pending_none_late time place e.station.system w.net.pending first
       (λ timer. agrees_pending w sound.agrees place e.station e.here timer
-      ∙ ap listed (live_due e.station timer e.live))
+      ∙ ap timer_time (live_due e.station timer e.live))
 
   lane_late : (link : ℕ) (direction : Direction) (channel : Channel) → slice_get w.net.channels link ≡ Some channel
-      → (g : SeenFrame) → In g (map frame_view (queue direction channel)) → time ≤ g.due
+      → (g : SeenFrame) → In g (map link_frame_view (world_queue direction channel)) → time ≤ g.due
   lane_late link direction channel here =
-      all_dues time (queue direction channel)
+      all_dues time (world_queue direction channel)
       (subst (AllByRecursion (λ u. time ≤ u)) (agrees_arrivals w sound.agrees link direction channel here)
       (times-all (λ u. time ≤ u) (Arrival link direction) w.net.pending first))
 
@@ -92,13 +92,13 @@ nothing_late at time w l sound first =
           (ap (option_and_then (λ (q : Port). q.respond)) l.answering.there
           ∙ waits_due l.answering.state.respond l.answering.state.peer.waiting x waits);
       out = lane_late w sound time first at.link at.direction l.channel l.here;
-      back = lane_late w sound time first at.link (opposite at.direction) l.channel l.here;
+      back = lane_late w sound time first at.link (other_direction at.direction) l.channel l.here;
     }
 
 -- ---- nothing is due too late
 
 -- the timers of an end are in time
-port_in_time : (place : ℕ) (port : PortId) (w : WorldState) → IsSound w → IsMeasured w → (e : IsEndOf place port w)
+port_in_time : (place : ℕ) (port : PortId) (w : WorldState) → IsSound w → LinkIsMeasured w → (e : IsEndOf place port w)
     → ((t : ℕ) → e.state.pdelay ≡ Some t → t ≤ w.time + interval_of e.station.setup.params.pdelay)
     × ((t : ℕ) → e.state.respond ≡ Some t → t ≤ w.time + e.station.setup.params.turnaround)
 port_in_time place port w sound measured e = go port.port e.there
@@ -120,7 +120,7 @@ port_in_time place port w sound measured e = go port.port e.there
         (one.pdelay, one.respond)
 
 -- the last request isn't in the future
-asked_before : (at : LinkPlace) (w : WorldState) (l : IsLinkOf at w) → IsSound w → IsMeasured w
+asked_before : (at : LinkPlace) (w : WorldState) (l : IsLinkOf at w) → IsSound w → LinkIsMeasured w
     → asked_at (interval_of l.asking.station.setup.params.pdelay) l.asking.state.pdelay ≤ w.time
 asked_before at w l sound measured =
     let (t, runs) = pdelay_runs at w l sound in
@@ -131,7 +131,7 @@ asked_before at w l sound measured =
 
 -- a frame that is seen is due when it is in flight
 seen_gone : (gone : ℕ) (fs : List Frame) → ((f : Frame) → In f fs → f.due ≤ gone) → (g : SeenFrame)
-    → In g (map frame_view fs)
+    → In g (map link_frame_view fs)
     → g.due ≤ gone
 seen_gone gone [] all g member = absurd member
 seen_gone gone (f ∷ fs) all g (inl here) = subst (λ (x : SeenFrame). x.due ≤ gone) (sym here) (all f (inl refl))
@@ -145,10 +145,10 @@ facts_begin at gone w l sound measured flight =
       request_timer = late.request_timer;
       answer_timer = late.answer_timer;
       out = λ g member.
-          let by = seen_gone gone (queue at.direction l.channel) (flight at.direction) g member in
+          let by = seen_gone gone (world_queue at.direction l.channel) (flight at.direction) g member in
           record { earliest = late.out g member; latest = omega arith };
       back = λ g member.
-          let by = seen_gone gone (queue (opposite at.direction) l.channel) (flight (opposite at.direction)) g member in
+          let by = seen_gone gone (world_queue (other_direction at.direction) l.channel) (flight (other_direction at.direction)) g member in
           record { earliest = late.back g member; latest = omega arith };
     }
 
@@ -158,9 +158,9 @@ links_fresh at gone calm w l sound measured flight past before =
     let answer = (port_in_time at.answering (receiver at.direction l.channel) w sound measured l.answering).1 in
     record {
       asked = omega arith;
-      out = seen_gone gone (queue at.direction l.channel) (flight at.direction);
+      out = seen_gone gone (world_queue at.direction l.channel) (flight at.direction);
       waiting = λ x waits.
           let latest = answer x.due (waits_due l.answering.state.respond l.answering.state.peer.waiting x waits) in
           omega arith;
-      back = seen_gone gone (queue (opposite at.direction) l.channel) (flight (opposite at.direction));
+      back = seen_gone gone (world_queue (other_direction at.direction) l.channel) (flight (other_direction at.direction));
     }

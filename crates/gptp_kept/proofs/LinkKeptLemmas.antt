@@ -9,10 +9,10 @@ use Rattle.gptp_system.specs.declared.port.Port.{Port}
 use Rattle.gptp_setup.specs.declared.setup.Setup.{Setup}
 use Rattle.gptp_system.specs.Input.{Input, IsTimely, PortUp, PortDown}
 use Rattle.gptp_setup.specs.Intervals.{AreParams}
-use Rattle.gptp_system.specs.Measures.{part_of}
+use Rattle.gptp_system.specs.Measures.{measure_at}
 use Rattle.gptp_system.specs.Start.{started}
 use Rattle.gptp_system.specs.State.{clock, number, own}
-use Rattle.gptp_system.specs.Steps.{IsPortOf}
+use Rattle.gptp_system.specs.Steps.{HasPortNumber}
 use Rattle.gptp_system.proofs.SpanLemmas.{starts_in_time}
 use Rattle.gptp_system.proofs.StartLemmas.{new_port_at}
 use Rattle.gptp_acts.specs.declared.station.Station.{Station}
@@ -50,7 +50,7 @@ among_stays w w' port stays among place station there named =
 
 -- an input that a port is given
 pub record IsOfPort (input : ℕ → Input) : Type 0 where
-  pub timely : (station : Station) (now p : ℕ) → IsPortOf station.system p → IsTimely station.system now (input p)
+  pub timely : (station : Station) (now p : ℕ) → HasPortNumber station.system p → IsTimely station.system now (input p)
   pub fits : (p n : ℕ) → HearsWhatFits n (input p)
 
 pub is_up : IsOfPort PortUp
@@ -83,7 +83,7 @@ tells_kept input channel w draws w' of port_a port_b is k =
 -- the system at a place has these ports
 abbrev pub HasAll : ℕ → List ℕ → WorldState → Type 0
 HasAll place ps w = (p : ℕ) → In p ps → (station : Station) → slice_get w.stations place ≡ Some station
-    → IsPortOf station.system p
+    → HasPortNumber station.system p
 
 pub all_stay : (place : ℕ) (ps : List ℕ) (w w' : WorldState) → Stays w w' → HasAll place ps w → HasAll place ps w'
 all_stay place ps w w' stays has p member station there =
@@ -113,11 +113,11 @@ started_measured setup now live = record {
 }
   where
     ports : (n : ℕ) (q : Port) → number (started setup now).ports n ≡ Some q
-        → IsMeasuring setup.params (own (started setup now) n) (part_of q)
+        → IsMeasuring setup.params (own (started setup now) n) (measure_at q)
     ports zero q there = absurd (none-some q there)
     ports (suc i) q there =
         let (log, here, is) = new_port_at (clock_of setup.identity) setup.params setup.intervals.items i q there in
-        subst (λ (one : Port). IsMeasuring setup.params (own (started setup now) (suc i)) (part_of one)) (sym is)
+        subst (λ (one : Port). IsMeasuring setup.params (own (started setup now) (suc i)) (measure_at one)) (sym is)
         (record {
           own = refl;
           allowed = refl;
@@ -146,7 +146,7 @@ starts_kept place w draws w' is k =
     } in
     calls_all_kept place (up_ports new w.net) begun draws w'
     (λ p member station there.
-    subst (λ (x : Station). IsPortOf x.system p)
+    subst (λ (x : Station). HasPortNumber x.system p)
     (same_Some new station (sym (get-set_same w.stations place k.station new k.here) ∙ there))
     (brought_ports new w.net p member))
     ready k.calls

@@ -14,11 +14,11 @@ use Rattle.gptp_links.specs.declared.link.Direction.TheVariants.{FromA, FromB}
 use Rattle.gptp_links.specs.Bounds.{IsLawful}
 use Rattle.gptp_links.specs.Fate.{Draw}
 use Rattle.gptp_links.specs.Queue.{Frame, due_after, frame, newest_due}
-use Rattle.gptp_pdelay.specs.Progress.{same_port}
+use Rattle.gptp_pdelay.specs.Progress.{same_identity}
 use Rattle.gptp_system.specs.declared.sending.Sending.{Sending}
 use Rattle.gptp_system.specs.State.{SystemState, own}
 use Rattle.gptp_acts.specs.Sends.{entered, written, SendsAll, SendsOne}
-use Rattle.gptp_acts.specs.World.{Channel, Net, queue, sender, with_queue}
+use Rattle.gptp_acts.specs.World.{Channel, Net, world_queue, sender, with_queue}
 use Rattle.gptp_kept.specs.Said.{said_at, sends_at}
 use Rattle.gptp_lists.proofs.MappedLemmas.{same_there}
 use Rattle.gptp_lists.proofs.PlaceLemmas.{get-set_other, get-set_same, same_place}
@@ -26,22 +26,22 @@ use Rattle.gptp_acts.proofs.StayLemmas.{begins_same, carry_join, sender_same, se
 
 -- ---- ports
 
-pub same_true : (p q : PortId) → p ≡ q → same_port p q ≡ true
+pub same_true : (p q : PortId) → p ≡ q → same_identity p q ≡ true
 same_true p q e =
     let clocks : p.clock ≡ q.clock = ap (λ (x : PortId). x.clock) e in
     let ports : p.port ≡ q.port = ap (λ (x : PortId). x.port) e in
     grind (arith, nat_tests)
 
-pub true_same : (p q : PortId) → same_port p q ≡ true → p ≡ q
+pub true_same : (p q : PortId) → same_identity p q ≡ true → p ≡ q
 true_same p q e =
     let clocks : p.clock ≡ q.clock = grind (arith, nat_tests) in
     let ports : p.port ≡ q.port = grind (arith, nat_tests) in
     λ i. record { clock = clocks i; port = ports i }
 
-pub same_false : (p q : PortId) → p ≢ q → same_port p q ≡ false
-same_false p q other = go (same_port p q) refl
+pub same_false : (p q : PortId) → p ≢ q → same_identity p q ≡ false
+same_false p q other = go (same_identity p q) refl
   where
-    go : (b : Bool) → same_port p q ≡ b → same_port p q ≡ false
+    go : (b : Bool) → same_identity p q ≡ b → same_identity p q ≡ false
     go true e = absurd (other (true_same p q e))
     go false e = e
 
@@ -68,10 +68,10 @@ pub record Grows (now : ℕ) (old : Channel) (octets : Direction → List (List 
   pub bounds : new.bounds ≡ old.bounds
   pub up : new.up ≡ old.up
   pub news : Direction → List Frame
-  pub queues : (direction : Direction) → queue direction new ≡ queue direction old ++ news direction
+  pub queues : (direction : Direction) → world_queue direction new ≡ world_queue direction old ++ news direction
   pub said : (direction : Direction) → map (λ (f : Frame). f.octets) (news direction) ≡ octets direction
   pub dues : (direction : Direction) (f : Frame) → In f (news direction)
-      → IsDueSoon now old.bounds.max (queue direction old) f
+      → IsDueSoon now old.bounds.max (world_queue direction old) f
   pub lates : (direction : Direction) (f : Frame) → In f (news direction) → now + old.bounds.min ≤ f.due
 
 pub grows_begins : (now : ℕ) (old : Channel) (octets : Direction → List (List ℕ)) (new : Channel)
@@ -87,7 +87,7 @@ still_grows now channel octets none = record {
   bounds = refl;
   up = refl;
   news = λ direction. [];
-  queues = λ direction. sym (append-nil (queue direction channel));
+  queues = λ direction. sym (append-nil (world_queue direction channel));
   said = λ direction. sym (none direction);
   dues = λ direction f member. absurd member;
   lates = λ direction f member. absurd member;
@@ -105,7 +105,7 @@ grows_on now first second third one two both g h is = record {
   up = h.up ∙ g.up;
   news = λ direction. g.news direction ++ h.news direction;
   queues = λ direction. h.queues direction ∙ ap (λ fs. fs ++ h.news direction) (g.queues direction)
-      ∙ append_assoc (queue direction first) (g.news direction) (h.news direction);
+      ∙ append_assoc (world_queue direction first) (g.news direction) (h.news direction);
   said = λ direction. map-append (λ (f : Frame). f.octets) (g.news direction) (h.news direction)
       ∙ ap (λ os. os ++ map (λ (f : Frame). f.octets) (h.news direction)) (g.said direction)
       ∙ ap (λ os. one direction ++ os) (h.said direction) ∙ sym (is direction);
@@ -122,19 +122,19 @@ grows_on now first second third one two both g h is = record {
 }
   where
     -- what is due with a frame of the second is due with one of the first, or soon
-    due_on : (direction : Direction) (f : Frame) → IsDueSoon now second.bounds.max (queue direction second) f
-        → IsDueSoon now first.bounds.max (queue direction first) f
+    due_on : (direction : Direction) (f : Frame) → IsDueSoon now second.bounds.max (world_queue direction second) f
+        → IsDueSoon now first.bounds.max (world_queue direction first) f
     due_on direction f (later, inl soon) =
         (later, inl (subst (λ (b : Bounds). f.due ≤ now + b.max) g.bounds soon))
     due_on direction f (later, inr (with_one, among, before)) = (
       later,
       go with_one before
-          (In-parts with_one (queue direction first) (g.news direction)
+          (In-parts with_one (world_queue direction first) (g.news direction)
           (subst (In with_one) (g.queues direction) among)),
     )
       where
-        go : (one : Frame) → f.due ≤ one.due → In one (queue direction first) ⊎ In one (g.news direction)
-            → (f.due ≤ now + first.bounds.max) ⊎ ((x : Frame) × In x (queue direction first) × (f.due ≤ x.due))
+        go : (one : Frame) → f.due ≤ one.due → In one (world_queue direction first) ⊎ In one (g.news direction)
+            → (f.due ≤ now + first.bounds.max) ⊎ ((x : Frame) × In x (world_queue direction first) × (f.due ≤ x.due))
         go one less (inl old) = inr (one, old, less)
         go one less (inr new) = elim (g.dues direction one new).1 [
           | inl soon ↦ inl (omega arith)
@@ -143,10 +143,10 @@ grows_on now first second third one two both g h is = record {
 
 -- one frame goes behind the others in its direction
 entered_grows : (now : ℕ) (way : Direction) (channel : Channel) (f : Frame) (octets : Direction → List (List ℕ))
-    → IsDueSoon now channel.bounds.max (queue way channel) f → now + channel.bounds.min ≤ f.due
+    → IsDueSoon now channel.bounds.max (world_queue way channel) f → now + channel.bounds.min ≤ f.due
     → octets way ≡ f.octets ∷ []
     → ((direction : Direction) → direction ≢ way → octets direction ≡ [])
-    → Grows now channel octets (with_queue way (queue way channel ++ f ∷ []) channel)
+    → Grows now channel octets (with_queue way (world_queue way channel ++ f ∷ []) channel)
 entered_grows now FromA channel f octets soon late here other = record {
   a = refl;
   b = refl;
@@ -164,18 +164,18 @@ entered_grows now FromA channel f octets soon late here other = record {
     news FromB = []
 
     queues : (direction : Direction)
-        → queue direction (with_queue FromA (queue FromA channel ++ f ∷ []) channel)
-        ≡ queue direction channel ++ news direction
+        → world_queue direction (with_queue FromA (world_queue FromA channel ++ f ∷ []) channel)
+        ≡ world_queue direction channel ++ news direction
     queues FromA = refl
-    queues FromB = sym (append-nil (queue FromB channel))
+    queues FromB = sym (append-nil (world_queue FromB channel))
 
     said : (direction : Direction) → map (λ (x : Frame). x.octets) (news direction) ≡ octets direction
     said FromA = sym here
     said FromB = sym (other FromB (λ e. absurd cc))
 
     dues : (direction : Direction) (x : Frame) → In x (news direction)
-        → IsDueSoon now channel.bounds.max (queue direction channel) x
-    dues FromA x (inl e) = subst (IsDueSoon now channel.bounds.max (queue FromA channel)) (sym e) soon
+        → IsDueSoon now channel.bounds.max (world_queue direction channel) x
+    dues FromA x (inl e) = subst (IsDueSoon now channel.bounds.max (world_queue FromA channel)) (sym e) soon
     dues FromA x (inr none) = absurd none
     dues FromB x none = absurd none
 
@@ -200,9 +200,9 @@ entered_grows now FromB channel f octets soon late here other = record {
     news FromB = f ∷ []
 
     queues : (direction : Direction)
-        → queue direction (with_queue FromB (queue FromB channel ++ f ∷ []) channel)
-        ≡ queue direction channel ++ news direction
-    queues FromA = sym (append-nil (queue FromA channel))
+        → world_queue direction (with_queue FromB (world_queue FromB channel ++ f ∷ []) channel)
+        ≡ world_queue direction channel ++ news direction
+    queues FromA = sym (append-nil (world_queue FromA channel))
     queues FromB = refl
 
     said : (direction : Direction) → map (λ (x : Frame). x.octets) (news direction) ≡ octets direction
@@ -210,9 +210,9 @@ entered_grows now FromB channel f octets soon late here other = record {
     said FromB = sym here
 
     dues : (direction : Direction) (x : Frame) → In x (news direction)
-        → IsDueSoon now channel.bounds.max (queue direction channel) x
+        → IsDueSoon now channel.bounds.max (world_queue direction channel) x
     dues FromA x none = absurd none
-    dues FromB x (inl e) = subst (IsDueSoon now channel.bounds.max (queue FromB channel)) (sym e) soon
+    dues FromB x (inl e) = subst (IsDueSoon now channel.bounds.max (world_queue FromB channel)) (sym e) soon
     dues FromB x (inr none) = absurd none
 
     lates : (direction : Direction) (x : Frame) → In x (news direction) → now + channel.bounds.min ≤ x.due
@@ -306,15 +306,15 @@ module _ (now : ℕ) (s : SystemState) (x : Sending) (draw : Draw) (net net' : N
       same_there net.channels link one.channel channel (ap (slice_get net.channels) (sym place) ∙ one.here)
       alone.here in
       let way = one.direction in
-      let f : Frame = frame (due_after (queue way channel) now delay) (written s x) in
-      let new : Channel = with_queue way (queue way channel ++ f ∷ []) channel in
+      let f : Frame = frame (due_after (world_queue way channel) now delay) (written s x) in
+      let new : Channel = with_queue way (world_queue way channel ++ f ∷ []) channel in
       let begins : own s x.port ≡ sender way channel = sym one.begins ∙ ap (sender way) same in
       let lawful = subst (IsLawful draw.bounds) is one.lawful in
       let bounds_are : draw.bounds ≡ channel.bounds = one.bounds ∙ ap (λ (c : Channel). c.bounds) same in
       let short : delay ≤ channel.bounds.max = subst (λ (b : Bounds). delay ≤ b.max) bounds_are lawful.1 in
       let long : channel.bounds.min ≤ delay = subst (λ (b : Bounds). b.min ≤ delay) bounds_are lawful.0 in
-      let soon = due_soon now delay channel.bounds.max (queue way channel) (written s x) short in
-      let late = due_late now delay channel.bounds.min (queue way channel) (written s x) long in
+      let soon = due_soon now delay channel.bounds.max (world_queue way channel) (written s x) short in
+      let late = due_late now delay channel.bounds.min (world_queue way channel) (written s x) long in
       let grows : Grows now channel octets new =
       entered_grows now way channel f octets soon late (said_here s (sender way channel) x [] begins)
       (λ direction other. said_elsewhere s (sender direction channel) x []
@@ -357,7 +357,7 @@ module _ (now : ℕ) (s : SystemState) (x : Sending) (draw : Draw) (net net' : N
 -- the sends of a port are those of the first and those of the others
 said_first : (s : SystemState) (port : PortId) (x : Sending) (xs : List Sending)
     → said_at s port (x ∷ xs) ≡ said_at s port (x ∷ []) ++ said_at s port xs
-said_first s port x xs = go (same_port (own s x.port) port)
+said_first s port x xs = go (same_identity (own s x.port) port)
   where
     go : (b : Bool)
         → map (written s) (if b then x ∷ sends_at s port xs else sends_at s port xs)

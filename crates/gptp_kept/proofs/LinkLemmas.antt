@@ -19,19 +19,19 @@ use Rattle.gptp_system.specs.declared.port.Port.{Port}
 use Rattle.gptp_system.specs.declared.sending.Sending.{Sending}
 use Rattle.gptp_system.specs.Input.{Input, IsTimely}
 use Rattle.gptp_setup.specs.Intervals.{AreParams, interval_of}
-use Rattle.gptp_system.specs.Measures.{part_of}
+use Rattle.gptp_system.specs.Measures.{measure_at}
 use Rattle.gptp_system.specs.Messages.{AreSent}
 use Rattle.gptp_system.specs.State.{SystemState, clock, number, own}
 use Rattle.gptp_system.proofs.SentLemmas.{steps_send}
 use Rattle.gptp_acts.specs.declared.station.Station.{Station}
 use Rattle.gptp_acts.specs.Act.{Calls, all_timers, in_state}
 use Rattle.gptp_acts.specs.Sound.{AreApart, HaveOwnClocks, HaveTheirSetups, IsSound}
-use Rattle.gptp_acts.specs.World.{Channel, Net, WorldState, queue, receiver, sender}
+use Rattle.gptp_acts.specs.World.{Channel, Net, WorldState, world_queue, receiver, sender}
 use Rattle.gptp_lists.proofs.MappedLemmas.{same_there}
 use Rattle.gptp_lists.proofs.PlaceLemmas.{same_place}
 use Rattle.gptp_acts.proofs.SteadyLemmas.{same_clock}
 use Rattle.gptp_acts.proofs.StayLemmas.{JoinTheSame, begins_same, sender_same}
-use Rattle.gptp_kept.specs.LinkView.{IsEndOf, IsLinkOf, LinkPlace, RequestFits, SaysWhatFits, identity_of, opposite, setting}
+use Rattle.gptp_kept.specs.LinkView.{IsEndOf, IsLinkOf, LinkPlace, RequestFits, RequestSaysWhatFits, link_identity, other_direction, link_setting}
 use Rattle.gptp_kept.proofs.EndLemmas.{EndStep, HearsWhatFits, PartStep, call_end, renamed}
 use Rattle.gptp_kept.specs.Said.{said_at}
 use Rattle.gptp_kept.proofs.LinkLaneLemmas.{Grows, GrowsIn, IsAlone, same_false, sends_grow}
@@ -78,7 +78,7 @@ receiver_same FromA old new a b = b
 receiver_same FromB old new a b = a
 
 pub sender_opposite : (direction : Direction) (channel : Channel)
-    → sender (opposite direction) channel ≡ receiver direction channel
+    → sender (other_direction direction) channel ≡ receiver direction channel
 sender_opposite FromA channel = refl
 sender_opposite FromB channel = refl
 
@@ -157,12 +157,12 @@ none_said s port (x ∷ xs) other =
 pub record LinkStep (at : LinkPlace) (place : ℕ) (input : Input) (w w' : WorldState) (l : IsLinkOf at w)
     (s s' : SystemState) (sends : List Sending) : Type 0 where
   pub after : IsLinkOf at w'
-  pub settled : setting at w' after ≡ setting at w l
+  pub settled : link_setting at w' after ≡ link_setting at w l
   pub time : w'.time ≡ w.time
   pub asking : PartStep place input w.time at.asking l.asking.station.system
-      (sender at.direction l.channel).port (part_of l.asking.state) (part_of after.asking.state)
+      (sender at.direction l.channel).port (measure_at l.asking.state) (measure_at after.asking.state)
   pub answering : PartStep place input w.time at.answering l.answering.station.system
-      (receiver at.direction l.channel).port (part_of l.answering.state) (part_of after.answering.state)
+      (receiver at.direction l.channel).port (measure_at l.answering.state) (measure_at after.answering.state)
   pub period : after.asking.station.setup ≡ l.asking.station.setup
   pub sent : AreSent s w.time input sends
   pub elsewhere : (other : ℕ) (port : PortId) → IsEndOf other port w → other ≢ place → said_at s' port sends ≡ []
@@ -206,10 +206,10 @@ module _ (at : LinkPlace) (place : ℕ) (input : Input) (w : WorldState) (draws 
 
   -- what the system sends at this end fits, where it is its own, and is nothing elsewhere
   said_fits : (direction : Direction) → BeginsAt l.channel direction w → (octets : List ℕ) → In octets (said direction)
-      → SaysWhatFits octets
+      → RequestSaysWhatFits octets
   said_fits direction b octets member = by (same_place b.place place)
     where
-      by : (b.place ≡ place) ⊎ (b.place ≢ place) → SaysWhatFits octets
+      by : (b.place ≡ place) ⊎ (b.place ≢ place) → RequestSaysWhatFits octets
       by (inl same) =
           let port : PortId = sender direction l.channel in
           let one : k.station ≡ b.end.station =
@@ -223,9 +223,9 @@ module _ (at : LinkPlace) (place : ℕ) (input : Input) (w : WorldState) (draws 
       by (inr apart) =
           absurd (subst (In octets) (none_elsewhere b.place (sender direction l.channel) b.end apart) member)
 
-  fit : (direction : Direction) (f : Frame) → In f (queue direction grown.new) → SaysWhatFits f.octets
+  fit : (direction : Direction) (f : Frame) → In f (world_queue direction grown.new) → RequestSaysWhatFits f.octets
   fit direction f member =
-      by (In-parts f (queue direction l.channel) (grown.grows.news direction)
+      by (In-parts f (world_queue direction l.channel) (grown.grows.news direction)
       (subst (In f) (grown.grows.queues direction) member))
     where
       among : (fs : List Frame) → In f fs → In f.octets (octets_of fs)
@@ -233,7 +233,7 @@ module _ (at : LinkPlace) (place : ℕ) (input : Input) (w : WorldState) (draws 
       among (one ∷ fs) (inl here) = inl (ap (λ (x : Frame). x.octets) here)
       among (one ∷ fs) (inr later) = inr (among fs later)
 
-      by : In f (queue direction l.channel) ⊎ In f (grown.grows.news direction) → SaysWhatFits f.octets
+      by : In f (world_queue direction l.channel) ⊎ In f (grown.grows.news direction) → RequestSaysWhatFits f.octets
       by (inl old) = l.fit direction f old
       by (inr added) =
           said_fits direction (begins_at l.channel w at.asking at.answering at.direction direction l.asking l.answering)
@@ -280,8 +280,8 @@ module _ (at : LinkPlace) (place : ℕ) (input : Input) (w : WorldState) (draws 
   link_called = record {
     after = link_after;
     settled = λ i. record {
-      asking = identity_of (same_sender i);
-      answering = identity_of (same_receiver i);
+      asking = link_identity (same_sender i);
+      answering = link_identity (same_receiver i);
       most = most_same i;
       turnaround = (answering_step.setup i).params.turnaround;
       period = interval_of (asking_step.setup i).params.pdelay;

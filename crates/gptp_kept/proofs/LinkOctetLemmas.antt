@@ -12,11 +12,11 @@ use Rattle.gptp_messages.proofs.GrammarLemmas.{one_reading}
 use Rattle.gptp_messages.proofs.WrittenLemmas.{reads_back}
 use Rattle.gptp_system.specs.declared.sending.Body.{Body}
 use Rattle.gptp_system.specs.declared.sending.Body.TheVariants as bodies
-use Rattle.gptp_system.specs.Messages.{Answering, Asking, kind_of}
+use Rattle.gptp_system.specs.Messages.{Answering, Asking, message_kind}
 use Rattle.gptp_system.proofs.TypeLemmas.{type_is, type_number}
-use Rattle.gptp_acts.specs.Sends.{message_of}
+use Rattle.gptp_acts.specs.Sends.{sent_message}
 use Rattle.gptp_measuring.specs.Messages.{Request, Reply}
-use Rattle.gptp_kept.specs.LinkView.{asks, follow_up_view, replies, response_view}
+use Rattle.gptp_kept.specs.LinkView.{reads_as_request, follow_up_view, reads_as_reply, response_view}
 
 -- ---- the kind of a message
 
@@ -34,30 +34,30 @@ pub same_type : (m n : Message) → Reads (Written m) n → type_number n ≡ ty
 same_type m n reads = sym (type_is (Written m) n reads) ∙ written_type m
 
 -- what doesn't ask reads as no Pdelay_Req
-pub no_request_read : (path : List ℕ) (head : Head) (body : Body) → kind_of body ≢ Asking → (h : Head)
-    → Reads (Written (message_of path head body)) (messages.PdelayReq h) → ⊥
+pub no_request_read : (path : List ℕ) (head : Head) (body : Body) → message_kind body ≢ Asking → (h : Head)
+    → Reads (Written (sent_message path head body)) (messages.PdelayReq h) → ⊥
 no_request_read path head (bodies.Announce body) other h reads =
-    let e = same_type (message_of path head (bodies.Announce body)) (messages.PdelayReq h) reads in absurd (omega arith)
+    let e = same_type (sent_message path head (bodies.Announce body)) (messages.PdelayReq h) reads in absurd (omega arith)
 no_request_read path head bodies.Sync other h reads =
-    let e = same_type (message_of path head bodies.Sync) (messages.PdelayReq h) reads in absurd (omega arith)
+    let e = same_type (sent_message path head bodies.Sync) (messages.PdelayReq h) reads in absurd (omega arith)
 no_request_read path head (bodies.FollowUp origin rate) other h reads =
-    let e = same_type (message_of path head (bodies.FollowUp origin rate)) (messages.PdelayReq h) reads in
+    let e = same_type (sent_message path head (bodies.FollowUp origin rate)) (messages.PdelayReq h) reads in
     absurd (omega arith)
 no_request_read path head bodies.PdelayReq other h reads = other refl
 no_request_read path head (bodies.PdelayResp stamp requester) other h reads =
-    let e = same_type (message_of path head (bodies.PdelayResp stamp requester)) (messages.PdelayReq h) reads in
+    let e = same_type (sent_message path head (bodies.PdelayResp stamp requester)) (messages.PdelayReq h) reads in
     absurd (omega arith)
 no_request_read path head (bodies.PdelayRespFollowUp stamp requester) other h reads =
-    let e = same_type (message_of path head (bodies.PdelayRespFollowUp stamp requester)) (messages.PdelayReq h) reads in
+    let e = same_type (sent_message path head (bodies.PdelayRespFollowUp stamp requester)) (messages.PdelayReq h) reads in
     absurd (omega arith)
 
-pub asks_not : (path : List ℕ) (head : Head) (body : Body) → kind_of body ≢ Asking → (request : Request)
-    → asks (Written (message_of path head body)) request → ⊥
+pub asks_not : (path : List ℕ) (head : Head) (body : Body) → message_kind body ≢ Asking → (request : Request)
+    → reads_as_request (Written (sent_message path head body)) request → ⊥
 asks_not path head body other request (h, reads, is) = no_request_read path head body other h reads
 
 -- the number of a reply's type is that of a body that answers
-reply_type : (path : List ℕ) (head : Head) (body : Body) → kind_of body ≢ Answering
-    → (type_number (message_of path head body) ≢ 0x3) × (type_number (message_of path head body) ≢ 0xA)
+reply_type : (path : List ℕ) (head : Head) (body : Body) → message_kind body ≢ Answering
+    → (type_number (sent_message path head body) ≢ 0x3) × (type_number (sent_message path head body) ≢ 0xA)
 reply_type path head (bodies.Announce body) other = (λ e. omega arith, λ e. omega arith)
 reply_type path head bodies.Sync other = (λ e. omega arith, λ e. omega arith)
 reply_type path head (bodies.FollowUp origin rate) other = (λ e. omega arith, λ e. omega arith)
@@ -65,13 +65,13 @@ reply_type path head bodies.PdelayReq other = (λ e. omega arith, λ e. omega ar
 reply_type path head (bodies.PdelayResp stamp requester) other = absurd (other refl)
 reply_type path head (bodies.PdelayRespFollowUp stamp requester) other = absurd (other refl)
 
-pub replies_not : (path : List ℕ) (head : Head) (body : Body) → kind_of body ≢ Answering → (reply : Reply)
-    → replies (Written (message_of path head body)) reply → ⊥
+pub replies_not : (path : List ℕ) (head : Head) (body : Body) → message_kind body ≢ Answering → (reply : Reply)
+    → reads_as_reply (Written (sent_message path head body)) reply → ⊥
 replies_not path head body other reply (inl (m, reads, is)) =
-    (reply_type path head body other).0 (sym (same_type (message_of path head body) (messages.PdelayResp m) reads))
+    (reply_type path head body other).0 (sym (same_type (sent_message path head body) (messages.PdelayResp m) reads))
 replies_not path head body other reply (inr (m, reads, is)) =
     (reply_type path head body other).1
-    (sym (same_type (message_of path head body) (messages.PdelayRespFollowUp m) reads))
+    (sym (same_type (sent_message path head body) (messages.PdelayRespFollowUp m) reads))
 
 -- ---- what is written reads back
 
@@ -82,11 +82,11 @@ pub request_back : (head : Head) → HeadFits head → Reads (Written (messages.
 request_back head fits = back (messages.PdelayReq head) fits
 
 pub response_said : (m : PdelayResp) → MessageFits (messages.PdelayResp m)
-    → replies (Written (messages.PdelayResp m)) (response_view m)
+    → reads_as_reply (Written (messages.PdelayResp m)) (response_view m)
 response_said m fits = inl (m, back (messages.PdelayResp m) fits, refl)
 
 pub follow_up_said : (m : PdelayRespFollowUp) → MessageFits (messages.PdelayRespFollowUp m)
-    → replies (Written (messages.PdelayRespFollowUp m)) (follow_up_view m)
+    → reads_as_reply (Written (messages.PdelayRespFollowUp m)) (follow_up_view m)
 follow_up_said m fits = inr (m, back (messages.PdelayRespFollowUp m) fits, refl)
 
 -- ---- octets say one thing

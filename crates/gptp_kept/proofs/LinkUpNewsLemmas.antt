@@ -21,11 +21,11 @@ use Rattle.gptp_kept.specs.Unanswered.{StandsUnanswered}
 use Rattle.gptp_kept.proofs.SilentElsewhereLemmas.{changed_silent, up_silences}
 use Rattle.gptp_kept.specs.FirstAt.{IsFirstAt, StandsDown}
 use Rattle.gptp_kept.specs.Holds.{IsWorld}
-use Rattle.gptp_kept.specs.LinkView.{LinkPlace, setting}
-use Rattle.gptp_kept.specs.Measured.{IsMeasured, StandsAt}
+use Rattle.gptp_kept.specs.LinkView.{LinkPlace, link_setting}
+use Rattle.gptp_kept.specs.Measured.{LinkIsMeasured, LinkStandsAt}
 use Rattle.gptp_kept.specs.NewsWorld.{AreReadyBy, AreSilentBy, IsReadyBy}
 use Rattle.gptp_kept.specs.NewsWorldLaws.{LinkUpIsNews}
-use Rattle.gptp_kept.specs.Standing.{live_systems}
+use Rattle.gptp_kept.specs.Standing.{live_stations}
 use Rattle.gptp_kept.proofs.CalmKeptLemmas.{KeepsNetwork, calls_keep, keeps_on, net_keeps}
 use Rattle.gptp_kept.proofs.CapableKeptLemmas.{known_params, stood_among}
 use Rattle.gptp_kept.proofs.ChangeKeptLemmas.{acts_measured}
@@ -60,7 +60,7 @@ tells_leave channel w draws w' k =
     }
 
 module _ (p : Pace) (start number port : ℕ) (w : WorldState) (draws : List Draw) (done : Done) (w' : WorldState)
-    (pace : KeepPace p) (is : IsWorld p w) (is' : IsWorld p w') (measured : IsMeasured w)
+    (pace : KeepPace p) (is : IsWorld p w) (is' : IsWorld p w') (measured : LinkIsMeasured w)
     (silent : AreSilentBy p start w)
     (ready : AreReadyBy p start w) (apart : (at : LinkPlace) → StandsUnanswered at w' → IsOtherLink at
     (port_id number port) w)
@@ -73,7 +73,7 @@ module _ (p : Pace) (start number port : ℕ) (w : WorldState) (draws : List Dra
   k = acts.1
 
   -- what stood is ready still
-  on : (at : LinkPlace) → StandsAt at w → IsReadyBy p start at w'
+  on : (at : LinkPlace) → LinkStandsAt at w → IsReadyBy p start at w'
   on at stands =
       ready_goes_through p start at (Changing (LinkUp number port)) w w' draws done is.sound measured tt acts
       (ready at stands)
@@ -89,7 +89,7 @@ module _ (p : Pace) (start number port : ℕ) (w : WorldState) (draws : List Dra
 
     up_ready : AreReadyBy p start w'
     up_ready at stands =
-        let old : StandsAt at now = subst (StandsAt at) same stands in
+        let old : LinkStandsAt at now = subst (LinkStandsAt at) same stands in
         on at (record {
           channel = old.channel;
           here = old.here;
@@ -135,13 +135,13 @@ module _ (p : Pace) (start number port : ℕ) (w : WorldState) (draws : List Dra
         (subst (λ b. ComesUpIf b k.place k.channel now draws w') down k.so)
         silent s
 
-    before : (at : LinkPlace) → StandsAt at w' → StandsAt at brought
+    before : (at : LinkPlace) → LinkStandsAt at w' → LinkStandsAt at brought
     before =
         stood_among p brought w' is.sound.wired.clocks (known_params p w is.known.set) is'.sound.wired.clocks
         (known_params p w' is'.known.set) leaves.keeps
 
     -- another link stood
-    beside : (at : LinkPlace) → at.link ≢ k.place → StandsAt at brought → StandsAt at w
+    beside : (at : LinkPlace) → at.link ≢ k.place → LinkStandsAt at brought → LinkStandsAt at w
     beside at apart old = record {
       channel = old.channel;
       here = sym (get-set_other w.net.channels k.place at.link raised apart) ∙ old.here;
@@ -164,7 +164,7 @@ module _ (p : Pace) (start number port : ℕ) (w : WorldState) (draws : List Dra
     }
 
     -- this one is ready from its first request on
-    module _ (at : LinkPlace) (place_is : at.link ≡ k.place) (old : StandsAt at brought) where
+    module _ (at : LinkPlace) (place_is : at.link ≡ k.place) (old : LinkStandsAt at brought) where
       channel_is : old.channel ≡ raised
       channel_is =
           same_Some old.channel raised
@@ -212,12 +212,12 @@ module _ (p : Pace) (start number port : ℕ) (w : WorldState) (draws : List Dra
           let l = first.link in
           let asks = (is'.known.set at.asking l.asking.station l.asking.here).starts.params in
           let answers = (is'.known.set at.answering l.answering.station l.answering.here).starts.params in
-          let period : (setting at w' l).period ≡ interval_of p.params.pdelay =
+          let period : (link_setting at w' l).period ≡ interval_of p.params.pdelay =
           ap (λ (x : Params). interval_of x.pdelay) asks in
-          let turnaround : (setting at w' l).turnaround ≡ p.params.turnaround =
+          let turnaround : (link_setting at w' l).turnaround ≡ p.params.turnaround =
           ap (λ (x : Params). x.turnaround) answers in
-          let most : (setting at w' l).most ≤ delay_in w' =
-          delay_of_used (live_systems w'.stations) w'.net.channels at.link l.channel l.here
+          let most : (link_setting at w' l).most ≤ delay_in w' =
+          delay_of_used (live_stations w'.stations) w'.net.channels at.link l.channel l.here
           (link_used at w' l) in
           inl (w.time, (first, omega (arith, period, turnaround, most, soon)))
 

@@ -7,13 +7,13 @@ use Rattle.gptp_lists.proofs.PlaceLemmas.{member_there}
 use Rattle.gptp_setup.specs.Pace.{Pace}
 use Rattle.gptp_setup.specs.declared.setup.Setup.{Setup}
 use Rattle.gptp_system.specs.State.{clock}
-use Rattle.gptp_system.specs.Steps.{IsPortOf}
+use Rattle.gptp_system.specs.Steps.{HasPortNumber}
 use Rattle.gptp_acts.specs.declared.station.Station.{Station}
 use Rattle.gptp_acts.specs.Sound.{HaveOwnClocks, IsSound}
 use Rattle.gptp_acts.specs.World.{WorldState, sender}
-use Rattle.gptp_kept.specs.Calm.{log_at, log_of, place_of, setups_of}
+use Rattle.gptp_kept.specs.Calm.{log_at, log_of, clock_place, setups_of}
 use Rattle.gptp_kept.specs.Known.{AreSet, IsLogAmong}
-use Rattle.gptp_kept.specs.Standing.{live_systems, snapshot_of}
+use Rattle.gptp_kept.specs.Standing.{live_stations, snapshot_of}
 use Rattle.gptp_kept.proofs.FoundLemmas.{place_is}
 use Rattle.gptp_kept.proofs.SetLemmas.{log_among, log_there}
 use Rattle.gptp_kept.proofs.StandsLemmas.{sender_lives}
@@ -27,14 +27,14 @@ pub log_is : (w : WorldState) → HaveOwnClocks w → (place : ℕ) (station : S
 log_is w own place station here n =
     let setup_in : Station → Setup = λ x. x.setup in
     let there = mapped_there setup_in w.stations place station here in
-    let at : slice_get (setups_of w.stations) (place_of w.stations (clock station.system)) ≡ Some station.setup =
+    let at : slice_get (setups_of w.stations) (clock_place w.stations (clock station.system)) ≡ Some station.setup =
     ap (slice_get (setups_of w.stations)) (sym (place_is w own place station here)) ∙ there in
     ap (λ o. option_map_or (λ (x : Setup). log_at x n) o (pos 0)) at
 
 -- a port of a system that the world has
 module _ (p : Pace) (w : WorldState) (sound : IsSound w) (set : AreSet p w) (place : ℕ) (station : Station)
     (here : slice_get w.stations place ≡ Some station) where
-  port_log : (n : ℕ) → IsPortOf station.system n
+  port_log : (n : ℕ) → HasPortNumber station.system n
       → IsLogAmong w.stations (log_of w.stations (port_of (clock station.system) n))
   port_log zero is = let least = is.least in absurd (omega arith)
   port_log (suc i) is =
@@ -51,7 +51,7 @@ linked_log p w sound set port (to, joins) =
     let way = way_of w port to joins in
     let from = sender way.direction way.channel in
     let (s, member, same) = clock_lives w.stations from.clock
-    (sender_lives (live_systems w.stations) way.direction way.channel way.used) in
+    (sender_lives (live_stations w.stations) way.direction way.channel way.used) in
     let at = live_from w.stations s member in
     let named : clock at.station.system ≡ from.clock = ap (λ (x : System). x.clock) (sym at.is) ∙ same in
     let is = sound.wired.ports way.link at.place way.direction way.channel at.station way.here at.here named in

@@ -14,7 +14,7 @@ use Rattle.gptp_system.specs.declared.port.Port.{Port}
 use Rattle.gptp_system.specs.declared.sending.Sending.{Sending}
 use Rattle.gptp_setup.specs.declared.timer.Timer.TheVariants as timers
 use Rattle.gptp_system.specs.Input.{Input, IsTimely, Steps, PortUp, Expires}
-use Rattle.gptp_system.specs.Measures.{part_of}
+use Rattle.gptp_system.specs.Measures.{measure_at}
 use Rattle.gptp_system.specs.Messages.{AreSent}
 use Rattle.gptp_system.specs.State.{SystemState, due, number, own}
 use Rattle.gptp_system.proofs.InTimeLemmas.{stays_in_time}
@@ -27,12 +27,12 @@ use Rattle.gptp_acts.specs.Act.{Calls, in_state}
 use Rattle.gptp_acts.specs.Ahead.{IsSteady}
 use Rattle.gptp_acts.specs.Sends.{entered, written, SendsAll}
 use Rattle.gptp_acts.specs.Sound.{HaveTheirSetups, IsItsSetup, IsSound}
-use Rattle.gptp_acts.specs.World.{Channel, Net, WorldState, queue, with_queue}
+use Rattle.gptp_acts.specs.World.{Channel, Net, WorldState, world_queue, with_queue}
 use Rattle.gptp_lists.proofs.PlaceLemmas.{get-set_all}
 use Rattle.gptp_acts.proofs.StayLemmas.{calls_stay, stays_setups}
 use Rattle.gptp_acts.proofs.SteadyLemmas.{steps_steady}
-use Rattle.gptp_kept.specs.Measured.{AllFit, IsMeasured, IsStationMeasured}
-use Rattle.gptp_kept.specs.LinkView.{IsMeasuring, RequestFits, SaysWhatFits}
+use Rattle.gptp_kept.specs.Measured.{AllFit, LinkIsMeasured, IsStationMeasured}
+use Rattle.gptp_kept.specs.LinkView.{IsMeasuring, RequestFits, RequestSaysWhatFits}
 use Rattle.gptp_kept.proofs.EndLemmas.{HearsWhatFits, part_measures}
 use Rattle.gptp_kept.proofs.LinkLemmas.{number_within}
 use Rattle.gptp_kept.proofs.SentLemmas.{asking_input, next_of, written_fits}
@@ -45,19 +45,19 @@ ports_measure : (input : Input) (now : ℕ) (station : Station) (s' : SystemStat
     → Steps input now station.system s' sends answer → ((n : ℕ) → HearsWhatFits n input)
     → IsStationMeasured now station
     → (n : ℕ) (q' : Port) → number s'.ports n ≡ Some q'
-    → IsMeasuring station.setup.params (own s' n) (part_of q')
+    → IsMeasuring station.setup.params (own s' n) (measure_at q')
 ports_measure input now station s' sends answer k given is zero q' there = absurd (none-some q' there)
 ports_measure input now station s' sends answer k given is (suc i) q' there =
     let s : SystemState = station.system in
     let (q, was, part) = steps_measure input now s s' sends answer k i q' there in
     let kept = (steps_sound input now s s' sends answer k).kept in
-    let before : IsMeasuring s.params (own s (suc i)) (part_of q) =
-    subst (λ p. IsMeasuring p (own s (suc i)) (part_of q)) (sym is.set_up.params) (is.ports (suc i) q was) in
-    let after : IsMeasuring s.params (own s (suc i)) (part_of q') =
-    part_measures s now input (suc i) (own s (suc i)) (part_of q) (part_of q') (given (suc i)) part before in
-    subst (λ p. IsMeasuring station.setup.params p (part_of q'))
+    let before : IsMeasuring s.params (own s (suc i)) (measure_at q) =
+    subst (λ p. IsMeasuring p (own s (suc i)) (measure_at q)) (sym is.set_up.params) (is.ports (suc i) q was) in
+    let after : IsMeasuring s.params (own s (suc i)) (measure_at q') =
+    part_measures s now input (suc i) (own s (suc i)) (measure_at q) (measure_at q') (given (suc i)) part before in
+    subst (λ p. IsMeasuring station.setup.params p (measure_at q'))
     (λ j. record { clock = sym kept.same_clock j; port = suc i })
-    (subst (λ p. IsMeasuring p (own s (suc i)) (part_of q')) is.set_up.params after)
+    (subst (λ p. IsMeasuring p (own s (suc i)) (measure_at q')) is.set_up.params after)
 
 step_measured : (input : Input) (now : ℕ) (station : Station) (s' : SystemState) (sends : List Sending)
     (answer : Answer)
@@ -98,7 +98,7 @@ request_fits now station its is p q there =
 sends_fit : (input : Input) (now : ℕ) (station : Station) (s' : SystemState) (sends : List Sending) (answer : Answer)
     → IsTimely station.system now input → IsSteady station.system → IsItsSetup station
     → Steps input now station.system s' sends answer → IsStationMeasured now station
-    → (x : Sending) → In x sends → SaysWhatFits (written s' x)
+    → (x : Sending) → In x sends → RequestSaysWhatFits (written s' x)
 sends_fit input now station s' sends answer timely steady its k is x member =
     written_fits station.system s' now input sends sent steady.params.pdelay x member
     (λ kind. fits (asking_input station.system now input sends sent x member kind))
@@ -121,35 +121,35 @@ sends_fit input now station s' sends answer timely steady its k is x member =
 
 -- the frames in flight in one direction become others that fit
 pub queue_fits : (channels : List Channel) (link : ℕ) (direction : Direction) (channel : Channel) (frames : List Frame)
-    → slice_get channels link ≡ Some channel → ((f : Frame) → In f frames → SaysWhatFits f.octets) → AllFit channels
+    → slice_get channels link ≡ Some channel → ((f : Frame) → In f frames → RequestSaysWhatFits f.octets) → AllFit channels
     → AllFit (slice_set channels link (with_queue direction frames channel))
 queue_fits channels link direction channel frames here fits all =
-    get-set_all (λ (c : Channel). (way : Direction) (f : Frame) → In f (queue way c) → SaysWhatFits f.octets)
+    get-set_all (λ (c : Channel). (way : Direction) (f : Frame) → In f (world_queue way c) → RequestSaysWhatFits f.octets)
     channels link
     channel (with_queue direction frames channel) here (by direction) all
   where
-    by : (d way : Direction) (f : Frame) → In f (queue way (with_queue d frames channel)) → SaysWhatFits f.octets
+    by : (d way : Direction) (f : Frame) → In f (world_queue way (with_queue d frames channel)) → RequestSaysWhatFits f.octets
     by FromA FromA f member = fits f member
     by FromA FromB f member = all link channel here FromB f member
     by FromB FromA f member = all link channel here FromA f member
     by FromB FromB f member = fits f member
 
 pub entered_fits : (place : ℕ) (direction : Direction) (channel : Channel) (now : ℕ) (octets : List ℕ)
-    (answer : Option ℕ) (net : Net) → slice_get net.channels place ≡ Some channel → SaysWhatFits octets
+    (answer : Option ℕ) (net : Net) → slice_get net.channels place ≡ Some channel → RequestSaysWhatFits octets
     → AllFit net.channels → AllFit (entered place direction channel now octets answer net).channels
 entered_fits place direction channel now octets None net here fits all = all
 entered_fits place direction channel now octets (Some delay) net here fits all =
     queue_fits net.channels place direction channel _ here
-    (λ f member. by f (In-parts f (queue direction channel) _ member)) all
+    (λ f member. by f (In-parts f (world_queue direction channel) _ member)) all
   where
-    by : (f : Frame) → In f (queue direction channel)
-        ⊎ In f (frame (due_after (queue direction channel) now delay) octets ∷ []) → SaysWhatFits f.octets
+    by : (f : Frame) → In f (world_queue direction channel)
+        ⊎ In f (frame (due_after (world_queue direction channel) now delay) octets ∷ []) → RequestSaysWhatFits f.octets
     by f (inl old) = all place channel here direction f old
-    by f (inr (inl new)) = subst (λ (g : Frame). SaysWhatFits g.octets) (sym new) fits
+    by f (inr (inl new)) = subst (λ (g : Frame). RequestSaysWhatFits g.octets) (sym new) fits
     by f (inr (inr none)) = absurd none
 
 all_sent_fit : (now : ℕ) (s : SystemState) (xs : List Sending) (draws : List Draw) (net net' : Net)
-    → ((x : Sending) → In x xs → SaysWhatFits (written s x)) → AllFit net.channels → SendsAll now s xs draws net net'
+    → ((x : Sending) → In x xs → RequestSaysWhatFits (written s x)) → AllFit net.channels → SendsAll now s xs draws net net'
     → AllFit net'.channels
 all_sent_fit now s [] draws net net' fits all (none, same) =
     subst (λ (n : Net). AllFit n.channels) (sym same) all
@@ -168,9 +168,9 @@ all_sent_fit now s (x ∷ xs) draws net net' fits all (inr (none, more)) =
 pub record IsKept (w : WorldState) : Type 0 where
   pub steady : (place : ℕ) (station : Station) → slice_get w.stations place ≡ Some station → IsSteady station.system
   pub setups : HaveTheirSetups w
-  pub measured : IsMeasured w
+  pub measured : LinkIsMeasured w
 
-pub sound_kept : (w : WorldState) → IsSound w → IsMeasured w → IsKept w
+pub sound_kept : (w : WorldState) → IsSound w → LinkIsMeasured w → IsKept w
 sound_kept w sound measured = record {
   steady = λ place station here. (sound.on_time.stations place station here).steady;
   setups = sound.wired.setups;
@@ -197,5 +197,5 @@ calls_kept place input w draws answer w' k timely given is =
       steady = subst (λ (v : WorldState). (other : ℕ) (x : Station) → slice_get v.stations other ≡ Some x
           → IsSteady x.system) (sym k.is) all_steady;
       setups = setups;
-      measured = subst IsMeasured (sym k.is) (record { stations = stations; frames = frames });
+      measured = subst LinkIsMeasured (sym k.is) (record { stations = stations; frames = frames });
     }

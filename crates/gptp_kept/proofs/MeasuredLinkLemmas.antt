@@ -9,7 +9,7 @@ use Rattle.gptp_kept.specs.Calm.{HaveQuietLinks}
 use Rattle.gptp_kept.specs.CalmFor.{IsCalmFor, capable_span}
 use Rattle.gptp_kept.specs.Claimed.{Claimed}
 use Rattle.gptp_kept.specs.Holds.{IsWorld}
-use Rattle.gptp_kept.specs.LinkView.{least_delay, setting}
+use Rattle.gptp_kept.specs.LinkView.{least_delay, link_setting}
 use Rattle.gptp_kept.specs.MeasuredLinks.{HaveMeasuredLinks}
 use Rattle.gptp_kept.specs.Watch.{Watches}
 use Rattle.gptp_kept.proofs.ClaimedLemmas.{set_alike}
@@ -27,7 +27,7 @@ used_measured p w pace is quiet watches late place station here live i h q holds
       from_is = x.from_is;
       to_is = x.to_is;
       state = x.state;
-      measured = subst (λ (state : Port). HasMeasured (setting x.at w l) (least_delay x.at w l) state.peer.last) x.state
+      measured = subst (λ (state : Port). HasMeasured (link_setting x.at w l) (least_delay x.at w l) state.peer.last) x.state
           (watched_measure x.at w.last_change (largest_interval p) w x.watched x.period late);
     }
 

@@ -21,7 +21,7 @@ use Rattle.gptp_setup.specs.declared.setup.Params.{Params}
 use Rattle.gptp_setup.specs.declared.setup.Setup.{Setup}
 use Rattle.gptp_setup.specs.declared.timer.Timer.TheVariants as timers
 use Rattle.gptp_system.specs.Input.{Input, IsTimely, Steps, PortUp, PortDown, Frame, Expires, Priority}
-use Rattle.gptp_system.specs.Measures.{IsPartAfter, Part, only_at, part_answered, part_asked, part_down, part_heard, part_of, part_owing, part_stepped}
+use Rattle.gptp_system.specs.Measures.{IsPartAfter, Part, only_at, part_answered, part_asked, part_down, part_heard, measure_at, part_owing, part_stepped}
 use Rattle.gptp_system.specs.Start.{started}
 use Rattle.gptp_system.specs.State.{SystemState, local_time, own}
 use Rattle.gptp_system.specs.Steps.{IsUp}
@@ -29,7 +29,7 @@ use Rattle.gptp_system.proofs.MeasureLemmas.{steps_measure}
 use Rattle.gptp_system.proofs.StartLemmas.{new_port_at}
 use Rattle.gptp_acts.specs.World.{port_id}
 use Rattle.gptp_acts.proofs.SteadyLemmas.{same_clock}
-use Rattle.gptp_kept.specs.Measuring.{IsMeasuring, IsPeerOf, PortsMeasure}
+use Rattle.gptp_kept.specs.Measuring.{MeasuresWithItsOwn, IsPeerOf, PortsMeasure}
 
 -- ---- what a port has measured
 
@@ -91,30 +91,30 @@ module _ (p : Params) (itself : PortId) where
   -- ---- what its timers do
 
   -- it asks after a step
-  asked : (s : SystemState) (now : ℕ) (step : PeerState → PeerState) (x : Part) → IsMeasuring p itself x
-      → KeepsPeer x.peer (step x.peer) → IsMeasuring p itself (part_asked s now step x)
+  asked : (s : SystemState) (now : ℕ) (step : PeerState → PeerState) (x : Part) → MeasuresWithItsOwn p itself x
+      → KeepsPeer x.peer (step x.peer) → MeasuresWithItsOwn p itself (part_asked s now step x)
   asked s now step x is on = record {
     peer = requested_peer_of (local_time s now) (step x.peer) on.peer;
     owes = λ t due. subst IsSome (sym on.waits) (is.owes t due);
     idle = λ none. absurd cc;
   }
 
-  reset_asked : (s : SystemState) (now : ℕ) (x : Part) → IsMeasuring p itself x
-      → IsMeasuring p itself (part_asked s now reset_peer x)
+  reset_asked : (s : SystemState) (now : ℕ) (x : Part) → MeasuresWithItsOwn p itself x
+      → MeasuresWithItsOwn p itself (part_asked s now reset_peer x)
   reset_asked s now x is = asked s now reset_peer x is (record { peer = reset_peer_of x.peer is.peer; waits = refl })
 
-  interval_asked : (s : SystemState) (now : ℕ) (x : Part) → IsMeasuring p itself x
-      → IsMeasuring p itself (part_asked s now after_interval x)
+  interval_asked : (s : SystemState) (now : ℕ) (x : Part) → MeasuresWithItsOwn p itself x
+      → MeasuresWithItsOwn p itself (part_asked s now after_interval x)
   interval_asked s now x is = asked s now after_interval x is (interval_ends x.peer is.peer)
 
-  went_down : (x : Part) → IsMeasuring p itself x → IsMeasuring p itself (part_down x)
+  went_down : (x : Part) → MeasuresWithItsOwn p itself x → MeasuresWithItsOwn p itself (part_down x)
   went_down x is = record {
     peer = reset_peer_of x.peer is.peer;
     owes = λ t due. absurd (none-some t due);
     idle = λ none. record { last = refl; progress = refl; lost = refl; respond = refl };
   }
 
-  has_answered : (x : Part) → IsMeasuring p itself x → IsMeasuring p itself (part_answered x)
+  has_answered : (x : Part) → MeasuresWithItsOwn p itself x → MeasuresWithItsOwn p itself (part_answered x)
   has_answered x is = record {
     peer = recounted x.peer (answered x.peer) is.peer refl refl refl is.peer.lost;
     owes = λ t due. absurd (none-some t due);
@@ -125,16 +125,16 @@ module _ (p : Params) (itself : PortId) where
 
   -- ---- what it hears, where its link is up
 
-  stepped : (step : PeerState → PeerState) (x : Part) → x.pdelay ≢ None → IsMeasuring p itself x
-      → KeepsPeer x.peer (step x.peer) → IsMeasuring p itself (part_stepped step x)
+  stepped : (step : PeerState → PeerState) (x : Part) → x.pdelay ≢ None → MeasuresWithItsOwn p itself x
+      → KeepsPeer x.peer (step x.peer) → MeasuresWithItsOwn p itself (part_stepped step x)
   stepped step x runs is on = record {
     peer = on.peer;
     owes = λ t due. subst IsSome (sym on.waits) (is.owes t due);
     idle = λ none. absurd (runs none);
   }
 
-  heard : (s : SystemState) (now : ℕ) (m : Message) (x : Part) → x.pdelay ≢ None → IsMeasuring p itself x
-      → IsMeasuring p itself (part_heard s now m x)
+  heard : (s : SystemState) (now : ℕ) (m : Message) (x : Part) → x.pdelay ≢ None → MeasuresWithItsOwn p itself x
+      → MeasuresWithItsOwn p itself (part_heard s now m x)
   heard s now (messages.PdelayReq head) x runs is =
       let new : Part = part_owing s now head x in
       record {
@@ -153,20 +153,20 @@ module _ (p : Params) (itself : PortId) where
   -- ---- a step of its system
 
   -- what is done at one port alone
-  only : (n k : ℕ) (f : Part → Part) (x x' : Part) → IsMeasuring p itself x
-      → (n ≡ k → IsMeasuring p itself (f x)) → x' ≡ only_at n f k x → IsMeasuring p itself x'
-  only n k f x x' before after is = subst (IsMeasuring p itself) (sym is) (by (k == n) refl)
+  only : (n k : ℕ) (f : Part → Part) (x x' : Part) → MeasuresWithItsOwn p itself x
+      → (n ≡ k → MeasuresWithItsOwn p itself (f x)) → x' ≡ only_at n f k x → MeasuresWithItsOwn p itself x'
+  only n k f x x' before after is = subst (MeasuresWithItsOwn p itself) (sym is) (by (k == n) refl)
     where
-      by : (b : Bool) → (k == n) ≡ b → IsMeasuring p itself (if b then f x else x)
+      by : (b : Bool) → (k == n) ≡ b → MeasuresWithItsOwn p itself (if b then f x else x)
       by true same = after (grind (arith, nat_tests))
       by false other = before
 
-  same : (x x' : Part) → IsMeasuring p itself x → x' ≡ x → IsMeasuring p itself x'
-  same x x' before is = subst (IsMeasuring p itself) (sym is) before
+  same : (x x' : Part) → MeasuresWithItsOwn p itself x → x' ≡ x → MeasuresWithItsOwn p itself x'
+  same x x' before is = subst (MeasuresWithItsOwn p itself) (sym is) before
 
   part_measures : (s : SystemState) (now : ℕ) (input : Input) (k : ℕ) (x x' : Part)
-      → ((octets : List ℕ) → input ≡ Frame k octets → x.pdelay ≢ None) → IsMeasuring p itself x
-      → IsPartAfter s now input k x x' → IsMeasuring p itself x'
+      → ((octets : List ℕ) → input ≡ Frame k octets → x.pdelay ≢ None) → MeasuresWithItsOwn p itself x
+      → IsPartAfter s now input k x x' → MeasuresWithItsOwn p itself x'
   part_measures s now (PortUp n) k x x' runs before is =
       only n k (part_asked s now reset_peer) x x' before (λ here. reset_asked s now x before) is
   part_measures s now (PortDown n) k x x' runs before is =
@@ -199,8 +199,8 @@ ports_measure p input now s s' sends answer timely steps measure i q' there =
     let was = steps_measure input now s s' sends answer steps i q' there in
     let itself : own s' (suc i) ≡ own s (suc i) =
     ap (λ c. port_id c (suc i)) (same_clock input now s s' sends answer steps) in
-    subst (λ id. IsMeasuring p id (part_of q')) (sym itself)
-    (part_measures p (own s (suc i)) s now input (suc i) (part_of was.0) (part_of q')
+    subst (λ id. MeasuresWithItsOwn p id (measure_at q')) (sym itself)
+    (part_measures p (own s (suc i)) s now input (suc i) (measure_at was.0) (measure_at q')
     (λ octets is. up_runs s i was.0 was.1 (subst (IsTimely s now) is timely)) (measure i was.0 was.1) was.2)
 
 -- ---- a start
@@ -209,7 +209,7 @@ ports_measure p input now s s' sends answer timely steps measure i q' there =
 pub started_measure : (p : Params) (setup : Setup) (now : ℕ) → setup.params ≡ p → PortsMeasure p (started setup now)
 started_measure p setup now same i q there =
     let (log, here, is) = new_port_at (clock_of setup.identity) setup.params setup.intervals.items i q there in
-    subst (λ x. IsMeasuring p (own (started setup now) (suc i)) (part_of x)) (sym is) (record {
+    subst (λ x. MeasuresWithItsOwn p (own (started setup now) (suc i)) (measure_at x)) (sym is) (record {
       peer = record {
         own_is = refl;
         threshold = ap (λ (x : Params). x.threshold) same;

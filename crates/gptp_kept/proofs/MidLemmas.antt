@@ -15,12 +15,12 @@ use Rattle.gptp_receipt.specs.declared.held.Heard.TheVariants.{Superior, Repeate
 use Rattle.gptp_receipt.specs.declared.held.Reception.{Reception}
 use Rattle.gptp_receipt.specs.Held.{against_received, comparison, held_after, message_vector, received, reception, same_source, superior_if}
 use Rattle.gptp_receipt.specs.Qualification.{Qualified}
-use Rattle.gptp_system.specs.Announcing.{is_taken}
-use Rattle.gptp_system.specs.Touch.{Touch, Hear, Tick, Grow, Enable, Disable, Other, HeardAs, Mid}
+use Rattle.gptp_system.specs.Announcing.{replaces_held}
+use Rattle.gptp_system.specs.Touch.{Touch, Hear, Tick, Grow, Enable, Disable, Other, HeardAs, PortHoldsInTouch}
 use Rattle.gptp_settling.specs.Station.{Disabled}
-use Rattle.gptp_settling.specs.Touch.{Mid as SeenMid, Qualified as SeenQualified, Refuses, Replaces, Takes}
+use Rattle.gptp_settling.specs.Touch.{HeldInTouch as SeenMid, IsUsable as SeenQualified, LeavesHeld, Replaces, TakesAnnounce}
 use Rattle.gptp_settling.specs.Vectors.{message}
-use Rattle.gptp_kept.specs.View.{held_view, identity_of, reception_view, said, touch_view}
+use Rattle.gptp_kept.specs.View.{held_view, port_identity_number, reception_view, said, touch_view}
 use Rattle.gptp_kept.proofs.OrderLemmas.{contains_in, in_contains, lower_parts, parts_lower}
 
 -- ---- what may be used
@@ -47,15 +47,15 @@ seen_qualified c a k = record {
 abbrev pub ReceivedAt : ℕ → Held → Type 0
 ReceivedAt n h = (r : Reception) → received h ≡ Some r → r.vector.receiver ≡ n
 
-taken_if : (better : Bool) → is_taken (superior_if better) ≡ better
+taken_if : (better : Bool) → replaces_held (superior_if better) ≡ better
 taken_if true = refl
 taken_if false = refl
 
-taken_received : (known v : Vector) → is_taken (against_received known v) ≡ (same_source known v || lower v known)
+taken_received : (known v : Vector) → replaces_held (against_received known v) ≡ (same_source known v || lower v known)
 taken_received known v = go (same_source known v)
   where
     go : (same : Bool)
-        → is_taken (if same then Repeated else superior_if (lower v known)) ≡ (same || lower v known)
+        → replaces_held (if same then Repeated else superior_if (lower v known)) ≡ (same || lower v known)
     go true = refl
     go false = taken_if (lower v known)
 
@@ -74,14 +74,14 @@ or_second : (a b : Bool) → b ≡ true → (a || b) ≡ true
 or_second true b e = refl
 or_second false b e = e
 
-sources_same : (known v : Vector) → same_source known v ≡ true → identity_of v.source ≡ identity_of known.source
+sources_same : (known v : Vector) → same_source known v ≡ true → port_identity_number v.source ≡ port_identity_number known.source
 sources_same known v e =
     let (clocks, ports) = both_true (known.source.clock == v.source.clock) (known.source.port == v.source.port) e in
     let clock = eqb-true known.source.clock v.source.clock clocks in
     let port = eqb-true known.source.port v.source.port ports in
     λ i. record { clock = sym clock i; port = sym port i }
 
-same_sources : (known v : Vector) → identity_of v.source ≡ identity_of known.source → same_source known v ≡ true
+same_sources : (known v : Vector) → port_identity_number v.source ≡ port_identity_number known.source → same_source known v ≡ true
 same_sources known v e =
     let clock = eq-eqb known.source.clock v.source.clock (sym (ap (λ (p : PortIdentity). p.clock) e)) in
     let port = eq-eqb known.source.port v.source.port (sym (ap (λ (p : PortIdentity). p.port) e)) in
@@ -100,7 +100,7 @@ module _ (c n : ℕ) (keep : ℤ → ℕ) (a : AnnounceView) where
   abbrev heard : Vector
   heard = message_vector a n
 
-  taken_replaces : (h : Held) → ReceivedAt n h → is_taken (comparison h own a) ≡ true
+  taken_replaces : (h : Held) → ReceivedAt n h → replaces_held (comparison h own a) ≡ true
       → Replaces c n (said a) (held_view keep h)
   taken_replaces helds.Disabled at taken = absurd cc
   taken_replaces helds.Aged at taken = tt
@@ -116,7 +116,7 @@ module _ (c n : ℕ) (keep : ℤ → ℕ) (a : AnnounceView) where
           inr (subst (IsLower (parts heard)) (parts_of n keep r (at r refl)) (lower_parts heard r.vector better))
 
   replaces_taken : (h : Held) → ReceivedAt n h → Replaces c n (said a) (held_view keep h)
-      → is_taken (comparison h own a) ≡ true
+      → replaces_held (comparison h own a) ≡ true
   replaces_taken helds.Disabled at never = absurd never
   replaces_taken helds.Aged at replaces = refl
   replaces_taken (helds.Mine root steps) at is =
@@ -133,25 +133,25 @@ module _ (c n : ℕ) (keep : ℤ → ℕ) (a : AnnounceView) where
 
   -- ---- what is heard
 
-  after_taken : (verdict : Heard) (h : Held) (r : Reception) → is_taken verdict ≡ true
+  after_taken : (verdict : Heard) (h : Held) (r : Reception) → replaces_held verdict ≡ true
       → held_after verdict h r ≡ helds.Received r
   after_taken Superior h r e = refl
   after_taken Repeated h r e = refl
   after_taken Inferior h r e = absurd cc
 
-  after_left : (verdict : Heard) (h : Held) (r : Reception) → is_taken verdict ≡ false → held_after verdict h r ≡ h
+  after_left : (verdict : Heard) (h : Held) (r : Reception) → replaces_held verdict ≡ false → held_after verdict h r ≡ h
   after_left Superior h r e = absurd cc
   after_left Repeated h r e = absurd cc
   after_left Inferior h r e = refl
 
   heard_seen : (now : ℕ) (h mid : Held) → ReceivedAt n h → HeardAs own a now h mid
-      → Takes c n (said a) now (held_view keep h) (held_view keep mid)
-      ⊎ Refuses c n (said a) (held_view keep h) (held_view keep mid)
-  heard_seen now h mid at (inl (qualified, is)) = by (is_taken (comparison h own a)) refl
+      → TakesAnnounce c n (said a) now (held_view keep h) (held_view keep mid)
+      ⊎ LeavesHeld c n (said a) (held_view keep h) (held_view keep mid)
+  heard_seen now h mid at (inl (qualified, is)) = by (replaces_held (comparison h own a)) refl
     where
-      by : (b : Bool) → is_taken (comparison h own a) ≡ b
-          → Takes c n (said a) now (held_view keep h) (held_view keep mid)
-          ⊎ Refuses c n (said a) (held_view keep h) (held_view keep mid)
+      by : (b : Bool) → replaces_held (comparison h own a) ≡ b
+          → TakesAnnounce c n (said a) now (held_view keep h) (held_view keep mid)
+          ⊎ LeavesHeld c n (said a) (held_view keep h) (held_view keep mid)
       by true taken = inl (record {
         qualified = qualified_seen c a qualified;
         replaces = taken_replaces h at taken;
@@ -177,7 +177,7 @@ seen_on keep (helds.Received r) on = λ e. absurd cc
 
 -- what a port holds after a touch
 pub mid_seen : (c n : ℕ) (keep : ℤ → ℕ) (now : ℕ) (touch : Touch) (h mid : Held) → ReceivedAt n h
-    → Mid c n touch now h mid → SeenMid c n (touch_view touch) now (held_view keep h) (held_view keep mid)
+    → PortHoldsInTouch c n touch now h mid → SeenMid c n (touch_view touch) now (held_view keep h) (held_view keep mid)
 mid_seen c n keep now (Hear p a) h mid at (inl (here, on, heard)) =
     inl (here, seen_on keep h on, heard_seen c n keep a now h mid at heard)
 mid_seen c n keep now (Hear p a) h mid at (inr (elsewhere, same)) = inr (elsewhere, ap (held_view keep) same)

@@ -21,7 +21,7 @@ use Rattle.gptp_kept.specs.Holds.{IsWorld}
 use Rattle.gptp_kept.proofs.OutlineLemmas.{change_is_last}
 use Rattle.gptp_setup.proofs.IntervalLemmas.{interval_positive}
 use Rattle.gptp_kept.specs.LinkView.{LinkPlace}
-use Rattle.gptp_kept.specs.Measured.{IsLiveAt, IsMeasured, StandsAt}
+use Rattle.gptp_kept.specs.Measured.{StationIsLiveAt, LinkIsMeasured, LinkStandsAt}
 use Rattle.gptp_kept.specs.NewsWorld.{AllLive, AreReadyBy, AreSilentBy, IsReadyBy}
 use Rattle.gptp_kept.specs.NewsWorldLaws.{GainIsNews, NewsAreDone, PriorityIsNews, ReadyIsReadyLater, UnansweredIsSilent, WatchedIsReady}
 use Rattle.gptp_kept.proofs.CapableKeptLemmas.{HaveParams, known_params, same_receiver, same_sender}
@@ -62,7 +62,7 @@ news_done answers p start timed fate fate_after w w' done none octet k news =
 
 -- where the links differ in what is in flight alone, what stands stood
 stood_live : (p : Pace) (w w' : WorldState) → HaveParams p w → HaveParams p w' → AllLive w → Stays w w'
-    → DifferInFlight w.net.channels w'.net.channels → (at : LinkPlace) → StandsAt at w' → StandsAt at w
+    → DifferInFlight w.net.channels w'.net.channels → (at : LinkPlace) → LinkStandsAt at w' → LinkStandsAt at w
 stood_live p w w' set set' live stays links at stands =
     let (old, here, same) = alike bare bare w.net.channels w'.net.channels (sym links) at.link stands.channel
     stands.here
@@ -85,7 +85,7 @@ stood_live p w w' set set' live stays links at stands =
       good = rw (bounds, answers, asks) stands.good;
     }
   where
-    before : (place number was : ℕ) → was ≡ number → IsLiveAt place number w' → IsLiveAt place was w
+    before : (place number was : ℕ) → was ≡ number → StationIsLiveAt place number w' → StationIsLiveAt place was w
     before place number was named x =
         let near = stays.stations place x.station x.here in
         record {
@@ -95,12 +95,12 @@ stood_live p w w' set set' live stays links at stands =
           named = sym near.same.named ∙ x.named ∙ sym named;
         }
 
-    alike_params : (place number was : ℕ) (now : IsLiveAt place number w') (then : IsLiveAt place was w)
+    alike_params : (place number was : ℕ) (now : StationIsLiveAt place number w') (then : StationIsLiveAt place was w)
         → then.station.setup.params ≡ now.station.setup.params
     alike_params place number was now then = set place then.station then.here ∙ sym (set' place now.station now.here)
 
 module _ (p : Pace) (start number value : ℕ) (w : WorldState) (draws : List Draw) (done : Done) (w' : WorldState)
-    (is : IsWorld p w) (is' : IsWorld p w') (measured : IsMeasured w) (live : AllLive w) (ready : AreReadyBy p start w)
+    (is : IsWorld p w) (is' : IsWorld p w') (measured : LinkIsMeasured w) (live : AllLive w) (ready : AreReadyBy p start w)
     (octet : value < 256) (acts : Acts (Changing (Priority1 number value)) w draws done w') where
   abbrev now : WorldState
   now = record w { last_change = w.time }

@@ -28,11 +28,11 @@ use Rattle.gptp_setup.specs.declared.setup.Params.{Params}
 use Rattle.gptp_system.specs.declared.answer.Answer.{Answer}
 use Rattle.gptp_system.specs.Input.{Input}
 use Rattle.gptp_acts.specs.Sound.{IsSound}
-use Rattle.gptp_acts.specs.World.{Channel, WorldState, queue, receiver, sender}
+use Rattle.gptp_acts.specs.World.{Channel, WorldState, world_queue, receiver, sender}
 use Rattle.gptp_acts.proofs.SoundLemmas.{later_sound}
-use Rattle.gptp_measuring.specs.Lanes.{Frame as MeasuredFrame}
-use Rattle.gptp_settling.specs.Acts.{Steps}
-use Rattle.gptp_settling.specs.Lapsing.{NothingLapses as NoneLapse}
+use Rattle.gptp_measuring.specs.Lanes.{LaneFrame as MeasuredFrame}
+use Rattle.gptp_settling.specs.Acts.{MachineSteps}
+use Rattle.gptp_settling.specs.Lapsing.{NothingNearLapses as NoneLapse}
 use Rattle.gptp_settling.specs.SyncActs.{SyncSteps}
 use Rattle.gptp_settling.specs.Syncs.{HaveSyncTimers, IsPrompt, SyncsAreExpected}
 use Rattle.gptp_settling.proofs.SyncActLemmas.{expected_kept}
@@ -41,25 +41,25 @@ use Rattle.gptp_settling.proofs.SyncRunLemmas.{in_time as lapses_in_time, prompt
 use Rattle.gptp_kept.proofs.SyncActLemmas.{acts_tell, timers_seen}
 use Rattle.gptp_kept.proofs.WaitLemmas.{has_timeout, step_long, wait_is}
 use Rattle.gptp_settling.specs.Calm.{Calm}
-use Rattle.gptp_settling.specs.Facts.{Facts}
-use Rattle.gptp_settling.specs.Frame.{Frame as SeenFrame, Lane}
+use Rattle.gptp_settling.specs.Facts.{StationFacts}
+use Rattle.gptp_settling.specs.Frame.{AnnounceFrame as SeenFrame, Lane}
 use Rattle.gptp_settling.specs.Levels.{Invariant}
-use Rattle.gptp_settling.specs.Station.{State}
-use Rattle.gptp_settling.specs.Network.{IsNetwork, Network, setting as settling_of}
+use Rattle.gptp_settling.specs.Station.{MachineState}
+use Rattle.gptp_settling.specs.Network.{IsSettlingNetwork, Network, link_setting as settling_of}
 use Rattle.gptp_settling.proofs.SoundEverywhereLemmas.{on_links}
 use Rattle.gptp_settling.proofs.LevelLemmas.{invariant_begins, invariant_kept, no_early_ports}
 use Rattle.gptp_settling.proofs.SoundLemmas.{received_fits}
 use Rattle.gptp_kept.specs.Calm.{AreCapableFrom, HaveQuietLinks, SettlingTimes, delay_in, network_with, paths_with}
 use Rattle.gptp_kept.specs.Holds.{IsWorld}
 use Rattle.gptp_kept.specs.Known.{IsKnown}
-use Rattle.gptp_kept.specs.LinkView.{IsLinkOf, LinkPlace, frame_view as measured_view, identity_of, opposite, pair, setting}
-use Rattle.gptp_kept.specs.Measured.{IsLiveAt, IsMeasured, StandsAt}
+use Rattle.gptp_kept.specs.LinkView.{IsLinkOf, LinkPlace, link_frame_view as measured_view, link_identity, other_direction, pair, link_setting}
+use Rattle.gptp_kept.specs.Measured.{StationIsLiveAt, LinkIsMeasured, LinkStandsAt}
 use Rattle.gptp_kept.specs.NewsWorld.{AllLive, AreReadyBy, AreSilentBy, IsExpecting, IsNews, IsReadyBy, at_news, news_in_turn, news_network, turn_network}
 use Rattle.gptp_kept.specs.NewsWorldLaws.{NewsAreKept, NewsBegin, NewsGoOn, NewsWorldsSettle, NewsWorldsSettleInTurn}
 use Rattle.gptp_kept.specs.SeenLaws.{IsNoChange}
 use Rattle.gptp_kept.specs.SoundWorld.{IsSoundWorld}
-use Rattle.gptp_kept.specs.Standing.{has_clock, is_used, live_systems, snapshot_of}
-use Rattle.gptp_kept.specs.View.{lanes_view, says, says_sync, view}
+use Rattle.gptp_kept.specs.Standing.{stations_have_clock, channel_is_used, live_stations, snapshot_of}
+use Rattle.gptp_kept.specs.View.{lanes_view, says_announce, says_sync, view}
 use Rattle.gptp_kept.proofs.BoundedLemmas.{AreAbove, are_above}
 use Rattle.gptp_kept.proofs.CalmFactLemmas.{facts, frame_from}
 use Rattle.gptp_kept.proofs.CalmKeptLemmas.{KeepsNetwork, acts_keep, delay_kept, links_quiet, same_network_with}
@@ -73,7 +73,7 @@ use Rattle.gptp_kept.proofs.BeforeLemmas.{none_anew, stood_earlier}
 use Rattle.gptp_kept.proofs.ClaimedCapableLemmas.{clock_has, linked_or_off, used_if}
 use Rattle.gptp_kept.proofs.SilentLemmas.{become_incapable, silence_goes_on, silence_kept}
 use Rattle.gptp_kept.specs.Unanswered.{StandsUnanswered}
-use Rattle.gptp_kept.specs.Standing.{live_systems}
+use Rattle.gptp_kept.specs.Standing.{live_stations}
 use Rattle.gptp_kept.proofs.ChangeKeptLemmas.{acts_measured, later_measured}
 use Rattle.gptp_kept.proofs.DelayLemmas.{delay_of_used, delay_short}
 use Rattle.gptp_kept.proofs.ElsewhereLemmas.{watch_goes_through, watched_stay_capable}
@@ -94,9 +94,9 @@ use Rattle.gptp_kept.proofs.WayLemmas.{IsWay, one_way, way_of}
 -- a live system with the clock stands somewhere
 record Lives (number : ℕ) (w : WorldState) : Type 0 where
   place : ℕ
-  at : IsLiveAt place number w
+  at : StationIsLiveAt place number w
 
-lives_there : (w : WorldState) (number : ℕ) → has_clock (live_systems w.stations) number ≡ true → Lives number w
+lives_there : (w : WorldState) (number : ℕ) → stations_have_clock (live_stations w.stations) number ≡ true → Lives number w
 lives_there w number has =
     let (s, member, same) = clock_lives w.stations number has in
     let there = live_from w.stations s member in
@@ -113,13 +113,13 @@ lives_there w number has =
 module _ (p : Pace) (w : WorldState) (is : IsWorld p w) (quiet : HaveQuietLinks p.params w) (from to : PortIdentity)
     (joins : Joins (snapshot_of w) from to) (way : IsWay w from to) where
   asks_there : Lives (sender way.direction way.channel).clock w
-  asks_there = lives_there w _ (sender_lives (live_systems w.stations) way.direction way.channel way.used)
+  asks_there = lives_there w _ (sender_lives (live_stations w.stations) way.direction way.channel way.used)
 
   answers_there : Lives (receiver way.direction way.channel).clock w
   answers_there = lives_there w _
-      (subst (λ (q : PortId). has_clock (live_systems w.stations) q.clock ≡ true)
+      (subst (λ (q : PortId). stations_have_clock (live_stations w.stations) q.clock ≡ true)
       (sender_opposite way.direction way.channel)
-      (sender_lives (live_systems w.stations) (opposite way.direction) way.channel way.used))
+      (sender_lives (live_stations w.stations) (other_direction way.direction) way.channel way.used))
 
   abbrev way_place : LinkPlace
   way_place = record {
@@ -129,7 +129,7 @@ module _ (p : Pace) (w : WorldState) (is : IsWorld p w) (quiet : HaveQuietLinks 
     answering = answers_there.place;
   }
 
-  way_stands : StandsAt way_place w
+  way_stands : LinkStandsAt way_place w
   way_stands =
       let links = quiet way.link way.channel way.here way.used in
       let one = asks_there.at in
@@ -139,7 +139,7 @@ module _ (p : Pace) (w : WorldState) (is : IsWorld p w) (quiet : HaveQuietLinks 
       record {
         channel = way.channel;
         here = way.here;
-        up = used_up (live_systems w.stations) way.channel way.used;
+        up = used_up (live_stations w.stations) way.channel way.used;
         lossless = links.lossless;
         asking = one;
         answering = other;
@@ -165,13 +165,13 @@ ready_capable : (p : Pace) (start : ℕ) (at : LinkPlace) (w : WorldState) → I
 ready_capable p start at w known (inl (first, (l, by))) late = (first_full at first w l (omega (arith, by, late))).0
 ready_capable p start at w known (inr (gone, since, l, past, by)) late =
     let asks = (known.set at.asking l.link.asking.station l.link.asking.here).starts.params in
-    let period : (setting at w l.link).period ≡ interval_of p.params.pdelay =
+    let period : (link_setting at w l.link).period ≡ interval_of p.params.pdelay =
     ap (λ (x : Params). interval_of x.pdelay) asks in
     (watched_stay_capable at gone since w l (omega (arith, by, late, period))).0
 
 -- an act that leaves the link alone leaves it ready
 pub ready_goes_through : (p : Pace) (start : ℕ) (at : LinkPlace) (act : Act) (w w' : WorldState) (draws : List Draw)
-    (done : Done) → IsSound w → IsMeasured w → LeavesAlone at act w → Acts act w draws done w' → IsReadyBy p start at w
+    (done : Done) → IsSound w → LinkIsMeasured w → LeavesAlone at act w → Acts act w draws done w' → IsReadyBy p start at w
     → IsReadyBy p start at w'
 ready_goes_through p start at act w w' draws done sound measured alone k (inl (first, by)) =
     inl (first, by_goes_through at first start act w w' draws done sound measured alone k by)
@@ -195,7 +195,7 @@ either (suc a) (suc b) = elim (either a b) [
 -- what is in flight there is due within the delay of the link, or before the start
 ready_due : (p : Pace) (start : ℕ) (at : LinkPlace) (w : WorldState) (r : IsReadyBy p start at w) (f : MeasuredFrame)
     → In f (pair at w (link_in p start at w r)).out
-    → (f.due ≤ w.time + (setting at w (link_in p start at w r)).most) ⊎ (f.due < start)
+    → (f.due ≤ w.time + (link_setting at w (link_in p start at w r)).most) ⊎ (f.due < start)
 ready_due p start at w (inl (first, (l, by))) f member =
     let latest = (l.facts.out f member).latest in
     let asked = l.facts.asked in
@@ -216,7 +216,7 @@ ready_due p start at w (inr (gone, since, l, past, by)) f member =
 
 -- a link between two live systems is in use
 pub link_used : (at : LinkPlace) (w : WorldState) (l : IsLinkOf at w)
-    → is_used (live_systems w.stations) l.channel ≡ true
+    → channel_is_used (live_stations w.stations) l.channel ≡ true
 link_used at w l =
     used_if w.stations at.direction l.channel l.up
     (clock_has w.stations at.asking l.asking.station _ l.asking.here l.asking.live l.asking.named)
@@ -249,10 +249,10 @@ module _ (p : Pace) (start : ℕ) (w : WorldState) (pace : KeepPace p) (is : IsW
     (silent : AreSilentBy p start w) (ready : AreReadyBy p start w) (quiet : HaveQuietLinks p.params w) where
   linked_capable : start ≤ w.time → (place : ℕ) (station : Station) → slice_get w.stations place ≡ Some station
       → (i : ℕ) (q : Port) (to : PortIdentity) → slice_get station.system.ports i ≡ Some q
-      → (joins : Joins (snapshot_of w) (identity_of (own station.system (suc i))) to)
-      → IsWay w (identity_of (own station.system (suc i))) to → is_capable q.peer ≡ true
+      → (joins : Joins (snapshot_of w) (link_identity (own station.system (suc i))) to)
+      → IsWay w (link_identity (own station.system (suc i))) to → is_capable q.peer ≡ true
   linked_capable late place station here i q to there joins way =
-      let from = identity_of (own station.system (suc i)) in
+      let from = link_identity (own station.system (suc i)) in
       let at = way_place p w is quiet from to joins way in
       let r = ready at (way_stands p w is quiet from to joins way) in
       let l = link_in p start at w r in
@@ -283,7 +283,7 @@ module _ (p : Pace) (start : ℕ) (w : WorldState) (pace : KeepPace p) (is : IsW
             let (to, joins) = linked in
             (shown.each i h q stands there).on
             (linked_capable late place station here i q to there joins
-            (way_of w (identity_of (own station.system (suc i))) to joins));
+            (way_of w (link_identity (own station.system (suc i))) to joins));
         unlinked = λ none. elim (linked_or_off p w is (silent_off p start w pace is silent late) place station here
             lives
             i q there) [
@@ -308,12 +308,12 @@ module _ (p : Pace) (start : ℕ) (w : WorldState) (pace : KeepPace p) (is : IsW
       same_there w.net.channels way.link link.channel way.channel link.here way.here in
       let short : link.channel.bounds.max ≤ delay_in w =
       subst (λ (c : Channel). c.bounds.max ≤ delay_in w) (sym same_channel)
-      (delay_of_used (live_systems w.stations) w.net.channels way.link way.channel way.here way.used) in
-      let among : In seen.frame (queue way.direction link.channel) =
-      subst (λ (c : Channel). In seen.frame (queue way.direction c)) (sym (same_channel ∙ one.same_channel))
-      (subst (λ d. In seen.frame (queue d seen.channel)) (sym one.same_way) seen.among) in
+      (delay_of_used (live_stations w.stations) w.net.channels way.link way.channel way.here way.used) in
+      let among : In seen.frame (world_queue way.direction link.channel) =
+      subst (λ (c : Channel). In seen.frame (world_queue way.direction c)) (sym (same_channel ∙ one.same_channel))
+      (subst (λ d. In seen.frame (world_queue d seen.channel)) (sym one.same_way) seen.among) in
       let soon = ready_due p start at w r (record { due = seen.frame.due; octets = seen.frame.octets })
-      (In-map measured_view seen.frame (queue way.direction link.channel) among) in
+      (In-map measured_view seen.frame (world_queue way.direction link.channel) among) in
       let is_due : f.due ≡ seen.frame.due = ap (λ (x : SeenFrame). x.due) seen.is in
       elim soon [
         | inl near ↦ inl (omega (arith, near, short, is_due))
@@ -321,7 +321,7 @@ module _ (p : Pace) (start : ℕ) (w : WorldState) (pace : KeepPace p) (is : IsW
       ]
 
   news_facts : (m : ℕ) (times : SettlingTimes) → times.past ≡ false
-      → Facts (settling_of (network_with p m start times w)) (view w)
+      → StationFacts (settling_of (network_with p m start times w)) (view w)
   news_facts m times news =
       let old = facts p m start w is.sound is.legible is.known in
       record {
@@ -346,7 +346,7 @@ module _ (p : Pace) (start : ℕ) (w : WorldState) (pace : KeepPace p) (is : IsW
   news_calm m times news =
       calm p m start times w is.sound is.legible is.known quiet (news_facts m times news) news_capable
 
-  news_net : (m : ℕ) → BoundsPaths (snapshot_of w) m → IsNetwork (news_network p m start w)
+  news_net : (m : ℕ) → BoundsPaths (snapshot_of w) m → IsSettlingNetwork (news_network p m start w)
   news_net m bounded =
       times_fit (news_network p m start w) (stands_well w is.sound is.between is.legible) bounded (omega arith)
       (inl (record {
@@ -361,7 +361,7 @@ module _ (p : Pace) (start : ℕ) (w : WorldState) (pace : KeepPace p) (is : IsW
         });
       }))
 
-  turn_net : (m : ℕ) → BoundsPaths (snapshot_of w) m → IsNetwork (turn_network p m start w)
+  turn_net : (m : ℕ) → BoundsPaths (snapshot_of w) m → IsSettlingNetwork (turn_network p m start w)
   turn_net m bounded =
       let paths = paths_with m w in
       let long = step_long p paths (delay_short p w is.known) in
@@ -388,11 +388,11 @@ news_begin p start w pace is measured silent sound ready early = record {
   sound = sound;
   ready = ready;
   settling = λ m bounded quiet off.
-      invariant_begins says (news_network p m start w) (news_net p start w pace is silent ready quiet m bounded)
+      invariant_begins says_announce (news_network p m start w) (news_net p start w pace is silent ready quiet m bounded)
       (view w)
       (omega (arith, early));
   in_turn = λ m bounded quiet short. record {
-    invariant = invariant_begins says (turn_network p m start w)
+    invariant = invariant_begins says_announce (turn_network p m start w)
         (turn_net p start w pace is silent ready quiet m bounded) (view w) (omega (arith, early));
     expected = expected_begins says_sync (turn_network p m start w) (view w) (omega (arith, early));
   };
@@ -401,8 +401,8 @@ news_begin p start w pace is measured silent sound ready early = record {
 -- ---- it is kept
 
 -- each link is at its stage, and Syncs are expected in time
-record Expects (n : Network) (seen : State) : Type 0 where
-  invariant : Invariant says n seen
+record Expects (n : Network) (seen : MachineState) : Type 0 where
+  invariant : Invariant says_announce n seen
   expected : SyncsAreExpected says_sync n seen
 
 -- a step of the machine keeps it, where the network stays as it is
@@ -410,11 +410,11 @@ module _ (p : Pace) (start : ℕ) (w w' : WorldState) (news : IsNews p start w) 
     (silent' : AreSilentBy p start w') (sound' : IsSoundWorld w') (ready' : AreReadyBy p start w')
     (same : (m : ℕ) → news_network p m start w' ≡ news_network p m start w)
     (same_turn : (m : ℕ) → turn_network p m start w' ≡ turn_network p m start w) (same_delay : delay_in w' ≡ delay_in w)
-    (back : HaveQuietLinks p.params w' → HaveQuietLinks p.params w) (step : Steps says (view w) (view w'))
+    (back : HaveQuietLinks p.params w' → HaveQuietLinks p.params w) (step : MachineSteps says_announce (view w) (view w'))
     (told : (m : ℕ) → 0 < p.params.sync_timeout
-    → SyncSteps says says_sync (turn_network p m start w) (view w) (view w')) where
+    → SyncSteps says_announce says_sync (turn_network p m start w) (view w) (view w')) where
   step_settles : (m : ℕ) → BoundsPaths (snapshot_of w') m → HaveQuietLinks p.params w' → NothingLapses p.params
-      → Invariant says (news_network p m start w') (view w')
+      → Invariant says_announce (news_network p m start w') (view w')
   step_settles m bounded' quiet' off =
       let is = news.world in
       let n = news_network p m start w in
@@ -426,12 +426,12 @@ module _ (p : Pace) (start : ℕ) (w w' : WorldState) (news : IsNews p start w) 
       let after : Calm n (view w') =
       subst (λ x. Calm x (view w')) (same m)
       (news_calm p start w' news.pace is' silent' ready' quiet' m (at_news p w') refl) in
-      let all = subst (λ (x : Network). IsSoundOnLinks says x.graph (view w')) (same m)
-      (on_links says (snapshot_of w') (view w') sound') in
-      subst (λ x. Invariant says x (view w')) (sym (same m))
-      (invariant_kept says n net (view w) (view w') before after (nothing_lapses p n w is.known off)
-      (no_early_ports says n (view w) (view w') (claims_when_ready p m start w (at_news p w))) step
-      (λ late. received_fits says n.graph (view w') net.graph all) (news.settling m bounded quiet off))
+      let all = subst (λ (x : Network). IsSoundOnLinks says_announce x.graph (view w')) (same m)
+      (on_links says_announce (snapshot_of w') (view w') sound') in
+      subst (λ x. Invariant says_announce x (view w')) (sym (same m))
+      (invariant_kept says_announce n net (view w) (view w') before after (nothing_lapses p n w is.known off)
+      (no_early_ports says_announce n (view w) (view w') (claims_when_ready p m start w (at_news p w))) step
+      (λ late. received_fits says_announce n.graph (view w') net.graph all) (news.settling m bounded quiet off))
 
   step_expects : (m : ℕ) → BoundsPaths (snapshot_of w') m → HaveQuietLinks p.params w'
       → sync_wait p.params (paths_with m w') < lapse_span p.params → IsExpecting p m start w'
@@ -452,8 +452,8 @@ module _ (p : Pace) (start : ℕ) (w w' : WorldState) (news : IsNews p start w) 
       let after : Calm n (view w') =
       subst (λ x. Calm x (view w')) (same_turn m)
       (news_calm p start w' news.pace is' silent' ready' quiet' m (news_in_turn p (paths_with m w')) refl) in
-      let all = subst (λ (x : Network). IsSoundOnLinks says x.graph (view w')) (same m)
-      (on_links says (snapshot_of w') (view w') sound') in
+      let all = subst (λ (x : Network). IsSoundOnLinks says_announce x.graph (view w')) (same m)
+      (on_links says_announce (snapshot_of w') (view w') sound') in
       let waits : n.sync_wait ≡ sync_wait p.params (paths_with m w) = wait_is p.params (paths_with m w) short in
       let timely : IsPrompt n = prompt n (omega (arith, waits)) (omega (arith, waits, short)) (omega arith)
       (λ d port. omega arith) in
@@ -461,15 +461,15 @@ module _ (p : Pace) (start : ℕ) (w w' : WorldState) (news : IsNews p start w) 
       let timers' = subst (λ x. HaveSyncTimers x (view w')) (same_turn m)
       (timers_seen p m start (news_in_turn p (paths_with m w')) w' is'.sound is'.known) in
       let nothing : NoneLapse n (view w) =
-      lapses_in_time says says_sync n net (view w) before was.invariant timers timely was.expected in
-      let invariant : Invariant says n (view w') =
-      invariant_kept says n net (view w) (view w') before after nothing
-      (no_early_ports says n (view w) (view w') (claims_when_ready p m start w times)) step
-      (λ late. received_fits says n.graph (view w') net.graph all) was.invariant in
+      lapses_in_time says_announce says_sync n net (view w) before was.invariant timers timely was.expected in
+      let invariant : Invariant says_announce n (view w') =
+      invariant_kept says_announce n net (view w) (view w') before after nothing
+      (no_early_ports says_announce n (view w) (view w') (claims_when_ready p m start w times)) step
+      (λ late. received_fits says_announce n.graph (view w') net.graph all) was.invariant in
       subst_expecting m
       (record {
         invariant = invariant;
-        expected = expected_kept says says_sync n net timely.bare (view w) (view w') before after timers timers'
+        expected = expected_kept says_announce says_sync n net timely.bare (view w) (view w') before after timers timers'
             (told m (has_timeout p.params (paths_with m w) short)) was.invariant invariant was.expected;
       })
     where
@@ -486,7 +486,7 @@ called_live place input w draws answer w' k live other station there =
     live other station (ap (λ (v : WorldState). slice_get v.stations other) (sym k.is) ∙ there)
 
 acts_silent : (p : Pace) (start : ℕ) (act : Act) (w : WorldState) (draws : List Draw) (done : Done) (w' : WorldState)
-    → IsNoChange act → Acts act w draws done w' → IsWorld p w → IsMeasured w → AreSilentBy p start w
+    → IsNoChange act → Acts act w draws done w' → IsWorld p w → LinkIsMeasured w → AreSilentBy p start w
     → AreSilentBy p start w'
 acts_silent p start act w draws done w' none k is measured silent at s =
     let calm = no_change act none in
@@ -544,7 +544,7 @@ news_are_kept p start act w draws done w' none octet k news =
         ∙ same_network_with w w' keeps p m start (news_in_turn p (paths_with m w))
 
     told : IsWorld p w → (m : ℕ) → 0 < p.params.sync_timeout
-        → SyncSteps says says_sync (turn_network p m start w) (view w) (view w')
+        → SyncSteps says_announce says_sync (turn_network p m start w) (view w) (view w')
     told is m on =
         inr (acts_tell p m start (news_in_turn p (paths_with m w)) w is.sound is.legible is.known.set is.known.time on
         act
@@ -560,7 +560,7 @@ news_go_on p start time w later first news =
     λ at s.
     let (change, one, soon) = news.silent at (stood_earlier at time w s) in
     (change, silence_goes_on at (change + largest_interval p) time w one, soon) in
-    let step : Steps says (view w) (view (at_time time w)) = inl (record { time = time; later = later; is = refl }) in
+    let step : MachineSteps says_announce (view w) (view (at_time time w)) = inl (record { time = time; later = later; is = refl }) in
     record {
       pace = news.pace;
       world = is';
@@ -586,7 +586,7 @@ news_go_on p start time w later first news =
           by,
         )
 
-    before : (place number : ℕ) → IsLiveAt place number (at_time time w) → IsLiveAt place number w
+    before : (place number : ℕ) → StationIsLiveAt place number (at_time time w) → StationIsLiveAt place number w
     before place number x = record { station = x.station; here = x.here; live = x.live; named = x.named }
 
     ready : AreReadyBy p start (at_time time w)

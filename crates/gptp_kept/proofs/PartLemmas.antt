@@ -20,9 +20,9 @@ use Rattle.gptp_system.specs.Measures.{Part, part_asked, part_answered, part_hea
 use Rattle.gptp_system.specs.State.{SystemState, local_time}
 use Rattle.gptp_system.proofs.MeasuringLemmas.{follow_up_keeps, interval_keeps, response_keeps}
 use Rattle.gptp_system.proofs.SentLemmas.{interval_next}
-use Rattle.gptp_measuring.specs.Asker.{Closed, Asked, Answered, asks_now, after_interval as gives_up, given_up as lost_one}
+use Rattle.gptp_measuring.specs.Asker.{Closed, Asked, Answered, asks_now, asker_after_interval as gives_up, asker_given_up as lost_one}
 use Rattle.gptp_kept.proofs.LinkLaneLemmas.{same_true}
-use Rattle.gptp_kept.specs.LinkView.{asked_at, asker_view, identity_of, progress_view, waits_by, waits_view}
+use Rattle.gptp_kept.specs.LinkView.{asked_at, asker_view, link_identity, progress_view, waits_by, waits_view}
 
 -- what the port asked and what it measured last is as it was
 abbrev pub AsksAsBefore : ℕ → Part → Part → Type 0
@@ -163,7 +163,7 @@ heard_waits s now (messages.Announce a) x other = refl
 -- ---- a response
 
 -- ports are what their identities say
-pub same_identity : (p q : PortId) → identity_of p ≡ identity_of q → p ≡ q
+pub same_identity : (p q : PortId) → link_identity p ≡ link_identity q → p ≡ q
 same_identity p q e = λ i. record { clock = (e i).clock; port = (e i).port }
 
 -- the test of a response passes
@@ -188,7 +188,7 @@ sent_is (progresses.Answered request response) sequence t1 e = absurd cc
 pub answered_is : (g : Progress) (sequence : ℕ) (source : PortIdentity) (t1 t2 t4 : ℤ)
     → progress_view g ≡ Answered sequence source t1 t2 t4
     → (request : Request) × (response : Response) × (g ≡ progresses.Answered request response)
-    × (request.sequence ≡ sequence) × (identity_of response.source ≡ source) × (request.t1 ≡ t1)
+    × (request.sequence ≡ sequence) × (link_identity response.source ≡ source) × (request.t1 ≡ t1)
     × (response.t2 ≡ t2) × (response.t4 ≡ t4)
 answered_is progresses.Closed sequence source t1 t2 t4 e = absurd cc
 answered_is (progresses.Sent request) sequence source t1 t2 t4 e = absurd cc

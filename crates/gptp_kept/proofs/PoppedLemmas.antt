@@ -6,9 +6,9 @@ use Rattle.gptp_links.specs.declared.link.Direction.{Direction}
 use Rattle.gptp_links.specs.declared.link.Direction.TheVariants.{FromA, FromB}
 use Rattle.gptp_links.specs.Queue.{Frame}
 use Rattle.gptp_pdelay.specs.GoodLink.{IsGoodLink}
-use Rattle.gptp_acts.specs.World.{Channel, Net, WorldState, queue, receiver, sender, with_queue}
+use Rattle.gptp_acts.specs.World.{Channel, Net, WorldState, world_queue, receiver, sender, with_queue}
 use Rattle.gptp_acts.proofs.StayLemmas.{sender_same}
-use Rattle.gptp_kept.specs.LinkView.{IsLinkOf, LinkPlace, identity_of, opposite, setting}
+use Rattle.gptp_kept.specs.LinkView.{IsLinkOf, LinkPlace, link_identity, other_direction, link_setting}
 use Rattle.gptp_kept.proofs.EndLemmas.{renamed}
 use Rattle.gptp_kept.proofs.LinkLemmas.{receiver_same}
 
@@ -27,35 +27,35 @@ same_link FromA frames channel = record { a = refl; b = refl; bounds = refl; up 
 same_link FromB frames channel = record { a = refl; b = refl; bounds = refl; up = refl }
 
 pub queue_set : (direction : Direction) (frames : List Frame) (channel : Channel)
-    → queue direction (with_queue direction frames channel) ≡ frames
+    → world_queue direction (with_queue direction frames channel) ≡ frames
 queue_set FromA frames channel = refl
 queue_set FromB frames channel = refl
 
 pub queue_left : (direction : Direction) (frames : List Frame) (channel : Channel)
-    → queue (opposite direction) (with_queue direction frames channel) ≡ queue (opposite direction) channel
+    → world_queue (other_direction direction) (with_queue direction frames channel) ≡ world_queue (other_direction direction) channel
 queue_left FromA frames channel = refl
 queue_left FromB frames channel = refl
 
-pub opposite_twice : (direction : Direction) → opposite (opposite direction) ≡ direction
+pub opposite_twice : (direction : Direction) → other_direction (other_direction direction) ≡ direction
 opposite_twice FromA = refl
 opposite_twice FromB = refl
 
 -- a direction is this one or the other
-pub which_way : (direction way : Direction) → (direction ≡ way) ⊎ (direction ≡ opposite way)
+pub which_way : (direction way : Direction) → (direction ≡ way) ⊎ (direction ≡ other_direction way)
 which_way FromA FromA = inl refl
 which_way FromA FromB = inr refl
 which_way FromB FromA = inr refl
 which_way FromB FromB = inl refl
 
 pub receiver_opposite : (direction : Direction) (channel : Channel)
-    → receiver (opposite direction) channel ≡ sender direction channel
+    → receiver (other_direction direction) channel ≡ sender direction channel
 receiver_opposite FromA channel = refl
 receiver_opposite FromB channel = refl
 
 -- ---- the link
 
 module _ (at : LinkPlace) (w : WorldState) (l : IsLinkOf at w) (direction : Direction) (front : Frame)
-    (rest : List Frame) (was : queue direction l.channel ≡ front ∷ rest) (net : Net)
+    (rest : List Frame) (was : world_queue direction l.channel ≡ front ∷ rest) (net : Net)
     (here : slice_get net.channels at.link ≡ Some (with_queue direction rest l.channel)) where
   abbrev pub popped : Channel
   popped = with_queue direction rest l.channel
@@ -69,18 +69,18 @@ module _ (at : LinkPlace) (w : WorldState) (l : IsLinkOf at w) (direction : Dire
   pub popped_receiver : receiver at.direction popped ≡ receiver at.direction l.channel
   popped_receiver = receiver_same at.direction l.channel popped carried.a carried.b
 
-  pub left_there : (way : Direction) (f : Frame) → In f (queue way popped) → In f (queue way l.channel)
+  pub left_there : (way : Direction) (f : Frame) → In f (world_queue way popped) → In f (world_queue way l.channel)
   left_there way f member = by (which_way way direction)
     where
-      by : (way ≡ direction) ⊎ (way ≡ opposite direction) → In f (queue way l.channel)
+      by : (way ≡ direction) ⊎ (way ≡ other_direction direction) → In f (world_queue way l.channel)
       by (inl e) =
           let among : In f rest =
-          subst (In f) (queue_set direction rest l.channel) (subst (λ d. In f (queue d popped)) e member) in
+          subst (In f) (queue_set direction rest l.channel) (subst (λ d. In f (world_queue d popped)) e member) in
           let whole : In f (front ∷ rest) = inr among in
-          subst (λ d. In f (queue d l.channel)) (sym e) (subst (In f) (sym was) whole)
+          subst (λ d. In f (world_queue d l.channel)) (sym e) (subst (In f) (sym was) whole)
       by (inr e) =
-          subst (λ d. In f (queue d l.channel)) (sym e)
-          (subst (In f) (queue_left direction rest l.channel) (subst (λ d. In f (queue d popped)) e member))
+          subst (λ d. In f (world_queue d l.channel)) (sym e)
+          (subst (In f) (queue_left direction rest l.channel) (subst (λ d. In f (world_queue d popped)) e member))
 
   pub most_same : popped.bounds.max ≡ l.channel.bounds.max
   most_same = ap (λ (b : Bounds). b.max) carried.bounds
@@ -104,9 +104,9 @@ module _ (at : LinkPlace) (w : WorldState) (l : IsLinkOf at w) (direction : Dire
     fit = λ way f member. l.fit way f (left_there way f member);
   }
 
-  pub popped_settled : setting at (record w { net = net }) popped_link ≡ setting at w l
-  popped_settled = λ i. record (setting at w l) {
-    asking = identity_of (popped_sender i);
-    answering = identity_of (popped_receiver i);
+  pub popped_settled : link_setting at (record w { net = net }) popped_link ≡ link_setting at w l
+  popped_settled = λ i. record (link_setting at w l) {
+    asking = link_identity (popped_sender i);
+    answering = link_identity (popped_receiver i);
     most = most_same i;
   }

@@ -10,12 +10,12 @@ use Rattle.gptp_system.specs.Facts.{AreShown}
 use Rattle.gptp_system.specs.State.{SystemState}
 use Rattle.gptp_acts.specs.declared.station.Station.{Station}
 use Rattle.gptp_lists.proofs.PlaceLemmas.{member_there}
-use Rattle.gptp_settling.specs.Facts.{system_of}
+use Rattle.gptp_settling.specs.Facts.{station_system}
 use Rattle.gptp_settling.specs.Station.{Reception as SeenReception, Aged, Mine, Received, Port as SeenPort, HoldsAt}
 use Rattle.gptp_kept.specs.View.{held_view, ports_view, port_view, reception_view, span_at, station_view, system_view}
 use Rattle.gptp_kept.proofs.PlaceLemmas.{port_from, port_there}
 use Rattle.gptp_kept.proofs.ReactLemmas.{received_back}
-use Rattle.gptp_kept.specs.Standing.{standing}
+use Rattle.gptp_kept.specs.Standing.{standing_system}
 
 -- ---- what is held
 
@@ -53,7 +53,7 @@ length-ports keep (h ∷ hs) (q ∷ qs) same =
 
 -- so the snapshot has it as it is seen
 pub same_standing : (station : Station) → AreShown station.system
-    → standing station ≡ system_of (station_view station)
+    → standing_system station ≡ station_system (station_view station)
 same_standing station shown =
     let s = station.system in
     let count = length-ports (span_at s) s.held s.ports shown.places in

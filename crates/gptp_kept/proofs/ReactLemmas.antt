@@ -19,21 +19,21 @@ use Rattle.gptp_system.specs.Facts.{AreHeld}
 use Rattle.gptp_setup.specs.Intervals.{interval_of}
 use Rattle.gptp_setup.specs.Pace.{span_by}
 use Rattle.gptp_system.specs.State.{SystemState, clock}
-use Rattle.gptp_system.specs.Touch.{Touch, Hear, Tick, Grow, Enable, Disable, Other, HeardAs, Mid}
-use Rattle.gptp_system.specs.Reacts.{IsAnnounce, IsKept, PortEnds, PortReacts, Reacts, Tells}
+use Rattle.gptp_system.specs.Touch.{Touch, Hear, Tick, Grow, Enable, Disable, Other, HeardAs, PortHoldsInTouch}
+use Rattle.gptp_system.specs.Reacts.{IsAnnounce, HoldsOrIsDisabled, PortEnds, PortReacts, Reacts, PortAnnounces}
 use Rattle.gptp_settling.specs.Frame.{Announce, Send}
 use Rattle.gptp_settling.specs.Station.{Reception as SeenReception, Mine, Received, Port as SeenPort}
-use Rattle.gptp_settling.specs.Reacts.{BecomesMaster, IsKept as SeenIsKept, IsMasterAt, IsOwn, PortStep, Reacts as SeenReacts, Tells as SeenTells}
+use Rattle.gptp_settling.specs.Reacts.{BecomesMaster, KeepsHeld as SeenIsKept, IsMasterAt, IsOwn, PortStep, StationReacts as SeenReacts, AnnouncesNow as SeenTells}
 use Rattle.gptp_settling.specs.Vectors.{message, master}
 use Rattle.gptp_settling.proofs.PlaceLemmas.{received_injective}
-use Rattle.gptp_kept.specs.View.{held_view, port_view, ports_view, reception_view, says, send_view, span_at, system_view, touch_view}
+use Rattle.gptp_kept.specs.View.{held_view, port_view, ports_view, reception_view, says_announce, send_view, span_at, system_view, touch_view}
 use Rattle.gptp_kept.proofs.MidLemmas.{ReceivedAt, mid_seen, parts_of, seen_on}
 use Rattle.gptp_kept.proofs.OrderLemmas.{lower_parts}
 use Rattle.gptp_kept.proofs.PlaceLemmas.{IsPortAt, port_from, port_there}
 
 -- ---- what is received after a touch
 
--- what a property of the old reception and of what is heard says of the new one
+-- what a property of the old reception and of what is heard says_announce of the new one
 heard_received : (P : Reception → Type 0) (c n now : ℕ) (a : AnnounceView) (h mid : Held)
     → ((r : Reception) → received h ≡ Some r → P r)
     → P (reception a (record { clock = c; port = n }) now) → HeardAs (record { clock = c; port = n }) a now h mid
@@ -54,7 +54,7 @@ heard_received P c n now a h mid old new (inr (unqualified, same)) r got = old r
 pub mid_received : (P : Reception → Type 0) (c n now : ℕ) (touch : Touch) (h mid : Held)
     → ((r : Reception) → received h ≡ Some r → P r)
     → ((a : AnnounceView) → touch ≡ Hear n a → P (reception a (record { clock = c; port = n }) now))
-    → Mid c n touch now h mid → (r : Reception) → received mid ≡ Some r → P r
+    → PortHoldsInTouch c n touch now h mid → (r : Reception) → received mid ≡ Some r → P r
 mid_received P c n now (Hear p a) h mid old new (inl (here, on, heard)) r got =
     heard_received P c n now a h mid old (new a (ap (λ k. Hear k a) (sym here))) heard r got
 mid_received P c n now (Hear p a) h mid old new (inr (elsewhere, same)) r got = old r (ap received (sym same) ∙ got)
@@ -80,7 +80,7 @@ received_back keep helds.Aged x e = absurd cc
 received_back keep (helds.Mine root steps) x e = absurd cc
 received_back keep (helds.Received r) x e = (r, refl, sym (received_injective (reception_view keep r) x e))
 
-seen_kept : (keep : ℤ → ℕ) (h : Held) → IsKept h → SeenIsKept (held_view keep h)
+seen_kept : (keep : ℤ → ℕ) (h : Held) → HoldsOrIsDisabled h → SeenIsKept (held_view keep h)
 seen_kept keep helds.Disabled kept = tt
 seen_kept keep helds.Aged (inl off) = absurd cc
 seen_kept keep helds.Aged (inr (r, is)) = none-some r is
@@ -88,17 +88,17 @@ seen_kept keep (helds.Mine root steps) (inl off) = absurd cc
 seen_kept keep (helds.Mine root steps) (inr (r, is)) = none-some r is
 seen_kept keep (helds.Received r) kept = tt
 
--- each Announce that is sent says something
+-- each Announce that is sent says_announce something
 abbrev pub AreRead : SystemState → List Sending → Type 0
-AreRead s sends = (x : Sending) → In x sends → IsAnnounce x.body → (a : Announce) × says (send_view s x).octets a
+AreRead s sends = (x : Sending) → In x sends → IsAnnounce x.body → (a : Announce) × says_announce (send_view s x).octets a
 
 module _ (s' : SystemState) (sends : List Sending) (read : AreRead s' sends) where
-  tells_seen : (keep : ℤ → ℕ) (n now : ℕ) (h h' : Held) (q q' : Port) → Tells n now q q' sends
-      → SeenTells says n now (port_view keep h q) (port_view keep h' q') (map (send_view s') sends)
+  tells_seen : (keep : ℤ → ℕ) (n now : ℕ) (h h' : Held) (q q' : Port) → PortAnnounces n now q q' sends
+      → SeenTells says_announce n now (port_view keep h q) (port_view keep h' q') (map (send_view s') sends)
   tells_seen keep n now h h' q q' k = record { sent = sent k.sent; timer = k.timer }
     where
       sent : (x : Sending) × In x sends × (x.port ≡ n) × IsAnnounce x.body
-          → (y : Send) × In y (map (send_view s') sends) × (y.port ≡ n) × ((a : Announce) × says y.octets a)
+          → (y : Send) × In y (map (send_view s') sends) × (y.port ≡ n) × ((a : Announce) × says_announce y.octets a)
       sent (x, among, here, announce) =
           (send_view s' x, In-map (send_view s') x sends among, here, read x among announce)
 
@@ -110,7 +110,7 @@ module _ (s' : SystemState) (sends : List Sending) (read : AreRead s' sends) whe
 
     ends_seen : PortEnds c n now root steps k.mid h' q q' sends
         → (((port_view keep h' q').held ≡ held_view keep k.mid) × SeenIsKept (held_view keep k.mid))
-        ⊎ BecomesMaster says c n now root steps (held_view keep k.mid) (port_view keep h q) (port_view keep h' q')
+        ⊎ BecomesMaster says_announce c n now root steps (held_view keep k.mid) (port_view keep h q) (port_view keep h' q')
         (map (send_view s') sends)
     ends_seen (inl (same, kept)) = inl (ap (held_view keep) same, seen_kept keep k.mid kept)
     ends_seen (inr m) = inr (record {
@@ -127,13 +127,13 @@ module _ (s' : SystemState) (sends : List Sending) (read : AreRead s' sends) whe
             subst (IsLower (master root steps c n)) (here ∙ ap (λ (y : SeenReception). message y.said n) (sym is))
             (lower_parts (master_of root steps c n) r.vector (m.is_lower r got))
 
-        timing : ((k.mid ≡ helds.Mine root steps) × (q'.announce ≡ q.announce)) ⊎ Tells n now q q' sends
+        timing : ((k.mid ≡ helds.Mine root steps) × (q'.announce ≡ q.announce)) ⊎ PortAnnounces n now q q' sends
             → ((held_view keep k.mid ≡ Mine root steps) × (q'.announce ≡ q.announce))
-            ⊎ SeenTells says n now (port_view keep h q) (port_view keep h' q') (map (send_view s') sends)
+            ⊎ SeenTells says_announce n now (port_view keep h q) (port_view keep h' q') (map (send_view s') sends)
         timing (inl (mine, same)) = inl (ap (held_view keep) mine, same)
         timing (inr tells) = inr (tells_seen keep n now h h' q q' tells)
 
-    pub port_seen : PortStep says c n now (touch_view touch) root steps (port_view keep h q) (port_view keep h' q')
+    pub port_seen : PortStep says_announce c n now (touch_view touch) root steps (port_view keep h q) (port_view keep h' q')
         (map (send_view s') sends)
     port_seen = record {
       interval = ap interval_of k.log;
@@ -144,9 +144,9 @@ module _ (s' : SystemState) (sends : List Sending) (read : AreRead s' sends) whe
 
 -- ---- all ports
 
--- what is sent says an Announce only where it is one, and the system's own
+-- what is sent says_announce an Announce only where it is one, and the system's own
 abbrev pub AreOwn : Bool → SystemState → List Sending → Type 0
-AreOwn live s sends = (x : Sending) (a : Announce) → In x sends → says (send_view s x).octets a
+AreOwn live s sends = (x : Sending) (a : Announce) → In x sends → says_announce (send_view s x).octets a
     → IsOwn (system_view live s) x.port a × IsMasterAt (system_view live s) x.port
 
 module _ (live : Bool) (s s' : SystemState) (touch : Touch) (now : ℕ) (sends : List Sending) (held : AreHeld s)
@@ -158,12 +158,12 @@ module _ (live : Bool) (s s' : SystemState) (touch : Touch) (now : ℕ) (sends :
 
   place_seen : (i : ℕ) (seen : SeenPort) → slice_get (ports_view (span_at s') s'.held s'.ports) i ≡ Some seen
       → (q : SeenPort) × (slice_get (ports_view (span_at s) s.held s.ports) i ≡ Some q)
-      × PortStep says (clock s) (suc i) now (touch_view touch) s'.root s'.steps q seen (map (send_view s') sends)
+      × PortStep says_announce (clock s) (suc i) now (touch_view touch) s'.root s'.steps q seen (map (send_view s') sends)
   place_seen i seen there = go (port_from (span_at s') s'.held s'.ports i seen there)
     where
       go : IsPortAt (span_at s') s'.held s'.ports i seen
           → (q : SeenPort) × (slice_get (ports_view (span_at s) s.held s.ports) i ≡ Some q)
-          × PortStep says (clock s) (suc i) now (touch_view touch) s'.root s'.steps q seen (map (send_view s') sends)
+          × PortStep says_announce (clock s) (suc i) now (touch_view touch) s'.root s'.steps q seen (map (send_view s') sends)
       go p =
           let r = k.ports i p.held p.port p.held_there p.port_there in
           let at : ReceivedAt (suc i) r.held = λ x got. (held i r.held r.held_there x got).receiver in
@@ -172,12 +172,12 @@ module _ (live : Bool) (s s' : SystemState) (touch : Touch) (now : ℕ) (sends :
             port_view (span_at s) r.held r.port,
             port_there (span_at s) s.held s.ports i r.held r.port r.held_there r.port_there,
             subst
-                (λ x. PortStep says (clock s) (suc i) now (touch_view touch) s'.root s'.steps
+                (λ x. PortStep says_announce (clock s) (suc i) now (touch_view touch) s'.root s'.steps
                 (port_view (span_at s) r.held r.port) x (map (send_view s') sends))
                 (ap (λ x. port_view x p.held p.port) (sym keeps) ∙ sym p.is) step,
           )
 
-  tells_own : (x : Send) (a : Announce) → In x (map (send_view s') sends) → says x.octets a
+  tells_own : (x : Send) (a : Announce) → In x (map (send_view s') sends) → says_announce x.octets a
       → IsOwn (system_view live s') x.port a × IsMasterAt (system_view live s') x.port
   tells_own x a member says_it = go (from_map (send_view s') x sends member)
     where
@@ -186,8 +186,8 @@ module _ (live : Bool) (s s' : SystemState) (touch : Touch) (now : ℕ) (sends :
       go (y, among, is) =
           subst
           (λ (z : Send). IsOwn (system_view live s') z.port a × IsMasterAt (system_view live s') z.port) is
-          (are_own y a among (subst (λ (z : Send). says z.octets a) (sym is) says_it))
+          (are_own y a among (subst (λ (z : Send). says_announce z.octets a) (sym is) says_it))
 
-  pub reacts_seen : SeenReacts says (system_view live s) (touch_view touch) now (system_view live s')
+  pub reacts_seen : SeenReacts says_announce (system_view live s) (touch_view touch) now (system_view live s')
       (map (send_view s') sends)
   reacts_seen = record { clock = k.same_clock; live = refl; ports = place_seen; tells = tells_own }

@@ -6,17 +6,17 @@ use Rattle.gptp_graph.specs.Snapshot.{Joins, System, clocks}
 use Rattle.gptp_settling.specs.Frame.{Announce}
 use Rattle.gptp_links.specs.declared.link.Direction.{Direction}
 use Rattle.gptp_links.specs.declared.link.Direction.TheVariants.{FromA, FromB}
-use Rattle.gptp_acts.specs.World.{Channel, WorldState, queue, receiver, sender}
+use Rattle.gptp_acts.specs.World.{Channel, WorldState, world_queue, receiver, sender}
 use Rattle.gptp_settling.specs.SoundEverywhere.{IsSoundSent}
-use Rattle.gptp_settling.specs.Frame.{Frame, Lane}
+use Rattle.gptp_settling.specs.Frame.{AnnounceFrame, Lane}
 use Rattle.gptp_settling.specs.SoundLaws.{AllIsWhole}
 use Rattle.gptp_settling.proofs.LevelLemmas.{all_whole}
 use Rattle.gptp_settling.proofs.SoundEverywhereLemmas.{everywhere_sound}
 use Rattle.gptp_kept.specs.Holds.{settling_network}
-use Rattle.gptp_kept.specs.LinkView.{identity_of}
+use Rattle.gptp_kept.specs.LinkView.{link_identity}
 use Rattle.gptp_kept.specs.NewsCourse.{RestIsSound, RestIsSoundBesideFailed}
-use Rattle.gptp_kept.specs.Standing.{HasPort, IsBetween, live_systems, snapshot_of, standing}
-use Rattle.gptp_kept.specs.View.{frame_view, says, view}
+use Rattle.gptp_kept.specs.Standing.{StationsHavePort, JoinsTwoOf, live_stations, snapshot_of, standing_system}
+use Rattle.gptp_kept.specs.View.{frame_view, says_announce, view}
 use Rattle.gptp_kept.proofs.ClaimLemmas.{claim_capable}
 use Rattle.gptp_kept.proofs.ClaimedCapableLemmas.{clock_has, used_if}
 use Rattle.gptp_kept.proofs.HoldsLemmas.{is_calm, is_network}
@@ -27,20 +27,20 @@ use Rattle.gptp_kept.proofs.WayLemmas.{used_joins}
 -- beside failed systems
 pub rest_sound_beside_failed : RestIsSoundBesideFailed
 rest_sound_beside_failed p m w claim bounded quiet late =
-    everywhere_sound says (settling_network p m w) (view w) (is_network p m w claim.world bounded)
+    everywhere_sound says_announce (settling_network p m w) (view w) (is_network p m w claim.world bounded)
     (is_calm p m w claim.world quiet.links (claim_capable p w claim)) (claim.settling m bounded quiet).traces
     (omega (arith, late)) (omega (arith, late))
 
 -- ---- where all live
 
 -- the two ports that a link joins, by its directions
-sends_from : (w : WorldState) (direction : Direction) (channel : Channel) → IsBetween w.stations channel
-    → HasPort w.stations (sender direction channel)
+sends_from : (w : WorldState) (direction : Direction) (channel : Channel) → JoinsTwoOf w.stations channel
+    → StationsHavePort w.stations (sender direction channel)
 sends_from w FromA channel between = between.a
 sends_from w FromB channel between = between.b
 
-leads_to : (w : WorldState) (direction : Direction) (channel : Channel) → IsBetween w.stations channel
-    → HasPort w.stations (receiver direction channel)
+leads_to : (w : WorldState) (direction : Direction) (channel : Channel) → JoinsTwoOf w.stations channel
+    → StationsHavePort w.stations (receiver direction channel)
 leads_to w FromA channel between = between.b
 leads_to w FromB channel between = between.a
 
@@ -54,20 +54,20 @@ rest_sound p m w claim live bounded quiet late = record {
       record { from = came.from; joins = came.joins; source = came.source; sound = inr came.whole };
 }
   where
-    whole : AllIsWhole says (snapshot_of w) (Joins (snapshot_of w)) (view w)
+    whole : AllIsWhole says_announce (snapshot_of w) (Joins (snapshot_of w)) (view w)
     whole =
-        all_whole says (settling_network p m w) (view w) (is_network p m w claim.world bounded)
+        all_whole says_announce (settling_network p m w) (view w) (is_network p m w claim.world bounded)
         (is_calm p m w claim.world quiet.links (claim_capable p w claim)) (claim.settling m bounded quiet).traces late
 
-    sound_from : (j : ℕ) (l : Lane) (f : Frame) (a : Announce) → slice_get (view w).lanes j ≡ Some l → In f l.frames
-        → says f.octets a → (link : ℕ) (direction : Direction) (channel : Channel)
+    sound_from : (j : ℕ) (l : Lane) (f : AnnounceFrame) (a : Announce) → slice_get (view w).lanes j ≡ Some l → In f l.frames
+        → says_announce f.octets a → (link : ℕ) (direction : Direction) (channel : Channel)
         → slice_get w.net.channels link ≡ Some channel
         → l ≡ record {
-          from = identity_of (sender direction channel);
-          to = identity_of (receiver direction channel);
+          from = link_identity (sender direction channel);
+          to = link_identity (receiver direction channel);
           loss = channel.bounds.loss;
           is_up = channel.up;
-          frames = map frame_view (queue direction channel);
+          frames = map frame_view (world_queue direction channel);
         }
         → IsSoundSent (snapshot_of w) l.from a
     sound_from j l f a there member said link direction channel here is = by channel.up refl
@@ -90,11 +90,11 @@ rest_sound p m w claim live bounded quiet late = record {
             let to_is = ap (λ (x : Lane). x.to) is in
             let x = whole.lanes j l f a there member said
             (subst (λ q. Joins (snapshot_of w) q l.to) (sym from_is)
-            (subst (λ q. Joins (snapshot_of w) (identity_of (sender direction channel)) q) (sym to_is) joins)) in
+            (subst (λ q. Joins (snapshot_of w) (link_identity (sender direction channel)) q) (sym to_is) joins)) in
             record {
               sender = subst (λ q. In q.clock (clocks (snapshot_of w))) (sym from_is)
                   (subst (λ n. In n (clocks (snapshot_of w))) one.named
-                  (In-map (λ (s : System). s.clock) (standing one.station) (live_systems w.stations)
+                  (In-map (λ (s : System). s.clock) (standing_system one.station) (live_stations w.stations)
                   (live_there w.stations one.place one.station one.here lives)));
               source = x.source;
               sound = inr x.whole;

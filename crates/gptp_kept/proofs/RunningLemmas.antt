@@ -14,12 +14,12 @@ use Rattle.gptp_system.specs.declared.port.Port.{Port}
 use Rattle.gptp_system.specs.declared.sending.Sending.{Sending}
 use Rattle.gptp_setup.specs.declared.timer.Timer.TheVariants as timers
 use Rattle.gptp_system.specs.Input.{Input, Steps, PortUp, PortDown, Frame, Expires, Priority}
-use Rattle.gptp_system.specs.Measures.{IsPartAfter, Part, only_at, part_answered, part_asked, part_down, part_heard, part_of}
+use Rattle.gptp_system.specs.Measures.{IsPartAfter, Part, only_at, part_answered, part_asked, part_down, part_heard, measure_at}
 use Rattle.gptp_system.specs.State.{SystemState}
 use Rattle.gptp_system.specs.Steps.{IsUp}
 use Rattle.gptp_system.proofs.MeasureLemmas.{steps_measure}
 use Rattle.gptp_system.proofs.SystemLemmas.{up_is_port}
-use Rattle.gptp_acts.specs.Act.{Calls, Takes}
+use Rattle.gptp_acts.specs.Act.{Calls, TakesFrame}
 use Rattle.gptp_acts.specs.Sends.{SendsOne}
 use Rattle.gptp_acts.specs.World.{Channel, Net, WorldState, sender}
 use Rattle.gptp_acts.proofs.BareLemmas.{DifferInFlight, bare, calls_bare, sends_one_bare, takes_bare}
@@ -84,7 +84,7 @@ module _ (s : SystemState) (now : ℕ) where
 
 -- the timer of the port at a place
 runs_there : (s : SystemState) (i : ℕ) (q : Port) → slice_get s.ports i ≡ Some q
-    → IsUp s (suc i) ≡ Runs (part_of q)
+    → IsUp s (suc i) ≡ Runs (measure_at q)
 runs_there s i q there = ap (λ o. IsSome (option_and_then (λ (r : Port). r.pdelay) o)) there
 
 -- a port that measures its link after a step did so before, or its link came up
@@ -98,10 +98,10 @@ came_up input now s s' sends answer (suc i) out steps up =
     let was = steps_measure input now s s' sends answer steps i there.0 there.1 in
     let same = runs_there s i was.0 was.1 in
     by was.0 same
-    (part_runs s now input (suc i) (part_of was.0) (part_of there.0) (λ is. subst (λ X. X) same (out is)) was.2
+    (part_runs s now input (suc i) (measure_at was.0) (measure_at there.0) (λ is. subst (λ X. X) same (out is)) was.2
     (subst (λ X. X) (runs_there s' i there.0 there.1) up))
   where
-    by : (q : Port) → IsUp s (suc i) ≡ Runs (part_of q) → (input ≡ PortUp (suc i)) ⊎ Runs (part_of q)
+    by : (q : Port) → IsUp s (suc i) ≡ Runs (measure_at q) → (input ≡ PortUp (suc i)) ⊎ Runs (measure_at q)
         → (input ≡ PortUp (suc i)) ⊎ IsUp s (suc i)
     by q same (inl up) = inl up
     by q same (inr runs) = inr (subst (λ X. X) (sym same) runs)
@@ -115,7 +115,7 @@ went_down now s s' sends answer (suc i) steps up =
     let there = member_there s'.ports i (omega arith) in
     let was = steps_measure (PortDown (suc i)) now s s' sends answer steps i there.0 there.1 in
     let runs = subst (λ X. X) (runs_there s' i there.0 there.1) up in
-    by (suc i == suc i) refl (part_of was.0) (subst Runs was.2 runs)
+    by (suc i == suc i) refl (measure_at was.0) (subst Runs was.2 runs)
   where
     by : (b : Bool) → (suc i == suc i) ≡ b → (x : Part) → Runs (if b then part_down x else x) → ⊥
     by true same x none = absurd cc
@@ -172,7 +172,7 @@ bare_links before after alone port is =
     }
 
 pub takes_links : (place : ℕ) (direction : Direction) (now : ℕ) (octets : List ℕ) (channel : Channel) (net net' : Net)
-    → Takes place direction now octets channel net net' → KeepLinks net.channels net'.channels
+    → TakesFrame place direction now octets channel net net' → KeepLinks net.channels net'.channels
 takes_links place direction now octets channel net net' takes =
     bare_links net.channels net'.channels (takes_bare place direction now octets channel net net' takes)
 

@@ -19,11 +19,11 @@ use Rattle.gptp_acts.specs.Sound.{IsItsSetup}
 use Rattle.gptp_acts.specs.World.{WorldState}
 use Rattle.gptp_lists.proofs.PlaceLemmas.{get-set_other, get-set_same, same_place}
 use Rattle.gptp_acts.proofs.SteadyLemmas.{same_clock, same_ports, steps_steady}
-use Rattle.gptp_settling.specs.Acts.{Calls as SeenCalls}
-use Rattle.gptp_settling.specs.Reacts.{Reacts as SeenReacts}
+use Rattle.gptp_settling.specs.Acts.{StationAnswers as SeenCalls}
+use Rattle.gptp_settling.specs.Reacts.{StationReacts as SeenReacts}
 use Rattle.gptp_settling.specs.Station.{Station as SeenStation}
 use Rattle.gptp_kept.specs.Legible.{SayWhatFits, SystemFits}
-use Rattle.gptp_kept.specs.View.{lanes_view, says, send_view, station_view, touch_view, view}
+use Rattle.gptp_kept.specs.View.{lanes_view, says_announce, send_view, station_view, touch_view, view}
 use Rattle.gptp_kept.proofs.FitLemmas.{reacts_fit, rest_fits}
 use Rattle.gptp_kept.proofs.PlaceLemmas.{IsStationAt, station_from, station_there}
 use Rattle.gptp_kept.proofs.ReactLemmas.{reacts_seen}
@@ -36,7 +36,7 @@ use Rattle.gptp_kept.proofs.TouchLemmas.{InputFits, heard_fits, identity_fits}
 pub record IsCallSeen (input : Input) (station : Station) (after : SystemState) (w w' : WorldState) : Type 0 where
   pub touch : Touch
   pub seen : IsSeenAs station.system input touch
-  pub call : SeenCalls says (touch_view touch) (view w) (view w')
+  pub call : SeenCalls says_announce (touch_view touch) (view w) (view w')
   pub station_is : call.s ≡ station_view station
   pub after_is : call.s' ≡ station_view (in_state after station)
 
@@ -72,13 +72,13 @@ module _ (place : ℕ) (input : Input) (w : WorldState) (draws : List Draw) (ans
       let most = its.few in
       omega arith
 
-  -- what it sends says what fits
+  -- what it sends says_announce what fits
   pub call_sends_fit : (x : Sending) → In x k.sends → SayWhatFits (written k.after x)
   call_sends_fit =
       sends_fit k.after (rest_fits k.after after_fits after_steady.held after_steady.rest) few_ports after_steady.shown
       after_steady.logs k.sends answers.reacts.tells
 
-  answer_seen : SeenReacts says (station_view k.station) (touch_view answers.touch) w.time (station_view called)
+  answer_seen : SeenReacts says_announce (station_view k.station) (touch_view answers.touch) w.time (station_view called)
       (map (send_view k.after) k.sends)
   answer_seen =
       let told = rest_fits k.after after_fits after_steady.held after_steady.rest in

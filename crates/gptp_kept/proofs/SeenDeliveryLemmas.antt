@@ -28,7 +28,7 @@ use Rattle.gptp_settling.specs.Frame.{Announce, Lane}
 use Rattle.gptp_settling.specs.Station.{Disabled, Port as SeenPort, Station as SeenStation}
 use Rattle.gptp_settling.specs.Touch as touches
 use Rattle.gptp_kept.specs.Legible.{IsLegible}
-use Rattle.gptp_kept.specs.View.{frame_view, held_view, lane_place, lane_view, lanes_view, said, says, span_at, station_view, touch_view, view}
+use Rattle.gptp_kept.specs.View.{frame_view, held_view, lane_place, lane_view, lanes_view, said, says_announce, span_at, station_view, touch_view, view}
 use Rattle.gptp_kept.proofs.SeenCallLemmas.{IsCallSeen, calls_seen}
 use Rattle.gptp_kept.proofs.SeenLaneLemmas.{IsSetAt, StandsNow, lane_there, refilled, requeued_lanes}
 use Rattle.gptp_kept.proofs.PlaceLemmas.{IsPortAt, IsStationAt, port_from, station_from}
@@ -49,7 +49,7 @@ capable_on s i h q shown held there on =
 -- a frame with these octets arrives at this port of this system, and leaves it in this state
 pub record IsArrivalAt (station : Station) (after : SystemState) (mid : WorldState) (port : ℕ) (octets : List ℕ)
     (w w' : WorldState) : Type 0 where
-  pub act : Arrives says (view w) (view w')
+  pub act : Arrives says_announce (view w) (view w')
   pub mid_is : act.mid ≡ view mid
   pub station_is : act.call.s ≡ station_view station
   pub after_is : act.call.s' ≡ station_view (in_state after station)
@@ -58,7 +58,7 @@ pub record IsArrivalAt (station : Station) (after : SystemState) (mid : WorldSta
 
 -- a frame is delivered to a system that has failed
 pub record IsDropAt (w w' : WorldState) : Type 0 where
-  pub act : Drops says (view w) (view w')
+  pub act : Drops says_announce (view w) (view w')
   pub failed : (i : ℕ) (m : SeenStation) → slice_get (view w).stations i ≡ Some m → m.clock ≡ act.l.to.clock
       → m.live ≡ true → ⊥
 
@@ -165,7 +165,7 @@ module _ (link : ℕ) (direction : Direction) (octets : List ℕ) (w : WorldStat
         emptied_apart
 
     heard_says : (n : ℕ) (a : Announce) → (b : AnnounceView) × (receiver_call.touch ≡ Hear n b) × (a ≡ said b)
-        → (n ≡ port) × says octets a
+        → (n ≡ port) × says_announce octets a
     heard_says n a (b, heard, same) =
         let (frame_octets, is, reads) =
         heard_in c.station.system (FrameHeard port octets) receiver_call.touch receiver_call.seen n b heard in
@@ -178,7 +178,7 @@ module _ (link : ℕ) (direction : Direction) (octets : List ℕ) (w : WorldStat
     never_grows = frame_young c.station.system port octets receiver_call.touch receiver_call.seen
 
     port_hears : (i : ℕ) (q : SeenPort) (a : Announce) → port ≡ suc i
-        → slice_get (station_view c.station).ports i ≡ Some q → q.held ≢ Disabled → says octets a
+        → slice_get (station_view c.station).ports i ≡ Some q → q.held ≢ Disabled → says_announce octets a
         → (b : Announce) × (touch_view receiver_call.touch ≡ touches.Hear port b)
     port_hears i q a number there on (m, reads, same) =
         go (port_from (span_at c.station.system) c.station.system.held c.station.system.ports i q there)
@@ -220,10 +220,10 @@ module _ (link : ℕ) (direction : Direction) (octets : List ℕ) (w : WorldStat
       octets_is = refl;
     }
 
-  pub delivers_seen : Arrives says (view w) (view w') ⊎ Drops says (view w) (view w')
+  pub delivers_seen : Arrives says_announce (view w) (view w') ⊎ Drops says_announce (view w) (view w')
   delivers_seen = by answer k.hears
     where
       by : (o : Option Answer) → Hears k.place port octets emptied draws o w'
-          → Arrives says (view w) (view w') ⊎ Drops says (view w) (view w')
+          → Arrives says_announce (view w) (view w') ⊎ Drops says_announce (view w) (view w')
       by None hears = inr (failed_drops hears).act
       by (Some one) hears = inl (receiver_arrives one hears).act

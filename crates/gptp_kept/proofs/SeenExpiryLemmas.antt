@@ -11,12 +11,12 @@ use Rattle.gptp_receipt.specs.Held.{received}
 use Rattle.gptp_system.specs.declared.port.Port.{Port}
 use Rattle.gptp_setup.specs.declared.timer.Timer.{Timer}
 use Rattle.gptp_setup.specs.declared.timer.Timer.TheVariants as timers
-use Rattle.gptp_system.specs.Input.{Expires as TimerExpires}
+use Rattle.gptp_system.specs.Input.{TimerRunsOut as TimerExpires}
 use Rattle.gptp_system.specs.State.{SystemState, age_due, due, held_at}
 use Rattle.gptp_system.specs.Steps.{IsDue}
 use Rattle.gptp_system.specs.Touch.{Hear, Grow}
 use Rattle.gptp_acts.specs.declared.station.Station.{Station}
-use Rattle.gptp_acts.specs.Act.{Expires, in_state}
+use Rattle.gptp_acts.specs.Act.{TimerRunsOut, in_state}
 use Rattle.gptp_acts.specs.Agrees.{stopped}
 use Rattle.gptp_acts.specs.Sound.{IsSound}
 use Rattle.gptp_acts.specs.World.{WorldState, station_due}
@@ -26,7 +26,7 @@ use Rattle.gptp_settling.specs.Acts.{Lapses, Runs}
 use Rattle.gptp_settling.specs.Frame.{Announce}
 use Rattle.gptp_settling.specs.Station.{Received, Reception as SeenReception, Port as SeenPort, Station as SeenStation}
 use Rattle.gptp_kept.specs.Legible.{IsLegible}
-use Rattle.gptp_kept.specs.View.{held_view, reception_view, said, says, span_at, station_view, touch_view, view}
+use Rattle.gptp_kept.specs.View.{held_view, reception_view, said, says_announce, span_at, station_view, touch_view, view}
 use Rattle.gptp_kept.proofs.SeenCallLemmas.{IsCallSeen, calls_seen}
 use Rattle.gptp_kept.proofs.PlaceLemmas.{IsPortAt, port_from}
 use Rattle.gptp_kept.proofs.ReactLemmas.{received_back}
@@ -54,12 +54,12 @@ age_passed s i h q now x held there is holds = go (received_back (span_at s) h x
 
 -- something that is no delivery happens at this system, and leaves it in this state
 pub record IsRunAt (station : Station) (after : SystemState) (w w' : WorldState) : Type 0 where
-  pub act : Runs says (view w) (view w')
+  pub act : Runs says_announce (view w) (view w')
   pub station_is : act.call.s ≡ station_view station
   pub after_is : act.call.s' ≡ station_view (in_state after station)
 
 module _ (place : ℕ) (timer : Timer) (w : WorldState) (draws : List Draw) (w' : WorldState) (sound : IsSound w)
-    (legible : IsLegible w) (k : Expires place timer w draws w') where
+    (legible : IsLegible w) (k : TimerRunsOut place timer w draws w') where
   abbrev station : Station
   station = k.calls.station
 
@@ -124,5 +124,5 @@ module _ (place : ℕ) (timer : Timer) (w : WorldState) (draws : List Draw) (w' 
               (out (timers.Age (suc i)) is) (ap (λ (y : SeenPort). y.held) (sym p.is) ∙ holds))
           go p (inr (is, slave)) = inr (record { slave = slave; due = out timers.Lapse is })
 
-  pub expires_seen : Runs says (view w) (view w')
+  pub expires_seen : Runs says_announce (view w) (view w')
   expires_seen = expires_at.act

@@ -10,7 +10,7 @@ use Rattle.gptp_lists.specs.Members.{In}
 use Rattle.gptp_messages.specs.declared.announce.AnnounceView.{AnnounceView}
 use Rattle.gptp_messages.specs.declared.head.Head.{Head}
 use Rattle.gptp_messages.specs.declared.message.Message.TheVariants as messages
-use Rattle.gptp_messages.specs.Announce.{IsPath, ReadsPath, announce_body_of, announce_tlvs}
+use Rattle.gptp_messages.specs.Announce.{IsPathTrace, ReadsPath, announce_body_of, announce_tlvs}
 use Rattle.gptp_messages.specs.Frame.{field}
 use Rattle.gptp_messages.specs.Grammar.{Reads, ReadsTlvs, message_of}
 use Rattle.gptp_messages.specs.Head.{head_of}
@@ -19,7 +19,7 @@ use Rattle.gptp_messages.specs.Path.{clocks}
 use Rattle.gptp_messages.specs.Tlv.{FirstTlv, Tlv, first_value, is_of_kind, spelled}
 use Rattle.gptp_system.proofs.TypeLemmas.{type_is}
 use Rattle.gptp_kept.specs.Legible.{AreClocks, AreOctets, SayWhatFits}
-use Rattle.gptp_kept.specs.LinkView.{RequestFits, SaysWhatFits}
+use Rattle.gptp_kept.specs.LinkView.{RequestFits, RequestSaysWhatFits}
 
 -- ---- octets
 
@@ -63,7 +63,7 @@ first_among test first none more (t ∷ ts) value is x member =
     go false e later = In-right x (spelled t) (flat_map spelled ts) (later e)
 
 value_fits : (value : Option (List ℕ)) (path : List ℕ) → ((v : List ℕ) → value ≡ Some v → AreOctets v)
-    → IsPath value path → AreClocks path
+    → IsPathTrace value path → AreClocks path
 value_fits None path all is = λ c member. absurd (subst (In c) is member)
 value_fits (Some v) path all is = subst AreClocks (sym is.1) (clocks_fit v (all v refl))
 
@@ -140,7 +140,7 @@ request_read octets head reads =
     (subst (λ k. messages.PdelayReq head ≡ message_of k octets reads.path reads.rate) (sym same) reads.is)
 
 -- octets say only requests that fit
-pub octets_fit : (octets : List ℕ) → AreOctets octets → SaysWhatFits octets
+pub octets_fit : (octets : List ℕ) → AreOctets octets → RequestSaysWhatFits octets
 octets_fit octets all head reads =
     subst (λ h. RequestFits h.source h.sequence) (sym (request_read octets head reads)) (record {
       from = record { clock = field_fits 8 20 octets all; port = field_fits 2 28 octets all };

@@ -10,20 +10,20 @@ use Rattle.gptp_links.specs.Fate.{Draw}
 use Rattle.gptp_links.specs.Queue.{Frame, due_after, frame}
 use Rattle.gptp_system.specs.declared.sending.Sending.{Sending}
 use Rattle.gptp_system.specs.State.{SystemState, clock, own}
-use Rattle.gptp_acts.specs.Sends.{entered, written, IsUnlinked, SendsAll, SendsOne}
+use Rattle.gptp_acts.specs.Sends.{entered, written, IsUnlinkedPort, SendsAll, SendsOne}
 use Rattle.gptp_acts.specs.Sound.{AreApart, IsSound}
-use Rattle.gptp_acts.specs.World.{Channel, Net, WorldState, queue, sender}
+use Rattle.gptp_acts.specs.World.{Channel, Net, WorldState, world_queue, sender}
 use Rattle.gptp_lists.proofs.MappedLemmas.{same_there}
-use Rattle.gptp_settling.specs.Frame.{Frame as SeenFrame, Lane}
+use Rattle.gptp_settling.specs.Frame.{AnnounceFrame as SeenFrame, Lane}
 use Rattle.gptp_kept.specs.Legible.{IsLegible}
-use Rattle.gptp_kept.specs.View.{frame_view, identity_of, lane_place, lane_view, lanes_view, send_view}
+use Rattle.gptp_kept.specs.View.{frame_view, port_identity_number, lane_place, lane_view, lanes_view, send_view}
 use Rattle.gptp_kept.proofs.SeenLaneLemmas.{IsLaneAt, IsSetAt, lane_from, lane_there, refilled, requeued_lanes}
 use Rattle.gptp_kept.proofs.TakeUpLemmas.{BeginApart, Enters, LanesStep, enters_step, lanes_go_on, lanes_stay, stays_apart, unlinked_step}
 
 -- ---- ports
 
 -- a port is what its identity says
-pub same_identity : (p q : PortId) → identity_of p ≡ identity_of q → p ≡ q
+pub same_identity : (p q : PortId) → port_identity_number p ≡ port_identity_number q → p ≡ q
 same_identity p q e = λ i. record { clock = (e i).clock; port = (e i).port }
 
 -- a port has one link at most, and a link two ports: so no two lanes begin at one port
@@ -75,11 +75,11 @@ abbrev longer : Lane → SeenFrame → Lane
 longer lane f = record lane { frames = lane.frames ++ f ∷ [] }
 
 behind_lane : (direction : Direction) (channel : Channel) (f : Frame)
-    → refilled direction channel (queue direction channel ++ f ∷ [])
+    → refilled direction channel (world_queue direction channel ++ f ∷ [])
     ≡ longer (lane_view direction channel) (frame_view f)
 behind_lane direction channel f =
     ap (λ fs. record (lane_view direction channel) { frames = fs })
-    (map-append frame_view (queue direction channel) (f ∷ []))
+    (map-append frame_view (world_queue direction channel) (f ∷ []))
 
 module _ (now : ℕ) (s : SystemState) (x : Sending) (draw : Draw) (net net' : Net)
     (one : SendsOne now (own s x.port) (written s x) draw net net') where
@@ -104,7 +104,7 @@ module _ (now : ℕ) (s : SystemState) (x : Sending) (draw : Draw) (net net' : N
       × IsSetAt at (longer lane f) (lanes_view net.channels) (lanes_view net'.channels))
   entered_by None is = inl (lossy is, ap lanes_view (after_is None is))
   entered_by (Some delay) is =
-      let fs = queue one.direction one.channel in
+      let fs = world_queue one.direction one.channel in
       let f : Frame = frame (due_after fs now delay) (written s x) in
       let set = requeued_lanes net.channels one.place one.direction (fs ++ f ∷ []) one.channel one.here in
       inr (
@@ -121,13 +121,13 @@ module _ (now : ℕ) (s : SystemState) (x : Sending) (draw : Draw) (net net' : N
     place = at;
     lane = lane;
     here = lane_there net.channels one.place one.direction one.channel one.here;
-    begins = ap identity_of one.begins;
+    begins = ap port_identity_number one.begins;
     enters = entered_by draw.answer refl;
   }
 
 -- ---- all sends
 
-unlinked_lanes : (s : SystemState) (x : Sending) (net : Net) → IsUnlinked net (own s x.port) → (j : ℕ) (l : Lane)
+unlinked_lanes : (s : SystemState) (x : Sending) (net : Net) → IsUnlinkedPort net (own s x.port) → (j : ℕ) (l : Lane)
     → slice_get (lanes_view net.channels) j ≡ Some l → l.from ≡ port_of (clock s) x.port → l.is_up ≡ false
 unlinked_lanes s x net none j l there begins = go (lane_from net.channels j l there)
   where

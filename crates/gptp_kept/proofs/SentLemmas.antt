@@ -15,20 +15,20 @@ use Rattle.gptp_messages.specs.Grammar.{Reads}
 use Rattle.gptp_messages.specs.Head.{HeadFits}
 use Rattle.gptp_links.specs.Queue.{Frame}
 use Rattle.gptp_pdelay.specs.declared.answer.Answer.{Answer as Owed}
-use Rattle.gptp_pdelay.specs.Progress.{same_port}
+use Rattle.gptp_pdelay.specs.Progress.{same_identity}
 use Rattle.gptp_system.specs.declared.sending.Sending.{Sending}
 use Rattle.gptp_setup.specs.declared.timer.Timer.TheVariants as timers
 use Rattle.gptp_system.specs.Input.{Input, PortUp, PortDown, Frame as FrameHeard, Expires, Priority}
 use Rattle.gptp_setup.specs.Intervals.{IsLog}
 use Rattle.gptp_system.specs.Measuring.{Responds, RespondsIf, owed_at, request_of}
-use Rattle.gptp_system.specs.Messages.{Announcing, Answering, AreSent, Asking, AsksOnce, Kind, Telling, kind_of}
-use Rattle.gptp_system.specs.Sends.{head_from, response, response_follow_up, sends_up_to}
+use Rattle.gptp_system.specs.Messages.{Announcing, Answering, AreSent, Asking, AsksOnce, Kind, Telling, message_kind}
+use Rattle.gptp_system.specs.Sends.{head_from, pdelay_response, response_follow_up, sends_up_to}
 use Rattle.gptp_system.specs.State.{SystemState, local_time, own, trace}
 use Rattle.gptp_system.proofs.SendLemmas.{responds_answer, with_send-from}
 use Rattle.gptp_acts.specs.Sends.{written}
-use Rattle.gptp_measuring.specs.Lanes.{Frame as SeenFrame, AreMute, FirstIs}
+use Rattle.gptp_measuring.specs.Lanes.{LaneFrame as SeenFrame, AreMute, FirstIs}
 use Rattle.gptp_measuring.specs.Messages.{Request, Reply, Response, FollowUp}
-use Rattle.gptp_kept.specs.LinkView.{RequestFits, SaysWhatFits, asks, frame_view, identity_of, replies, request_from}
+use Rattle.gptp_kept.specs.LinkView.{RequestFits, RequestSaysWhatFits, reads_as_request, link_frame_view, link_identity, reads_as_reply, request_from}
 use Rattle.gptp_kept.specs.Said.{said_at, sends_at}
 use Rattle.gptp_kept.proofs.LinkLaneLemmas.{said_here, true_same}
 use Rattle.gptp_kept.proofs.LinkOctetLemmas.{asks_not, follow_up_said, no_request_read, one_request, replies_not, request_back, response_said}
@@ -41,7 +41,7 @@ octets_of news = map (λ (f : Frame). f.octets) news
 -- frames are mute where their octets are
 pub mute_news : {X : Type 0} (says : List ℕ → X → Type 0) (news : List Frame)
     → ((octets : List ℕ) → In octets (octets_of news) → (x : X) → says octets x → ⊥)
-    → AreMute says (map frame_view news)
+    → AreMute says (map link_frame_view news)
 mute_news says [] mute f member = absurd member
 mute_news says (one ∷ news) mute f (inl here) =
     λ x said. mute one.octets (inl refl) x (subst (λ (g : SeenFrame). says g.octets x) here said)
@@ -55,8 +55,8 @@ same_first a b xs ys e = (cc, cc)
 pub first_news : {X : Type 0} (says : List ℕ → X → Type 0) (x : X) (Q : List SeenFrame → Type 0) (news : List Frame)
     (before : List (List ℕ)) (octets : List ℕ) (after : List (List ℕ)) → octets_of news ≡ before ++ octets ∷ after
     → ((o : List ℕ) → In o before → (y : X) → says o y → ⊥) → says octets x
-    → ((rest : List Frame) → octets_of rest ≡ after → Q (map frame_view rest))
-    → FirstIs says (λ (f : SeenFrame). says f.octets x) Q (map frame_view news)
+    → ((rest : List Frame) → octets_of rest ≡ after → Q (map link_frame_view rest))
+    → FirstIs says (λ (f : SeenFrame). says f.octets x) Q (map link_frame_view news)
 first_news says x Q [] [] octets after is mute said behind = absurd cc
 first_news says x Q [] (o ∷ before) octets after is mute said behind = absurd cc
 first_news says x Q (one ∷ news) [] octets after is mute said behind =
@@ -76,9 +76,9 @@ pub said_from : (s : SystemState) (port : PortId) (xs : List Sending) (octets : 
     → In octets (said_at s port xs) → (x : Sending) × In x xs × (own s x.port ≡ port) × (octets ≡ written s x)
 said_from s port [] octets member = absurd member
 said_from s port (x ∷ xs) octets member =
-    go (same_port (own s x.port) port) refl (said_from s port xs octets) member
+    go (same_identity (own s x.port) port) refl (said_from s port xs octets) member
   where
-    go : (b : Bool) → same_port (own s x.port) port ≡ b
+    go : (b : Bool) → same_identity (own s x.port) port ≡ b
         → (In octets (said_at s port xs) → (y : Sending) × In y xs × (own s y.port ≡ port) × (octets ≡ written s y))
         → In octets (map (written s) (if b then x ∷ sends_at s port xs else sends_at s port xs))
         → (y : Sending) × In y (x ∷ xs) × (own s y.port ≡ port) × (octets ≡ written s y)
@@ -89,7 +89,7 @@ said_from s port (x ∷ xs) octets member =
 pub said_append : (s : SystemState) (port : PortId) (xs ys : List Sending)
     → said_at s port (xs ++ ys) ≡ said_at s port xs ++ said_at s port ys
 said_append s port [] ys = refl
-said_append s port (x ∷ xs) ys = go (same_port (own s x.port) port) (said_append s port xs ys)
+said_append s port (x ∷ xs) ys = go (same_identity (own s x.port) port) (said_append s port xs ys)
   where
     go : (b : Bool) → said_at s port (xs ++ ys) ≡ said_at s port xs ++ said_at s port ys
         → map (written s) (if b then x ∷ sends_at s port (xs ++ ys) else sends_at s port (xs ++ ys))
@@ -101,7 +101,7 @@ said_append s port (x ∷ xs) ys = go (same_port (own s x.port) port) (said_appe
 
 -- a request is sent where its port's Pdelay timer expires or its link comes up
 pub asking_input : (s : SystemState) (now : ℕ) (input : Input) (sends : List Sending) → AreSent s now input sends
-    → (x : Sending) → In x sends → kind_of x.body ≡ Asking
+    → (x : Sending) → In x sends → message_kind x.body ≡ Asking
     → (input ≡ Expires (timers.Pdelay x.port)) ⊎ (input ≡ PortUp x.port)
 asking_input s now (PortUp p) sends sent x member kind =
     go (with_send-from (request_of p s) x sent.announces (subst (In x) sent.is member))
@@ -133,24 +133,24 @@ responds_port : (owed : Option Owed) (p now : ℕ) (s : SystemState) (sends : Li
 responds_port None p now s sends none x member = absurd (subst (In x) none member)
 responds_port (Some owed) p now s sends k x member = go (subst (In x) k.sends_are member)
   where
-    go : In x (response (own s p) owed k.came k.came-rest ∷ response_follow_up (own s p) owed k.went k.went-rest ∷ [])
+    go : In x (pdelay_response (own s p) owed k.came k.came-rest ∷ response_follow_up (own s p) owed k.went k.went-rest ∷ [])
         → p ≡ x.port
     go (inl here) = ap (λ (y : Sending). y.port) (sym here)
     go (inr (inl here)) = ap (λ (y : Sending). y.port) (sym here)
     go (inr (inr later)) = absurd later
 
 asks_once_kind : (s : SystemState) (p : ℕ) (sends : List Sending) → AsksOnce s p sends → (x : Sending) → In x sends
-    → kind_of x.body ≢ Answering
+    → message_kind x.body ≢ Answering
 asks_once_kind s p sends sent x member =
     go (with_send-from (request_of p s) x sent.announces (subst (In x) sent.is member))
   where
-    go : (x ≡ request_of p s) ⊎ In x sent.announces → kind_of x.body ≢ Answering
-    go (inl it) kind = let e : kind_of x.body ≡ Asking = ap (λ (y : Sending). kind_of y.body) it in absurd cc
+    go : (x ≡ request_of p s) ⊎ In x sent.announces → message_kind x.body ≢ Answering
+    go (inl it) kind = let e : message_kind x.body ≡ Asking = ap (λ (y : Sending). message_kind y.body) it in absurd cc
     go (inr other) kind = let e = sent.all x other in absurd cc
 
 -- an answer is sent where its port's Respond timer expires
 pub answering_input : (s : SystemState) (now : ℕ) (input : Input) (sends : List Sending) → AreSent s now input sends
-    → (x : Sending) → In x sends → kind_of x.body ≡ Answering → input ≡ Expires (timers.Respond x.port)
+    → (x : Sending) → In x sends → message_kind x.body ≡ Answering → input ≡ Expires (timers.Respond x.port)
 answering_input s now (PortUp p) sends sent x member kind = absurd (asks_once_kind s p sends sent x member kind)
 answering_input s now (PortDown p) sends sent x member kind = let e = sent x member in absurd cc
 answering_input s now (FrameHeard p octets) sends sent x member kind = let e = sent x member in absurd cc
@@ -171,16 +171,16 @@ module _ (s s' : SystemState) (now : ℕ) (input : Input) (sends : List Sending)
     (port : PortId) (news : List Frame) (said : octets_of news ≡ said_at s' port sends) where
   -- no request, unless the port's Pdelay timer expires or its link comes up
   pub asks_nothing : input ≢ Expires (timers.Pdelay port.port) → input ≢ PortUp port.port
-      → AreMute asks (map frame_view news)
+      → AreMute reads_as_request (map link_frame_view news)
   asks_nothing timer up =
-      mute_news asks news (λ octets member. go (said_from s' port sends octets (subst (In octets) said member)))
+      mute_news reads_as_request news (λ octets member. go (said_from s' port sends octets (subst (In octets) said member)))
     where
       go : {octets : List ℕ}
           → ((x : Sending) × In x sends × (own s' x.port ≡ port) × (octets ≡ written s' x))
-          → (r : Request) → asks octets r → ⊥
+          → (r : Request) → reads_as_request octets r → ⊥
       go (x, among, from, is) r spoken =
           asks_not (trace s') x.head x.body (λ kind. by (asking_input s now input sends sent x among kind)) r
-          (subst (λ o. asks o r) is spoken)
+          (subst (λ o. reads_as_request o r) is spoken)
         where
           at : x.port ≡ port.port
           at = ap (λ (p : PortId). p.port) from
@@ -190,18 +190,18 @@ module _ (s s' : SystemState) (now : ℕ) (input : Input) (sends : List Sending)
           by (inr e) = up (e ∙ ap PortUp at)
 
   -- and no reply, unless its Respond timer expires
-  pub replies_nothing : input ≢ Expires (timers.Respond port.port) → AreMute replies (map frame_view news)
+  pub replies_nothing : input ≢ Expires (timers.Respond port.port) → AreMute reads_as_reply (map link_frame_view news)
   replies_nothing timer =
-      mute_news replies news (λ octets member. go (said_from s' port sends octets (subst (In octets) said member)))
+      mute_news reads_as_reply news (λ octets member. go (said_from s' port sends octets (subst (In octets) said member)))
     where
       go : {octets : List ℕ}
           → ((x : Sending) × In x sends × (own s' x.port ≡ port) × (octets ≡ written s' x))
-          → (r : Reply) → replies octets r → ⊥
+          → (r : Reply) → reads_as_reply octets r → ⊥
       go (x, among, from, is) r spoken =
           replies_not (trace s') x.head x.body
           (λ kind. timer (answering_input s now input sends sent x among kind
           ∙ ap (λ n. Expires (timers.Respond n)) (ap (λ (p : PortId). p.port) from))) r
-          (subst (λ o. replies o r) is spoken)
+          (subst (λ o. reads_as_reply o r) is spoken)
 
 -- ---- a request
 
@@ -233,7 +233,7 @@ module _ (s s' : SystemState) (p : ℕ) (sends : List Sending) (sent : AsksOnce 
   behind = drop (sends_up_to p sent.announces) sent.announces
 
   announces_mute : (some : List Sending) → ((x : Sending) → In x some → In x (front ++ behind)) → (octets : List ℕ)
-      → In octets (said_at s' (own s p) some) → (r : Request) → asks octets r → ⊥
+      → In octets (said_at s' (own s p) some) → (r : Request) → reads_as_request octets r → ⊥
   announces_mute some among octets member r spoken = go (said_from s' (own s p) some octets member)
     where
       go : ((x : Sending) × In x some × (own s' x.port ≡ own s p) × (octets ≡ written s' x)) → ⊥
@@ -241,22 +241,22 @@ module _ (s s' : SystemState) (p : ℕ) (sends : List Sending) (sent : AsksOnce 
           asks_not (trace s') x.head x.body
           (λ kind. let e = sent.all x (subst (In x) (take-append-drop (sends_up_to p sent.announces) sent.announces)
           (among x there)) in absurd cc) r
-          (subst (λ o. asks o r) is spoken)
+          (subst (λ o. reads_as_request o r) is spoken)
 
   -- the frames of the port are its request, and some that ask nothing before and behind it
-  pub sends_request : FirstIs asks (λ (f : SeenFrame). asks f.octets (request_from (own s p) (next_of s p)))
-      (AreMute asks) (map frame_view news)
+  pub sends_request : FirstIs reads_as_request (λ (f : SeenFrame). reads_as_request f.octets (request_from (own s p) (next_of s p)))
+      (AreMute reads_as_request) (map link_frame_view news)
   sends_request =
       let whole : octets_of news
       ≡ said_at s' (own s p) front ++ written s' (request_of p s) ∷ said_at s' (own s p) behind =
       said ∙ ap (said_at s' (own s p)) sent.is
       ∙ said_append s' (own s p) front (request_of p s ∷ behind)
       ∙ ap (λ os. said_at s' (own s p) front ++ os) (said_here s' (own s p) (request_of p s) behind same) in
-      first_news asks (request_from (own s p) (next_of s p)) (AreMute asks) news (said_at s' (own s p) front)
+      first_news reads_as_request (request_from (own s p) (next_of s p)) (AreMute reads_as_request) news (said_at s' (own s p) front)
       (written s' (request_of p s)) (said_at s' (own s p) behind) whole
       (announces_mute front (λ x there. In-left x front behind there))
       ((request_of p s).head, request_written s s' p log fits, refl)
-      (λ rest is. mute_news asks rest (λ octets member.
+      (λ rest is. mute_news reads_as_request rest (λ octets member.
       announces_mute behind (λ x there. In-right x front behind there) octets (subst (In octets) is member)))
 
 -- ---- an answer
@@ -267,9 +267,9 @@ module _ (s s' : SystemState) (p now : ℕ) (owed : Owed) (sends : List Sending)
   abbrev answered_request : Request
   answered_request = request_from owed.requester owed.sequence
 
-  -- what the port sends as response and as follow-up
+  -- what the port sends as pdelay_response and as follow-up
   abbrev first : Sending
-  first = response (own s p) owed sent.came sent.came-rest
+  first = pdelay_response (own s p) owed sent.came sent.came-rest
 
   abbrev second : Sending
   second = response_follow_up (own s p) owed sent.went sent.went-rest
@@ -280,10 +280,10 @@ module _ (s s' : SystemState) (p now : ℕ) (owed : Owed) (sends : List Sending)
       head_fits (own s p) owed.sequence (pos rest) (pos 0x7F) two_step
       (record { from = own_fits; numbered = fits.numbered }) (omega (arith, ints)) (omega (arith, ints))
 
-  first_said : replies (written s' first) (Response (identity_of (own s p)) answered_request owed.t2)
+  first_said : reads_as_reply (written s' first) (Response (link_identity (own s p)) answered_request owed.t2)
   first_said =
       let message : PdelayResp = record { head = first.head; stamp = sent.came; requester = owed.requester } in
-      subst (λ t. replies (written s' first) (Response (identity_of (own s p)) answered_request t)) sent.came_is.whole
+      subst (λ t. reads_as_reply (written s' first) (Response (link_identity (own s p)) answered_request t)) sent.came_is.whole
       (response_said message
       (record {
         head = own_head sent.came-rest true sent.came_is.small;
@@ -291,10 +291,10 @@ module _ (s s' : SystemState) (p now : ℕ) (owed : Owed) (sends : List Sending)
         requester = fits.from;
       }))
 
-  second_said : replies (written s' second) (FollowUp (identity_of (own s p)) answered_request (local_time s now))
+  second_said : reads_as_reply (written s' second) (FollowUp (link_identity (own s p)) answered_request (local_time s now))
   second_said =
       let message : PdelayRespFollowUp = record { head = second.head; stamp = sent.went; requester = owed.requester } in
-      subst (λ t. replies (written s' second) (FollowUp (identity_of (own s p)) answered_request t)) sent.went_is.whole
+      subst (λ t. reads_as_reply (written s' second) (FollowUp (link_identity (own s p)) answered_request t)) sent.went_is.whole
       (follow_up_said message
       (record {
         head = own_head sent.went-rest false sent.went_is.small;
@@ -302,28 +302,28 @@ module _ (s s' : SystemState) (p now : ℕ) (owed : Owed) (sends : List Sending)
         requester = fits.from;
       }))
 
-  -- the frames of the port are the response and behind it the follow-up
-  pub sends_answer : FirstIs replies
-      (λ (f : SeenFrame). replies f.octets (Response (identity_of (own s p)) answered_request owed.t2))
-      (FirstIs replies
-      (λ (f : SeenFrame). replies f.octets (FollowUp (identity_of (own s p)) answered_request (local_time s now)))
-      (AreMute replies))
-      (map frame_view news)
+  -- the frames of the port are the pdelay_response and behind it the follow-up
+  pub sends_answer : FirstIs reads_as_reply
+      (λ (f : SeenFrame). reads_as_reply f.octets (Response (link_identity (own s p)) answered_request owed.t2))
+      (FirstIs reads_as_reply
+      (λ (f : SeenFrame). reads_as_reply f.octets (FollowUp (link_identity (own s p)) answered_request (local_time s now)))
+      (AreMute reads_as_reply))
+      (map link_frame_view news)
   sends_answer =
       let whole : octets_of news ≡ written s' first ∷ written s' second ∷ [] =
       said ∙ ap (said_at s' (own s p)) sent.sends_are ∙ said_here s' (own s p) first (second ∷ []) same
       ∙ ap (λ os. written s' first ∷ os) (said_here s' (own s p) second [] same) in
-      first_news replies (Response (identity_of (own s p)) answered_request owed.t2) _ news [] (written s' first)
+      first_news reads_as_reply (Response (link_identity (own s p)) answered_request owed.t2) _ news [] (written s' first)
       (written s' second ∷ []) whole (λ o member. absurd member) first_said
-      (λ rest is. first_news replies (FollowUp (identity_of (own s p)) answered_request (local_time s now))
-      (AreMute replies) rest [] (written s' second) [] is (λ o member. absurd member) second_said
-      (λ none is. mute_news replies none (λ octets member. absurd (subst (In octets) is member))))
+      (λ rest is. first_news reads_as_reply (FollowUp (link_identity (own s p)) answered_request (local_time s now))
+      (AreMute reads_as_reply) rest [] (written s' second) [] is (λ o member. absurd member) second_said
+      (λ none is. mute_news reads_as_reply none (λ octets member. absurd (subst (In octets) is member))))
 
 -- ---- what is sent fits
 
 -- a request that a port sends is that of the port
 request_sent : (s : SystemState) (now : ℕ) (input : Input) (sends : List Sending) → AreSent s now input sends
-    → (x : Sending) → In x sends → kind_of x.body ≡ Asking → x ≡ request_of x.port s
+    → (x : Sending) → In x sends → message_kind x.body ≡ Asking → x ≡ request_of x.port s
 request_sent s now input sends sent x member kind = by input sent (asking_input s now input sends sent x member kind)
   where
     once : (p : ℕ) → AsksOnce s p sends → x ≡ request_of x.port s
@@ -341,8 +341,8 @@ request_sent s now input sends sent x member kind = by input sent (asking_input 
 -- what a system sends says a request that fits, or none, where the requests of its ports fit
 pub written_fits : (s s' : SystemState) (now : ℕ) (input : Input) (sends : List Sending)
     → AreSent s now input sends → IsLog s.params.pdelay → (x : Sending) → In x sends
-    → (kind_of x.body ≡ Asking → RequestFits (own s x.port) (next_of s x.port)) → SaysWhatFits (written s' x)
-written_fits s s' now input sends sent log x member fits head reads = by (kinds (kind_of x.body))
+    → (message_kind x.body ≡ Asking → RequestFits (own s x.port) (next_of s x.port)) → RequestSaysWhatFits (written s' x)
+written_fits s s' now input sends sent log x member fits head reads = by (kinds (message_kind x.body))
   where
     kinds : (k : Kind) → (k ≡ Asking) ⊎ (k ≢ Asking)
     kinds Announcing = inr (λ e. absurd cc)
@@ -350,7 +350,7 @@ written_fits s s' now input sends sent log x member fits head reads = by (kinds 
     kinds Asking = inl refl
     kinds Answering = inr (λ e. absurd cc)
 
-    by : (kind_of x.body ≡ Asking) ⊎ (kind_of x.body ≢ Asking) → RequestFits head.source head.sequence
+    by : (message_kind x.body ≡ Asking) ⊎ (message_kind x.body ≢ Asking) → RequestFits head.source head.sequence
     by (inr other) = absurd (no_request_read (trace s') x.head x.body other head reads)
     by (inl kind) =
         let it : x ≡ request_of x.port s = request_sent s now input sends sent x member kind in
@@ -364,10 +364,10 @@ written_fits s s' now input sends sent log x member fits head reads = by (kinds 
 -- so every frame that a port sends does, where its request fits
 pub sent_fits : (s s' : SystemState) (now : ℕ) (input : Input) (sends : List Sending) (port : PortId)
     → AreSent s now input sends → IsLog s.params.pdelay → RequestFits (own s port.port) (next_of s port.port)
-    → (octets : List ℕ) → In octets (said_at s' port sends) → SaysWhatFits octets
+    → (octets : List ℕ) → In octets (said_at s' port sends) → RequestSaysWhatFits octets
 sent_fits s s' now input sends port sent log fits octets member =
     let (x, among, from, is) = said_from s' port sends octets member in
     let at : x.port ≡ port.port = ap (λ (p : PortId). p.port) from in
-    subst SaysWhatFits (sym is)
+    subst RequestSaysWhatFits (sym is)
     (written_fits s s' now input sends sent log x among
     (λ kind. subst (λ n. RequestFits (own s n) (next_of s n)) (sym at) fits))

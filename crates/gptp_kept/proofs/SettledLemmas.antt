@@ -16,7 +16,7 @@ use Rattle.gptp_system.specs.declared.port.Port.{Port}
 use Rattle.gptp_system.specs.Facts.{AreShown}
 use Rattle.gptp_system.specs.Start.{role_at, role_by}
 use Rattle.gptp_system.specs.State.{SystemState, clock}
-use Rattle.gptp_system.specs.Steps.{IsPortOf}
+use Rattle.gptp_system.specs.Steps.{HasPortNumber}
 use Rattle.gptp_acts.specs.declared.station.Station.{Station}
 use Rattle.gptp_plan.specs.Calm.{NothingLapses}
 use Rattle.gptp_plan.specs.SettlingTime.{settling_span_with}
@@ -26,15 +26,15 @@ use Rattle.gptp_lists.proofs.PlaceLemmas.{member_there}
 use Rattle.gptp_settling.specs.Calm.{Calm}
 use Rattle.gptp_settling.specs.Sound.{ReceivedFits}
 use Rattle.gptp_settling.specs.Levels.{Invariant}
-use Rattle.gptp_settling.specs.Network.{IsNetwork, Network, settled_from, since}
-use Rattle.gptp_settling.specs.Settled.{FollowsBest, HasSettledRoles, Plays}
+use Rattle.gptp_settling.specs.Network.{IsSettlingNetwork, Network, settled_from, since}
+use Rattle.gptp_settling.specs.Settled.{FollowsBest, HasSettledRoles, PlaysRole}
 use Rattle.gptp_settling.proofs.SettledLemmas.{follows_best, network_settles, settled_roles}
-use Rattle.gptp_kept.specs.View.{held_view, port_view, says, span_at, station_view, view}
+use Rattle.gptp_kept.specs.View.{held_view, port_view, says_announce, span_at, station_view, view}
 use Rattle.gptp_kept.proofs.PlaceLemmas.{port_there, station_there}
 use Rattle.gptp_kept.specs.Calm.{IsQuietWith, IsQuietWorld, SettlingTimes, network_with, paths_with, step_with, sync_paths_of, at_once, clean_from, delay_in, in_turn}
 use Rattle.gptp_kept.specs.Standing.{snapshot_of}
 use Rattle.gptp_kept.specs.Holds.{BecomeCapable, Holds, IsSettling, IsWorld, quick_network, settling_network, start_of}
-use Rattle.gptp_kept.specs.Settled.{Settled, role_of}
+use Rattle.gptp_kept.specs.Settled.{Settled, graph_role}
 use Rattle.gptp_kept.proofs.HoldsLemmas.{is_calm, is_network, is_quick_calm, is_quick_network, paths_bound, paths_fewer, turns_less}
 use Rattle.gptp_kept.proofs.ParentLemmas.{parent_settled}
 use Rattle.gptp_kept.proofs.WaitLemmas.{spans_grow}
@@ -58,8 +58,8 @@ slave_is_not (Some m) n other = by (m == n) refl
     by false differ = differ
 
 -- the role that a port is seen to play is its role
-plays_own : (slave : Option ℕ) (n : ℕ) (keep : ℤ → ℕ) (h : Held) (r : Role) → Plays slave n (held_view keep h) r
-    → role_of (role_by (is_slave slave n) h) ≡ r
+plays_own : (slave : Option ℕ) (n : ℕ) (keep : ℤ → ℕ) (h : Held) (r : Role) → PlaysRole slave n (held_view keep h) r
+    → graph_role (role_by (is_slave slave n) h) ≡ r
 plays_own slave n keep helds.Disabled Disabled plays = refl
 plays_own slave n keep helds.Disabled Master (root, steps, same) = absurd cc
 plays_own slave n keep helds.Disabled Slave (is, (r, same)) = absurd cc
@@ -85,15 +85,15 @@ module _ (g : Snapshot) (station : Station) (shown : AreShown station.system)
   s = station.system
 
   role_settled : (i : ℕ) (h : Held) (q : Port) → slice_get s.held i ≡ Some h → slice_get s.ports i ≡ Some q
-      → IsSettledRole g (port_of (clock s) (suc i)) (role_of (role_at s (suc i)))
+      → IsSettledRole g (port_of (clock s) (suc i)) (graph_role (role_at s (suc i)))
   role_settled i h q stands there =
       let (r, plays, settled) = seen i (port_view (span_at s) h q)
       (port_there (span_at s) s.held s.ports i h q stands there) in
-      let same : role_of (role_by (is_slave s.slave (suc i)) h) ≡ r =
+      let same : graph_role (role_by (is_slave s.slave (suc i)) h) ≡ r =
       plays_own s.slave (suc i) (span_at s) h r plays in
       rw (stands, same) settled
 
-  roles_settled : (n : ℕ) → IsPortOf s n → IsSettledRole g (port_of (clock s) n) (role_of (role_at s n))
+  roles_settled : (n : ℕ) → HasPortNumber s n → IsSettledRole g (port_of (clock s) n) (graph_role (role_at s n))
   roles_settled zero is = let least = is.least in absurd (omega arith)
   roles_settled (suc i) is =
       let most = is.most in
@@ -106,8 +106,8 @@ module _ (g : Snapshot) (station : Station) (shown : AreShown station.system)
 
 -- for any wait for Syncs and time of a step
 module _ (p : Pace) (m start : ℕ) (times : SettlingTimes) (w : WorldState) (is : IsWorld p w)
-    (net : IsNetwork (network_with p m start times w)) (state : Calm (network_with p m start times w) (view w))
-    (invariant : Invariant says (network_with p m start times w) (view w)) where
+    (net : IsSettlingNetwork (network_with p m start times w)) (state : Calm (network_with p m start times w) (view w))
+    (invariant : Invariant says_announce (network_with p m start times w) (view w)) where
   abbrev n : Network
   n = network_with p m start times w
 
@@ -118,8 +118,8 @@ module _ (p : Pace) (m start : ℕ) (times : SettlingTimes) (w : WorldState) (is
     there : slice_get (view w).stations place ≡ Some (station_view station)
     there = station_there w.stations place station here
 
-    roles_are : HasSettledRoles (snapshot_of w) (station_view station) → (port : ℕ) → IsPortOf station.system port
-        → IsSettledRole (snapshot_of w) (port_of (clock station.system) port) (role_of (role_at station.system port))
+    roles_are : HasSettledRoles (snapshot_of w) (station_view station) → (port : ℕ) → HasPortNumber station.system port
+        → IsSettledRole (snapshot_of w) (port_of (clock station.system) port) (graph_role (role_at station.system port))
     roles_are =
         roles_settled (snapshot_of w) station (is.sound.on_time.stations place station here).steady.shown
 
@@ -127,15 +127,15 @@ module _ (p : Pace) (m start : ℕ) (times : SettlingTimes) (w : WorldState) (is
       -- it follows its best a step's time for each link after all that is held is wholly clean
       follows_so : since n d ≤ w.time → FollowsBest (snapshot_of w) (station_view station)
       follows_so late =
-          follows_best says n net (view w) state invariant place (station_view station) there live d distance near late
+          follows_best says_announce n net (view w) state invariant place (station_view station) there live d distance near late
           (omega (arith, late))
 
       -- a step's time later its ports have settled
-      roles_so : since n (suc d) ≤ w.time → (port : ℕ) → IsPortOf station.system port
-          → IsSettledRole (snapshot_of w) (port_of (clock station.system) port) (role_of (role_at station.system port))
+      roles_so : since n (suc d) ≤ w.time → (port : ℕ) → HasPortNumber station.system port
+          → IsSettledRole (snapshot_of w) (port_of (clock station.system) port) (graph_role (role_at station.system port))
       roles_so late =
           roles_are
-          (settled_roles says n net (view w) state invariant place (station_view station) there live d distance near
+          (settled_roles says_announce n net (view w) state invariant place (station_view station) there live d distance near
           (omega (arith, late)) (λ u joined far lower. late) (omega (arith, late)))
 
   -- ---- all of them
@@ -147,7 +147,7 @@ module _ (p : Pace) (m start : ℕ) (times : SettlingTimes) (w : WorldState) (is
 
     pub settles_so : Settled w
     settles_so place station here live near =
-        let (has, follow, roles) = network_settles says n (view w) place (station_view station)
+        let (has, follow, roles) = network_settles says_announce n (view w) place (station_view station)
         net state invariant (there place station here live) live near late in
         let follows = follow (omega (arith, late)) in
         let rest = (state.stations place (station_view station) (there place station here live) live).at_rest in
@@ -184,8 +184,8 @@ module _ (p : Pace) (w : WorldState) (is : IsWorld p w) (capable : BecomeCapable
         station here live d distance near
 
     -- a step's time later its ports have settled
-    pub roles_by_distance : since seen (suc d) ≤ w.time → (port : ℕ) → IsPortOf station.system port
-        → IsSettledRole (snapshot_of w) (port_of (clock station.system) port) (role_of (role_at station.system port))
+    pub roles_by_distance : since seen (suc d) ≤ w.time → (port : ℕ) → HasPortNumber station.system port
+        → IsSettledRole (snapshot_of w) (port_of (clock station.system) port) (graph_role (role_at station.system port))
     roles_by_distance =
         roles_so p m (start_of p w) (in_turn p (paths_with m w)) w is (is_network p m w is bounded) state
         settling.invariant place

@@ -6,7 +6,7 @@ use Rattle.gptp_lists.proofs.PlaceLemmas.{member_there}
 use Rattle.gptp_vector.specs.declared.port.PortId.{PortId}
 use Rattle.gptp_setup.specs.Intervals.{interval_of}
 use Rattle.gptp_setup.specs.Pace.{Pace, largest_interval}
-use Rattle.gptp_system.specs.Steps.{IsPortOf}
+use Rattle.gptp_system.specs.Steps.{HasPortNumber}
 use Rattle.gptp_plan.specs.declared.change.Act.{Act}
 use Rattle.gptp_plan.specs.declared.change.Act.TheVariants.{Deliver, Expire, Change as Changing}
 use Rattle.gptp_plan.specs.declared.change.Change.TheVariants.{LinkDown, LinkUp, LinkSet, Fail, Recover, Priority1, Inject}
@@ -28,17 +28,17 @@ use Rattle.gptp_kept.proofs.ActLegibleLemmas.{acts_legible}
 use Rattle.gptp_kept.proofs.BetweenLemmas.{acts_between}
 use Rattle.gptp_kept.specs.Holds.{IsWorld}
 use Rattle.gptp_kept.specs.Known.{AreSet, IsLogAmong}
-use Rattle.gptp_kept.specs.Standing.{HasPort}
+use Rattle.gptp_kept.specs.Standing.{StationsHavePort}
 use Rattle.gptp_kept.proofs.SetLemmas.{log_among, log_shorter}
 
 -- ---- what is prompt
 
 -- a port of a system is set up with an interval
-log_of_port : (p : Pace) (w : WorldState) → AreSet p w → (port : PortId) → HasPort w.stations port
+log_of_port : (p : Pace) (w : WorldState) → AreSet p w → (port : PortId) → StationsHavePort w.stations port
     → (log : ℤ) × IsLogAmong w.stations log
 log_of_port p w set port k = go port.port k.is
   where
-    go : (n : ℕ) → IsPortOf k.station.system n → (log : ℤ) × IsLogAmong w.stations log
+    go : (n : ℕ) → HasPortNumber k.station.system n → (log : ℤ) × IsLogAmong w.stations log
     go zero is = let least = is.least in absurd (omega arith)
     go (suc i) is =
         let most = is.most in

@@ -27,7 +27,7 @@ use Rattle.gptp_acts.specs.Agrees.{stopped}
 use Rattle.gptp_acts.specs.Changing.{CallsAll, CallsIfLive, ComesUpIf, FailsIf, GoesDownIf, InjectsIf, RecoversIf, Starts, StartsAll, TellsEnds, brought_up, fresh, lost, taken_down, up_ports, with_setup, with_station}
 use Rattle.gptp_acts.specs.Initial.{channel_from}
 use Rattle.gptp_acts.specs.Sends.{entered, written, SendsAll, SendsOne}
-use Rattle.gptp_acts.specs.World.{Channel, Net, WorldState, port_id, queue, receiver, with_queue}
+use Rattle.gptp_acts.specs.World.{Channel, Net, WorldState, port_id, world_queue, receiver, with_queue}
 use Rattle.gptp_lists.proofs.MappedLemmas.{mapped}
 use Rattle.gptp_lists.proofs.PlaceLemmas.{get-set_all}
 use Rattle.gptp_kept.specs.LinkLaws.{InitiallyShort, ShortHoldsLater, ShortIsKept, StartsShort}
@@ -43,12 +43,12 @@ module _ (span : ℕ) where
       → IsShortChannel span now (with_queue direction frames channel)
   queue_short now FromA channel frames short is = record { most = is.most; dues = dues }
     where
-      dues : (way : Direction) (f : Frame) → In f (queue way (with_queue FromA frames channel)) → f.due ≤ now + span
+      dues : (way : Direction) (f : Frame) → In f (world_queue way (with_queue FromA frames channel)) → f.due ≤ now + span
       dues FromA f member = short f member
       dues FromB f member = is.dues FromB f member
   queue_short now FromB channel frames short is = record { most = is.most; dues = dues }
     where
-      dues : (way : Direction) (f : Frame) → In f (queue way (with_queue FromB frames channel)) → f.due ≤ now + span
+      dues : (way : Direction) (f : Frame) → In f (world_queue way (with_queue FromB frames channel)) → f.due ≤ now + span
       dues FromA f member = is.dues FromA f member
       dues FromB f member = short f member
 
@@ -85,7 +85,7 @@ module _ (span : ℕ) where
       by None lawful = all
       by (Some delay) (least, most) =
           let old = all one.place one.channel one.here in
-          let fs = queue one.direction one.channel in
+          let fs = world_queue one.direction one.channel in
           let short : delay ≤ one.channel.bounds.max = subst (λ (b : Bounds). delay ≤ b.max) one.bounds most in
           let new : Frame = frame (due_after fs now delay) octets in
           let due = entered_due now one.channel.bounds.max fs new old.most (old.dues one.direction)
@@ -160,7 +160,7 @@ module _ (span : ℕ) where
       (record { most = (all place channel here).most; dues = still }) all)
       k
     where
-      still : (way : Direction) (f : Frame) → In f (queue way (lost channel)) → f.due ≤ w.time + span
+      still : (way : Direction) (f : Frame) → In f (world_queue way (lost channel)) → f.due ≤ w.time + span
       still FromA f member = absurd member
       still FromB f member = absurd member
 
@@ -169,7 +169,7 @@ module _ (span : ℕ) where
       → new.bounds.max ≤ span → IsShortChannel span now channel → IsShortChannel span now new
   same_dues now channel new a b most is = record { most = most; dues = dues }
     where
-      dues : (way : Direction) (f : Frame) → In f (queue way new) → f.due ≤ now + span
+      dues : (way : Direction) (f : Frame) → In f (world_queue way new) → f.due ≤ now + span
       dues FromA f member = is.dues FromA f (subst (In f) a member)
       dues FromB f member = is.dues FromB f (subst (In f) b member)
 
@@ -253,7 +253,7 @@ initially_short span n short link channel here =
     let (wire, at, made) = mapped channel_from n.links link channel here in
     subst (IsShortChannel span 0) made (record { most = short link wire at; dues = still wire })
   where
-    still : (wire : Wire) (direction : Direction) (f : Frame) → In f (queue direction (channel_from wire))
+    still : (wire : Wire) (direction : Direction) (f : Frame) → In f (world_queue direction (channel_from wire))
         → f.due ≤ 0 + span
     still wire FromA f member = absurd member
     still wire FromB f member = absurd member

@@ -11,14 +11,14 @@ use Rattle.gptp_roles.specs.declared.role.Role.TheVariants as roles
 use Rattle.gptp_system.specs.declared.port.Port.{Port}
 use Rattle.gptp_system.specs.Start.{role_at, role_by}
 use Rattle.gptp_system.specs.State.{SystemState, clock, held_at, is_capable_at}
-use Rattle.gptp_system.specs.Steps.{IsPortOf}
+use Rattle.gptp_system.specs.Steps.{HasPortNumber}
 use Rattle.gptp_acts.specs.declared.station.Station.{Station}
 use Rattle.gptp_acts.specs.Acts.{AtSystem}
-use Rattle.gptp_acts.specs.Views.{Follows, HasRole, ShowsLive}
+use Rattle.gptp_acts.specs.Views.{FollowsRoot, HasRole, ShowsLive}
 use Rattle.gptp_acts.specs.World.{WorldState}
 use Rattle.gptp_lists.proofs.PlaceLemmas.{member_there}
 use Rattle.gptp_kept.specs.Standing.{snapshot_of}
-use Rattle.gptp_kept.specs.Settled.{IsSettledSystem, Settled, role_of}
+use Rattle.gptp_kept.specs.Settled.{IsSettledSystem, Settled, graph_role}
 use Rattle.gptp_kept.specs.CalmFor.{IsCalmFor, IsPortSettled, capable_span}
 use Rattle.gptp_kept.specs.Claimed.{Claimed}
 use Rattle.gptp_kept.specs.Shown.{AreCapable, FollowsAtOnce, FollowsByDistance, FollowsByPaths, FollowsInTime, IsCapableInTime, IsEnabledInTime, IsSettledFor, PlaysAtOnce, PlaysByDistance, PlaysByPaths, PlaysInTime}
@@ -50,7 +50,7 @@ module _ (w : WorldState) (claimed : Claimed w) (calm : IsCalmFor capable_span w
     capable_is : is_capable_at s n ≡ is_capable q.peer
     settled : IsPortSettled (snapshot_of w) (record { clock = clock s; port = n }) h q
 
-  known_port : (n : ℕ) → IsPortOf s n → IsKnownPort n
+  known_port : (n : ℕ) → HasPortNumber s n → IsKnownPort n
   known_port zero is = let least = is.least in absurd (omega arith)
   known_port (suc i) is =
       let most = is.most in
@@ -72,7 +72,7 @@ module _ (w : WorldState) (claimed : Claimed w) (calm : IsCalmFor capable_span w
         λ linked. known.capable_is ∙ known.settled.capable.1 linked,
       )
 
-  enabled_role : (n : ℕ) → IsPortOf s n → (role_at s n ≢ roles.Disabled)
+  enabled_role : (n : ℕ) → HasPortNumber s n → (role_at s n ≢ roles.Disabled)
       ↔ IsLinked (snapshot_of w) (port_of (clock s) n)
   enabled_role n is =
       let known = known_port n is in (
@@ -113,7 +113,7 @@ module _ (number : ℕ) (w : WorldState) (settled : Settled w) (near : IsNear (s
   system_settled place station here live named =
       settled place station here live (subst (IsNear (snapshot_of w)) (sym named) near)
 
-  settled_choice : (root steps : ℕ) (slave : Option ℕ) → AtSystem number w (Follows root steps slave)
+  settled_choice : (root steps : ℕ) (slave : Option ℕ) → AtSystem number w (FollowsRoot root steps slave)
       → IsSettledFor (snapshot_of w) number root steps slave
   settled_choice root steps slave at =
       let is = system_settled at.place at.station at.is.here at.so.live at.is.named in
@@ -121,14 +121,14 @@ module _ (number : ℕ) (w : WorldState) (settled : Settled w) (near : IsNear (s
       (record { best = is.root; distance = is.steps; parent = is.slave })
 
   settled_role : (port : ℕ) (role : Role) → AtSystem number w (HasRole port role)
-      → IsSettledRole (snapshot_of w) (port_of number port) (role_of role)
+      → IsSettledRole (snapshot_of w) (port_of number port) (graph_role role)
   settled_role port role at =
       let is = system_settled at.place at.station at.is.here at.so.live at.is.named in
       rw (at.so.role_is, sym at.is.named) (is.roles port at.so.port_of)
 
 -- by the number of live systems
 pub choice_shown : (number root steps : ℕ) (slave : Option ℕ) (w : WorldState) → Claimed w
-    → AtSystem number w (Follows root steps slave) → FollowsInTime number w root steps slave
+    → AtSystem number w (FollowsRoot root steps slave) → FollowsInTime number w root steps slave
 choice_shown number root steps slave w claimed at calm near =
     settled_choice number w (claimed_settled w claimed calm) near root steps slave at
 
@@ -139,7 +139,7 @@ role_shown number port w role claimed at calm near =
 
 -- by what bounds the systems of a path
 pub choice_by_paths : (number root steps : ℕ) (slave : Option ℕ) (w : WorldState) → Claimed w
-    → AtSystem number w (Follows root steps slave) → FollowsByPaths number w root steps slave
+    → AtSystem number w (FollowsRoot root steps slave) → FollowsByPaths number w root steps slave
 choice_by_paths number root steps slave w claimed at m bounded calm near =
     settled_choice number w (settled_by_paths m w claimed bounded calm) near root steps slave at
 
@@ -150,7 +150,7 @@ role_by_paths number port w role claimed at m bounded calm near =
 
 -- by that where nothing lapses
 pub choice_at_once : (number root steps : ℕ) (slave : Option ℕ) (w : WorldState) → Claimed w
-    → AtSystem number w (Follows root steps slave) → FollowsAtOnce number w root steps slave
+    → AtSystem number w (FollowsRoot root steps slave) → FollowsAtOnce number w root steps slave
 choice_at_once number root steps slave w claimed at m bounded calm nothing near =
     settled_choice number w (settled_at_once m w claimed bounded calm nothing) near root steps slave at
 
@@ -161,7 +161,7 @@ role_at_once number port w role claimed at m bounded calm nothing near =
 
 -- by the distance
 pub choice_by_distance : (number root steps : ℕ) (slave : Option ℕ) (w : WorldState) → Claimed w
-    → AtSystem number w (Follows root steps slave) → FollowsByDistance number w root steps slave
+    → AtSystem number w (FollowsRoot root steps slave) → FollowsByDistance number w root steps slave
 choice_by_distance number root steps slave w claimed at m d bounded distance near calm =
     let is = distance_follows m d w claimed bounded at.place at.station at.is.here at.so.live
     (subst (λ v. IsDistance (snapshot_of w) v d) (sym at.is.named) distance) near calm in

@@ -11,7 +11,7 @@ use Rattle.gptp_setup.specs.Intervals.{interval_of}
 use Rattle.gptp_setup.specs.Pace.{Pace, largest_interval}
 use Rattle.gptp_system.specs.declared.answer.Answer.{Answer}
 use Rattle.gptp_system.specs.Input.{PortUp}
-use Rattle.gptp_system.specs.Measures.{part_asked, part_of}
+use Rattle.gptp_system.specs.Measures.{part_asked, measure_at}
 use Rattle.gptp_system.specs.State.{clock}
 use Rattle.gptp_acts.specs.declared.station.Station.{Station}
 use Rattle.gptp_acts.specs.Act.{Calls}
@@ -23,7 +23,7 @@ use Rattle.gptp_measuring.specs.Setting.{Setting}
 use Rattle.gptp_measuring.specs.Silence.{InvUnanswered}
 use Rattle.gptp_kept.specs.LinkView.{LinkPlace, asker_view}
 use Rattle.gptp_kept.specs.NewsWorld.{AreSilentBy, IsSilentBy}
-use Rattle.gptp_kept.specs.Unanswered.{IsSilent, IsUnansweredAt, StandsUnanswered, setting, view}
+use Rattle.gptp_kept.specs.Unanswered.{IsSilent, IsUnansweredAt, StandsUnanswered, silent_setting, silent_view}
 use Rattle.gptp_kept.proofs.LinkCallLemmas.{at_own}
 use Rattle.gptp_kept.proofs.BeforeLemmas.{IsAsBefore, as_was, calls_before, stood}
 use Rattle.gptp_kept.proofs.UnansweredCallLemmas.{CallStep, call_seen, view_stays}
@@ -37,26 +37,26 @@ module _ (gone : ℕ) (at : LinkPlace) (place p : ℕ) (w : WorldState) (draws :
   step : CallStep place (PortUp p) gone at w w' is.link
   step = call_seen gone at place (PortUp p) w draws answer w' k clocks is.link is.old (λ same. tt)
 
-  same_part : part_of step.after.asking.state ≡ part_of is.link.asking.state
+  same_part : measure_at step.after.asking.state ≡ measure_at is.link.asking.state
   same_part = elim step.part [
     | inl called ↦ elim (at_own p (sender at.direction is.link.channel).port
-        (part_asked is.link.asking.station.system w.time reset_peer) (part_of is.link.asking.state)
-        (part_of step.after.asking.state) called.1) [
+        (part_asked is.link.asking.station.system w.time reset_peer) (measure_at is.link.asking.state)
+        (measure_at step.after.asking.state) called.1) [
           | inl one ↦ absurd (other called.0 one.0)
           | inr beside ↦ beside.1
         ]
     | inr left ↦ left.1
   ]
 
-  same_view : view at w' step.after ≡ view at w is.link
+  same_view : silent_view at w' step.after ≡ silent_view at w is.link
   same_view = view_stays step (ap (asker_view (interval_of is.link.asking.station.setup.params.pdelay)) same_part)
 
   called_silent : IsSilent gone at w'
   called_silent = record {
     link = step.after;
     old = step.old;
-    inv = subst (λ (x : Setting). InvUnanswered x gone (view at w' step.after)) (sym step.settled)
-        (subst (InvUnanswered (setting at w is.link) gone) (sym same_view) is.inv);
+    inv = subst (λ (x : Setting). InvUnanswered x gone (silent_view at w' step.after)) (sym step.settled)
+        (subst (InvUnanswered (silent_setting at w is.link) gone) (sym same_view) is.inv);
   }
 
 -- a live system is called, and this port is none of the link that comes up

@@ -12,10 +12,10 @@ use Rattle.gptp_acts.specs.World.{WorldState, sender}
 use Rattle.gptp_measuring.specs.Setting.{Setting}
 use Rattle.gptp_measuring.specs.Silence.{InvUnanswered}
 use Rattle.gptp_measuring.proofs.SilenceLemmas.{silence_settles, unanswered_begins, unanswered_kept, unanswered_later}
-use Rattle.gptp_kept.specs.LinkView.{IsEndOf, opposite}
+use Rattle.gptp_kept.specs.LinkView.{IsEndOf, other_direction}
 use Rattle.gptp_kept.specs.Known.{IsKnown}
 use Rattle.gptp_kept.specs.UnansweredLaws.{PortsBecomeIncapable, SilenceBegins, SilenceGoesOn, SilenceIsKept}
-use Rattle.gptp_kept.specs.Unanswered.{setting, view}
+use Rattle.gptp_kept.specs.Unanswered.{silent_setting, silent_view}
 use Rattle.gptp_kept.proofs.UnansweredActLemmas.{acts_seen}
 use Rattle.gptp_kept.proofs.UnansweredStandLemmas.{timers_known}
 
@@ -37,17 +37,17 @@ silence_begins at p w sound known l changed =
     record {
       link = l;
       old = λ f member.
-          let near = (known.near at.link l.channel l.here).dues (opposite at.direction) f member in omega arith;
-      inv = unanswered_begins (setting at w l) gone (view at w l) (omega (arith, lost, allowed))
+          let near = (known.near at.link l.channel l.here).dues (other_direction at.direction) f member in omega arith;
+      inv = unanswered_begins (silent_setting at w l) gone (silent_view at w l) (omega (arith, lost, allowed))
           (omega (arith, timers.asked, changed));
     }
 
 pub silence_kept : SilenceIsKept
 silence_kept at gone p act w w' draws done sound measured known calm acts is =
-    let k = setting at w is.link in
+    let k = silent_setting at w is.link in
     let seen = acts_seen at gone act w w' draws done is.link sound measured is.old calm acts in
-    let s = view at w is.link in
-    let s' = view at w' seen.after in
+    let s = silent_view at w is.link in
+    let s' = silent_view at w' seen.after in
     let inv = unanswered_kept k gone s s' (timers_known at p w is.link sound known) seen.so is.inv in
     record {
       link = seen.after;
@@ -59,7 +59,7 @@ pub silence_goes_on : SilenceGoesOn
 silence_goes_on at gone time w is = record {
   link = is.link;
   old = is.old;
-  inv = unanswered_later (setting at w is.link) gone time (view at w is.link) is.inv;
+  inv = unanswered_later (silent_setting at w is.link) gone time (silent_view at w is.link) is.inv;
 }
 
 pub become_incapable : PortsBecomeIncapable
@@ -73,16 +73,16 @@ become_incapable at p change w sound known short l past = go (is_capable l.link.
         subst AreParams (known.set at.asking l.link.asking.station l.link.asking.here).params
         (sound.on_time.stations at.asking l.link.asking.station l.link.asking.here).steady.params
 
-    short_here : (setting at w l.link).period ≤ largest_interval p
+    short_here : (silent_setting at w l.link).period ≤ largest_interval p
     short_here = subst (λ (x : Params). interval_of x.pdelay ≤ largest_interval p) (sym set_to) short
 
-    past_here : change + ((setting at w l.link).allowed + 5) * largest_interval p ≤ w.time
+    past_here : change + ((silent_setting at w l.link).allowed + 5) * largest_interval p ≤ w.time
     past_here =
         subst (λ (x : Params). change + (x.lost + 5) * largest_interval p ≤ w.time) (sym set_to) past
 
     go : (b : Bool) → is_capable l.link.asking.state.peer ≡ b → is_capable l.link.asking.state.peer ≡ false
     go true capable =
-        absurd (silence_settles (setting at w l.link) change (largest_interval p) (view at w l.link)
+        absurd (silence_settles (silent_setting at w l.link) change (largest_interval p) (silent_view at w l.link)
         (omega (arith, interval_positive p.params.pdelay params.pdelay, short)) short_here
         (timers_known at p w l.link sound known) l.inv past_here capable)
     go false other = other

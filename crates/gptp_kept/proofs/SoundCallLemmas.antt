@@ -12,14 +12,14 @@ use Rattle.gptp_links.specs.Fate.{Draw}
 use Rattle.gptp_system.specs.declared.answer.Answer.{Answer}
 use Rattle.gptp_system.specs.Input.{Input, IsTimely, PortUp, Frame as FrameHeard}
 use Rattle.gptp_system.specs.State.{clock}
-use Rattle.gptp_system.specs.Steps.{IsPortOf}
+use Rattle.gptp_system.specs.Steps.{HasPortNumber}
 use Rattle.gptp_system.proofs.FollowLemmas.{follows}
 use Rattle.gptp_acts.specs.declared.station.Station.{Station}
 use Rattle.gptp_acts.specs.Act.{Calls, in_state}
 use Rattle.gptp_acts.specs.Ahead.{IsPortAmong, IsSteady}
 use Rattle.gptp_acts.specs.Changing.{CallsAll, CallsIfLive, TellsEnds}
 use Rattle.gptp_acts.specs.Sound.{AreApart, HaveTheirSetups}
-use Rattle.gptp_acts.specs.World.{Channel, Net, WorldState, queue, sender}
+use Rattle.gptp_acts.specs.World.{Channel, Net, WorldState, world_queue, sender}
 use Rattle.gptp_acts.proofs.StayLemmas.{calls_if_live_stay, calls_stay, stays_apart, sender_same}
 use Rattle.gptp_acts.proofs.SteadyLemmas.{steps_steady}
 use Rattle.gptp_settling.specs.SoundEverywhere.{IsSoundEverywhere, IsSoundSent, LaneIsSound, MaySay}
@@ -27,8 +27,8 @@ use Rattle.gptp_settling.specs.Frame.{Lane}
 use Rattle.gptp_settling.specs.Station.{Reception as SeenReception}
 use Rattle.gptp_settling.proofs.SoundEverywhereLemmas.{calls_sound}
 use Rattle.gptp_kept.proofs.LinkLemmas.{receiver_same}
-use Rattle.gptp_kept.specs.Standing.{has_clock, is_used, live_systems, snapshot_of, standing}
-use Rattle.gptp_kept.specs.View.{frame_view, identity_of, lane_place, lane_view, lanes_view, says, station_view, touch_view, view}
+use Rattle.gptp_kept.specs.Standing.{stations_have_clock, channel_is_used, live_stations, snapshot_of, standing_system}
+use Rattle.gptp_kept.specs.View.{frame_view, port_identity_number, lane_place, lane_view, lanes_view, says_announce, station_view, touch_view, view}
 use Rattle.gptp_kept.proofs.AnsweringLemmas.{IsAnswering, calls_answering}
 use Rattle.gptp_kept.proofs.CalmFactLemmas.{follows_seen}
 use Rattle.gptp_kept.proofs.CalmKeptLemmas.{KeepsNetwork, calls_keep, keeps_on, net_keeps, same_snapshot}
@@ -45,8 +45,8 @@ use Rattle.gptp_lists.proofs.MemberLemmas.{from_map, In-map}
 
 -- ---- one system
 
--- what a steady system says goes on what it holds
-may_say : (g : Snapshot) (station : Station) → IsSteady station.system → In (standing station) g.systems
+-- what a steady system says_announce goes on what it holds
+may_say : (g : Snapshot) (station : Station) → IsSteady station.system → In (standing_system station) g.systems
     → MaySay g (station_view station)
 may_say g station steady known =
     let s = station.system in
@@ -69,15 +69,15 @@ pub record IsDeaf (input : Input) : Type 0 where
 module _ (g : Snapshot) (well : IsWellFormed g) (place : ℕ) (input : Input) (w : WorldState) (draws : List Draw)
     (answer : Answer) (w' : WorldState) (k : Calls place input w draws answer w') (is : IsAnswering w)
     (apart : AreApart w) (timely : IsTimely k.station.system w.time input) (deaf : IsDeaf input) where
-  pub call_sound : In (standing (in_state k.after k.station)) g.systems → IsSoundEverywhere says g (view w)
-      → IsSoundEverywhere says g (view w')
+  pub call_sound : In (standing_system (in_state k.after k.station)) g.systems → IsSoundEverywhere says_announce g (view w)
+      → IsSoundEverywhere says_announce g (view w')
   call_sound known all =
       let old = is.stations place k.station k.here in
       let c = calls_seen place input w draws answer w' k old.steady old.its timely
       (is.legible.stations place k.station k.here).system deaf.fits
       (lanes_apart w apart (λ link channel here. (is.legible.links link channel here).ends)) in
       let after = steps_steady input w.time k.station.system k.after k.sends answer old.steady k.steps in
-      calls_sound says g (touch_view c.touch) (view w) (view w') c.call well
+      calls_sound says_announce g (touch_view c.touch) (view w) (view w') c.call well
       (subst (MaySay g) (sym c.after_is) (may_say g (in_state k.after k.station) after known))
       (λ n a touched.
       let (b, heard, same) = hear_back c.touch n a touched in
@@ -92,7 +92,7 @@ pub record Goes (g : Snapshot) (w : WorldState) : Type 0 where
   pub answering : IsAnswering w
   pub apart : AreApart w
   pub same : snapshot_of w ≡ g
-  pub sound : IsSoundEverywhere says g (view w)
+  pub sound : IsSoundEverywhere says_announce g (view w)
 
 pub setups_of : (w : WorldState) → IsAnswering w → HaveTheirSetups w
 setups_of w is place station here = (is.stations place station here).its
@@ -102,15 +102,15 @@ up_deaf p = record { deaf = λ n octets same. absurd cc; fits = tt }
 
 call_goes : (g : Snapshot) (well : IsWellFormed g) (place p : ℕ) (w : WorldState) (draws : List Draw)
     (answer : Answer) (w' : WorldState) (k : Calls place (PortUp p) w draws answer w')
-    → IsPortOf k.station.system p → Goes g w → Goes g w'
+    → HasPortNumber k.station.system p → Goes g w → Goes g w'
 call_goes g well place p w draws answer w' k of goes =
     let keeps = calls_keep place (PortUp p) w draws answer w' (λ value same. absurd cc) k in
     let same' : snapshot_of w' ≡ g = same_snapshot w w' keeps ∙ goes.same in
     let called = in_state k.after k.station in
     let there : slice_get w'.stations place ≡ Some called =
     ap (λ (v : WorldState). slice_get v.stations place) k.is ∙ get-set_same w.stations place k.station called k.here in
-    let known : In (standing called) g.systems =
-    subst (λ (h : Snapshot). In (standing called) h.systems) same'
+    let known : In (standing_system called) g.systems =
+    subst (λ (h : Snapshot). In (standing_system called) h.systems) same'
     (live_there w'.stations place called there k.live) in
     record {
       answering = calls_answering place (PortUp p) w draws answer w' goes.answering k of tt;
@@ -123,7 +123,7 @@ call_goes g well place p w draws answer w' k of goes =
 
 if_live_goes : (g : Snapshot) (well : IsWellFormed g) (place p : ℕ) (w : WorldState) (draws : List Draw)
     (w' : WorldState)
-    → ((station : Station) → slice_get w.stations place ≡ Some station → IsPortOf station.system p)
+    → ((station : Station) → slice_get w.stations place ≡ Some station → HasPortNumber station.system p)
     → Goes g w → CallsIfLive place (PortUp p) w draws w' → Goes g w'
 if_live_goes g well place p w draws w' of goes (inl (answer, k)) =
     call_goes g well place p w draws answer w' k (of k.station k.here) goes
@@ -165,8 +165,8 @@ all_goes g well place (p ∷ ps) w draws w' has goes (first, rest, between, answ
 abbrev pub HasClocks : List System → List System → Type 0
 HasClocks systems others = (s : System) → In s systems → (t : System) × In t others × (t.clock ≡ s.clock)
 
-clock_more : (systems others : List System) (number : ℕ) → HasClocks systems others → has_clock systems number ≡ true
-    → has_clock others number ≡ true
+clock_more : (systems others : List System) (number : ℕ) → HasClocks systems others → stations_have_clock systems number ≡ true
+    → stations_have_clock others number ≡ true
 clock_more systems others number more has =
     let (s, among, named) = from_map (λ (x : System). x.clock) number systems (clock_from systems number has) in
     let (t, there, same) = more s among in
@@ -176,15 +176,15 @@ clock_more systems others number more has =
 
 used_more : (systems others : List System) (channel new : Channel) → HasClocks systems others
     → new.a ≡ channel.a → new.b ≡ channel.b → (channel.up ≡ true → new.up ≡ true)
-    → is_used systems channel ≡ true → is_used others new ≡ true
+    → channel_is_used systems channel ≡ true → channel_is_used others new ≡ true
 used_more systems others channel new more a b up used =
     let (on, ends) = and_parts channel.up _ used in
-    let (here, there) = and_parts (has_clock systems channel.a.clock) (has_clock systems channel.b.clock) ends in
+    let (here, there) = and_parts (stations_have_clock systems channel.a.clock) (stations_have_clock systems channel.b.clock) ends in
     and_from new.up _ (up on)
     (and_from _ _
-    (subst (λ (p : PortId). has_clock others p.clock ≡ true) (sym a)
+    (subst (λ (p : PortId). stations_have_clock others p.clock ≡ true) (sym a)
     (clock_more systems others channel.a.clock more here))
-    (subst (λ (p : PortId). has_clock others p.clock ≡ true) (sym b)
+    (subst (λ (p : PortId). stations_have_clock others p.clock ≡ true) (sym b)
     (clock_more systems others channel.b.clock more there)))
 
 -- each link is there, and up where it was
@@ -195,20 +195,20 @@ pub record IsThereToo (channels : List Channel) (link : ℕ) (old : Channel) : T
   pub b : new.b ≡ old.b
   pub up : old.up ≡ true → new.up ≡ true
 
-pub links_more : (w w' : WorldState) → HasClocks (live_systems w.stations) (live_systems w'.stations)
+pub links_more : (w w' : WorldState) → HasClocks (live_stations w.stations) (live_stations w'.stations)
     → ((link : ℕ) (channel : Channel) → slice_get w.net.channels link ≡ Some channel
     → IsThereToo w'.net.channels link channel)
     → (p q : PortIdentity) → Joins (snapshot_of w) p q → Joins (snapshot_of w') p q
 links_more w w' systems links p q joins =
     let way = way_of w p q joins in
     let too = links way.link way.channel way.here in
-    let used = used_more (live_systems w.stations) (live_systems w'.stations) way.channel too.new systems too.a too.b
+    let used = used_more (live_stations w.stations) (live_stations w'.stations) way.channel too.new systems too.a too.b
     too.up way.used in
     let joined' = used_joins w' way.link way.direction too.new too.here used in
     subst (λ x. Joins (snapshot_of w') x q)
-    (ap identity_of (sender_same way.direction way.channel too.new too.a too.b) ∙ way.from)
-    (subst (λ x. Joins (snapshot_of w') (identity_of (sender way.direction too.new)) x)
-    (ap identity_of (receiver_same way.direction way.channel too.new too.a too.b) ∙ way.to) joined')
+    (ap port_identity_number (sender_same way.direction way.channel too.new too.a too.b) ∙ way.from)
+    (subst (λ x. Joins (snapshot_of w') (port_identity_number (sender way.direction too.new)) x)
+    (ap port_identity_number (receiver_same way.direction way.channel too.new too.a too.b) ∙ way.to) joined')
 
 -- ---- direct edits
 
@@ -222,22 +222,22 @@ pub record IsSameFlight (channels : List Channel) (link : ℕ) (new : Channel) :
   from_b : new.from_b ≡ old.from_b
 
 queue_like : (direction : Direction) (old new : Channel) → new.from_a ≡ old.from_a → new.from_b ≡ old.from_b
-    → queue direction new ≡ queue direction old
+    → world_queue direction new ≡ world_queue direction old
 queue_like FromA old new a b = a
 queue_like FromB old new a b = b
 
 pub lanes_like : (g : Snapshot) (w w' : WorldState)
     → ((link : ℕ) (new : Channel) → slice_get w'.net.channels link ≡ Some new
     → IsSameFlight w.net.channels link new)
-    → IsSoundEverywhere says g (view w)
-    → (j : ℕ) (l : Lane) → slice_get (lanes_view w'.net.channels) j ≡ Some l → LaneIsSound says g l
+    → IsSoundEverywhere says_announce g (view w)
+    → (j : ℕ) (l : Lane) → slice_get (lanes_view w'.net.channels) j ≡ Some l → LaneIsSound says_announce g l
 lanes_like g w w' like all j l there f a member said =
     let at = lane_from w'.net.channels j l there in
     let was = like at.link at.channel at.here in
     let frames : (lane_view at.direction at.channel).frames ≡ (lane_view at.direction was.old).frames =
     ap (map frame_view) (queue_like at.direction was.old at.channel was.from_a was.from_b) in
     let from : (lane_view at.direction was.old).from ≡ l.from =
-    ap identity_of (sym (sender_same at.direction was.old at.channel was.a was.b))
+    ap port_identity_number (sym (sender_same at.direction was.old at.channel was.a was.b))
     ∙ ap (λ (x : Lane). x.from) (sym at.is) in
     subst (λ p. IsSoundSent g p a) from
     (all.lanes (lane_place at.link at.direction) (lane_view at.direction was.old)
@@ -283,7 +283,7 @@ set_there channels place old new here a b up link x there = elim (same_place lin
 -- the net alone is another
 pub net_sound : (g : Snapshot) (w : WorldState) (net : Net)
     → ((link : ℕ) (new : Channel) → slice_get net.channels link ≡ Some new → IsSameFlight w.net.channels link new)
-    → IsSoundEverywhere says g (view w) → IsSoundEverywhere says g (view (record w { net = net }))
+    → IsSoundEverywhere says_announce g (view w) → IsSoundEverywhere says_announce g (view (record w { net = net }))
 net_sound g w net like all = record {
   lanes = lanes_like g w (record w { net = net }) like all;
   stations = all.stations;

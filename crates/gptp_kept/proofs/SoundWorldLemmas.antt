@@ -22,7 +22,7 @@ use Rattle.gptp_setup.specs.Pace.{largest_interval}
 use Rattle.gptp_system.specs.declared.answer.Answer.{Answer}
 use Rattle.gptp_system.specs.Input.{PortUp, Priority}
 use Rattle.gptp_system.specs.State.{SystemState, clock}
-use Rattle.gptp_system.specs.Steps.{IsPortOf}
+use Rattle.gptp_system.specs.Steps.{HasPortNumber}
 use Rattle.gptp_system.proofs.StartLemmas.{disabled_at}
 use Rattle.gptp_system.proofs.StepLemmas.{steps_steady as identity_kept}
 use Rattle.gptp_system.proofs.TouchedLemmas.{priority_clock}
@@ -33,7 +33,7 @@ use Rattle.gptp_acts.specs.Acts.{Changes, set_to}
 use Rattle.gptp_acts.specs.Changing.{CallsAll, CallsIfLive, ComesUpIf, FailsIf, GoesDownIf, InjectsIf, RecoversIf, Starts, StartsAll, brought_up, fresh, up_ports, with_bounds, with_setup, with_station}
 use Rattle.gptp_acts.specs.Initial.{channel_from, channels_of, initial, station_of, stations_of}
 use Rattle.gptp_acts.specs.Sound.{AreApart, IsSound, JoinPorts}
-use Rattle.gptp_acts.specs.World.{Channel, WorldState, port_id, queue}
+use Rattle.gptp_acts.specs.World.{Channel, WorldState, port_id, world_queue}
 use Rattle.gptp_acts.proofs.BareLemmas.{bare, calls_bare}
 use Rattle.gptp_acts.proofs.StayLemmas.{brought_up_stays, fresh_same, refreshed_stays, stays_apart, with_setup_stays}
 use Rattle.gptp_acts.proofs.SteadyLemmas.{same_clock, started_steady}
@@ -41,19 +41,19 @@ use Rattle.gptp_acts.proofs.SoundLemmas.{starts_sound}
 use Rattle.gptp_acts.proofs.UpLemmas.{brought_ports}
 use Rattle.gptp_settling.specs.SoundLaws.{HasNews}
 use Rattle.gptp_settling.specs.SoundEverywhere.{IsSoundEverywhere, StationIsSound}
-use Rattle.gptp_settling.specs.Frame.{Frame as SeenFrame, Lane}
-use Rattle.gptp_settling.specs.Facts.{Facts}
-use Rattle.gptp_settling.specs.Network.{Network, setting}
+use Rattle.gptp_settling.specs.Frame.{AnnounceFrame as SeenFrame, Lane}
+use Rattle.gptp_settling.specs.Facts.{StationFacts}
+use Rattle.gptp_settling.specs.Network.{Network, network_setting}
 use Rattle.gptp_settling.specs.Station.{Station as SeenStation}
-use Rattle.gptp_settling.specs.Acts.{Steps}
+use Rattle.gptp_settling.specs.Acts.{MachineSteps}
 use Rattle.gptp_settling.proofs.SoundEverywhereLemmas.{sound_kept, sound_more}
 use Rattle.gptp_kept.specs.Calm.{network_of}
 use Rattle.gptp_kept.specs.Legible.{IsLegible, StationFits}
 use Rattle.gptp_kept.specs.LegibleLaws.{SetsAnOctet}
 use Rattle.gptp_kept.specs.SoundWorld.{IsGain, IsSoundWorld}
 use Rattle.gptp_kept.specs.SoundWorldLaws.{SoundActs, SoundBegins, SoundGains, SoundLater}
-use Rattle.gptp_kept.specs.Standing.{AreBetween, live_systems, snapshot_of, standing, used_links}
-use Rattle.gptp_kept.specs.View.{frame_view, says, station_view, view}
+use Rattle.gptp_kept.specs.Standing.{AreBetween, live_stations, snapshot_of, standing_system, used_channels}
+use Rattle.gptp_kept.specs.View.{frame_view, says_announce, station_view, view}
 use Rattle.gptp_kept.proofs.ActLegibleLemmas.{initial_legible, starts_legible}
 use Rattle.gptp_kept.proofs.AnsweringLemmas.{CanAnswer, IsAnswering, new_fits, sound_answers}
 use Rattle.gptp_kept.proofs.BetweenLemmas.{networks_between, starts_between}
@@ -93,12 +93,12 @@ module _ (w : WorldState) (well : IsWellFormed (snapshot_of w)) (is : IsAnswerin
       let net = with_bounds bounds place channel w.net in
       let v : WorldState = record w { net = net } in
       let more : HasNews (snapshot_of w) (snapshot_of v) = record {
-        links = links_more w v (same_systems (live_systems w.stations))
+        links = links_more w v (same_systems (live_stations w.stations))
             (set_there w.net.channels place channel new here refl refl (λ on. on));
         systems = λ s member. (s, member, refl, omega arith);
       } in
       net_sound (snapshot_of v) w net (set_flight w.net.channels place channel new here refl refl refl refl)
-      (sound_more (snapshot_of w) (snapshot_of v) well more says (view w) all)
+      (sound_more (snapshot_of w) (snapshot_of v) well more says_announce (view w) all)
 
   -- a link comes up
   up_sound : (up : Bool) (place : ℕ) (channel : Channel) (draws : List Draw) (w' : WorldState)
@@ -113,7 +113,7 @@ module _ (w : WorldState) (well : IsWellFormed (snapshot_of w)) (is : IsAnswerin
       let same = same_snapshot v w' (tells_keep channel v draws w' k) in
       let well_up : IsWellFormed g = subst IsWellFormed same well' in
       let more : HasNews (snapshot_of w) g = record {
-        links = links_more w v (same_systems (live_systems w.stations))
+        links = links_more w v (same_systems (live_stations w.stations))
             (set_there w.net.channels place channel new here refl refl (λ on. refl));
         systems = λ s member. (s, member, refl, omega arith);
       } in
@@ -127,19 +127,19 @@ module _ (w : WorldState) (well : IsWellFormed (snapshot_of w)) (is : IsAnswerin
         apart = stays_apart w v (brought_up_stays place channel w here (setups_of w is)) apart;
         same = refl;
         sound = net_sound g w net (set_flight w.net.channels place channel new here refl refl refl refl)
-            (sound_more (snapshot_of w) g well more says (view w) all);
+            (sound_more (snapshot_of w) g well more says_announce (view w) all);
       } in
       let end = tells_goes g well_up channel v draws w'
       (λ other station there named. ports place other FromA channel station here there named)
       (λ other station there named. ports place other FromB channel station here there named) goes k in
-      subst (λ (h : Snapshot). IsSoundEverywhere says h (view w')) (sym end.same) end.sound
+      subst (λ (h : Snapshot). IsSoundEverywhere says_announce h (view w')) (sym end.same) end.sound
 
   -- a system starts that has failed, or that has the identity that it starts with
   start_sound : (place : ℕ) (draws : List Draw) (w' : WorldState) → IsWellFormed (snapshot_of w')
       → (k : Starts place w draws w')
       → (k.station.live ≡ false) ⊎ (k.station.system.identity ≡ k.station.setup.identity) → IsSoundWorld w'
   start_sound place draws w' well' k new_one =
-      subst (λ (h : Snapshot). IsSoundEverywhere says h (view w')) (sym end.same) end.sound
+      subst (λ (h : Snapshot). IsSoundEverywhere says_announce h (view w')) (sym end.same) end.sound
     where
       new : Station
       new = fresh w.time k.station
@@ -157,23 +157,23 @@ module _ (w : WorldState) (well : IsWellFormed (snapshot_of w)) (is : IsAnswerin
       now_there = get-set_same w.stations place k.station new k.here
 
       -- each live system still is
-      still : (s : System) → In s (live_systems w.stations)
-          → (t : System) × In t (live_systems v.stations) × (t.clock ≡ s.clock) × (t.identity ≤ s.identity)
+      still : (s : System) → In s (live_stations w.stations)
+          → (t : System) × In t (live_stations v.stations) × (t.clock ≡ s.clock) × (t.identity ≤ s.identity)
       still s member = elim (same_place at.place place) [
         | inl same ↦ (let one : at.station ≡ k.station = same_there w.stations place at.station k.station
             (ap (slice_get w.stations) (sym same) ∙ at.here) k.here in
             let live : k.station.live ≡ true = ap (λ (x : Station). x.live) (sym one) ∙ at.live in
-            let named : (standing new).clock ≡ s.clock =
+            let named : (standing_system new).clock ≡ s.clock =
             (fresh_same w.time k.station old.its).named
             ∙ ap (λ (x : Station). clock x.system) (sym one) ∙ ap (λ (x : System). x.clock) (sym at.is) in
             let own_identity : k.station.setup.identity ≡ k.station.system.identity =
             elim new_one [ inl dead ↦ absurd cc | inr equal ↦ sym equal ] in
             let was : k.station.system.identity ≡ s.identity =
             ap (λ (x : Station). x.system.identity) (sym one) ∙ ap (λ (x : System). x.identity) (sym at.is) in
-            (standing new, live_there v.stations place new now_there refl, named, omega (arith, own_identity, was)))
+            (standing_system new, live_there v.stations place new now_there refl, named, omega (arith, own_identity, was)))
         | inr other ↦ (
           s,
-          subst (λ x. In x (live_systems v.stations)) (sym at.is)
+          subst (λ x. In x (live_stations v.stations)) (sym at.is)
               (live_there v.stations at.place at.station
               (get-set_other w.stations place at.place new other ∙ at.here) at.live),
           refl,
@@ -184,7 +184,7 @@ module _ (w : WorldState) (well : IsWellFormed (snapshot_of w)) (is : IsAnswerin
           at : IsLiveAt w.stations s
           at = live_from w.stations s member
 
-      clocks_still : HasClocks (live_systems w.stations) (live_systems v.stations)
+      clocks_still : HasClocks (live_stations w.stations) (live_stations v.stations)
       clocks_still s member = let (t, there, named, less) = still s member in (t, there, named)
 
       more : HasNews (snapshot_of w) g
@@ -194,8 +194,8 @@ module _ (w : WorldState) (well : IsWellFormed (snapshot_of w)) (is : IsAnswerin
         systems = still;
       }
 
-      all' : IsSoundEverywhere says g (view w)
-      all' = sound_more (snapshot_of w) g well more says (view w) all
+      all' : IsSoundEverywhere says_announce g (view w)
+      all' = sound_more (snapshot_of w) g well more says_announce (view w) all
 
       stations : (i : ℕ) (s : SeenStation) → slice_get (view v).stations i ≡ Some s → s.live ≡ true
           → StationIsSound g s
@@ -243,7 +243,7 @@ module _ (w : WorldState) (well : IsWellFormed (snapshot_of w)) (is : IsAnswerin
       end : Goes g w'
       end = all_goes g (subst IsWellFormed (same_snapshot v w' keeps) well') place (up_ports new w.net) v draws w'
           (λ p member station there.
-          subst (λ (x : Station). IsPortOf x.system p) (same_Some new station (sym now_there ∙ there))
+          subst (λ (x : Station). HasPortNumber x.system p) (same_Some new station (sym now_there ∙ there))
           (brought_ports new w.net p member))
           goes k.calls
 
@@ -263,10 +263,10 @@ module _ (w : WorldState) (well : IsWellFormed (snapshot_of w)) (is : IsAnswerin
       same_v : snapshot_of v ≡ snapshot_of w
       same_v =
           let same = systems_kept w.stations place station new here refl refl in
-          λ i. record { systems = same i; links = used_links (same i) w.net.channels }
+          λ i. record { systems = same i; links = used_channels (same i) w.net.channels }
 
       -- it is seen as before
-      seen_v : (g : Snapshot) → IsSoundEverywhere says g (view w) → IsSoundEverywhere says g (view v)
+      seen_v : (g : Snapshot) → IsSoundEverywhere says_announce g (view w) → IsSoundEverywhere says_announce g (view v)
       seen_v g sound = record {
         lanes = sound.lanes;
         stations = λ i s there live.
@@ -312,7 +312,7 @@ module _ (w : WorldState) (well : IsWellFormed (snapshot_of w)) (is : IsAnswerin
           call_sound g well' place (Priority value) v draws answer w' c answering
           (stays_apart w v (with_setup_stays value place station w here (setups_of w is)) apart) tt
           (record { deaf = λ n octets same. absurd cc; fits = octet }) known
-          (seen_v g (sound_more (snapshot_of w) g well more says (view w) all))
+          (seen_v g (sound_more (snapshot_of w) g well more says_announce (view w) all))
         where
           g : Snapshot
           g = snapshot_of w'
@@ -324,14 +324,14 @@ module _ (w : WorldState) (well : IsWellFormed (snapshot_of w)) (is : IsAnswerin
           there = ap (λ (x : WorldState). slice_get x.stations place) c.is
               ∙ get-set_same v.stations place c.station after c.here
 
-          known : In (standing after) g.systems
+          known : In (standing_system after) g.systems
           known = live_there w'.stations place after there c.live
 
           one : new ≡ c.station
           one = same_there v.stations place new c.station (get-set_same w.stations place station new here) c.here
 
-          still : (s : System) → In s (live_systems w.stations)
-              → (t : System) × In t (live_systems w'.stations) × (t.clock ≡ s.clock) × (t.identity ≤ s.identity)
+          still : (s : System) → In s (live_stations w.stations)
+              → (t : System) × In t (live_stations w'.stations) × (t.clock ≡ s.clock) × (t.identity ≤ s.identity)
           still s member = elim (same_place at.place place) [
             | inl same ↦ (let was : at.station ≡ station = same_there w.stations place at.station station
                 (ap (slice_get w.stations) (sym same) ∙ at.here) here in
@@ -347,10 +347,10 @@ module _ (w : WorldState) (well : IsWellFormed (snapshot_of w)) (is : IsAnswerin
                 (ap (λ (x : Station). x.system) (sym one)) in
                 let before : s.identity ≡ station.system.identity =
                 ap (λ (x : System). x.identity) at.is ∙ ap (λ (x : Station). x.system.identity) was in
-                (standing after, known, named, omega (arith, then, before, better)))
+                (standing_system after, known, named, omega (arith, then, before, better)))
             | inr other ↦ (
               s,
-              subst (λ x. In x (live_systems w'.stations)) (sym at.is)
+              subst (λ x. In x (live_stations w'.stations)) (sym at.is)
                   (live_there w'.stations at.place at.station
                   (ap (λ (x : WorldState). slice_get x.stations at.place) c.is
                   ∙ get-set_other v.stations place at.place after other
@@ -363,7 +363,7 @@ module _ (w : WorldState) (well : IsWellFormed (snapshot_of w)) (is : IsAnswerin
               at : IsLiveAt w.stations s
               at = live_from w.stations s member
 
-          clocks_still : HasClocks (live_systems w.stations) (live_systems w'.stations)
+          clocks_still : HasClocks (live_stations w.stations) (live_stations w'.stations)
           clocks_still s member = let (t, stands, named, less) = still s member in (t, stands, named)
 
           links : (link : ℕ) (channel : Channel) → slice_get w.net.channels link ≡ Some channel
@@ -386,7 +386,7 @@ module _ (w : WorldState) (well : IsWellFormed (snapshot_of w)) (is : IsAnswerin
       by (inl (answer, c)) = called answer c
       by (inr (failed, none, same)) =
           subst IsSoundWorld (sym same)
-          (subst (λ (h : Snapshot). IsSoundEverywhere says h (view v)) (sym same_v) (seen_v (snapshot_of w) all))
+          (subst (λ (h : Snapshot). IsSoundEverywhere says_announce h (view v)) (sym same_v) (seen_v (snapshot_of w) all))
 
   -- where a link is down, or a system has failed
   down_sound : (up : Bool) (place : ℕ) (channel : Channel) (draws : List Draw) (w' : WorldState) → up ≡ false
@@ -462,14 +462,14 @@ sound_acts p act w draws done w' none k is all =
     let keeps = acts_keep act w draws done w' none k in
     let start = w.last_change + 2 * largest_interval p in
     let same : network_of p 0 start w' ≡ network_of p 0 start w = same_network w w' keeps p 0 start in
-    let before : Facts (setting (network_of p 0 start w)) (view w) =
+    let before : StationFacts (network_setting (network_of p 0 start w)) (view w) =
     facts p 0 start w is.sound is.legible is.known in
-    let after : Facts (setting (network_of p 0 start w)) (view w') =
-    subst (λ (n : Network). Facts (setting n) (view w')) same
+    let after : StationFacts (network_setting (network_of p 0 start w)) (view w') =
+    subst (λ (n : Network). StationFacts (network_setting n) (view w')) same
     (facts p 0 start w' is'.sound is'.legible is'.known) in
-    let step : Steps says (view w) (view w') = inr (acts_seen act w draws done w' none is.sound is.legible k) in
-    subst (λ (h : Snapshot). IsSoundEverywhere says h (view w')) (sym (same_snapshot w w' keeps))
-    (sound_kept says (setting (network_of p 0 start w)) (view w) (view w')
+    let step : MachineSteps says_announce (view w) (view w') = inr (acts_seen act w draws done w' none is.sound is.legible k) in
+    subst (λ (h : Snapshot). IsSoundEverywhere says_announce h (view w')) (sym (same_snapshot w w' keeps))
+    (sound_kept says_announce (network_setting (network_of p 0 start w)) (view w) (view w')
     (stands_well w is.sound is.between is.legible) before after step all)
 
 pub sound_later : SoundLater
@@ -531,7 +531,7 @@ initial_all_sound n = record {
       let at = lane_from (channels_of n) j l there in
       let (wire, stood, made) = mapped channel_from n.links at.link at.channel at.here in
       absurd (still wire at.direction f
-      (subst (λ (c : Channel). In f (map frame_view (queue at.direction c))) (sym made)
+      (subst (λ (c : Channel). In f (map frame_view (world_queue at.direction c))) (sym made)
       (subst (λ (x : Lane). In f x.frames) at.is member)));
   stations = λ i s there live.
       let at = station_from (stations_of n) i s there in
@@ -542,7 +542,7 @@ initial_all_sound n = record {
 }
   where
     still : (wire : Wire) (direction : Direction) (f : SeenFrame)
-        → In f (map frame_view (queue direction (channel_from wire))) → ⊥
+        → In f (map frame_view (world_queue direction (channel_from wire))) → ⊥
     still wire FromA f member = member
     still wire FromB f member = member
 

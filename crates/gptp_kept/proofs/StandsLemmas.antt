@@ -8,18 +8,18 @@ use Rattle.gptp_links.specs.declared.link.Direction.TheVariants.{FromA, FromB}
 use Rattle.gptp_acts.specs.Sound.{IsSound}
 use Rattle.gptp_acts.specs.World.{Channel, WorldState, receiver, sender}
 use Rattle.gptp_kept.specs.Legible.{IsLegible}
-use Rattle.gptp_kept.specs.Standing.{AreBetween, has_clock, is_used, live_systems, snapshot_of}
+use Rattle.gptp_kept.specs.Standing.{AreBetween, stations_have_clock, channel_is_used, live_stations, snapshot_of}
 use Rattle.gptp_kept.proofs.SystemLemmas.{clock_lives, clocks_differ, live_from}
 use Rattle.gptp_kept.proofs.WayLemmas.{IsWay, way_of, ways_meet}
 
 -- ---- a used link
 
 -- it is up, and both its ends live
-pub used_up : (systems : List System) (channel : Channel) → is_used systems channel ≡ true → channel.up ≡ true
+pub used_up : (systems : List System) (channel : Channel) → channel_is_used systems channel ≡ true → channel.up ≡ true
 used_up systems channel used = (and_parts channel.up _ used).0
 
 pub sender_lives : (systems : List System) (direction : Direction) (channel : Channel)
-    → is_used systems channel ≡ true → has_clock systems (sender direction channel).clock ≡ true
+    → channel_is_used systems channel ≡ true → stations_have_clock systems (sender direction channel).clock ≡ true
 sender_lives systems FromA channel used = (and_parts _ _ (and_parts channel.up _ used).1).0
 sender_lives systems FromB channel used = (and_parts _ _ (and_parts channel.up _ used).1).1
 
@@ -32,7 +32,7 @@ ends_differ w between link FromB channel here = λ same. (between link channel h
 
 -- ---- what stands well
 
-identified : (w : WorldState) → IsLegible w → (s : System) → In s (live_systems w.stations) → IsIdentified s
+identified : (w : WorldState) → IsLegible w → (s : System) → In s (live_stations w.stations) → IsIdentified s
 identified w legible s member =
     let at = live_from w.stations s member in
     subst IsIdentified (sym at.is)
@@ -40,10 +40,10 @@ identified w legible s member =
 
 -- a link ends at a port of a live system
 ends_at : (w : WorldState) → IsSound w → (p q : PortIdentity) → IsWay w p q
-    → (s : System) × In s (live_systems w.stations) × IsPortOf s p
+    → (s : System) × In s (live_stations w.stations) × IsPortOf s p
 ends_at w sound p q way =
     let (s, member, same) = clock_lives w.stations (sender way.direction way.channel).clock
-    (sender_lives (live_systems w.stations) way.direction way.channel way.used) in
+    (sender_lives (live_stations w.stations) way.direction way.channel way.used) in
     let at = live_from w.stations s member in
     let port = sound.wired.ports way.link at.place way.direction way.channel at.station way.here at.here
     (ap (λ (x : System). x.clock) (sym at.is) ∙ same) in (

@@ -21,7 +21,7 @@ use Rattle.gptp_system.specs.declared.port.Port.{Port}
 use Rattle.gptp_system.specs.Input.{Input, PortUp}
 use Rattle.gptp_system.specs.Start.{started}
 use Rattle.gptp_system.specs.State.{SystemState, clock, number}
-use Rattle.gptp_system.specs.Steps.{IsPortOf}
+use Rattle.gptp_system.specs.Steps.{HasPortNumber}
 use Rattle.gptp_system.proofs.StartLemmas.{new_port_at}
 use Rattle.gptp_acts.specs.declared.station.Station.{Station}
 use Rattle.gptp_acts.specs.Act.{Calls, all_timers, in_state}
@@ -29,7 +29,7 @@ use Rattle.gptp_acts.specs.Changing.{CallsAll, Starts, StartsAll, fresh, up_port
 use Rattle.gptp_acts.specs.Course.{Begun}
 use Rattle.gptp_acts.specs.Initial.{channel_from, initial, setup_of, station_of}
 use Rattle.gptp_acts.specs.Sound.{IsItsSetup, IsSound}
-use Rattle.gptp_acts.specs.World.{Channel, WorldState, queue, receiver, sender}
+use Rattle.gptp_acts.specs.World.{Channel, WorldState, world_queue, receiver, sender}
 use Rattle.gptp_acts.proofs.StayLemmas.{calls_stay, starts_all_stay}
 use Rattle.gptp_acts.proofs.UpLemmas.{brings_port, brought_ports}
 use Rattle.gptp_measuring.specs.Lanes.{AreMute}
@@ -37,8 +37,8 @@ use Rattle.gptp_measuring.proofs.LaneLemmas.{no_frames_mute}
 use Rattle.gptp_kept.specs.FirstAt.{IsFirstAt}
 use Rattle.gptp_kept.specs.FirstAtLaws.{StartIsFirst}
 use Rattle.gptp_kept.specs.Holds.{IsWorld}
-use Rattle.gptp_kept.specs.LinkView.{IsEndOf, IsLinkOf, LinkPlace, asks, frame_view, opposite, replies, waits_by}
-use Rattle.gptp_kept.specs.Measured.{IsLiveAt, IsMeasured, IsStationMeasured, StandsAt}
+use Rattle.gptp_kept.specs.LinkView.{IsEndOf, IsLinkOf, LinkPlace, reads_as_request, link_frame_view, other_direction, reads_as_reply, waits_by}
+use Rattle.gptp_kept.specs.Measured.{StationIsLiveAt, LinkIsMeasured, IsStationMeasured, LinkStandsAt}
 use Rattle.gptp_kept.specs.NewsWorld.{AllLive}
 use Rattle.gptp_kept.proofs.CalmKeptLemmas.{KeepsNetwork, calls_keep, keeps_on, net_keeps}
 use Rattle.gptp_kept.proofs.CapableKeptLemmas.{known_params, stood_among}
@@ -249,8 +249,8 @@ module _ (time place : ℕ) (w : WorldState) (draws : List Draw) (w' : WorldStat
       let one : wake k.station ≡ station =
       same_there (woken w).stations place (wake k.station) station stands_woken there
       in
-      subst (λ (x : Station). IsPortOf x.system p) one
-      (subst (λ s. IsPortOf s p) (sym as_started) (brought_ports new w.net p member))
+      subst (λ (x : Station). HasPortNumber x.system p) one
+      (subst (λ s. HasPortNumber s p) (sym as_started) (brought_ports new w.net p member))
 
   ports_differ : Different ports
   ports_differ =
@@ -286,12 +286,12 @@ module _ (time place : ℕ) (w : WorldState) (draws : List Draw) (w' : WorldStat
         named : clock new.system ≡ (sender at.direction l.channel).clock
         named = ap clock (sym system_is) ∙ l.asking.named
 
-        of : IsPortOf new.system (sender at.direction l.channel).port
-        of = subst (λ s. IsPortOf s (sender at.direction l.channel).port) system_is
+        of : HasPortNumber new.system (sender at.direction l.channel).port
+        of = subst (λ s. HasPortNumber s (sender at.direction l.channel).port) system_is
             (by (sender at.direction l.channel).port l.asking.there)
           where
             by : (n : ℕ) → number l.asking.station.system.ports n ≡ Some l.asking.state
-                → IsPortOf l.asking.station.system n
+                → HasPortNumber l.asking.station.system n
             by zero there = absurd (none-some l.asking.state there)
             by (suc i) there =
                 let less = within l.asking.station.system.ports i l.asking.state there in
@@ -507,7 +507,7 @@ module _ {F : Type 0} (answers : Bounds → ℕ → F → Option ℕ → F → T
             subst (λ (x : Station). AreParams x.system.params) made (old.params place was here);
       }
 
-  measured : IsMeasured first_world
+  measured : LinkIsMeasured first_world
   measured =
       let old = initially_measured n in
       record {
@@ -531,12 +531,12 @@ module _ {F : Type 0} (answers : Bounds → ℕ → F → Option ℕ → F → T
       ap (λ (x : Station). x.setup.params) (sym made) ∙ ap (λ (x : Station). x.setup.params) (sym is)
 
   none_flies : (link : ℕ) (channel : Channel) → slice_get first_world.net.channels link ≡ Some channel
-      → (direction : Direction) → queue direction channel ≡ []
+      → (direction : Direction) → world_queue direction channel ≡ []
   none_flies link channel here direction =
       let (wire, stood, made) = mapped channel_from n.links link channel here in
-      subst (λ (c : Channel). queue direction c ≡ []) made (still wire direction)
+      subst (λ (c : Channel). world_queue direction c ≡ []) made (still wire direction)
     where
-      still : (wire : Wire) (way : Direction) → queue way (channel_from wire) ≡ []
+      still : (wire : Wire) (way : Direction) → world_queue way (channel_from wire) ≡ []
       still wire FromA = refl
       still wire FromB = refl
 
@@ -556,23 +556,23 @@ module _ {F : Type 0} (answers : Bounds → ℕ → F → Option ℕ → F → T
           (subst (λ (s : SystemState). slice_get s.ports i ≡ Some e.state) system_is there) in
           ap (λ (x : Port). x.respond) port_is
 
-  module _ (is : IsWorld (pace_of n) w) (at : LinkPlace) (stands : StandsAt at w) where
-    stood : StandsAt at first_world
+  module _ (is : IsWorld (pace_of n) w) (at : LinkPlace) (stands : LinkStandsAt at w) where
+    stood : LinkStandsAt at first_world
     stood =
         stood_among (pace_of n) first_world w orderly.clocks params is.sound.wired.clocks
         (known_params (pace_of n) w is.known.set) (subst (KeepsNetwork first_world) woken_is keeps_time.0) at stands
 
-    of : (place : ℕ) (direction : Direction) (e : IsLiveAt place (sender direction stood.channel).clock first_world)
-        → IsPortOf e.station.system (sender direction stood.channel).port
+    of : (place : ℕ) (direction : Direction) (e : StationIsLiveAt place (sender direction stood.channel).clock first_world)
+        → HasPortNumber e.station.system (sender direction stood.channel).port
     of place direction e =
         let (was, here, made) = from_wake place e.station e.here in
-        subst (λ (x : Station). IsPortOf x.system (sender direction stood.channel).port) made
+        subst (λ (x : Station). HasPortNumber x.system (sender direction stood.channel).port) made
         (sound.wired.ports at.link place direction stood.channel was stood.here here
         (ap (λ (x : Station). clock x.system) made ∙ e.named))
 
     link : IsLinkOf at first_world
     link =
-        let begins : sender (opposite at.direction) stood.channel ≡ receiver at.direction stood.channel =
+        let begins : sender (other_direction at.direction) stood.channel ≡ receiver at.direction stood.channel =
         sender_opposite at.direction stood.channel in
         record {
           channel = stood.channel;
@@ -582,8 +582,8 @@ module _ {F : Type 0} (answers : Bounds → ℕ → F → Option ℕ → F → T
           asking = end_is at.asking (sender at.direction stood.channel) first_world measured stood.asking
               (of at.asking at.direction stood.asking);
           answering = end_is at.answering (receiver at.direction stood.channel) first_world measured stood.answering
-              (subst (λ (q : PortId). IsPortOf stood.answering.station.system q.port) begins
-              (of at.answering (opposite at.direction)
+              (subst (λ (q : PortId). HasPortNumber stood.answering.station.system q.port) begins
+              (of at.answering (other_direction at.direction)
               (record {
                 station = stood.answering.station;
                 here = stood.answering.here;
@@ -602,8 +602,8 @@ module _ {F : Type 0} (answers : Bounds → ℕ → F → Option ℕ → F → T
     ready : IsReady at 0 port first_world
     unfolding link
     ready =
-        let out = ap (map frame_view) (none_flies at.link stood.channel stood.here at.direction) in
-        let back = ap (map frame_view) (none_flies at.link stood.channel stood.here (opposite at.direction)) in
+        let out = ap (map link_frame_view) (none_flies at.link stood.channel stood.here at.direction) in
+        let back = ap (map link_frame_view) (none_flies at.link stood.channel stood.here (other_direction at.direction)) in
         let pace = keeps_pace n network in
         let asking = params at.asking stood.asking.station stood.asking.here in
         let answering = params at.answering stood.answering.station stood.answering.here in
@@ -618,11 +618,11 @@ module _ {F : Type 0} (answers : Bounds → ℕ → F → Option ℕ → F → T
               + stood.answering.station.setup.params.turnaround
               < interval_of stood.asking.station.setup.params.pdelay = rw (asking, answering) answered in
               omega (arith, good, short));
-          silent = subst (AreMute asks) (sym out) (no_frames_mute asks);
+          silent = subst (AreMute reads_as_request) (sym out) (no_frames_mute reads_as_request);
           sent = λ f member. absurd (subst (In f) out member);
           waits = ap (λ o. waits_by o link.answering.state.peer.waiting)
               (no_answer at.answering (receiver at.direction stood.channel) link.answering);
-          mute = subst (AreMute replies) (sym back) (no_frames_mute replies);
+          mute = subst (AreMute reads_as_reply) (sym back) (no_frames_mute reads_as_reply);
           dues = λ f member. absurd (subst (In f) back member);
         }
 

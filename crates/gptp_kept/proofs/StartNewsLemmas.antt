@@ -10,10 +10,10 @@ use Rattle.gptp_acts.specs.World.{WorldState}
 use Rattle.gptp_kept.specs.Calm.{delay_in}
 use Rattle.gptp_kept.specs.FirstAt.{IsFirstAt}
 use Rattle.gptp_kept.specs.Holds.{IsWorld}
-use Rattle.gptp_kept.specs.LinkView.{LinkPlace, setting}
+use Rattle.gptp_kept.specs.LinkView.{LinkPlace, link_setting}
 use Rattle.gptp_kept.specs.NewsWorld.{IsReadyBy}
 use Rattle.gptp_kept.specs.NewsWorldLaws.{StartIsNews}
-use Rattle.gptp_kept.specs.Standing.{live_systems}
+use Rattle.gptp_kept.specs.Standing.{live_stations}
 use Rattle.gptp_kept.proofs.BeginLemmas.{first_measured}
 use Rattle.gptp_kept.proofs.DelayLemmas.{delay_of_used}
 use Rattle.gptp_kept.proofs.NewsWorldLemmas.{link_used, news_begin, none_silent}
@@ -28,12 +28,12 @@ first_ready p start first w is at soon one =
     let l = one.link in
     let asks = (is.known.set at.asking l.asking.station l.asking.here).starts.params in
     let answers = (is.known.set at.answering l.answering.station l.answering.here).starts.params in
-    let period : (setting at w l).period ≡ interval_of p.params.pdelay =
+    let period : (link_setting at w l).period ≡ interval_of p.params.pdelay =
     ap (λ (x : Params). interval_of x.pdelay) asks in
-    let turnaround : (setting at w l).turnaround ≡ p.params.turnaround =
+    let turnaround : (link_setting at w l).turnaround ≡ p.params.turnaround =
     ap (λ (x : Params). x.turnaround) answers in
-    let most : (setting at w l).most ≤ delay_in w =
-    delay_of_used (live_systems w.stations) w.net.channels at.link l.channel l.here
+    let most : (link_setting at w l).most ≤ delay_in w =
+    delay_of_used (live_stations w.stations) w.net.channels at.link l.channel l.here
     (link_used at w l) in
     inl (first, (one, omega (arith, period, turnaround, most, soon)))
 

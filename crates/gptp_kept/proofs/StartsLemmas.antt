@@ -19,7 +19,7 @@ use Rattle.gptp_system.specs.State.{clock}
 use Rattle.gptp_system.specs.Steps.{IsUp}
 use Rattle.gptp_system.proofs.StartLemmas.{new_port_at}
 use Rattle.gptp_acts.specs.declared.station.Station.{Station}
-use Rattle.gptp_acts.specs.Changing.{CallsAll, CallsIfLive, RecoversIf, Starts, StartsAll, fresh, is_end, is_up_at, up_ports}
+use Rattle.gptp_acts.specs.Changing.{CallsAll, CallsIfLive, RecoversIf, Starts, StartsAll, fresh, is_link_end, is_up_at, up_ports}
 use Rattle.gptp_acts.specs.World.{Channel, WorldState, port_id, sender}
 use Rattle.gptp_acts.proofs.AgreeLemmas.{replaced}
 use Rattle.gptp_lists.proofs.PlaceLemmas.{get-set_same}
@@ -42,7 +42,7 @@ started_still setup now (suc i) up = by (slice_get (started setup now).ports i) 
         absurd cc
 
 -- a port at which a start finds a link that is up
-port_is : (number port : ℕ) (end : PortId) → is_end number port end ≡ true → end ≡ port_id number port
+port_is : (number port : ℕ) (end : PortId) → is_link_end number port end ≡ true → end ≡ port_id number port
 port_is number port end is =
     let named : end.clock ≡ number = grind (arith, nat_tests) in
     let at : end.port ≡ port = grind (arith, nat_tests) in
@@ -59,8 +59,8 @@ next_link c cs port is = record {
 }
 
 first_link : (c : Channel) (cs : List Channel) (number port : ℕ)
-    → (c.up && (is_end number port c.a || is_end number port c.b)) ≡ true → BeginsLink (c ∷ cs) (port_id number port)
-first_link c cs number port is = by (is_end number port c.a) refl
+    → (c.up && (is_link_end number port c.a || is_link_end number port c.b)) ≡ true → BeginsLink (c ∷ cs) (port_id number port)
+first_link c cs number port is = by (is_link_end number port c.a) refl
   where
     up : c.up ≡ true
     up = grind (arith, nat_tests)
@@ -69,18 +69,18 @@ first_link c cs number port is = by (is_end number port c.a) refl
     at direction same =
         record { link = zero; direction = direction; channel = c; here = refl; begins = same; up = up }
 
-    by : (b : Bool) → is_end number port c.a ≡ b → BeginsLink (c ∷ cs) (port_id number port)
+    by : (b : Bool) → is_link_end number port c.a ≡ b → BeginsLink (c ∷ cs) (port_id number port)
     by true here = at FromA (port_is number port c.a here)
     by false other =
-        let here : is_end number port c.b ≡ true = grind (arith, nat_tests) in at FromB (port_is number port c.b here)
+        let here : is_link_end number port c.b ≡ true = grind (arith, nat_tests) in at FromB (port_is number port c.b here)
 
 found_link : (channels : List Channel) (number port : ℕ) → is_up_at channels number port ≡ true
     → BeginsLink channels (port_id number port)
 found_link [] number port is = absurd cc
 found_link (c ∷ cs) number port is =
-    by (c.up && (is_end number port c.a || is_end number port c.b)) refl is (λ rest. found_link cs number port rest)
+    by (c.up && (is_link_end number port c.a || is_link_end number port c.b)) refl is (λ rest. found_link cs number port rest)
   where
-    by : (b : Bool) → (c.up && (is_end number port c.a || is_end number port c.b)) ≡ b
+    by : (b : Bool) → (c.up && (is_link_end number port c.a || is_link_end number port c.b)) ≡ b
         → (b || is_up_at cs number port) ≡ true → (is_up_at cs number port ≡ true → BeginsLink cs (port_id number port))
         → BeginsLink (c ∷ cs) (port_id number port)
     by true here found ih = first_link c cs number port here

@@ -9,11 +9,11 @@ use Rattle.gptp_setup.specs.Intervals.{interval_of}
 use Rattle.gptp_setup.specs.declared.timer.Timer.{Timer}
 use Rattle.gptp_setup.specs.declared.timer.Timer.TheVariants as timers
 use Rattle.gptp_system.specs.declared.answer.Answer.{Answer}
-use Rattle.gptp_system.specs.Input.{Frame as FrameHeard, Expires as TimerExpires}
+use Rattle.gptp_system.specs.Input.{Frame as FrameHeard, TimerRunsOut as TimerExpires}
 use Rattle.gptp_system.specs.State.{SystemState, can_lead}
 use Rattle.gptp_system.proofs.LapseLemmas.{lapse_begins}
 use Rattle.gptp_acts.specs.declared.station.Station.{Station}
-use Rattle.gptp_acts.specs.Act.{Calls, Delivers, Expires, Hears, in_state}
+use Rattle.gptp_acts.specs.Act.{Calls, Delivers, TimerRunsOut, Hears, in_state}
 use Rattle.gptp_acts.specs.Agrees.{stopped}
 use Rattle.gptp_acts.specs.Sound.{IsSound}
 use Rattle.gptp_acts.specs.World.{WorldState, receiver}
@@ -27,14 +27,14 @@ use Rattle.gptp_messages.specs.Grammar.{Reads}
 use Rattle.gptp_settling.specs.Acts.{Arrives, Drops, Runs}
 use Rattle.gptp_settling.specs.Frame.{Sync, SyncId}
 use Rattle.gptp_settling.specs.Network.{Network}
-use Rattle.gptp_settling.specs.Station.{State, Station as SeenStation}
-use Rattle.gptp_settling.specs.SyncActs.{FollowsOn, HearsSync, IsFollowed, SyncActs, SyncArrives, SyncDrops, SyncRuns, TimerStep}
+use Rattle.gptp_settling.specs.Station.{MachineState, Station as SeenStation}
+use Rattle.gptp_settling.specs.SyncActs.{FollowsOn, HearsFollowedSync, IsFollowed, SyncActs, SyncArrives, SyncDrops, SyncRuns, TimerStep}
 use Rattle.gptp_kept.specs.Calm.{SettlingTimes, network_with}
 use Rattle.gptp_kept.specs.Known.{AreSet, IsKnown}
 use Rattle.gptp_kept.specs.Legible.{IsLegible}
 use Rattle.gptp_kept.specs.SeenLaws.{IsNoChange}
 use Rattle.gptp_kept.specs.SyncView.{KnowTime, TakesTime}
-use Rattle.gptp_kept.specs.View.{kept_view, says, says_sync, station_view, sync_id, view}
+use Rattle.gptp_kept.specs.View.{kept_view, says_announce, says_sync, station_view, sync_id, view}
 use Rattle.gptp_settling.specs.Syncs.{HasSyncTimers, HaveSyncTimers, MayLead}
 use Rattle.gptp_kept.proofs.PlaceLemmas.{station_from}
 use Rattle.gptp_kept.proofs.SeenDeliveryLemmas.{IsArrivalAt, emptied_apart, failed_drops, receiver_arrives, receiver_up}
@@ -61,11 +61,11 @@ module _ (p : Pace) (m start : ℕ) (times : SettlingTimes) (w : WorldState) (so
   -- ---- an expiry
 
   -- what is asked of what isn't a delivery
-  abbrev RunsSo : SeenStation → SeenStation → State → Type 0
+  abbrev RunsSo : SeenStation → SeenStation → MachineState → Type 0
   RunsSo s s' w' = TimerStep says_sync n (view w) w' s s' × (FollowsOn s s' → s'.kept ≡ s.kept)
 
-  pub expiries_tell : (place : ℕ) (timer : Timer) (draws : List Draw) (w' : WorldState) → Expires place timer w draws w'
-      → (act : Runs says (view w) (view w')) × SyncRuns says says_sync n (view w) (view w') act
+  pub expiries_tell : (place : ℕ) (timer : Timer) (draws : List Draw) (w' : WorldState) → TimerRunsOut place timer w draws w'
+      → (act : Runs says_announce (view w) (view w')) × SyncRuns says_announce says_sync n (view w) (view w') act
   expiries_tell place timer draws w' k =
       let c = k.calls in
       let steady = (sound.on_time.stations place c.station c.here).steady in
@@ -97,9 +97,9 @@ module _ (p : Pace) (m start : ℕ) (times : SettlingTimes) (w : WorldState) (so
     port = (receiver direction k.channel).port
 
     -- what is asked of a frame that arrives at a port
-    abbrev Heard : State → SeenStation → SeenStation → ℕ → List ℕ → Type 0
+    abbrev Heard : MachineState → SeenStation → SeenStation → ℕ → List ℕ → Type 0
     Heard mid s s' at said = TimerStep says_sync n mid (view w') s s'
-        × (((i : ℕ) → s.slave ≡ Some (suc i) → at ≡ suc i → FollowsOn s s' → HearsSync says_sync n w.time i said s s')
+        × (((i : ℕ) → s.slave ≡ Some (suc i) → at ≡ suc i → FollowsOn s s' → HearsFollowedSync says_sync n w.time i said s s')
         × ((i : ℕ) → s.slave ≡ Some (suc i) → at ≢ suc i → FollowsOn s s' → s'.kept ≡ s.kept))
 
     module _ (one : Answer) (c : Calls k.place (FrameHeard port octets) emptied draws one w') where
@@ -139,7 +139,7 @@ module _ (p : Pace) (m start : ℕ) (times : SettlingTimes) (w : WorldState) (so
       -- at the Slave port
       hears : (i : ℕ) → s.slave ≡ Some (suc i) → port ≡ suc i
           → FollowsOn (station_view c.station) (station_view called)
-          → HearsSync says_sync n w.time i octets (station_view c.station) (station_view called)
+          → HearsFollowedSync says_sync n w.time i octets (station_view c.station) (station_view called)
       hears i slave here still =
           let t = slave_takes s steady i slave in
           let takes : TakesTime s port t.source = subst (λ q. TakesTime s q t.source) (sym here) t.takes in
@@ -185,7 +185,7 @@ module _ (p : Pace) (m start : ℕ) (times : SettlingTimes) (w : WorldState) (so
               let (at, two_step, from) = followed_here s (suc i) t.source t.takes kept.port kept.head kept.followed in
               other (frame.0 ∙ at)
 
-      arrives_so : SyncArrives says says_sync n (view w) (view w') arrival.act
+      arrives_so : SyncArrives says_announce says_sync n (view w) (view w') arrival.act
       arrives_so =
           let so : Heard (view emptied) (station_view c.station) (station_view called) port octets =
           (timer_steps, (hears, keeps)) in
@@ -196,14 +196,14 @@ module _ (p : Pace) (m start : ℕ) (times : SettlingTimes) (w : WorldState) (so
           let seen = subst (λ X. X) same so in
           record { timers = seen.0; hears = seen.1.0; keeps = seen.1.1 }
 
-    pub deliveries_tell : ((act : Arrives says (view w) (view w'))
-        × SyncArrives says says_sync n (view w) (view w') act)
-        ⊎ ((act : Drops says (view w) (view w')) × SyncDrops says says_sync (view w) (view w') act)
+    pub deliveries_tell : ((act : Arrives says_announce (view w) (view w'))
+        × SyncArrives says_announce says_sync n (view w) (view w') act)
+        ⊎ ((act : Drops says_announce (view w) (view w')) × SyncDrops says_announce says_sync (view w) (view w') act)
     deliveries_tell = by answer k.hears
       where
         by : (o : Option Answer) → Hears k.place port octets emptied draws o w'
-            → ((act : Arrives says (view w) (view w')) × SyncArrives says says_sync n (view w) (view w') act)
-            ⊎ ((act : Drops says (view w) (view w')) × SyncDrops says says_sync (view w) (view w') act)
+            → ((act : Arrives says_announce (view w) (view w')) × SyncArrives says_announce says_sync n (view w) (view w') act)
+            ⊎ ((act : Drops says_announce (view w) (view w')) × SyncDrops says_announce says_sync (view w) (view w') act)
         by None hears =
             let drop = failed_drops link direction octets w draws answer w' sound legible k hears in
             inr (drop.act, λ i m x at named live said. drop.failed i m at named live)
@@ -212,13 +212,13 @@ module _ (p : Pace) (m start : ℕ) (times : SettlingTimes) (w : WorldState) (so
   -- ---- every act
 
   pub acts_tell : (act : Act) (draws : List Draw) (done : Done) (w' : WorldState) → IsNoChange act
-      → Acts act w draws done w' → SyncActs says says_sync n (view w) (view w')
+      → Acts act w draws done w' → SyncActs says_announce says_sync n (view w) (view w')
   acts_tell (Deliver link direction) draws done w' none k =
       by (deliveries_tell link direction k.octets draws k.answer w' k.delivers)
     where
-      by : ((act : Arrives says (view w) (view w')) × SyncArrives says says_sync n (view w) (view w') act)
-          ⊎ ((act : Drops says (view w) (view w')) × SyncDrops says says_sync (view w) (view w') act)
-          → SyncActs says says_sync n (view w) (view w')
+      by : ((act : Arrives says_announce (view w) (view w')) × SyncArrives says_announce says_sync n (view w) (view w') act)
+          ⊎ ((act : Drops says_announce (view w) (view w')) × SyncDrops says_announce says_sync (view w) (view w') act)
+          → SyncActs says_announce says_sync n (view w) (view w')
       by (inl arrives) = inl arrives
       by (inr drops) = inr (inl drops)
   acts_tell (Expire number timer) draws done w' none (told, k) =

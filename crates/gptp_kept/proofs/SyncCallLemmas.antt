@@ -21,13 +21,13 @@ use Rattle.gptp_system.specs.declared.answer.Answer.{Answer}
 use Rattle.gptp_system.specs.declared.port.Port.{Port}
 use Rattle.gptp_system.specs.declared.sending.Sending.{Sending}
 use Rattle.gptp_system.specs.Facts.{AreShown}
-use Rattle.gptp_system.specs.Follows.{FollowsItself, FollowsPort}
+use Rattle.gptp_system.specs.Follows.{SystemIsRoot, SystemFollowsPort}
 use Rattle.gptp_system.specs.Input.{Input, IsTimely, Steps, PortUp, PortDown, Frame as FrameHeard, Expires, Priority}
 use Rattle.gptp_system.specs.Reach.{is_touched, may_select, stops_at}
 use Rattle.gptp_system.specs.Selection.{kept_if}
 use Rattle.gptp_system.specs.State.{SystemState, can_lead, is_capable_at}
-use Rattle.gptp_system.specs.Syncing.{RelaysBy, RelaysIf, SyncsIf, leads}
-use Rattle.gptp_system.specs.Times.{Waits, WaitsAnew}
+use Rattle.gptp_system.specs.Syncing.{RelaysBy, RelaysIf, SyncsIf, is_leading}
+use Rattle.gptp_system.specs.Times.{LapseRunsOn, WaitsAnew}
 use Rattle.gptp_system.proofs.FollowLemmas.{follows}
 use Rattle.gptp_system.proofs.ReachLemmas.{steps_reach}
 use Rattle.gptp_system.proofs.TimeLemmas.{steps_run_on}
@@ -44,7 +44,7 @@ use Rattle.gptp_settling.specs.SyncActs.{FollowsOn, IsFollowed, SendsPairs, Time
 use Rattle.gptp_settling.specs.Syncs.{MayLead}
 use Rattle.gptp_kept.specs.SyncLaws.{TellsTime}
 use Rattle.gptp_kept.specs.SyncView.{KnowsTime, TakesTime}
-use Rattle.gptp_kept.specs.View.{identity_of, kept_view, lanes_view, reception_view, says_sync, span_at, station_view, system_view, view}
+use Rattle.gptp_kept.specs.View.{port_identity_number, kept_view, lanes_view, reception_view, says_sync, span_at, station_view, system_view, view}
 use Rattle.gptp_kept.proofs.PortLemmas.{held_from, holds_there}
 use Rattle.gptp_kept.proofs.SyncHeardLemmas.{id_of}
 use Rattle.gptp_kept.proofs.SyncLaneLemmas.{pairs_enter}
@@ -109,11 +109,11 @@ relays_held (Some info) now s s' sends k = relays_held_by (has_sync_timeout s.pa
 
 -- ---- what a system follows
 
--- one without a Slave port follows itself, and leads where it may
-leads_itself : (s : SystemState) → IsSteady s → s.slave ≡ None → MayLead s.root → leads s ≡ true
+-- one without a Slave port follows itself, and is_leading where it may
+leads_itself : (s : SystemState) → IsSteady s → s.slave ≡ None → MayLead s.root → is_leading s ≡ true
 leads_itself s steady none may = by (follows s steady.held steady.rest)
   where
-    by : FollowsItself s ⊎ FollowsPort s → leads s ≡ true
+    by : SystemIsRoot s ⊎ SystemFollowsPort s → is_leading s ≡ true
     by (inl k) =
         let root = k.root in
         let most : s.identity < 255 * 2 ^ 104 = subst MayLead root may in
@@ -148,14 +148,14 @@ pub record TakesSyncs (s : SystemState) (i : ℕ) : Type 0 where
 pub slave_takes : (s : SystemState) → IsSteady s → (i : ℕ) → s.slave ≡ Some (suc i) → TakesSyncs s i
 slave_takes s steady i slave = by (follows s steady.held steady.rest)
   where
-    by : FollowsItself s ⊎ FollowsPort s → TakesSyncs s i
+    by : SystemIsRoot s ⊎ SystemFollowsPort s → TakesSyncs s i
     by (inl k) = absurd (none-some (suc i) (sym k.slave ∙ slave))
     by (inr k) =
         let same : suc k.place ≡ suc i = same_Some (suc k.place) (suc i) (sym k.slave ∙ slave) in
         let place : k.place ≡ i = omega arith in
         let stands : slice_get s.held i ≡ Some k.held = ap (slice_get s.held) (sym place) ∙ k.there in
         record {
-          source = identity_of k.reception.vector.source;
+          source = port_identity_number k.reception.vector.source;
           takes = record {
             capable = capable_where s steady.shown i k.held k.reception stands k.holds;
             slave = slave;
@@ -171,7 +171,7 @@ slave_takes s steady i slave = by (follows s steady.held steady.rest)
               let held = same_Some k.held at.held (sym stands ∙ at.stands) in
               let reception = same_Some k.reception at.reception (sym k.holds ∙ ap received held ∙ at.got) in
               ap (λ (x : SeenReception). x.said.source) at.is
-              ∙ ap (λ (x : Reception). identity_of x.vector.source) (sym reception) ∙ sym is;
+              ∙ ap (λ (x : Reception). port_identity_number x.vector.source) (sym reception) ∙ sym is;
         }
 
 -- ---- a call
@@ -197,12 +197,12 @@ module _ (place : ℕ) (input : Input) (w : WorldState) (draws : List Draw) (ans
       (let count = its.ports in let most = its.few in omega arith) k.station.live i j q l l' root steps there mine here
       (subst (λ (v : WorldState). slice_get (lanes_view v.net.channels) j ≡ Some l') k.is now_here)
 
-  ends_pairs : input ≡ Expires timers.Sync → leads s ≡ true
+  ends_pairs : input ≡ Expires timers.Sync → is_leading s ≡ true
       → SendsPairs says_sync (view w) (view w') (station_view called)
   ends_pairs is leading =
       let steps = subst (λ one. Steps one w.time s k.after k.sends answer) is k.steps in
       sends_pairs (leaders_tell w.time s k.after k.sends answer leading steps)
-      (leads_held (leads s) w.time s k.after k.sends steps)
+      (leads_held (is_leading s) w.time s k.after k.sends steps)
 
   relays_pairs : input ≡ Expires timers.Relay → SendsPairs says_sync (view w) (view w') (station_view called)
   relays_pairs is =
@@ -222,7 +222,7 @@ module _ (place : ℕ) (input : Input) (w : WorldState) (draws : List Draw) (ans
       has : has_sync_timeout s.params ≡ true
       has = can_lapse s.params on
 
-      by_sync : leads s ≡ true → (k.after.sync ≡ s.sync) ⊎ (input ≡ Expires timers.Sync)
+      by_sync : is_leading s ≡ true → (k.after.sync ≡ s.sync) ⊎ (input ≡ Expires timers.Sync)
           → (k.after.sync ≡ s.sync) ⊎ SendsPairs says_sync (view w) (view w') (station_view called)
       by_sync leading (inl stays) = inl stays
       by_sync leading (inr is) = inr (ends_pairs is leading)
@@ -236,7 +236,7 @@ module _ (place : ℕ) (input : Input) (w : WorldState) (draws : List Draw) (ans
       by_relay due runs still (inr (inr (inl learned))) = inl (learned.relay due has runs)
       by_relay due runs still (inr (inr (inr stopped))) = inr (relays_pairs stopped.expired)
 
-      by_lapse : (due : ℕ) → Waits s k.after due ⊎ WaitsAnew s w.time due
+      by_lapse : (due : ℕ) → LapseRunsOn s k.after due ⊎ WaitsAnew s w.time due
           → ((s.lapse ≡ Some due) × FollowsOn (station_view k.station) (station_view called))
           ⊎ (due ≡ w.time + n.syncs.span)
       by_lapse due (inl waits) = inl (waits.before, record { root = waits.root; slave = waits.slave })

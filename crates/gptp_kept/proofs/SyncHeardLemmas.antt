@@ -22,16 +22,16 @@ use Rattle.gptp_system.specs.declared.sending.Sending.{Sending}
 use Rattle.gptp_system.specs.Input.{Steps, Frame as FrameHeard}
 use Rattle.gptp_system.specs.State.{SystemState, held_at, is_capable_at}
 use Rattle.gptp_system.specs.Steps.{HearsFrame, HearsMessage}
-use Rattle.gptp_system.specs.Syncing.{HearsFollowUpIf, HearsSyncIf, IsKept, KeepsIf, KnowsBy, KnowsIf, came_from, delay_at, is_followed, is_port, is_slave_at, rate_at, said_on}
+use Rattle.gptp_system.specs.Syncing.{HearsFollowUpIf, HearsSyncIf, IsKeptSync, KeepsIf, KnowsBy, KnowsIf, came_from, delay_at, is_followed, is_port, is_slave_at, root_rate_at, said_on}
 use Rattle.gptp_settling.specs.Frame.{FollowUp, Sync, SyncId}
 use Rattle.gptp_kept.specs.SyncView.{IsHeard, TakesTime}
-use Rattle.gptp_kept.specs.View.{identity_of, kept_view, says_sync, sync_id}
+use Rattle.gptp_kept.specs.View.{port_identity_number, kept_view, says_sync, sync_id}
 use Rattle.gptp_kept.proofs.SendLemmas.{same_identity}
 use Rattle.gptp_kept.proofs.TimeStepLemmas.{can_lapse}
 
 -- the Sync that is kept, as it is seen
 abbrev pub id_of : KeptSync → SyncId
-id_of k = record { source = identity_of k.source; sequence = k.sequence }
+id_of k = record { source = port_identity_number k.source; sequence = k.sequence }
 
 -- ---- ports
 
@@ -62,7 +62,7 @@ module _ (s : SystemState) (p : ℕ) (source : PortIdentity) (takes : TakesTime 
   at_slave = let slave = takes.slave in rw slave (eq-eqb p p refl)
 
   -- what comes from there is followed
-  pub followed : (head : Head) → head.two_step ≡ true → identity_of head.source ≡ source → is_followed p head s ≡ true
+  pub followed : (head : Head) → head.two_step ≡ true → port_identity_number head.source ≡ source → is_followed p head s ≡ true
   followed head two_step from =
       let holds = takes.holds in
       let same : is_port takes.reception.vector.source head.source ≡ true =
@@ -72,7 +72,7 @@ module _ (s : SystemState) (p : ℕ) (source : PortIdentity) (takes : TakesTime 
 
   -- and nothing else is: what is followed comes to that port from there
   pub followed_here : (q : ℕ) (head : Head) → is_followed q head s ≡ true
-      → (q ≡ p) × (head.two_step ≡ true) × (identity_of head.source ≡ source)
+      → (q ≡ p) × (head.two_step ≡ true) × (port_identity_number head.source ≡ source)
   followed_here q head is =
       let parts = both head.two_step (is_slave_at s q && came_from head.source (held_at s q)) is in
       let here = both (is_slave_at s q) (came_from head.source (held_at s q)) parts.1 in
@@ -81,7 +81,7 @@ module _ (s : SystemState) (p : ℕ) (source : PortIdentity) (takes : TakesTime 
       subst (λ n. came_from head.source (held_at s n) ≡ true) port here.1 in (
         port,
         parts.0,
-        ap identity_of (sym (ports_same takes.reception.vector.source head.source (from came))) ∙ takes.came,
+        ap port_identity_number (sym (ports_same takes.reception.vector.source head.source (from came))) ∙ takes.came,
       )
     where
       both : (a b : Bool) → (a && b) ≡ true → (a ≡ true) × (b ≡ true)
@@ -104,16 +104,16 @@ module _ (s : SystemState) (p : ℕ) (source : PortIdentity) (takes : TakesTime 
 -- one that comes from there is kept
 pub sync_kept : (p : ℕ) (octets : List ℕ) (now : ℕ) (s s' : SystemState) (sends : List Sending) (answer : Answer)
     (source : PortIdentity) (head : Head) → Steps (FrameHeard p octets) now s s' sends answer → TakesTime s p source
-    → Reads octets (messages.Sync head) → head.two_step ≡ true → identity_of head.source ≡ source
-    → IsKept head now s s' sends answer
+    → Reads octets (messages.Sync head) → head.two_step ≡ true → port_identity_number head.source ≡ source
+    → IsKeptSync head now s s' sends answer
 sync_kept p octets now s s' sends answer source head k takes reads two_step from =
     capable (is_capable_at s p) takes.capable (heard_as p octets (messages.Sync head) now s s' sends answer reads k)
   where
-    keeps : (b : Bool) → b ≡ true → KeepsIf b head now s s' sends answer → IsKept head now s s' sends answer
+    keeps : (b : Bool) → b ≡ true → KeepsIf b head now s s' sends answer → IsKeptSync head now s s' sends answer
     keeps true same h = h
     keeps false same h = absurd cc
 
-    capable : (b : Bool) → b ≡ true → HearsSyncIf b p head now s s' sends answer → IsKept head now s s' sends answer
+    capable : (b : Bool) → b ≡ true → HearsSyncIf b p head now s s' sends answer → IsKeptSync head now s s' sends answer
     capable true same h = keeps (is_followed p head s) (followed s p source takes head two_step from) h
     capable false same h = absurd cc
 
@@ -140,7 +140,7 @@ pub follow_up_known : (p : ℕ) (octets : List ℕ) (now : ℕ) (s s' : SystemSt
     (answer : Answer) (source : PortIdentity) (m : FollowUpFields) (kept : KeptSync)
     → Steps (FrameHeard p octets) now s s' sends answer → TakesTime s p source → Reads octets (messages.FollowUp m)
     → s.sync_in ≡ Some kept → belongs m kept ≡ true
-    → KnowsBy (has_sync_timeout s.params) (together m kept) (delay_at s p) (rate_at s p) now s s' sends answer
+    → KnowsBy (has_sync_timeout s.params) (together m kept) (delay_at s p) (root_rate_at s p) now s s' sends answer
 follow_up_known p octets now s s' sends answer source m kept k takes reads keeps own =
     capable (is_capable_at s p) takes.capable
     (heard_as p octets (messages.FollowUp m) now s s' sends answer reads k)
@@ -149,8 +149,8 @@ follow_up_known p octets now s s' sends answer source m kept k takes reads keeps
     said = let slave = at_slave s p source takes in rw (slave, keeps, own) refl
 
     capable : (b : Bool) → b ≡ true → HearsFollowUpIf b p m now s s' sends answer
-        → KnowsBy (has_sync_timeout s.params) (together m kept) (delay_at s p) (rate_at s p) now s s' sends answer
-    capable true same h = subst (λ o. KnowsIf o (delay_at s p) (rate_at s p) now s s' sends answer) said h
+        → KnowsBy (has_sync_timeout s.params) (together m kept) (delay_at s p) (root_rate_at s p) now s s' sends answer
+    capable true same h = subst (λ o. KnowsIf o (delay_at s p) (root_rate_at s p) now s s' sends answer) said h
     capable false same h = absurd cc
 
 pub follow_ups_are_used : (p : ℕ) (octets : List ℕ) (now : ℕ) (s s' : SystemState) (sends : List Sending)
@@ -160,7 +160,7 @@ pub follow_ups_are_used : (p : ℕ) (octets : List ℕ) (now : ℕ) (s s' : Syst
 follow_ups_are_used p octets now s s' sends answer source id k on takes keeps (m, reads, is) = by s.sync_in refl keeps
   where
     used : (b : Bool) (info : SyncInfo) → b ≡ true
-        → KnowsBy b info (delay_at s p) (rate_at s p) now s s' sends answer → IsHeard now s s'
+        → KnowsBy b info (delay_at s p) (root_rate_at s p) now s s' sends answer → IsHeard now s s'
     used true info same h = record {
       relay = ap (λ (x : SystemState). x.relay) h.becomes.state;
       lapse = ap (λ (x : SystemState). x.lapse) h.becomes.state;

@@ -14,14 +14,14 @@ use Rattle.gptp_messages.specs.Frame.{PortFits}
 use Rattle.gptp_system.specs.declared.sending.Sending.{Sending}
 use Rattle.gptp_system.specs.State.{SystemState, clock, own}
 use Rattle.gptp_acts.specs.Sends.{SendsAll}
-use Rattle.gptp_acts.specs.World.{Channel, Net, queue, sender}
-use Rattle.gptp_settling.specs.Frame.{FollowUp, Frame as SeenFrame, Lane, Sync, SyncId}
+use Rattle.gptp_acts.specs.World.{Channel, Net, world_queue, sender}
+use Rattle.gptp_settling.specs.Frame.{FollowUp, AnnounceFrame as SeenFrame, Lane, Sync, SyncId}
 use Rattle.gptp_settling.specs.Matching.{HasPair}
 use Rattle.gptp_settling.specs.Station.{Mine, Port as SeenPort}
 use Rattle.gptp_kept.specs.Said.{said_at}
 use Rattle.gptp_kept.specs.SyncLaws.{TellsTime}
 use Rattle.gptp_kept.specs.SyncView.{ArePaired}
-use Rattle.gptp_kept.specs.View.{frame_view, identity_of, lane_place, lane_view, lanes_view, says_sync, span_at, system_view}
+use Rattle.gptp_kept.specs.View.{frame_view, port_identity_number, lane_place, lane_view, lanes_view, says_sync, span_at, system_view}
 use Rattle.gptp_kept.proofs.LinkLaneLemmas.{IsAlone, sends_grow}
 use Rattle.gptp_kept.proofs.PlaceLemmas.{port_from}
 use Rattle.gptp_kept.proofs.PortLemmas.{mine_back}
@@ -72,12 +72,12 @@ alone_seen net apart link channel here = record {
       same_lane other link way direction
       (apart (lane_place other way) (lane_place link direction) (lane_view way at) (lane_view direction channel)
       (lane_there net.channels other way at there) (lane_there net.channels link direction channel here)
-      (ap identity_of same));
+      (ap port_identity_number same));
   ends = λ same.
       let one : lane_place link FromA ≡ lane_place link FromB =
       apart (lane_place link FromA) (lane_place link FromB) (lane_view FromA channel) (lane_view FromB channel)
       (lane_there net.channels link FromA channel here) (lane_there net.channels link FromB channel here)
-      (ap identity_of same) in
+      (ap port_identity_number same) in
       omega arith;
 }
 
@@ -120,11 +120,11 @@ module _ (now : ℕ) (s after : SystemState) (sends : List Sending) (draws : Lis
           (ap (λ (x : Lane). x.from) (sym at.is) ∙ begins ∙ ap (λ c. port_of c (suc i)) same_clock) in
           let said : octets_of (grown.grows.news at.direction) ≡ said_at after (own s (suc i)) sends =
           grown.grows.said at.direction ∙ ap (λ port. said_at after port sends) mine_own in
-          let paired = subst (ArePaired (identity_of (own s (suc i)))) (sym said)
+          let paired = subst (ArePaired (port_identity_number (own s (suc i)))) (sym said)
           (tells i port root steps
           (ap (λ hs. slice_get hs i) (sym held) ∙ p.held_there ∙ ap Some own_mine) port_there
           (own_fits s (suc i) (omega arith))) in
-          let pair = pair_seen (identity_of (own s (suc i))) (grown.grows.news at.direction) paired in
+          let pair = pair_seen (port_identity_number (own s (suc i))) (grown.grows.news at.direction) paired in
           let stands : l' ≡ lane_view at.direction grown.new =
           same_there (lanes_view net'.channels) j l' (lane_view at.direction grown.new) now_here
           (ap (slice_get (lanes_view net'.channels)) at.at
@@ -132,12 +132,12 @@ module _ (now : ℕ) (s after : SystemState) (sends : List Sending) (draws : Lis
             map frame_view (grown.grows.news at.direction),
             ap (λ (x : Lane). x.frames) stands
                 ∙ ap (map frame_view) (grown.grows.queues at.direction)
-                ∙ map-append frame_view (queue at.direction at.channel) (grown.grows.news at.direction)
+                ∙ map-append frame_view (world_queue at.direction at.channel) (grown.grows.news at.direction)
                 ∙ ap (λ fs. fs ++ map frame_view (grown.grows.news at.direction))
                 (ap (λ (x : Lane). x.frames) (sym at.is)),
             (
               pair.0,
               subst (λ from. HasPair says_sync from (map frame_view (grown.grows.news at.direction)) pair.0)
-                  (ap identity_of (sym mine_own) ∙ ap (λ (x : Lane). x.from) (sym at.is)) pair.1,
+                  (ap port_identity_number (sym mine_own) ∙ ap (λ (x : Lane). x.from) (sym at.is)) pair.1,
             ),
           )

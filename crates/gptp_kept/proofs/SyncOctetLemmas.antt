@@ -8,9 +8,9 @@ use Rattle.gptp_messages.specs.declared.follow_up.FollowUp.{FollowUp as FollowUp
 use Rattle.gptp_messages.specs.declared.head.Head.{Head}
 use Rattle.gptp_messages.specs.declared.message.Message.{Message}
 use Rattle.gptp_messages.specs.declared.message.Message.TheVariants as messages
-use Rattle.gptp_messages.specs.FollowUp.{follow_up_tlvs, information, ReadsRate}
+use Rattle.gptp_messages.specs.FollowUp.{follow_up_tlvs, information_tlv, ReadsRate}
 use Rattle.gptp_messages.specs.Frame.{PortFits, field, port_at}
-use Rattle.gptp_messages.specs.Grammar.{Reads, ReadsTlvs, StampIsRead, Written, header_fault, message_of as message_at}
+use Rattle.gptp_messages.specs.Grammar.{Reads, ReadsTlvs, StampIsRead, Written, header_fault, sent_message as message_at}
 use Rattle.gptp_messages.specs.Head.{HeadFits, head_of, message_length, message_type}
 use Rattle.gptp_messages.specs.MessageType.{least_length, type_of}
 use Rattle.gptp_messages.specs.Timestamp.{stamp_of}
@@ -19,12 +19,12 @@ use Rattle.gptp_messages.proofs.PathLemmas.{field-big_bytes}
 use Rattle.gptp_messages.proofs.WrittenLemmas.{reads_back}
 use Rattle.gptp_system.specs.declared.sending.Body.{Body}
 use Rattle.gptp_system.specs.declared.sending.Body.TheVariants as bodies
-use Rattle.gptp_system.specs.Messages.{Telling, kind_of}
+use Rattle.gptp_system.specs.Messages.{Telling, message_kind}
 use Rattle.gptp_system.proofs.TypeLemmas.{type_is, type_number}
-use Rattle.gptp_acts.specs.Sends.{message_of}
+use Rattle.gptp_acts.specs.Sends.{sent_message}
 use Rattle.gptp_settling.specs.Frame.{FollowUp, Sync}
 use Rattle.gptp_kept.specs.SyncView.{IsTimeless}
-use Rattle.gptp_kept.specs.View.{identity_of, says_sync}
+use Rattle.gptp_kept.specs.View.{port_identity_number, says_sync}
 use Rattle.gptp_kept.proofs.LinkOctetLemmas.{same_type}
 
 -- ---- headers
@@ -121,7 +121,7 @@ module _ (head : Head) where
     -- a Sync that is written reads as one of the same source
     pub sync_said : head.two_step ≡ true
         → says_sync (Written (messages.Sync head))
-        (Sync (record { source = identity_of head.source; sequence = (head_of sync).sequence }))
+        (Sync (record { source = port_identity_number head.source; sequence = (head_of sync).sequence }))
     sync_said flag =
         let source : head.source ≡ (head_of sync).source =
         ap (λ (h : Head). h.source) plain_sync_head ∙ syncs_alike.source in
@@ -130,7 +130,7 @@ module _ (head : Head) where
           head_of sync,
           subst (λ f. Reads f (messages.Sync (head_of sync))) (append-nil (Written (messages.Sync head))) sync_reads,
           two_step,
-          λ i. record { source = identity_of (source i); sequence = (head_of sync).sequence },
+          λ i. record { source = port_identity_number (source i); sequence = (head_of sync).sequence },
         )
 
 -- ---- a Follow_Up
@@ -155,23 +155,23 @@ module _ (m : FollowUpFields) where
   follow_ups_alike =
       record { header = refl; kind = refl; whole = refl; size = refl; source = refl; flag = refl }
 
-  tlvs_are : follow_up_tlvs follow_up ≡ spelled (information m.rate)
+  tlvs_are : follow_up_tlvs follow_up ≡ spelled (information_tlv m.rate)
   unfolding field
   tlvs_are = refl
 
   -- the rate that is read
   abbrev rate_read : ℤ
-  rate_read = cast_signed w32 (field 4 6 (information m.rate).value)
+  rate_read = cast_signed w32 (field 4 6 (information_tlv m.rate).value)
 
   rate_reads : ReadsRate (follow_up_tlvs follow_up) rate_read
   unfolding field
   rate_reads = record {
-    value = (information m.rate).value;
+    value = (information_tlv m.rate).value;
     first = record {
-      tlvs = information m.rate ∷ [];
+      tlvs = information_tlv m.rate ∷ [];
       are = record {
         fit = (record { tlv_type = omega arith; length = omega arith }, tt);
-        spelling = tlvs_are ∙ sym (append-nil (spelled (information m.rate)));
+        spelling = tlvs_are ∙ sym (append-nil (spelled (information_tlv m.rate)));
       };
       first = refl;
     };
@@ -188,7 +188,7 @@ module _ (m : FollowUpFields) where
   module _ (fits : PortFits m.head.source) (small : m.origin.nanos < 1000000000) where
     nanos_read : field 4 40 follow_up ≡ m.origin.nanos
     unfolding field
-    nanos_read = field-big_bytes 4 m.origin.nanos (spelled (information m.rate) ++ []) (omega arith)
+    nanos_read = field-big_bytes 4 m.origin.nanos (spelled (information_tlv m.rate) ++ []) (omega arith)
 
     plain_reads : Reads plain_follow_up (messages.FollowUp plain_message)
     plain_reads =
@@ -230,21 +230,21 @@ module _ (m : FollowUpFields) where
     -- the same sequenceId.
     pub follow_up_said : (head : Head) → head.sequence ≡ m.head.sequence
         → says_sync (Written (messages.FollowUp m))
-        (FollowUp (record { source = identity_of m.head.source; sequence = (head_of (sync head)).sequence }))
+        (FollowUp (record { source = port_identity_number m.head.source; sequence = (head_of (sync head)).sequence }))
     follow_up_said head same =
         let source : m.head.source ≡ (head_of follow_up).source =
         ap (λ (h : Head). h.source) plain_head_read ∙ follow_ups_alike.source in
         let number = same_number head same in (
           seen,
           subst (λ f. Reads f (messages.FollowUp seen)) (append-nil (Written (messages.FollowUp m))) follow_up_reads,
-          λ i. record { source = identity_of (source i); sequence = number i },
+          λ i. record { source = port_identity_number (source i); sequence = number i },
         )
 
 -- ---- other messages
 
 -- the number of their types is that of a body that tells time
-types : (path : List ℕ) (head : Head) (b : Body) → kind_of b ≢ Telling
-    → (type_number (message_of path head b) ≢ 0x0) × (type_number (message_of path head b) ≢ 0x8)
+types : (path : List ℕ) (head : Head) (b : Body) → message_kind b ≢ Telling
+    → (type_number (sent_message path head b) ≢ 0x0) × (type_number (sent_message path head b) ≢ 0x8)
 types path head (bodies.Announce body) other = (λ e. omega arith, λ e. omega arith)
 types path head bodies.Sync other = absurd (other refl)
 types path head (bodies.FollowUp origin rate) other = absurd (other refl)
@@ -253,9 +253,9 @@ types path head (bodies.PdelayResp stamp requester) other = (λ e. omega arith, 
 types path head (bodies.PdelayRespFollowUp stamp requester) other = (λ e. omega arith, λ e. omega arith)
 
 -- what doesn't tell time reads as no Sync and as no Follow_Up
-pub timeless : (path : List ℕ) (head : Head) (body : Body) → kind_of body ≢ Telling
-    → IsTimeless (Written (message_of path head body))
+pub timeless : (path : List ℕ) (head : Head) (body : Body) → message_kind body ≢ Telling
+    → IsTimeless (Written (sent_message path head body))
 timeless path head body other (Sync id) (h, reads, flag, is) =
-    (types path head body other).0 (sym (same_type (message_of path head body) (messages.Sync h) reads))
+    (types path head body other).0 (sym (same_type (sent_message path head body) (messages.Sync h) reads))
 timeless path head body other (FollowUp id) (m, reads, is) =
-    (types path head body other).1 (sym (same_type (message_of path head body) (messages.FollowUp m) reads))
+    (types path head body other).1 (sym (same_type (sent_message path head body) (messages.FollowUp m) reads))

@@ -21,9 +21,9 @@ use Rattle.gptp_system.specs.declared.port.Port.{Port}
 use Rattle.gptp_system.specs.declared.sending.Sending.{Sending}
 use Rattle.gptp_system.specs.Input.{Input, IsTimely, Steps, PortUp, PortDown, Frame as FrameHeard, Expires, Priority}
 use Rattle.gptp_system.specs.Measuring.{RespondsIf, owed_at, request_of}
-use Rattle.gptp_system.specs.Messages.{AllAre, Announcing, AreSent, Asking, AsksOnce, Telling, kind_of}
+use Rattle.gptp_system.specs.Messages.{AllAre, Announcing, AreSent, Asking, AsksOnce, Telling, message_kind}
 use Rattle.gptp_system.specs.State.{SystemState, clock, is_mine, own, trace}
-use Rattle.gptp_system.specs.Syncing.{IsSentOn, IsTold, LeadsTime, RelaysBy, RelaysIf, SyncsIf, follow_up_of, hop_of, leads, own_time, sync_of, syncs as all_syncs, told_by}
+use Rattle.gptp_system.specs.Syncing.{IsSentOn, IsToldAtLimits, LeadsTime, RelaysBy, RelaysIf, SyncsIf, follow_up_of, hop_of, is_leading, own_time, sync_of, syncs as all_syncs, told_by}
 use Rattle.gptp_system.proofs.SendLemmas.{responds_answer, with_send-from}
 use Rattle.gptp_system.proofs.SentLemmas.{steps_send}
 use Rattle.gptp_acts.specs.Sends.{written}
@@ -32,7 +32,7 @@ use Rattle.gptp_acts.proofs.SteadyLemmas.{same_clock}
 use Rattle.gptp_kept.specs.Said.{said_at}
 use Rattle.gptp_kept.specs.SyncLaws.{TellsTime}
 use Rattle.gptp_kept.specs.SyncView.{ArePaired, AreTimeless, IsTimeless, KnowsTime}
-use Rattle.gptp_kept.specs.View.{identity_of}
+use Rattle.gptp_kept.specs.View.{port_identity_number}
 use Rattle.gptp_kept.proofs.LinkLaneLemmas.{said_elsewhere, said_here}
 use Rattle.gptp_kept.proofs.SentLemmas.{said_from}
 use Rattle.gptp_kept.proofs.TimeStepLemmas.{can_lapse}
@@ -131,7 +131,7 @@ module _ (s' : SystemState) (log : ℤ) (told : Relayed) where
 
   -- what a Master port says is a Sync and its Follow_Up
   paired : (n : ℕ) (q : Port) → PortFits (port_of n) → told.origin.nanos < 1000000000
-      → ArePaired (identity_of (port_of n)) (pair_if true n q)
+      → ArePaired (port_identity_number (port_of n)) (pair_if true n q)
   paired n q fits small =
       let first = sync_of (port_of n) log q in
       let second = follow_up_of (port_of n) log told q in
@@ -150,7 +150,7 @@ module _ (s' : SystemState) (log : ℤ) (told : Relayed) where
   all_said n hs qs = said_at s' (port_of n) (all_syncs (clock s') log told 1 hs qs)
 
   abbrev PairedOrNone : ℕ → List (List ℕ) → Type 0
-  PairedOrNone n said = ArePaired (identity_of (port_of n)) said ⊎ AreTimeless said
+  PairedOrNone n said = ArePaired (port_identity_number (port_of n)) said ⊎ AreTimeless said
 
   none_timeless : (n : ℕ) (said : List (List ℕ)) → said ≡ [] → PairedOrNone n said
   none_timeless n said is = inr (λ octets member. absurd (subst (In octets) is member))
@@ -158,7 +158,7 @@ module _ (s' : SystemState) (log : ℤ) (told : Relayed) where
   held_paired : (mine : Bool) (n : ℕ) (q : Port) (said : List (List ℕ)) → said ≡ pair_if mine n q
       → PortFits (port_of n) → told.origin.nanos < 1000000000 → PairedOrNone n said
   held_paired true n q said is fits small =
-      inl (subst (ArePaired (identity_of (port_of n))) (sym is) (paired n q fits small))
+      inl (subst (ArePaired (port_identity_number (port_of n))) (sym is) (paired n q fits small))
   held_paired false n q said is fits small = none_timeless n said is
 
   there_paired : (h : Option Held) (q : Option Port) (n : ℕ) (said : List (List ℕ)) → said ≡ pair_at h q n
@@ -198,7 +198,7 @@ syncs_told true now s s' sends k = inl (leader_told now s s' sends k)
 syncs_told false now s s' sends k = inr k.silent
 
 -- what is told of a time that came has its origin
-told_origin : (info : SyncInfo) (now : ℕ) (s : SystemState) (told : Relayed) → IsTold info now s told
+told_origin : (info : SyncInfo) (now : ℕ) (s : SystemState) (told : Relayed) → IsToldAtLimits info now s told
     → told.origin ≡ info.origin
 told_origin info now s told (inl (fits, is)) = ap (λ (x : Relayed). x.origin) is
 told_origin info now s told (inr (unfit, is)) = ap (λ (x : Relayed). x.origin) is
@@ -227,31 +227,31 @@ relay_told (Some info) now s s' sends stamped k =
 
 -- the Sync and the Relay timer alone tell time
 pub asks_no_time : (s : SystemState) (p : ℕ) (sends : List Sending) → AsksOnce s p sends → (x : Sending) → In x sends
-    → kind_of x.body ≢ Telling
+    → message_kind x.body ≢ Telling
 asks_no_time s p sends sent x member =
     go (with_send-from (request_of p s) x sent.announces (subst (In x) sent.is member))
   where
-    go : (x ≡ request_of p s) ⊎ In x sent.announces → kind_of x.body ≢ Telling
-    go (inl it) kind = let e : kind_of x.body ≡ Asking = ap (λ (y : Sending). kind_of y.body) it in cc
+    go : (x ≡ request_of p s) ⊎ In x sent.announces → message_kind x.body ≢ Telling
+    go (inl it) kind = let e : message_kind x.body ≡ Asking = ap (λ (y : Sending). message_kind y.body) it in cc
     go (inr other) kind = let e = sent.all x other in cc
 
 pub responds_no_time : (owed : Option Owed) (p now : ℕ) (s : SystemState) (sends : List Sending)
-    → RespondsIf owed p now s sends → (x : Sending) → In x sends → kind_of x.body ≢ Telling
+    → RespondsIf owed p now s sends → (x : Sending) → In x sends → message_kind x.body ≢ Telling
 responds_no_time owed p now s sends sent x member kind =
     let e = responds_answer owed p now s sends sent x member in cc
 
 -- each step tells a time by its ports, or what it sends isn't told
 tells_or_other : (input : Input) (now : ℕ) (s s' : SystemState) (sends : List Sending) (answer : Answer)
     → IsTimely s now input → KnowsTime s → Steps input now s s' sends answer
-    → TellsOrNot s sends ⊎ ((x : Sending) → In x sends → kind_of x.body ≢ Telling)
+    → TellsOrNot s sends ⊎ ((x : Sending) → In x sends → message_kind x.body ≢ Telling)
 tells_or_other input now s s' sends answer timely knows k =
     by input k (steps_send input now s s' sends answer timely k)
   where
-    announcing : AllAre Announcing sends → (x : Sending) → In x sends → kind_of x.body ≢ Telling
+    announcing : AllAre Announcing sends → (x : Sending) → In x sends → message_kind x.body ≢ Telling
     announcing all x member kind = let e = all x member in cc
 
     by : (input : Input) → Steps input now s s' sends answer → AreSent s now input sends
-        → TellsOrNot s sends ⊎ ((x : Sending) → In x sends → kind_of x.body ≢ Telling)
+        → TellsOrNot s sends ⊎ ((x : Sending) → In x sends → message_kind x.body ≢ Telling)
     by (PortUp p) k sent = inr (asks_no_time s p sends sent)
     by (PortDown p) k sent = inr (announcing sent)
     by (FrameHeard p octets) k sent = inr (announcing sent)
@@ -259,7 +259,7 @@ tells_or_other input now s s' sends answer timely knows k =
     by (Expires (timers.Age p)) k sent = inr (announcing sent)
     by (Expires (timers.Pdelay p)) k sent = inr (asks_no_time s p sends sent)
     by (Expires (timers.Respond p)) k sent = inr (responds_no_time (owed_at s p) p now s sends sent)
-    by (Expires timers.Sync) k sent = inl (syncs_told (leads s) now s s' sends k)
+    by (Expires timers.Sync) k sent = inl (syncs_told (is_leading s) now s s' sends k)
     by (Expires timers.Relay) k sent = inl (relay_told s.known now s s' sends knows.stamped k)
     by (Expires timers.Lapse) k sent = inr (announcing sent)
     by (Priority value) k sent = inr (announcing sent)
@@ -268,7 +268,7 @@ tells_or_other input now s s' sends answer timely knows k =
 
 pub tells_in_pairs : (input : Input) (now : ℕ) (s s' : SystemState) (sends : List Sending) (answer : Answer) (n : ℕ)
     → IsTimely s now input → KnowsTime s → PortFits (own s n) → Steps input now s s' sends answer
-    → ArePaired (identity_of (own s n)) (said_at s' (own s n) sends) ⊎ AreTimeless (said_at s' (own s n) sends)
+    → ArePaired (port_identity_number (own s n)) (said_at s' (own s n) sends) ⊎ AreTimeless (said_at s' (own s n) sends)
 tells_in_pairs input now s s' sends answer n timely knows fits k =
     by (tells_or_other input now s s' sends answer timely knows k)
   where
@@ -279,9 +279,9 @@ tells_in_pairs input now s s' sends answer n timely knows fits k =
     mine = ap (λ c. port_id c n) same
 
     Said : PortId → List Sending → Type 0
-    Said port xs = ArePaired (identity_of port) (said_at s' port xs) ⊎ AreTimeless (said_at s' port xs)
+    Said port xs = ArePaired (port_identity_number port) (said_at s' port xs) ⊎ AreTimeless (said_at s' port xs)
 
-    by : TellsOrNot s sends ⊎ ((x : Sending) → In x sends → kind_of x.body ≢ Telling) → Said (own s n) sends
+    by : TellsOrNot s sends ⊎ ((x : Sending) → In x sends → message_kind x.body ≢ Telling) → Said (own s n) sends
     by (inl (inl t)) =
         subst (λ port. Said port sends) mine
         (subst (Said (own s' n)) (ap (λ c. all_syncs c s.params.sync t.told 1 s.held s.ports) same ∙ sym t.are)
@@ -296,8 +296,8 @@ tells_in_pairs input now s s' sends answer n timely knows fits k =
 
 tells_by : (s s' : SystemState) (sends : List Sending) → clock s' ≡ clock s → IsToldBy s sends → TellsTime s s' sends
 tells_by s s' sends same t i q root steps held there fits =
-    subst (λ port. ArePaired (identity_of port) (said_at s' port sends)) mine
-    (subst (ArePaired (identity_of (own s' (suc i)))) (sym said)
+    subst (λ port. ArePaired (port_identity_number port) (said_at s' port sends)) mine
+    (subst (ArePaired (port_identity_number (own s' (suc i)))) (sym said)
     (paired s' s.params.sync t.told (suc i) q (subst PortFits (sym mine) fits) t.small))
   where
     mine : own s' (suc i) ≡ own s (suc i)
@@ -313,7 +313,7 @@ tells_by s s' sends same t i q root steps held there fits =
         ∙ (λ j. pair_at s' s.params.sync t.told (held j) (there j) (suc i))
 
 pub leaders_tell : (now : ℕ) (s s' : SystemState) (sends : List Sending) (answer : Answer)
-    → leads s ≡ true → Steps (Expires timers.Sync) now s s' sends answer → TellsTime s s' sends
+    → is_leading s ≡ true → Steps (Expires timers.Sync) now s s' sends answer → TellsTime s s' sends
 leaders_tell now s s' sends answer is k =
     tells_by s s' sends (same_clock (Expires timers.Sync) now s s' sends answer k)
     (leader_told now s s' sends (subst (λ b. SyncsIf b now s s' sends) is k))

@@ -4,7 +4,7 @@ use Rattle.std.proofs.lemmas.List.{append-nil}
 use Rattle.gptp_lists.specs.Members.{In}
 use Rattle.gptp_graph.specs.Snapshot.{port_of}
 use Rattle.gptp_lists.proofs.MemberLemmas.{In-left, In-parts, In-right}
-use Rattle.gptp_settling.specs.Frame.{Frame, Lane, Send}
+use Rattle.gptp_settling.specs.Frame.{AnnounceFrame, Lane, Send}
 use Rattle.gptp_settling.specs.Acts.{LaneStep}
 use Rattle.gptp_lists.proofs.MappedLemmas.{same_there}
 use Rattle.gptp_kept.proofs.SeenLaneLemmas.{IsSetAt}
@@ -41,7 +41,7 @@ lane_goes_on c xs ys l m n a b = record {
   arrives = λ none up x member begins. arrives none up x begins (In-parts x xs ys member);
 }
   where
-    sent : (f : Frame) → In f a.news ⊎ In f b.news
+    sent : (f : AnnounceFrame) → In f a.news ⊎ In f b.news
         → (x : Send) × In x (xs ++ ys) × (l.from ≡ port_of c x.port) × (f.octets ≡ x.octets)
     sent f (inl member) =
         let (x, among, begins, same) = a.sent f member in (x, In-left x xs ys among, begins, same)
@@ -49,7 +49,7 @@ lane_goes_on c xs ys l m n a b = record {
         let (x, among, begins, same) = b.sent f member in (x, In-right x xs ys among, sym a.from ∙ begins, same)
 
     arrives : l.loss ≡ 0 → l.is_up ≡ true → (x : Send) → l.from ≡ port_of c x.port → In x xs ⊎ In x ys
-        → (f : Frame) × In f (a.news ++ b.news) × (f.octets ≡ x.octets)
+        → (f : AnnounceFrame) × In f (a.news ++ b.news) × (f.octets ≡ x.octets)
     arrives none up x begins (inl member) =
         let (f, among, same) = a.arrives none up x member begins in (f, In-left f a.news b.news among, same)
     arrives none up x begins (inr member) =
@@ -102,7 +102,7 @@ pub record Enters (c : ℕ) (x : Send) (lanes lanes' : List Lane) : Type 0 where
   pub here : slice_get lanes place ≡ Some lane
   pub begins : lane.from ≡ port_of c x.port
   pub enters : ((lane.loss ≢ 0) × (lanes' ≡ lanes))
-      ⊎ ((f : Frame) × (f.octets ≡ x.octets)
+      ⊎ ((f : AnnounceFrame) × (f.octets ≡ x.octets)
       × IsSetAt place (record lane { frames = lane.frames ++ f ∷ [] }) lanes lanes')
 
 -- a lane that the send can't arrive on stays
@@ -115,7 +115,7 @@ passes_by c x l never = stays c (x ∷ []) l go
     go none up y (inr member) begins = member
 
 -- on the lane that it enters it stands behind the others
-takes_up : (c : ℕ) (x : Send) (l : Lane) (f : Frame) → l.from ≡ port_of c x.port → f.octets ≡ x.octets
+takes_up : (c : ℕ) (x : Send) (l : Lane) (f : AnnounceFrame) → l.from ≡ port_of c x.port → f.octets ≡ x.octets
     → LaneStep c (x ∷ []) l (record l { frames = l.frames ++ f ∷ [] })
 takes_up c x l f begins same = record {
   from = refl;
@@ -128,12 +128,12 @@ takes_up c x l f begins same = record {
   arrives = λ none up y member starts. arrives y member;
 }
   where
-    sent : (g : Frame) → In g (f ∷ [])
+    sent : (g : AnnounceFrame) → In g (f ∷ [])
         → (y : Send) × In y (x ∷ []) × (l.from ≡ port_of c y.port) × (g.octets ≡ y.octets)
-    sent g (inl one) = (x, inl refl, begins, ap (λ (h : Frame). h.octets) one ∙ same)
+    sent g (inl one) = (x, inl refl, begins, ap (λ (h : AnnounceFrame). h.octets) one ∙ same)
     sent g (inr member) = absurd member
 
-    arrives : (y : Send) → In y (x ∷ []) → (g : Frame) × In g (f ∷ []) × (g.octets ≡ y.octets)
+    arrives : (y : Send) → In y (x ∷ []) → (g : AnnounceFrame) × In g (f ∷ []) × (g.octets ≡ y.octets)
     arrives y (inl one) = (f, inl refl, same ∙ ap (λ (z : Send). z.octets) (sym one))
     arrives y (inr member) = absurd member
 
@@ -146,7 +146,7 @@ enters_step c x lanes lanes' apart k j l' there = by k.enters
     one l stands begins = apart j k.place l k.lane stands k.here (begins ∙ sym k.begins)
 
     by : ((k.lane.loss ≢ 0) × (lanes' ≡ lanes))
-        ⊎ ((f : Frame) × (f.octets ≡ x.octets)
+        ⊎ ((f : AnnounceFrame) × (f.octets ≡ x.octets)
         × IsSetAt k.place (record k.lane { frames = k.lane.frames ++ f ∷ [] }) lanes lanes')
         → (l : Lane) × (slice_get lanes j ≡ Some l) × LaneStep c (x ∷ []) l l'
     by (inl (loses, same)) =

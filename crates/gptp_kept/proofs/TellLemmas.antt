@@ -20,7 +20,7 @@ use Rattle.gptp_system.specs.Sends.{announce_body, announcement}
 use Rattle.gptp_system.specs.State.{SystemState, clock, own, trace}
 use Rattle.gptp_system.proofs.TypeLemmas.{type_is}
 use Rattle.gptp_system.specs.declared.port.Port.{Port}
-use Rattle.gptp_acts.specs.Sends.{message_of, written}
+use Rattle.gptp_acts.specs.Sends.{sent_message, written}
 use Rattle.gptp_lists.proofs.PlaceLemmas.{member_there}
 use Rattle.gptp_settling.specs.Frame.{Announce}
 use Rattle.gptp_settling.specs.Reacts.{IsMasterAt}
@@ -35,7 +35,7 @@ use Rattle.gptp_kept.proofs.ReactLemmas.{AreOwn, AreRead}
 
 -- what is no Announce isn't read as one
 read_announce : (path : List ℕ) (head : Head) (body : Body) (a : AnnounceView)
-    → Reads (Written (message_of path head body)) (messages.Announce a) → IsAnnounce body
+    → Reads (Written (sent_message path head body)) (messages.Announce a) → IsAnnounce body
 read_announce path head (bodies.Announce body) a reads = (body, refl)
 read_announce path head bodies.Sync a reads =
     absurd (let kind = type_is _ (messages.Announce a) reads in omega arith)

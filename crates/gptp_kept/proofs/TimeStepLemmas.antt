@@ -26,15 +26,15 @@ use Rattle.gptp_setup.specs.declared.timer.Timer.TheVariants as timers
 use Rattle.gptp_setup.specs.Pace.{has_sync_timeout, lapse_span}
 use Rattle.gptp_system.specs.declared.answer.Answer.{Answer}
 use Rattle.gptp_system.specs.declared.sending.Sending.{Sending}
-use Rattle.gptp_system.specs.Announcing.{aged_at, compared, is_taken, with_priority}
+use Rattle.gptp_system.specs.Announcing.{aged_at, compared, replaces_held, with_priority}
 use Rattle.gptp_system.specs.Input.{Input, Steps, PortUp, PortDown, Frame, Expires, Priority}
 use Rattle.gptp_system.specs.Lapse.{lapsed}
 use Rattle.gptp_system.specs.Measuring.{Turns, TurnsAndAsks, TurnsIf, down, is_turned, turned}
-use Rattle.gptp_system.specs.Selection.{Becomes, Selects, SelectsIf, follows_on, kept_if, same_port}
+use Rattle.gptp_system.specs.Selection.{Becomes, Selects, SelectsIf, follows_on, kept_if, same_number}
 use Rattle.gptp_system.specs.Start.{started}
 use Rattle.gptp_system.specs.State.{SystemState, can_lead, held_at, is_capable_at, number, own, lapse_of, with_peer}
 use Rattle.gptp_system.specs.Steps.{Expires as TimerExpires, HearsFrame, HearsMessage}
-use Rattle.gptp_system.specs.Syncing.{HearsFollowUpIf, HearsSyncIf, IsKept, KeepsIf, KnowsBy, KnowsIf, RelaysBy, RelaysIf, SyncsIf, delay_at, forgetting, is_followed, is_slave_at, knowing, leads, offset_of, rate_at, refreshing, restarted, said_on, stopped, telling}
+use Rattle.gptp_system.specs.Syncing.{HearsFollowUpIf, HearsSyncIf, IsKeptSync, KeepsIf, KnowsBy, KnowsIf, RelaysBy, RelaysIf, SyncsIf, delay_at, forgetting, is_followed, is_slave_at, knowing, is_leading, offset_of, root_rate_at, refreshing, restarted, said_on, timer_stopped, telling}
 use Rattle.gptp_system.proofs.LapseLemmas.{followed}
 use Rattle.gptp_system.proofs.TypeLemmas.{type_is}
 use Rattle.gptp_kept.specs.SyncView.{KnowsTime}
@@ -133,7 +133,7 @@ follows_same v t root slave =
     let first : (v.root == t.root) ≡ true = eq-eqb v.root t.root root in
     rw (first, slave) (same_itself t.slave)
   where
-    same_itself : (o : Option ℕ) → same_port o o ≡ true
+    same_itself : (o : Option ℕ) → same_number o o ≡ true
     same_itself None = refl
     same_itself (Some p) = eq-eqb p p refl
 
@@ -198,7 +198,7 @@ pub record KeepsHeard (p : ℕ) (octets : List ℕ) (now : ℕ) (s s' : SystemSt
   pub head : Head
   pub reads : Reads octets (messages.Sync head)
   pub follows : is_followed p head s ≡ true
-  pub kept : IsKept head now s s' sends answer
+  pub kept : IsKeptSync head now s s' sends answer
 
 -- what a Follow_Up says with the Sync that is kept is known, or doesn't fit
 pub record LearnsHeard (p : ℕ) (octets : List ℕ) (now : ℕ) (s s' : SystemState) (sends : List Sending)
@@ -207,7 +207,7 @@ pub record LearnsHeard (p : ℕ) (octets : List ℕ) (now : ℕ) (s s' : SystemS
   pub reads : Reads octets (messages.FollowUp m)
   pub info : SyncInfo
   pub said : said_on p m s ≡ Some info
-  pub knows : KnowsBy (has_sync_timeout s.params) info (delay_at s p) (rate_at s p) now s s' sends answer
+  pub knows : KnowsBy (has_sync_timeout s.params) info (delay_at s p) (root_rate_at s p) now s s' sends answer
 
 abbrev pub TimeHeard : ℕ → List ℕ → ℕ → SystemState → SystemState → List Sending → Answer → Type 0
 TimeHeard p octets now s s' sends answer =
@@ -310,7 +310,7 @@ knows_by false info delay rate now s s' sends answer has small (inr k) =
 
 knows_if : (said : Option SyncInfo) (p : ℕ) (octets : List ℕ) (m : FollowUp) (now : ℕ) (s s' : SystemState)
     (sends : List Sending) (answer : Answer) → said_on p m s ≡ said → Reads octets (messages.FollowUp m)
-    → KnowsIf said (delay_at s p) (rate_at s p) now s s' sends answer → TimeHeard p octets now s s' sends answer
+    → KnowsIf said (delay_at s p) (root_rate_at s p) now s s' sends answer → TimeHeard p octets now s s' sends answer
 knows_if None p octets m now s s' sends answer is reads k = inl (rests s s' sends k.becomes)
 knows_if (Some info) p octets m now s s' sends answer is reads k =
     inr (inr (record { m = m; reads = reads; info = info; said = is; knows = k }))
@@ -339,13 +339,13 @@ stops s t s' is params sync_in known relay lapse root =
 
 relays_by : (b : Bool) (info : SyncInfo) (now : ℕ) (s s' : SystemState) (sends : List Sending)
     → RelaysBy b info now s s' sends → Stops (Expires timers.Relay) s s'
-relays_by true info now s s' sends k = stops s (telling (stopped s)) s' k.state refl refl refl refl refl refl
-relays_by false info now s s' sends (inl k) = stops s (telling (stopped s)) s' k.state refl refl refl refl refl refl
-relays_by false info now s s' sends (inr k) = stops s (stopped s) s' k.becomes.state refl refl refl refl refl refl
+relays_by true info now s s' sends k = stops s (telling (timer_stopped s)) s' k.state refl refl refl refl refl refl
+relays_by false info now s s' sends (inl k) = stops s (telling (timer_stopped s)) s' k.state refl refl refl refl refl refl
+relays_by false info now s s' sends (inr k) = stops s (timer_stopped s) s' k.becomes.state refl refl refl refl refl refl
 
 relays_if : (known : Option SyncInfo) (now : ℕ) (s s' : SystemState) (sends : List Sending)
     → RelaysIf known now s s' sends → Stops (Expires timers.Relay) s s'
-relays_if None now s s' sends k = stops s (stopped s) s' k.state refl refl refl refl refl refl
+relays_if None now s s' sends k = stops s (timer_stopped s) s' k.state refl refl refl refl refl refl
 relays_if (Some info) now s s' sends k = relays_by (has_sync_timeout s.params) info now s s' sends k
 
 -- ---- every step
@@ -360,7 +360,7 @@ hears_announce : (p : ℕ) (a : AnnounceView) (now : ℕ) (s s' : SystemState) (
 hears_announce p a now s s' sends answer (inl k) = rests s s' sends k.becomes
 hears_announce p a now s s' sends answer (inr (inl k)) = rests s s' sends k.becomes
 hears_announce p a now s s' sends answer (inr (inr k)) =
-    go (is_taken (comparison (held_at s p) (own s p) a)) k.selects
+    go (replaces_held (comparison (held_at s p) (own s p) a)) k.selects
   where
     go : (b : Bool) → SelectsIf b now (compared p a now s) s' sends → StaysKnown s s'
     go true h = selects s now (compared p a now s) s' sends refl refl refl refl refl refl (λ due is. is) h
@@ -408,7 +408,7 @@ hears_frame p octets now s s' sends answer k = by (frame_heard p octets now s s'
           lapse = λ due is. inl (is, refl);
         })))
     by (inr (inr learned)) =
-        inr (inr (inl (knows_by (has_sync_timeout s.params) learned.info (delay_at s p) (rate_at s p) now s s' sends
+        inr (inr (inl (knows_by (has_sync_timeout s.params) learned.info (delay_at s p) (root_rate_at s p) now s s' sends
         answer refl
         (subst (λ (t : Timestamp). t.nanos < 1000000000) (sym (origin_on p learned.m s learned.info learned.said))
         (stamp_read octets learned.m learned.reads)) learned.knows)))
@@ -422,7 +422,7 @@ expires (timers.Age p) now s s' sends k =
 expires (timers.Pdelay p) now s s' sends k = inl (turns_and_asks p after_interval now s s' sends k)
 expires (timers.Respond p) now s s' sends k =
     inl (subst (StaysKnown s) (sym k.state) (still s _ refl refl refl refl refl refl))
-expires timers.Sync now s s' sends k = inl (syncs_if (leads s) now s s' sends k)
+expires timers.Sync now s s' sends k = inl (syncs_if (is_leading s) now s s' sends k)
 expires timers.Relay now s s' sends k = inr (relays_if s.known now s s' sends k)
 expires timers.Lapse now s s' sends k =
     inl (selects s now (lapsed s) s' sends refl refl refl refl refl refl (λ due none. absurd (none-some due none)) k)
@@ -435,7 +435,7 @@ time_steps (PortDown p) now s s' sends answer k =
 time_steps (Frame p octets) now s s' sends answer k = hears_frame p octets now s s' sends answer k
 time_steps (Expires timer) now s s' sends answer k = elim (expires timer now s s' sends k) [
   | inl stays ↦ inl stays
-  | inr stopped ↦ inr (inr (inr stopped))
+  | inr timer_stopped ↦ inr (inr (inr timer_stopped))
 ]
 time_steps (Priority value) now s s' sends answer k =
     inl (selects s now (with_priority value s) s' sends refl refl refl refl refl refl (λ due is. is) k)
@@ -491,8 +491,8 @@ knows_on input now s s' sends answer k knows = by (time_steps input now s s' sen
       lapses = lapses_on s s' kept.lapse knows;
     }
     by (inr (inr (inl learned))) = learned.knows knows
-    by (inr (inr (inr stopped))) = record {
-      stamped = λ info is. knows.stamped info (sym stopped.known ∙ is);
-      relays = λ due above is. absurd (none-some due (sym stopped.relay ∙ is));
-      lapses = lapses_on s s' stopped.lapse knows;
+    by (inr (inr (inr timer_stopped))) = record {
+      stamped = λ info is. knows.stamped info (sym timer_stopped.known ∙ is);
+      relays = λ due above is. absurd (none-some due (sym timer_stopped.relay ∙ is));
+      lapses = lapses_on s s' timer_stopped.lapse knows;
     }

@@ -30,17 +30,17 @@ use Rattle.gptp_acts.specs.declared.station.Station.{Station}
 use Rattle.gptp_acts.specs.Acts.{Acts, Delivery, at as at_time}
 use Rattle.gptp_acts.specs.Course.{WasDone}
 use Rattle.gptp_acts.specs.Views.{ShowsLive}
-use Rattle.gptp_acts.specs.World.{Channel, WorldState, queue, receiver, sender}
+use Rattle.gptp_acts.specs.World.{Channel, WorldState, world_queue, receiver, sender}
 use Rattle.gptp_lists.proofs.PlaceLemmas.{member_there}
 use Rattle.gptp_settling.specs.Calm.{Calm}
 use Rattle.gptp_settling.specs.CleanInvariant.{StationIsClean, TracesAreClean}
-use Rattle.gptp_settling.specs.Facts.{IsStation, Late, Setting}
-use Rattle.gptp_settling.specs.Frame.{Frame as SeenFrame}
-use Rattle.gptp_settling.specs.Network.{setting}
+use Rattle.gptp_settling.specs.Facts.{IsLiveStationState, Late, NetworkSetting}
+use Rattle.gptp_settling.specs.Frame.{AnnounceFrame as SeenFrame}
+use Rattle.gptp_settling.specs.Network.{network_setting}
 use Rattle.gptp_settling.specs.Station.{HoldsAt}
 use Rattle.gptp_settling.proofs.CleanLemmas.{held_whole, may_say}
 use Rattle.gptp_settling.proofs.NearestLemmas.{root_not_better, steps_not_fewer}
-use Rattle.gptp_kept.specs.View.{frame_view, identity_of, lane_place, lane_view, port_view, reception_view, said, says, span_at, station_view, view}
+use Rattle.gptp_kept.specs.View.{frame_view, port_identity_number, lane_place, lane_view, port_view, reception_view, said, says_announce, span_at, station_view, view}
 use Rattle.gptp_kept.proofs.SeenLaneLemmas.{lane_there}
 use Rattle.gptp_kept.proofs.PlaceLemmas.{port_there, station_there}
 use Rattle.gptp_kept.specs.Calm.{IsQuietWorld, clean_from, delay_in, sync_paths_of}
@@ -50,7 +50,7 @@ use Rattle.gptp_kept.specs.Standing.{snapshot_of}
 use Rattle.gptp_kept.specs.Holds.{settling_network, start_of}
 use Rattle.gptp_kept.proofs.HoldsLemmas.{is_calm, paths_bound, turns_less}
 use Rattle.gptp_kept.specs.Claimed.{Claimed, IsClaimed}
-use Rattle.gptp_kept.specs.Traces.{AreHeldCleanInTime, AreHeldWholeInTime, AreHeldWholeSooner, IsCleanInTime, IsFrameClean, IsHeardClean, IsHeldClean, IsHeldWhole, IsTraceClean, announced, heard, turn_of, turns_span}
+use Rattle.gptp_kept.specs.Traces.{AreHeldCleanInTime, AreHeldWholeInTime, AreHeldWholeSooner, IsCleanInTime, IsFrameClean, IsHeardClean, IsHeldClean, IsHeldWhole, IsTraceClean, announced, heard_announce, turn_of, turns_span}
 use Rattle.gptp_kept.proofs.ClaimedLemmas.{set_alike}
 use Rattle.gptp_kept.proofs.ClaimLemmas.{claim_capable}
 
@@ -58,13 +58,13 @@ module _ (p : Pace) (w : WorldState) (is : IsClaimed p w) (quiet : IsQuietWorld 
   abbrev reach : ℕ
   reach = path_bound (snapshot_of w)
 
-  abbrev k : Setting
-  k = setting (settling_network p reach w)
+  abbrev k : NetworkSetting
+  k = network_setting (settling_network p reach w)
 
   state : Calm (settling_network p reach w) (view w)
   state = is_calm p reach w is.world quiet.links (claim_capable p w is)
 
-  traces : TracesAreClean says k (view w)
+  traces : TracesAreClean says_announce k (view w)
   traces = (is.settling reach (paths_bound p w is.world) quiet).traces
 
   -- ---- one live system
@@ -74,7 +74,7 @@ module _ (p : Pace) (w : WorldState) (is : IsClaimed p w) (quiet : IsQuietWorld 
     abbrev s : SystemState
     s = station.system
 
-    known : IsStation k w.time (station_view station)
+    known : IsLiveStationState k w.time (station_view station)
     known = state.facts.stations place (station_view station) (station_there w.stations place station here) live
 
     clean : StationIsClean k (station_view station)
@@ -143,7 +143,7 @@ module _ (p : Pace) (w : WorldState) (is : IsClaimed p w) (quiet : IsQuietWorld 
         → received (held_at s n) ≡ Some r → IsHeldWhole (snapshot_of w) (clock s) n r
     held_whole_at m n r bounded late holds =
         let seen = seen_held n r holds in
-        let hit = held_whole says k m (view w) bounded state.facts traces late place (station_view station) seen.i
+        let hit = held_whole says_announce k m (view w) bounded state.facts traces late place (station_view station) seen.i
         (reception_view (span_at s) r) (station_there w.stations place station here) live seen.holds in
         subst (λ x. IsHeldWhole (snapshot_of w) (clock s) x r) (sym seen.number) (record {
           from = hit.from;
@@ -157,18 +157,18 @@ module _ (p : Pace) (w : WorldState) (is : IsClaimed p w) (quiet : IsQuietWorld 
 
   frame_clean : (c link : ℕ) (direction : Direction) (channel : Channel) (time : ℕ) (octets : List ℕ)
       (rest : List Frame) (m : AnnounceView) → slice_get w.net.channels link ≡ Some channel
-      → queue direction channel ≡ frame time octets ∷ rest → Reads octets (messages.Announce m)
+      → world_queue direction channel ≡ frame time octets ∷ rest → Reads octets (messages.Announce m)
       → w.last_change + turns_span c p (sync_paths_of w) (length (snapshot_of w).systems) + largest_interval p ≤ time
-      → IsFrameClean (snapshot_of w) (suc c) (identity_of (receiver direction channel)) (said m)
+      → IsFrameClean (snapshot_of w) (suc c) (port_identity_number (receiver direction channel)) (said m)
   frame_clean c link direction channel time octets rest m here front reads late =
       let lane = lane_there w.net.channels link direction channel here in
       let f : SeenFrame = frame_view (frame time octets) in
-      let flies : In f (map frame_view (queue direction channel)) = rw front (inl refl) in
+      let flies : In f (map frame_view (world_queue direction channel)) = rw front (inl refl) in
       let lane_clean = traces.lanes (lane_place link direction) (lane_view direction channel) lane in
       let shorter = turns_less p w is.world.known c in
       let from = lane_clean.sender f flies (omega (arith, late, shorter)) in
       record {
-        from = identity_of (sender direction channel);
+        from = port_identity_number (sender direction channel);
         live = from;
         joins = λ to. state.facts.linked (lane_place link direction) (lane_view direction channel) f lane flies from to;
         good = lane_clean.anywhere f (said m) c flies (m, reads, refl) (omega (arith, late, shorter));
@@ -179,7 +179,7 @@ module _ (p : Pace) (w : WorldState) (is : IsClaimed p w) (quiet : IsQuietWorld 
 -- what was sent so late by the largest interval was by the greatest delay
 late_sooner : (p : Pace) (w : WorldState) → IsKnown p w → (c time : ℕ)
     → w.last_change + turns_span c p (sync_paths_of w) (length (snapshot_of w).systems) + largest_interval p ≤ time
-    → Late (setting (settling_network p (path_bound (snapshot_of w)) w)) c time
+    → Late (network_setting (settling_network p (path_bound (snapshot_of w)) w)) c time
 late_sooner p w known c time late =
     let short : delay_in w ≤ largest_interval p = delay_short p w known in
     let shorter = turns_less p w known c in
@@ -232,8 +232,8 @@ held_is_no_better g number port r best wf held is_best =
     let there : IsBest g held.from.clock best =
     IsBest-neighbour g number held.from.clock best wf
     (port, held.from.port, Joins-sym g held.from (port_of number port) held.joins) is_best in (
-      root_not_better g wf held.from.clock (heard r) held.whole best there,
-      λ root d far. steps_not_fewer g wf held.from.clock (heard r) held.whole best there held.from.clock d (inl refl)
+      root_not_better g wf held.from.clock (heard_announce r) held.whole best there,
+      λ root d far. steps_not_fewer g wf held.from.clock (heard_announce r) held.whole best there held.from.clock d (inl refl)
           there far root,
     )
 
@@ -253,8 +253,8 @@ delivered_clean link direction time (Heard number port answer octets) w w' draws
     let read = subst (λ o. Reads o (messages.Announce m)) octets_are reads in
     let clean = frame_clean calm.pace w is calm.quiet c link direction channel time delivery.octets takes.rest m
     takes.here takes.front read (omega (arith, late)) in
-    let reached : identity_of (receiver direction channel) ≡ port_of number port =
-    ap (λ (x : Channel). identity_of (receiver direction x)) (sym same)
+    let reached : port_identity_number (receiver direction channel) ≡ port_of number port =
+    ap (λ (x : Channel). port_identity_number (receiver direction x)) (sym same)
     ∙ (ap (λ n. port_of n (receiver direction delivery.channel).port) (sym clock_is)
     ∙ ap (λ n. port_of number n) (sym port_is)) in
     subst (λ x. IsFrameClean (snapshot_of w) (suc c) x (said m)) reached clean

@@ -17,20 +17,20 @@ use Rattle.gptp_roles.specs.declared.role.Role.{Role}
 use Rattle.gptp_roles.specs.declared.role.Role.TheVariants.{Disabled, Master, Slave, Passive}
 use Rattle.gptp_system.specs.Start.{role_at}
 use Rattle.gptp_system.specs.State.{SystemState, clock}
-use Rattle.gptp_system.specs.Steps.{IsPortOf}
+use Rattle.gptp_system.specs.Steps.{HasPortNumber}
 use Rattle.gptp_acts.specs.World.{WorldState}
 use Rattle.gptp_settling.specs.Settled.{IsSlaveOf}
 use Rattle.gptp_kept.specs.Claimed.{Claimed}
-use Rattle.gptp_kept.specs.Settled.{IsSettledSystem, Settled, role_of}
-use Rattle.gptp_kept.specs.Standing.{snapshot_of, standing}
-use Rattle.gptp_kept.specs.Tree.{HangsOnParent, IsLive, IsRoot, IsTree, priority1}
+use Rattle.gptp_kept.specs.Settled.{IsSettledSystem, Settled, graph_role}
+use Rattle.gptp_kept.specs.Standing.{snapshot_of, standing_system}
+use Rattle.gptp_kept.specs.Tree.{HangsOnParent, IsLiveStation, IsRoot, IsTree, priority1}
 use Rattle.gptp_kept.proofs.StandsLemmas.{stands_well}
 use Rattle.gptp_kept.proofs.SystemLemmas.{IsLiveAt, live_from, live_there}
 
 -- ---- roles
 
 -- a role is what the graph's is
-role_is : (mine other : Role) → role_of mine ≡ role_of other → mine ≡ other
+role_is : (mine other : Role) → graph_role mine ≡ graph_role other → mine ≡ other
 role_is Disabled Disabled same = refl
 role_is Master Master same = refl
 role_is Slave Slave same = refl
@@ -60,40 +60,40 @@ module _ (w : WorldState) (claimed : Claimed w) (settled_world : Settled w) wher
       stands_well w is.sound is.between is.legible
 
   -- a live system is settled
-  settled_live : (s : SystemState) → IsLive w s → IsNear g (clock s) → IsSettledSystem g s
+  settled_live : (s : SystemState) → IsLiveStation w s → IsNear g (clock s) → IsSettledSystem g s
   settled_live s lives near =
       subst (IsSettledSystem g) (sym lives.is)
       (settled_world lives.place lives.station lives.here lives.live
       (subst (λ (x : SystemState). IsNear g (clock x)) lives.is near))
 
   -- its port is one of the snapshot's, so a port at a link of the snapshot is one of its ports
-  linked_port : (s : SystemState) (n : ℕ) → IsLive w s → IsLinked g (port_of (clock s) n) → IsPortOf s n
+  linked_port : (s : SystemState) (n : ℕ) → IsLiveStation w s → IsLinked g (port_of (clock s) n) → HasPortNumber s n
   linked_port s n lives (q, joins) =
       let (x, member, port) = wf.ends (port_of (clock s) n) q joins in
-      let same : x ≡ standing lives.station =
-      same_clock g x (standing lives.station) wf member (live_there w.stations lives.place lives.station lives.here
+      let same : x ≡ standing_system lives.station =
+      same_clock g x (standing_system lives.station) wf member (live_there w.stations lives.place lives.station lives.here
       lives.live) (port.clock ∙ ap clock lives.is) in
-      let most : n ≤ (standing lives.station).ports = subst (λ (y : System). n ≤ y.ports) same port.last in
-      subst (λ (y : SystemState). IsPortOf y n) (sym lives.is) (record { least = port.first; most = most })
+      let most : n ≤ (standing_system lives.station).ports = subst (λ (y : System). n ≤ y.ports) same port.last in
+      subst (λ (y : SystemState). HasPortNumber y n) (sym lives.is) (record { least = port.first; most = most })
 
   -- it has the role that a port of the graph settles at
-  has_role : (s : SystemState) (n : ℕ) (r : Role) → IsLive w s → IsNear g (clock s)
-      → IsSettledRole g (port_of (clock s) n) (role_of r) → IsPortOf s n → role_at s n ≡ r
+  has_role : (s : SystemState) (n : ℕ) (r : Role) → IsLiveStation w s → IsNear g (clock s)
+      → IsSettledRole g (port_of (clock s) n) (graph_role r) → HasPortNumber s n → role_at s n ≡ r
   has_role s n r lives near is own =
       role_is (role_at s n) r
       (RoleBy-unique (IsLinked g (port_of (clock s) n)) (IsSlavePort g (port_of (clock s) n))
-      (IsMasterPort g (port_of (clock s) n)) (role_of (role_at s n)) (role_of r)
+      (IsMasterPort g (port_of (clock s) n)) (graph_role (role_at s n)) (graph_role r)
       ((settled_live s lives near).roles n own) is)
 
   -- ---- the best of a component
 
-  is_root : (s : SystemState) (best : System) → IsLive w s → IsBest g (clock s) best → best.clock ≡ clock s → IsRoot s
+  is_root : (s : SystemState) (best : System) → IsLiveStation w s → IsBest g (clock s) best → best.clock ≡ clock s → IsRoot s
   is_root s best lives is_best same = record {
     root = root;
     steps = IsDistance-unique g (clock s) s.steps 0 wf is.steps here;
     slave = slave s.slave refl is.slave;
     none = λ n own role. no_slave n own
-        (subst (λ r. IsSettledRole g (port_of (clock s) n) (role_of r)) role (is.roles n own));
+        (subst (λ r. IsSettledRole g (port_of (clock s) n) (graph_role r)) role (is.roles n own));
   }
     where
       here : IsDistance g (clock s) 0
@@ -108,13 +108,13 @@ module _ (w : WorldState) (claimed : Claimed w) (settled_world : Settled w) wher
       root =
           let (other, is_other, root_is) = is.root in
           let one : other ≡ best = IsBest-unique g (clock s) other best wf is_other is_best in
-          let itself : best ≡ standing lives.station =
-          same_clock g best (standing lives.station) wf is_best.live
+          let itself : best ≡ standing_system lives.station =
+          same_clock g best (standing_system lives.station) wf is_best.live
           (live_there w.stations lives.place lives.station lives.here lives.live) (same ∙ ap clock lives.is) in
           root_is ∙ ap (λ (x : System). x.identity) (one ∙ itself)
           ∙ ap (λ (x : SystemState). x.identity) (sym lives.is)
 
-      no_slave : (n : ℕ) → IsPortOf s n → IsSettledRole g (port_of (clock s) n) settled.Slave → ⊥
+      no_slave : (n : ℕ) → HasPortNumber s n → IsSettledRole g (port_of (clock s) n) settled.Slave → ⊥
       no_slave n own (linked, (l, parent, port)) =
           best_has_no_parent g (clock s) best l wf is_best same parent
 
@@ -126,7 +126,7 @@ module _ (w : WorldState) (claimed : Claimed w) (settled_world : Settled w) wher
 
   -- ---- the others
 
-  hangs : (s : SystemState) (best : System) → IsLive w s → IsNear g (clock s) → IsBest g (clock s) best
+  hangs : (s : SystemState) (best : System) → IsLiveStation w s → IsNear g (clock s) → IsBest g (clock s) best
       → best.clock ≢ clock s → HangsOnParent w s
   hangs s best lives near is_best other =
       by_parent (parent_of_other g (clock s) best wf is_best other)
@@ -140,7 +140,7 @@ module _ (w : WorldState) (claimed : Claimed w) (settled_world : Settled w) wher
         own = own;
         slave = has_role s l.own_port Slave lives near slave_there own;
         only = λ n port role. only n port
-            (subst (λ r. IsSettledRole g (port_of (clock s) n) (role_of r)) role (is.roles n port));
+            (subst (λ r. IsSettledRole g (port_of (clock s) n) (graph_role r)) role (is.roles n port));
         parent = parent;
         lives = parent_lives;
         there = l.port;
@@ -157,10 +157,10 @@ module _ (w : WorldState) (claimed : Claimed w) (settled_world : Settled w) wher
           slave_there : IsSettledRole g (port_of (clock s) l.own_port) settled.Slave
           slave_there = parent_is_slave g (clock s) l is_parent
 
-          own : IsPortOf s l.own_port
+          own : HasPortNumber s l.own_port
           own = linked_port s l.own_port lives (port_of l.clock l.port, joins)
 
-          only : (n : ℕ) → IsPortOf s n → IsSettledRole g (port_of (clock s) n) settled.Slave → n ≡ l.own_port
+          only : (n : ℕ) → HasPortNumber s n → IsSettledRole g (port_of (clock s) n) settled.Slave → n ≡ l.own_port
           only n port (linked, (k, parent_too, number)) =
               sym number
               ∙ ap (λ (x : ParentLink). x.own_port) (IsParent-unique g (clock s) k l parent_too is_parent)
@@ -176,7 +176,7 @@ module _ (w : WorldState) (claimed : Claimed w) (settled_world : Settled w) wher
           parent : SystemState
           parent = at.station.system
 
-          parent_lives : IsLive w parent
+          parent_lives : IsLiveStation w parent
           parent_lives =
               record { place = at.place; station = at.station; here = at.here; live = at.live; is = refl }
 
@@ -214,7 +214,7 @@ module _ (w : WorldState) (claimed : Claimed w) (settled_world : Settled w) wher
 
   -- ---- no grandmaster
 
-  no_lower : (s : SystemState) (best : System) → IsLive w s → IsNear g (clock s) → IsBest g (clock s) best
+  no_lower : (s : SystemState) (best : System) → IsLiveStation w s → IsNear g (clock s) → IsBest g (clock s) best
       → 255 ≤ priority1 best.identity → 255 ≤ priority1 s.root
   no_lower s best lives near is_best low =
       let (other, is_other, root_is) = (settled_live s lives near).root in

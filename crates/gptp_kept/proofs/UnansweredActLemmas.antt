@@ -1,14 +1,14 @@
 -- Time that passes, and every act between two changes, seen at a port whose link's other end has failed.
 use Rattle.std.proofs.Common.{refl}
 use Rattle.gptp_plan.specs.declared.change.Act.TheVariants.{Deliver, Expire, Change as Changing}
-use Rattle.gptp_kept.specs.UnansweredLaws.{ActsAreActs, TimePasses}
+use Rattle.gptp_kept.specs.UnansweredLaws.{SilentActsAreActs, SilentTimePasses}
 use Rattle.gptp_kept.proofs.UnansweredDeliveryLemmas.{delivers_seen}
 use Rattle.gptp_kept.proofs.UnansweredExpiryLemmas.{expires_seen}
 
-pub passes_seen : TimePasses
+pub passes_seen : SilentTimePasses
 passes_seen at gone time w l later old = record { after = l; settled = refl; old = old; so = (time, later, refl) }
 
-pub acts_seen : ActsAreActs
+pub acts_seen : SilentActsAreActs
 acts_seen at gone (Deliver link direction) w w' draws done l sound measured old calm k =
     delivers_seen gone at link direction k.octets w draws k.answer w' k.delivers sound measured l old
 acts_seen at gone (Expire number timer) w w' draws done l sound measured old calm k =

@@ -7,7 +7,7 @@ use Rattle.gptp_system.specs.declared.answer.Answer.{Answer}
 use Rattle.gptp_setup.specs.declared.setup.Setup.{Setup}
 use Rattle.gptp_system.specs.Input.{Input}
 use Rattle.gptp_setup.specs.Intervals.{interval_of}
-use Rattle.gptp_system.specs.Measures.{part_of}
+use Rattle.gptp_system.specs.Measures.{measure_at}
 use Rattle.gptp_system.specs.State.{clock}
 use Rattle.gptp_acts.specs.declared.station.Station.{Station}
 use Rattle.gptp_acts.specs.Act.{Calls, in_state}
@@ -16,15 +16,15 @@ use Rattle.gptp_acts.specs.World.{WorldState, receiver, sender}
 use Rattle.gptp_lists.proofs.MappedLemmas.{same_there}
 use Rattle.gptp_lists.proofs.PlaceLemmas.{get-set_other}
 use Rattle.gptp_acts.proofs.StayLemmas.{sender_same}
-use Rattle.gptp_kept.specs.LinkView.{IsEndOf, LinkPlace, asker_view, identity_of, opposite}
+use Rattle.gptp_kept.specs.LinkView.{IsEndOf, LinkPlace, asker_view, link_identity, other_direction}
 use Rattle.gptp_kept.proofs.EndLemmas.{EndStep, HearsWhatFits, PartStep, call_end, renamed}
 use Rattle.gptp_kept.proofs.LinkLemmas.{receiver_same, sender_opposite}
-use Rattle.gptp_kept.specs.Unanswered.{IsFailedAmong, IsOldBy, IsUnansweredAt, setting, view}
+use Rattle.gptp_kept.specs.Unanswered.{IsFailedAmong, IsOldBy, IsUnansweredAt, silent_setting, silent_view}
 use Rattle.gptp_kept.proofs.UnansweredLaneLemmas.{ShrinksAt, calls_shrink}
 
 -- the lane from the failed end only gets less
 abbrev pub LaneShrinks : (at : LinkPlace) (w w' : WorldState) → IsUnansweredAt at w → Type 0
-LaneShrinks at w w' l = ShrinksAt at.link (opposite at.direction) l.channel w'.net.channels
+LaneShrinks at w w' l = ShrinksAt at.link (other_direction at.direction) l.channel w'.net.channels
 
 -- the link with another channel, and the two ends as they are then
 module _ (at : LinkPlace) (w w' : WorldState) (l : IsUnansweredAt at w) (lane : LaneShrinks at w w' l)
@@ -53,10 +53,10 @@ module _ (at : LinkPlace) (w w' : WorldState) (l : IsUnansweredAt at w) (lane : 
 
   pub relinked_settled : asking.station.setup ≡ l.asking.station.setup
       → answering.station.setup ≡ l.answering.station.setup
-      → setting at w' relinked ≡ setting at w l
+      → silent_setting at w' relinked ≡ silent_setting at w l
   relinked_settled asker answerer = λ i. record {
-    asking = identity_of (same_sender i);
-    answering = identity_of (same_receiver i);
+    asking = link_identity (same_sender i);
+    answering = link_identity (same_receiver i);
     most = (lane.shrinks.bounds i).max;
     turnaround = (answerer i).params.turnaround;
     period = interval_of (asker i).params.pdelay;
@@ -79,12 +79,12 @@ failed_apart place other number w station here live e same =
 pub record CallStep (place : ℕ) (input : Input) (gone : ℕ) (at : LinkPlace) (w w' : WorldState)
     (l : IsUnansweredAt at w) : Type 0 where
   pub after : IsUnansweredAt at w'
-  pub settled : setting at w' after ≡ setting at w l
+  pub settled : silent_setting at w' after ≡ silent_setting at w l
   pub old : IsOldBy gone at w' after
   pub time : w'.time ≡ w.time
   pub setup : after.asking.station.setup ≡ l.asking.station.setup
   pub part : PartStep place input w.time at.asking l.asking.station.system (sender at.direction l.channel).port
-      (part_of l.asking.state) (part_of after.asking.state)
+      (measure_at l.asking.state) (measure_at after.asking.state)
 
 module _ (gone : ℕ) (at : LinkPlace) (place : ℕ) (input : Input) (w : WorldState) (draws : List Draw) (answer : Answer)
     (w' : WorldState) (k : Calls place input w draws answer w') (clocks : HaveOwnClocks w) (l : IsUnansweredAt at w)
@@ -93,14 +93,14 @@ module _ (gone : ℕ) (at : LinkPlace) (place : ℕ) (input : Input) (w : WorldS
   apart : at.answering ≢ place
   apart = failed_apart place at.answering (receiver at.direction l.channel).clock w k.station k.here k.live l.answering
 
-  other_clock : (sender (opposite at.direction) l.channel).clock ≢ clock k.station.system
+  other_clock : (sender (other_direction at.direction) l.channel).clock ≢ clock k.station.system
   other_clock e =
       apart (clocks at.answering place l.answering.station k.station l.answering.here k.here
       (l.answering.named ∙ ap (λ (p : PortId). p.clock) (sym (sender_opposite at.direction l.channel)) ∙ e))
 
   lane : LaneShrinks at w w' l
   lane =
-      calls_shrink at.link (opposite at.direction) place input w draws answer w' k l.channel l.here other_clock
+      calls_shrink at.link (other_direction at.direction) place input w draws answer w' k l.channel l.here other_clock
 
   end : EndStep place input w w' at.asking (sender at.direction l.channel) l.asking
   end = call_end place input w draws answer w' k at.asking (sender at.direction l.channel) l.asking given
@@ -127,13 +127,13 @@ module _ (gone : ℕ) (at : LinkPlace) (place : ℕ) (input : Input) (w : WorldS
 -- what is seen after a call
 module _ {place : ℕ} {input : Input} {gone : ℕ} {at : LinkPlace} {w w' : WorldState} {l : IsUnansweredAt at w}
     (step : CallStep place input gone at w w' l) where
-  pub asker_is : (view at w' step.after).asker
-      ≡ asker_view (interval_of l.asking.station.setup.params.pdelay) (part_of step.after.asking.state)
-  asker_is = ap (λ (x : Setup). asker_view (interval_of x.params.pdelay) (part_of step.after.asking.state)) step.setup
+  pub asker_is : (silent_view at w' step.after).asker
+      ≡ asker_view (interval_of l.asking.station.setup.params.pdelay) (measure_at step.after.asking.state)
+  asker_is = ap (λ (x : Setup). asker_view (interval_of x.params.pdelay) (measure_at step.after.asking.state)) step.setup
 
   -- where the port measures on as it did nothing is seen
   pub view_stays :
-      asker_view (interval_of l.asking.station.setup.params.pdelay) (part_of step.after.asking.state)
-      ≡ asker_view (interval_of l.asking.station.setup.params.pdelay) (part_of l.asking.state)
-      → view at w' step.after ≡ view at w l
+      asker_view (interval_of l.asking.station.setup.params.pdelay) (measure_at step.after.asking.state)
+      ≡ asker_view (interval_of l.asking.station.setup.params.pdelay) (measure_at l.asking.state)
+      → silent_view at w' step.after ≡ silent_view at w l
   view_stays same = λ i. record { time = step.time i; asker = (asker_is ∙ same) i }

@@ -18,20 +18,20 @@ use Rattle.gptp_pdelay.specs.Peer.{PeerState, after_follow_up, after_response, a
 use Rattle.gptp_system.specs.declared.answer.Answer.{Answer}
 use Rattle.gptp_system.specs.Input.{Frame as FrameHeard}
 use Rattle.gptp_setup.specs.Intervals.{interval_of}
-use Rattle.gptp_system.specs.Measures.{HearsPart, Part, part_heard, part_of}
+use Rattle.gptp_system.specs.Measures.{HearsPart, Part, part_heard, measure_at}
 use Rattle.gptp_system.specs.State.{SystemState, clock, local_time}
 use Rattle.gptp_acts.specs.declared.station.Station.{Station}
 use Rattle.gptp_acts.specs.Act.{Calls, Delivers, Hears}
 use Rattle.gptp_acts.specs.Sound.{IsSound}
-use Rattle.gptp_acts.specs.World.{WorldState, queue, receiver, sender}
+use Rattle.gptp_acts.specs.World.{WorldState, world_queue, receiver, sender}
 use Rattle.gptp_lists.proofs.MappedLemmas.{same_there}
 use Rattle.gptp_measuring.specs.Asker.{Asker}
 use Rattle.gptp_measuring.specs.Silence.{ActsInVain, HearsOld}
-use Rattle.gptp_kept.specs.Measured.{IsMeasured}
-use Rattle.gptp_kept.specs.LinkView.{LinkPlace, SaysWhatFits, asked_at, asker_view, opposite}
+use Rattle.gptp_kept.specs.Measured.{LinkIsMeasured}
+use Rattle.gptp_kept.specs.LinkView.{LinkPlace, RequestSaysWhatFits, asked_at, asker_view, other_direction}
 use Rattle.gptp_kept.proofs.LinkLemmas.{sender_opposite}
 use Rattle.gptp_kept.proofs.PartLemmas.{heard_asked}
-use Rattle.gptp_kept.specs.Unanswered.{IsOldBy, IsSeen, IsUnansweredAt, setting, view}
+use Rattle.gptp_kept.specs.Unanswered.{IsOldBy, IsSeenUnanswered, IsUnansweredAt, silent_setting, silent_view}
 use Rattle.gptp_kept.proofs.UnansweredCallLemmas.{CallStep, LaneShrinks, asker_is, call_seen, failed_apart, relinked, relinked_settled, same_sender, view_stays}
 use Rattle.gptp_kept.proofs.UnansweredLaneLemmas.{takes_shrink}
 
@@ -84,7 +84,7 @@ octets_heard s now p octets n x x' (inl (m, reads, is)) = go (n == p) refl is
     go false other left = inr left
 
 -- a direction is this one or the other
-which_way : (direction way : Direction) → (direction ≡ way) ⊎ (direction ≡ opposite way)
+which_way : (direction way : Direction) → (direction ≡ way) ⊎ (direction ≡ other_direction way)
 which_way FromA FromA = inl refl
 which_way FromA FromB = inr refl
 which_way FromB FromA = inr refl
@@ -94,7 +94,7 @@ which_way FromB FromB = inl refl
 
 module _ (gone : ℕ) (at : LinkPlace) (link : ℕ) (direction : Direction) (octets : List ℕ) (w : WorldState)
     (draws : List Draw) (answer : Option Answer) (w' : WorldState)
-    (k : Delivers link direction octets w draws answer w') (sound : IsSound w) (measured : IsMeasured w)
+    (k : Delivers link direction octets w draws answer w') (sound : IsSound w) (measured : LinkIsMeasured w)
     (l : IsUnansweredAt at w) (old : IsOldBy gone at w l) where
   abbrev port : PortId
   port = receiver direction k.channel
@@ -108,37 +108,37 @@ module _ (gone : ℕ) (at : LinkPlace) (link : ℕ) (direction : Direction) (oct
 
   lane : LaneShrinks at w emptied l
   lane =
-      takes_shrink at.link (opposite at.direction) link direction w.time octets k.channel w.net k.net l.channel l.here
+      takes_shrink at.link (other_direction at.direction) link direction w.time octets k.channel w.net k.net l.channel l.here
       k.takes
 
   abbrev less : IsUnansweredAt at emptied
   less = relinked at w emptied l lane l.asking l.answering
 
-  less_settled : setting at emptied less ≡ setting at w l
+  less_settled : silent_setting at emptied less ≡ silent_setting at w l
   less_settled = relinked_settled at w emptied l lane l.asking l.answering refl refl
 
   less_old : IsOldBy gone at emptied less
   less_old f member = old f (lane.shrinks.fewer f member)
 
   -- the frame is one of those in flight
-  among : In (frame w.time octets) (queue direction k.channel)
+  among : In (frame w.time octets) (world_queue direction k.channel)
   among = subst (In (frame w.time octets)) (sym k.takes.front) (inl refl)
 
-  octets_fit : SaysWhatFits octets
+  octets_fit : RequestSaysWhatFits octets
   octets_fit = measured.frames link k.channel k.takes.here direction (frame w.time octets) among
 
   -- ---- where it is an old one
 
   -- it arrives on the lane from the failed end
   abbrev Arrives : Type 0
-  Arrives = (link ≡ at.link) × (direction ≡ opposite at.direction)
+  Arrives = (link ≡ at.link) × (direction ≡ other_direction at.direction)
 
   is_old : Arrives → w.time ≤ gone
   is_old (same, way) =
       let one : k.channel ≡ l.channel =
       same_there w.net.channels link k.channel l.channel k.takes.here
       (ap (slice_get w.net.channels) same ∙ l.here) in
-      old (frame w.time octets) (subst (In (frame w.time octets)) (λ i. queue (way i) (one i)) among)
+      old (frame w.time octets) (subst (In (frame w.time octets)) (λ i. world_queue (way i) (one i)) among)
 
   -- the two ends are of two clocks
   ends_apart : (sender at.direction l.channel).clock ≢ (receiver at.direction l.channel).clock
@@ -165,7 +165,7 @@ module _ (gone : ℕ) (at : LinkPlace) (link : ℕ) (direction : Direction) (oct
 
       here : link ≡ at.link
       here =
-          sound.wired.apart link at.link (opposite direction) at.direction k.channel l.channel k.takes.here l.here
+          sound.wired.apart link at.link (other_direction direction) at.direction k.channel l.channel k.takes.here l.here
           (sender_opposite direction k.channel ∙ sym port_is)
 
       one : k.channel ≡ l.channel
@@ -173,7 +173,7 @@ module _ (gone : ℕ) (at : LinkPlace) (link : ℕ) (direction : Direction) (oct
           same_there w.net.channels link k.channel l.channel k.takes.here
           (ap (slice_get w.net.channels) here ∙ l.here)
 
-      by : (direction ≡ at.direction) ⊎ (direction ≡ opposite at.direction) → direction ≡ opposite at.direction
+      by : (direction ≡ at.direction) ⊎ (direction ≡ other_direction at.direction) → direction ≡ other_direction at.direction
       by (inl way) =
           absurd (ends_apart (ap (λ (p : PortId). p.clock) (port_is ∙ λ i. receiver (way i) (one i))))
       by (inr way) = way
@@ -187,12 +187,12 @@ module _ (gone : ℕ) (at : LinkPlace) (link : ℕ) (direction : Direction) (oct
         less_old (λ same number. octets_fit)
 
     abbrev x : Part
-    x = part_of l.asking.state
+    x = measure_at l.asking.state
 
     abbrev x' : Part
-    x' = part_of step.after.asking.state
+    x' = measure_at step.after.asking.state
 
-    settled : setting at w' step.after ≡ setting at w l
+    settled : silent_setting at w' step.after ≡ silent_setting at w l
     settled = step.settled ∙ less_settled
 
     number_same : (sender at.direction l.channel).port ≡ (sender at.direction lane.new).port
@@ -209,7 +209,7 @@ module _ (gone : ℕ) (at : LinkPlace) (link : ℕ) (direction : Direction) (oct
       | inr left ↦ inr left.1
     ]
 
-    hears_old : Arrives → AsksNoMore x x' → HearsOld gone (view at w l) (view at w' step.after)
+    hears_old : Arrives → AsksNoMore x x' → HearsOld gone (silent_view at w l) (silent_view at w' step.after)
     hears_old here no_more = record {
       time = step.time;
       old = is_old here;
@@ -217,17 +217,17 @@ module _ (gone : ℕ) (at : LinkPlace) (link : ℕ) (direction : Direction) (oct
       lost = no_more.lost;
     }
 
-    one_act : ActsInVain (setting at w l) gone (view at w l) (view at w' step.after)
+    one_act : ActsInVain (silent_setting at w l) gone (silent_view at w l) (silent_view at w' step.after)
     one_act = elim becomes [
       | inl heard ↦ inr (inl (hears_old heard.0 heard.1))
       | inr left ↦ inr (inr (view_stays step (ap (asker_view period) left)))
     ]
 
-    called_seen : IsSeen (λ k s s'. ActsInVain k gone s s') gone at w w' l
+    called_seen : IsSeenUnanswered (λ k s s'. ActsInVain k gone s s') gone at w w' l
     called_seen = record { after = step.after; settled = settled; old = step.old; so = one_act }
 
     -- what arrives is heard, or leaves the measuring
-    called_hears : Arrives → IsSeen (λ k s s'. HearsOld gone s s') gone at w w' l
+    called_hears : Arrives → IsSeenUnanswered (λ k s s'. HearsOld gone s s') gone at w w' l
     called_hears here = record {
       after = step.after;
       settled = settled;
@@ -239,10 +239,10 @@ module _ (gone : ℕ) (at : LinkPlace) (link : ℕ) (direction : Direction) (oct
     }
 
   -- where nothing hears the frame the port measures on
-  unheard_seen : IsSeen (λ k s s'. ActsInVain k gone s s') gone at w emptied l
+  unheard_seen : IsSeenUnanswered (λ k s s'. ActsInVain k gone s s') gone at w emptied l
   unheard_seen = record { after = less; settled = less_settled; old = less_old; so = inr (inr refl) }
 
-  unheard_hears : Arrives → IsSeen (λ k s s'. HearsOld gone s s') gone at w emptied l
+  unheard_hears : Arrives → IsSeenUnanswered (λ k s s'. HearsOld gone s s') gone at w emptied l
   unheard_hears here = record {
     after = less;
     settled = less_settled;
@@ -250,20 +250,20 @@ module _ (gone : ℕ) (at : LinkPlace) (link : ℕ) (direction : Direction) (oct
     so = record { time = refl; old = is_old here; asked = refl; lost = omega arith };
   }
 
-  pub delivers_seen : IsSeen (λ k s s'. ActsInVain k gone s s') gone at w w' l
+  pub delivers_seen : IsSeenUnanswered (λ k s s'. ActsInVain k gone s s') gone at w w' l
   delivers_seen = by answer k.hears
     where
       by : (a : Option Answer) → Hears k.place port.port octets emptied draws a w'
-          → IsSeen (λ k s s'. ActsInVain k gone s s') gone at w w' l
+          → IsSeenUnanswered (λ k s s'. ActsInVain k gone s s') gone at w w' l
       by (Some told) calls = called_seen told calls
       by None (failed, none, is) =
-          subst (λ u. IsSeen (λ k s s'. ActsInVain k gone s s') gone at w u l) (sym is) unheard_seen
+          subst (λ u. IsSeenUnanswered (λ k s s'. ActsInVain k gone s s') gone at w u l) (sym is) unheard_seen
 
-  pub asker_hears_seen : Arrives → IsSeen (λ k s s'. HearsOld gone s s') gone at w w' l
+  pub asker_hears_seen : Arrives → IsSeenUnanswered (λ k s s'. HearsOld gone s s') gone at w w' l
   asker_hears_seen here = by answer k.hears
     where
       by : (a : Option Answer) → Hears k.place port.port octets emptied draws a w'
-          → IsSeen (λ k s s'. HearsOld gone s s') gone at w w' l
+          → IsSeenUnanswered (λ k s s'. HearsOld gone s s') gone at w w' l
       by (Some told) calls = called_hears told calls here
       by None (failed, none, is) =
-          subst (λ u. IsSeen (λ k s s'. HearsOld gone s s') gone at w u l) (sym is) (unheard_hears here)
+          subst (λ u. IsSeenUnanswered (λ k s s'. HearsOld gone s s') gone at w u l) (sym is) (unheard_hears here)

@@ -8,26 +8,26 @@ use Rattle.gptp_system.specs.declared.port.Port.{Port}
 use Rattle.gptp_setup.specs.declared.setup.Params.{Params}
 use Rattle.gptp_setup.specs.declared.timer.Timer.{Timer}
 use Rattle.gptp_setup.specs.declared.timer.Timer.TheVariants as timers
-use Rattle.gptp_system.specs.Input.{Expires as TimerExpires}
+use Rattle.gptp_system.specs.Input.{TimerRunsOut as TimerExpires}
 use Rattle.gptp_setup.specs.Intervals.{interval_of}
-use Rattle.gptp_system.specs.Measures.{Part, part_asked, part_of}
+use Rattle.gptp_system.specs.Measures.{Part, part_asked, measure_at}
 use Rattle.gptp_system.specs.State.{SystemState, due, local_time}
-use Rattle.gptp_acts.specs.Act.{Expires}
+use Rattle.gptp_acts.specs.Act.{TimerRunsOut}
 use Rattle.gptp_acts.specs.Agrees.{stopped}
 use Rattle.gptp_acts.specs.Sound.{IsSound}
 use Rattle.gptp_acts.specs.World.{WorldState, sender}
 use Rattle.gptp_lists.proofs.MappedLemmas.{same_there}
-use Rattle.gptp_measuring.specs.Asker.{asks_now, after_interval as gives_up}
+use Rattle.gptp_measuring.specs.Asker.{asks_now, asker_after_interval as gives_up}
 use Rattle.gptp_measuring.specs.Silence.{ActsInVain, AsksInVain}
 use Rattle.gptp_kept.specs.LinkView.{LinkPlace, asked_at, asker_view, progress_view}
 use Rattle.gptp_kept.proofs.LinkCallLemmas.{asker_timer}
 use Rattle.gptp_kept.proofs.LinkExpiryLemmas.{expires_due}
 use Rattle.gptp_kept.proofs.PartLemmas.{asked_seen}
-use Rattle.gptp_kept.specs.Unanswered.{IsOldBy, IsSeen, IsUnansweredAt, setting, view}
+use Rattle.gptp_kept.specs.Unanswered.{IsOldBy, IsSeenUnanswered, IsUnansweredAt, silent_setting, silent_view}
 use Rattle.gptp_kept.proofs.UnansweredCallLemmas.{CallStep, asker_is, call_seen, view_stays}
 
 module _ (gone : ℕ) (at : LinkPlace) (place : ℕ) (timer : Timer) (w : WorldState) (draws : List Draw) (w' : WorldState)
-    (k : Expires place timer w draws w') (sound : IsSound w) (l : IsUnansweredAt at w) (old : IsOldBy gone at w l) where
+    (k : TimerRunsOut place timer w draws w') (sound : IsSound w) (l : IsUnansweredAt at w) (old : IsOldBy gone at w l) where
   step : CallStep place (TimerExpires timer) gone at (stopped place timer w) w' l
   step =
       call_seen gone at place (TimerExpires timer) (stopped place timer w) draws k.answer w' k.calls sound.wired.clocks
@@ -43,10 +43,10 @@ module _ (gone : ℕ) (at : LinkPlace) (place : ℕ) (timer : Timer) (w : WorldS
   s = l.asking.station.system
 
   abbrev x : Part
-  x = part_of l.asking.state
+  x = measure_at l.asking.state
 
   abbrev x' : Part
-  x' = part_of step.after.asking.state
+  x' = measure_at step.after.asking.state
 
   -- ---- the port's Pdelay timer
 
@@ -77,7 +77,7 @@ module _ (gone : ℕ) (at : LinkPlace) (place : ℕ) (timer : Timer) (w : WorldS
         ∙ ap (λ n. asks_now w.time x.peer.next (local_time s w.time)
         (gives_up n (progress_view x.peer.progress) (asker_view period x))) l.asking.measures.allowed
 
-    asks_in_vain : AsksInVain (setting at w l) (view at w l) (view at w' step.after)
+    asks_in_vain : AsksInVain (silent_setting at w l) (silent_view at w l) (silent_view at w' step.after)
     asks_in_vain = record {
       time = step.time;
       now = request_now;
@@ -102,18 +102,18 @@ module _ (gone : ℕ) (at : LinkPlace) (place : ℕ) (timer : Timer) (w : WorldS
     | inr left ↦ inr (λ same. absurd (left.0 same), ap (asker_view period) left.1)
   ]
 
-  one_act : ActsInVain (setting at w l) gone (view at w l) (view at w' step.after)
+  one_act : ActsInVain (silent_setting at w l) gone (silent_view at w l) (silent_view at w' step.after)
   one_act = elim becomes [
     | inl asks ↦ inl (asks_in_vain asks.0 asks.1 asks.2)
     | inr stays ↦ inr (inr (view_stays step stays.1))
   ]
 
-  pub expires_seen : IsSeen (λ k s s'. ActsInVain k gone s s') gone at w w' l
+  pub expires_seen : IsSeenUnanswered (λ k s s'. ActsInVain k gone s s') gone at w w' l
   expires_seen = record { after = step.after; settled = step.settled; old = step.old; so = one_act }
 
   -- its own timer is seen as itself
   pub request_timer_seen : at.asking ≡ place → timer ≡ timers.Pdelay port.port
-      → IsSeen (λ k s s'. AsksInVain k s s') gone at w w' l
+      → IsSeenUnanswered (λ k s s'. AsksInVain k s s') gone at w w' l
   request_timer_seen here own_timer = elim becomes [
     | inl asks ↦ record {
       after = step.after;

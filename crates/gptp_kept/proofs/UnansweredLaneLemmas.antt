@@ -10,9 +10,9 @@ use Rattle.gptp_system.specs.declared.answer.Answer.{Answer}
 use Rattle.gptp_system.specs.declared.sending.Sending.{Sending}
 use Rattle.gptp_system.specs.Input.{Input}
 use Rattle.gptp_system.specs.State.{SystemState, clock, own}
-use Rattle.gptp_acts.specs.Act.{Calls, Takes, all_timers, in_state}
+use Rattle.gptp_acts.specs.Act.{Calls, TakesFrame, all_timers, in_state}
 use Rattle.gptp_acts.specs.Sends.{entered, written, SendsAll, SendsOne}
-use Rattle.gptp_acts.specs.World.{Channel, Net, WorldState, queue, sender, with_queue}
+use Rattle.gptp_acts.specs.World.{Channel, Net, WorldState, world_queue, sender, with_queue}
 use Rattle.gptp_lists.proofs.MappedLemmas.{same_there}
 use Rattle.gptp_lists.proofs.PlaceLemmas.{get-set_other, get-set_same, same_place}
 use Rattle.gptp_acts.proofs.SteadyLemmas.{same_clock}
@@ -24,7 +24,7 @@ pub record Shrinks (lane : Direction) (old new : Channel) : Type 0 where
   pub b : new.b ≡ old.b
   pub bounds : new.bounds ≡ old.bounds
   pub up : new.up ≡ old.up
-  pub fewer : (f : Frame) → In f (queue lane new) → In f (queue lane old)
+  pub fewer : (f : Frame) → In f (world_queue lane new) → In f (world_queue lane old)
 
 -- so does the link at a place
 pub record ShrinksAt (link : ℕ) (lane : Direction) (old : Channel) (channels : List Channel) : Type 0 where
@@ -46,7 +46,7 @@ shrinks_on lane x y z first second = record {
 
 -- the frames of one direction become others, which are no more where that is the lane
 queue_shrinks : (lane way : Direction) (channel : Channel) (frames : List Frame)
-    → (way ≡ lane → (f : Frame) → In f frames → In f (queue lane channel))
+    → (way ≡ lane → (f : Frame) → In f frames → In f (world_queue lane channel))
     → Shrinks lane channel (with_queue way frames channel)
 queue_shrinks FromA FromA channel frames fewer =
     record { a = refl; b = refl; bounds = refl; up = refl; fewer = fewer refl }
@@ -61,7 +61,7 @@ module _ (link : ℕ) (lane : Direction) where
   -- so it is where the link at any place is set
   set_shrinks : (channels : List Channel) (place : ℕ) (way : Direction) (old channel : Channel) (frames : List Frame)
       → slice_get channels link ≡ Some old → slice_get channels place ≡ Some channel
-      → (channel ≡ old → way ≡ lane → (f : Frame) → In f frames → In f (queue lane channel))
+      → (channel ≡ old → way ≡ lane → (f : Frame) → In f frames → In f (world_queue lane channel))
       → ShrinksAt link lane old (slice_set channels place (with_queue way frames channel))
   set_shrinks channels place way old channel frames stands here fewer = by (same_place link place)
     where
@@ -131,11 +131,11 @@ module _ (link : ℕ) (lane : Direction) where
   -- a frame leaves any lane
   pub takes_shrink : (place : ℕ) (direction : Direction) (now : ℕ) (octets : List ℕ) (channel : Channel)
       (net net' : Net) (old : Channel)
-      → slice_get net.channels link ≡ Some old → Takes place direction now octets channel net net'
+      → slice_get net.channels link ≡ Some old → TakesFrame place direction now octets channel net net'
       → ShrinksAt link lane old net'.channels
   takes_shrink place direction now octets channel net net' old stands takes =
       subst (λ (n : Net). ShrinksAt link lane old n.channels) (sym takes.is)
       (set_shrinks net.channels place direction old channel takes.rest stands takes.here
       (λ is way f member.
       let whole : In f (frame now octets ∷ takes.rest) = inr member in
-      subst (λ d. In f (queue d channel)) way (subst (In f) (sym takes.front) whole)))
+      subst (λ d. In f (world_queue d channel)) way (subst (In f) (sym takes.front) whole)))

@@ -13,7 +13,7 @@ use Rattle.gptp_acts.specs.Sound.{IsSound}
 use Rattle.gptp_acts.specs.World.{WorldState, sender}
 use Rattle.gptp_lists.proofs.PlaceLemmas.{member_there}
 use Rattle.gptp_kept.specs.LinkView.{IsEndOf, LinkPlace, asked_at}
-use Rattle.gptp_kept.specs.Due.{IsWithin}
+use Rattle.gptp_kept.specs.Due.{IsSoonAfter}
 use Rattle.gptp_kept.specs.Known.{IsKnown}
 use Rattle.gptp_kept.proofs.DueLemmas.{ports_known}
 use Rattle.gptp_kept.proofs.LinkStandLemmas.{end_is}
@@ -50,10 +50,10 @@ timer_runs at w l sound =
 -- and is due within a period from now
 end_asks : (p : Pace) (place : ℕ) (port : PortId) (w : WorldState) → IsSound w → IsKnown p w
     → (e : IsEndOf place port w) → (t : ℕ) → e.state.pdelay ≡ Some t
-    → IsWithin w.time (interval_of p.params.pdelay) t
+    → IsSoonAfter w.time (interval_of p.params.pdelay) t
 end_asks p place port w sound known e t runs = go port.port e.there
   where
-    go : (n : ℕ) → number e.station.system.ports n ≡ Some e.state → IsWithin w.time (interval_of p.params.pdelay) t
+    go : (n : ℕ) → number e.station.system.ports n ≡ Some e.state → IsSoonAfter w.time (interval_of p.params.pdelay) t
     go zero there = absurd (none-some e.state there)
     go (suc i) there =
         let places = (sound.on_time.stations place e.station e.here).steady.shown.places in

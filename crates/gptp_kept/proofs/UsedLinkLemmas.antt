@@ -10,13 +10,13 @@ use Rattle.gptp_acts.specs.declared.station.Station.{Station}
 use Rattle.gptp_plan.specs.Params.{KeepPace}
 use Rattle.gptp_acts.specs.World.{Channel, WorldState, receiver, sender}
 use Rattle.gptp_lists.proofs.MappedLemmas.{same_there, some_same}
-use Rattle.gptp_kept.specs.Measured.{IsLiveAt, StandsAt}
-use Rattle.gptp_kept.specs.LinkView.{LinkPlace, opposite, setting}
+use Rattle.gptp_kept.specs.Measured.{StationIsLiveAt, LinkStandsAt}
+use Rattle.gptp_kept.specs.LinkView.{LinkPlace, other_direction, link_setting}
 use Rattle.gptp_kept.specs.Watched.{IsWatched}
 use Rattle.gptp_kept.proofs.LinkLemmas.{sender_opposite}
-use Rattle.gptp_kept.specs.View.{identity_of}
+use Rattle.gptp_kept.specs.View.{port_identity_number}
 use Rattle.gptp_kept.specs.Calm.{HaveQuietLinks}
-use Rattle.gptp_kept.specs.Standing.{has_clock, is_used, live_systems, snapshot_of}
+use Rattle.gptp_kept.specs.Standing.{stations_have_clock, channel_is_used, live_stations, snapshot_of}
 use Rattle.gptp_kept.proofs.StandsLemmas.{sender_lives, stands_well, used_up}
 use Rattle.gptp_kept.proofs.SystemLemmas.{clock_lives, live_from}
 use Rattle.gptp_kept.proofs.WayLemmas.{IsWay, way_of}
@@ -28,14 +28,14 @@ use Rattle.gptp_kept.specs.Watch.{Watches}
 -- a live system with the clock stands somewhere
 record LivesSomewhere (number : ℕ) (w : WorldState) : Type 0 where
   place : ℕ
-  at : IsLiveAt place number w
+  at : StationIsLiveAt place number w
 
 -- so it is where a used link leads to
 receiver_lives : (w : WorldState) (direction : Direction) (channel : Channel)
-    → is_used (live_systems w.stations) channel ≡ true → LivesSomewhere (receiver direction channel).clock w
+    → channel_is_used (live_stations w.stations) channel ≡ true → LivesSomewhere (receiver direction channel).clock w
 receiver_lives w direction channel used =
-    let has = subst (λ (q : PortId). has_clock (live_systems w.stations) q.clock ≡ true)
-    (sender_opposite direction channel) (sender_lives (live_systems w.stations) (opposite direction) channel used) in
+    let has = subst (λ (q : PortId). stations_have_clock (live_stations w.stations) q.clock ≡ true)
+    (sender_opposite direction channel) (sender_lives (live_stations w.stations) (other_direction direction) channel used) in
     let (s, member, same) = clock_lives w.stations (receiver direction channel).clock has in
     let there = live_from w.stations s member in
     record {
@@ -55,17 +55,17 @@ receiver_lives w direction channel used =
 pub record IsWatchedLink (p : Pace) (w : WorldState) (from to : PortIdentity) (q : Port) : Type 0 where
   pub at : LinkPlace
   pub watched : IsWatched (w.last_change + largest_interval p) (w.last_change + 2 * largest_interval p) at w
-  pub from_is : (setting at w watched.link).asking ≡ from
-  pub to_is : (setting at w watched.link).answering ≡ to
+  pub from_is : (link_setting at w watched.link).asking ≡ from
+  pub to_is : (link_setting at w watched.link).answering ≡ to
   pub state : watched.link.asking.state ≡ q
-  pub period : (setting at w watched.link).period ≤ largest_interval p
-  pub allowed : (setting at w watched.link).allowed ≡ p.params.lost
+  pub period : (link_setting at w watched.link).period ≤ largest_interval p
+  pub allowed : (link_setting at w watched.link).allowed ≡ p.params.lost
 
 module _ (p : Pace) (w : WorldState) (pace : KeepPace p) (is : IsWorld p w) (quiet : HaveQuietLinks p.params w)
     (watches : Watches p w) (place : ℕ) (station : Station) (here : slice_get w.stations place ≡ Some station)
     (live : station.live ≡ true) where
   -- where a way from a port of the system stands
-  abbrev place_of_way : (n : ℕ) (to : PortIdentity) → IsWay w (identity_of (own station.system n)) to → LinkPlace
+  abbrev place_of_way : (n : ℕ) (to : PortIdentity) → IsWay w (port_identity_number (own station.system n)) to → LinkPlace
   place_of_way n to way = record {
     link = way.link;
     direction = way.direction;
@@ -74,8 +74,8 @@ module _ (p : Pace) (w : WorldState) (pace : KeepPace p) (is : IsWorld p w) (qui
   }
 
   -- it is good, and its ends are two live systems
-  way_stands : (n : ℕ) (to : PortIdentity) → Joins (snapshot_of w) (identity_of (own station.system n)) to
-      → (way : IsWay w (identity_of (own station.system n)) to) → StandsAt (place_of_way n to way) w
+  way_stands : (n : ℕ) (to : PortIdentity) → Joins (snapshot_of w) (port_identity_number (own station.system n)) to
+      → (way : IsWay w (port_identity_number (own station.system n)) to) → LinkStandsAt (place_of_way n to way) w
   way_stands n to joins way =
       let links = quiet way.link way.channel way.here way.used in
       let other = receiver_lives w way.direction way.channel way.used in
@@ -84,7 +84,7 @@ module _ (p : Pace) (w : WorldState) (pace : KeepPace p) (is : IsWorld p w) (qui
       record {
         channel = way.channel;
         here = way.here;
-        up = used_up (live_systems w.stations) way.channel way.used;
+        up = used_up (live_stations w.stations) way.channel way.used;
         lossless = links.lossless;
         asking = record {
           station = station;
@@ -97,7 +97,7 @@ module _ (p : Pace) (w : WorldState) (pace : KeepPace p) (is : IsWorld p w) (qui
             let alike : station ≡ other.at.station =
             same_there w.stations place station other.at.station here
             (subst (λ at. slice_get w.stations at ≡ Some other.at.station) (sym same) other.at.here) in
-            (stands_well w is.sound is.between is.legible).apart (identity_of (own station.system n)) to joins
+            (stands_well w is.sound is.between is.legible).apart (port_identity_number (own station.system n)) to joins
             (ap (λ (x : Station). clock x.system) alike
             ∙ other.at.named
             ∙ ap (λ (x : PortIdentity). x.clock) way.to);
@@ -106,9 +106,9 @@ module _ (p : Pace) (w : WorldState) (pace : KeepPace p) (is : IsWorld p w) (qui
 
   -- so it is watched, where the way from the port stands
   way_watched : (i : ℕ) (q : Port) (to : PortIdentity) → slice_get station.system.ports i ≡ Some q
-      → Joins (snapshot_of w) (identity_of (own station.system (suc i))) to
-      → IsWay w (identity_of (own station.system (suc i))) to
-      → IsWatchedLink p w (identity_of (own station.system (suc i))) to q
+      → Joins (snapshot_of w) (port_identity_number (own station.system (suc i))) to
+      → IsWay w (port_identity_number (own station.system (suc i))) to
+      → IsWatchedLink p w (port_identity_number (own station.system (suc i))) to q
   way_watched i q to there joins way =
       let at = place_of_way (suc i) to way in
       let l = watches at (way_stands (suc i) to joins way) in
@@ -126,15 +126,15 @@ module _ (p : Pace) (w : WorldState) (pace : KeepPace p) (is : IsWorld p w) (qui
       record {
         at = at;
         watched = l;
-        from_is = ap (λ c. identity_of (sender way.direction c)) same_channel ∙ way.from;
-        to_is = ap (λ c. identity_of (receiver way.direction c)) same_channel ∙ way.to;
+        from_is = ap (λ c. port_identity_number (sender way.direction c)) same_channel ∙ way.from;
+        to_is = ap (λ c. port_identity_number (receiver way.direction c)) same_channel ∙ way.to;
         state = some_same asking.state q found;
         period = rw set pace.requests;
         allowed = rw set refl;
       }
 
   pub used_watched : (i : ℕ) (q : Port) (to : PortIdentity) → slice_get station.system.ports i ≡ Some q
-      → Joins (snapshot_of w) (identity_of (own station.system (suc i))) to
-      → IsWatchedLink p w (identity_of (own station.system (suc i))) to q
+      → Joins (snapshot_of w) (port_identity_number (own station.system (suc i))) to
+      → IsWatchedLink p w (port_identity_number (own station.system (suc i))) to q
   used_watched i q to there joins =
-      way_watched i q to there joins (way_of w (identity_of (own station.system (suc i))) to joins)
+      way_watched i q to there joins (way_of w (port_identity_number (own station.system (suc i))) to joins)

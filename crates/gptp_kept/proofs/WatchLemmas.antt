@@ -8,63 +8,63 @@ use Rattle.gptp_measuring.specs.Setting.{Setting}
 use Rattle.gptp_measuring.proofs.CapabilityLemmas.{capability_settles}
 use Rattle.gptp_measuring.proofs.FactLemmas.{facts_kept, facts_later}
 use Rattle.gptp_measuring.proofs.MeasuredLemmas.{measuring_settles, meter_begins, meter_is_inv, meter_kept, meter_later}
-use Rattle.gptp_kept.specs.LinkView.{asks, least_delay, meter, pair, replies, setting}
+use Rattle.gptp_kept.specs.LinkView.{reads_as_request, least_delay, meter, pair, reads_as_reply, link_setting}
 use Rattle.gptp_kept.specs.WatchedLaws.{WatchBegins, WatchGoesOn, WatchIsKept, WatchedPortsBecomeCapable, WatchedPortsMeasure}
 use Rattle.gptp_kept.proofs.LinkActLemmas.{acts_seen}
 use Rattle.gptp_kept.proofs.LinkFactLemmas.{facts_begin, links_fresh, nothing_late}
 
 pub watch_begins : WatchBegins
 watch_begins at gone calm w l sound measured flight past before good =
-    let k = setting at w l in
+    let k = link_setting at w l in
     record {
       link = l;
       good = good;
       facts = facts_begin at gone w l sound measured flight;
-      inv = meter_begins k (least_delay at w l) asks replies gone calm (meter at w l)
+      inv = meter_begins k (least_delay at w l) reads_as_request reads_as_reply gone calm (meter at w l)
           (links_fresh at gone calm w l sound measured flight past before);
     }
 
 pub watch_kept : WatchIsKept
 watch_kept at gone calm act w w' draws done sound calm_act acts is =
-    let k = setting at w is.link in
+    let k = link_setting at w is.link in
     let least = least_delay at w is.link in
     let seen = acts_seen at act w w' draws done is.link sound calm_act acts in
     let m = meter at w is.link in
     let m' = meter at w' seen.after in
     let one = seen.so in
-    let facts = facts_kept k gone asks replies m.pair m'.pair (act_of k asks replies m m' one.acts) one.out one.back
+    let facts = facts_kept k gone reads_as_request reads_as_reply m.pair m'.pair (act_of k reads_as_request reads_as_reply m m' one.acts) one.out one.back
     is.facts in
     let same_least : least ≡ least_delay at w' seen.after = ap (λ (b : Bounds). b.min) (sym seen.bounds) in
-    let inv = meter_kept k least asks replies gone calm m m' is.good is.facts facts one.out_late one.back_late one.acts
+    let inv = meter_kept k least reads_as_request reads_as_reply gone calm m m' is.good is.facts facts one.out_late one.back_late one.acts
     is.inv in
     record {
       link = seen.after;
       good = subst (λ (x : Setting). IsGood x gone calm) (sym seen.settled) is.good;
       facts = subst (λ (x : Setting). Facts x gone m'.pair) (sym seen.settled) facts;
-      inv = subst (λ (x : Setting). MeterInv x (least_delay at w' seen.after) asks replies gone calm m')
-          (sym seen.settled) (subst (λ (n : ℕ). MeterInv k n asks replies gone calm m') same_least inv);
+      inv = subst (λ (x : Setting). MeterInv x (least_delay at w' seen.after) reads_as_request reads_as_reply gone calm m')
+          (sym seen.settled) (subst (λ (n : ℕ). MeterInv k n reads_as_request reads_as_reply gone calm m') same_least inv);
     }
 
 pub watch_goes_on : WatchGoesOn
 watch_goes_on at gone calm time w sound later first is =
-    let k = setting at w is.link in
+    let k = link_setting at w is.link in
     let p = pair at w is.link in
     record {
       link = is.link;
       good = is.good;
       facts = facts_later k gone time p later (nothing_late at time w is.link sound first) is.facts;
-      inv = meter_later k (least_delay at w is.link) asks replies gone calm (meter at w is.link) _ (time, later, refl)
+      inv = meter_later k (least_delay at w is.link) reads_as_request reads_as_reply gone calm (meter at w is.link) _ (time, later, refl)
           is.inv;
     }
 
 pub watched_capable : WatchedPortsBecomeCapable
 watched_capable at change interval w l short past =
-    let k = setting at w l.link in
-    capability_settles k asks replies change interval (pair at w l.link) short l.facts
-    (meter_is_inv k (least_delay at w l.link) asks replies (change + interval) (change + 2 * interval)
+    let k = link_setting at w l.link in
+    capability_settles k reads_as_request reads_as_reply change interval (pair at w l.link) short l.facts
+    (meter_is_inv k (least_delay at w l.link) reads_as_request reads_as_reply (change + interval) (change + 2 * interval)
     (meter at w l.link) l.inv) past
 
 pub watched_measure : WatchedPortsMeasure
 watched_measure at change interval w l short past =
-    measuring_settles (setting at w l.link) (least_delay at w l.link) asks replies change interval
+    measuring_settles (link_setting at w l.link) (least_delay at w l.link) reads_as_request reads_as_reply change interval
     (meter at w l.link) short l.facts l.inv past

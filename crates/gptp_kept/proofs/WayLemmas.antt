@@ -10,10 +10,10 @@ use Rattle.gptp_acts.specs.Sound.{IsSound}
 use Rattle.gptp_acts.specs.World.{Channel, WorldState, receiver, sender}
 use Rattle.gptp_lists.proofs.MappedLemmas.{same_there}
 use Rattle.gptp_kept.specs.Legible.{IsLegible}
-use Rattle.gptp_kept.specs.View.{identity_of, lane_view}
+use Rattle.gptp_kept.specs.View.{port_identity_number, lane_view}
 use Rattle.gptp_kept.proofs.SeenLaneLemmas.{lane_there, one_lane}
 use Rattle.gptp_kept.proofs.SendLemmas.{world_apart}
-use Rattle.gptp_kept.specs.Standing.{is_used, joined, live_systems, snapshot_of, used_links}
+use Rattle.gptp_kept.specs.Standing.{channel_is_used, standing_link, live_stations, snapshot_of, used_channels}
 
 -- ---- members
 
@@ -22,41 +22,41 @@ pub record IsUsedAt (systems : List System) (channels : List Channel) (l : Link)
   pub link : ℕ
   pub channel : Channel
   pub here : slice_get channels link ≡ Some channel
-  pub used : is_used systems channel ≡ true
-  pub is : l ≡ joined channel
+  pub used : channel_is_used systems channel ≡ true
+  pub is : l ≡ standing_link channel
 
 behind : (systems : List System) (first : Channel) (channels : List Channel) (l : Link)
     → IsUsedAt systems channels l → IsUsedAt systems (first ∷ channels) l
 behind systems first channels l at =
     record { link = suc at.link; channel = at.channel; here = at.here; used = at.used; is = at.is }
 
-used_from : (systems : List System) (channels : List Channel) (l : Link) → In l (used_links systems channels)
+used_from : (systems : List System) (channels : List Channel) (l : Link) → In l (used_channels systems channels)
     → IsUsedAt systems channels l
 used_from systems [] l member = absurd member
 used_from systems (first ∷ channels) l member =
-    by (is_used systems first) refl (used_from systems channels l) member
+    by (channel_is_used systems first) refl (used_from systems channels l) member
   where
-    by : (used : Bool) → is_used systems first ≡ used
-        → (In l (used_links systems channels) → IsUsedAt systems channels l)
-        → In l (if used then joined first ∷ used_links systems channels else used_links systems channels)
+    by : (used : Bool) → channel_is_used systems first ≡ used
+        → (In l (used_channels systems channels) → IsUsedAt systems channels l)
+        → In l (if used then standing_link first ∷ used_channels systems channels else used_channels systems channels)
         → IsUsedAt systems (first ∷ channels) l
     by true is later (inl same) = record { link = zero; channel = first; here = refl; used = is; is = same }
     by true is later (inr among) = behind systems first channels l (later among)
     by false is later among = behind systems first channels l (later among)
 
 used_there : (systems : List System) (channels : List Channel) (link : ℕ) (channel : Channel)
-    → slice_get channels link ≡ Some channel → is_used systems channel ≡ true
-    → In (joined channel) (used_links systems channels)
+    → slice_get channels link ≡ Some channel → channel_is_used systems channel ≡ true
+    → In (standing_link channel) (used_channels systems channels)
 used_there systems [] link channel here used = absurd (none-some channel here)
 used_there systems (first ∷ channels) zero channel here used =
     let same = same_Some first channel here in
-    let is : is_used systems first ≡ true = ap (is_used systems) same ∙ used in
-    rw is (inl (ap joined (sym same)))
+    let is : channel_is_used systems first ≡ true = ap (channel_is_used systems) same ∙ used in
+    rw is (inl (ap standing_link (sym same)))
 used_there systems (first ∷ channels) (suc link) channel here used =
-    by (is_used systems first) (used_there systems channels link channel here used)
+    by (channel_is_used systems first) (used_there systems channels link channel here used)
   where
-    by : (is : Bool) → In (joined channel) (used_links systems channels)
-        → In (joined channel) (if is then joined first ∷ used_links systems channels else used_links systems channels)
+    by : (is : Bool) → In (standing_link channel) (used_channels systems channels)
+        → In (standing_link channel) (if is then standing_link first ∷ used_channels systems channels else used_channels systems channels)
     by true among = inr among
     by false among = among
 
@@ -68,13 +68,13 @@ pub record IsWay (w : WorldState) (p q : PortIdentity) : Type 0 where
   pub direction : Direction
   pub channel : Channel
   pub here : slice_get w.net.channels link ≡ Some channel
-  pub used : is_used (live_systems w.stations) channel ≡ true
-  pub from : identity_of (sender direction channel) ≡ p
-  pub to : identity_of (receiver direction channel) ≡ q
+  pub used : channel_is_used (live_stations w.stations) channel ≡ true
+  pub from : port_identity_number (sender direction channel) ≡ p
+  pub to : port_identity_number (receiver direction channel) ≡ q
 
 pub way_of : (w : WorldState) (p q : PortIdentity) → Joins (snapshot_of w) p q → IsWay w p q
 way_of w p q (inl member) =
-    let at = used_from (live_systems w.stations) w.net.channels _ member in
+    let at = used_from (live_stations w.stations) w.net.channels _ member in
     record {
       link = at.link;
       direction = FromA;
@@ -85,7 +85,7 @@ way_of w p q (inl member) =
       to = ap (λ (l : Link). l.b) (sym at.is);
     }
 way_of w p q (inr member) =
-    let at = used_from (live_systems w.stations) w.net.channels _ member in
+    let at = used_from (live_stations w.stations) w.net.channels _ member in
     record {
       link = at.link;
       direction = FromB;
@@ -98,12 +98,12 @@ way_of w p q (inr member) =
 
 -- a used link joins its ends
 pub used_joins : (w : WorldState) (link : ℕ) (direction : Direction) (channel : Channel)
-    → slice_get w.net.channels link ≡ Some channel → is_used (live_systems w.stations) channel ≡ true
-    → Joins (snapshot_of w) (identity_of (sender direction channel)) (identity_of (receiver direction channel))
+    → slice_get w.net.channels link ≡ Some channel → channel_is_used (live_stations w.stations) channel ≡ true
+    → Joins (snapshot_of w) (port_identity_number (sender direction channel)) (port_identity_number (receiver direction channel))
 used_joins w link FromA channel here used =
-    inl (used_there (live_systems w.stations) w.net.channels link channel here used)
+    inl (used_there (live_stations w.stations) w.net.channels link channel here used)
 used_joins w link FromB channel here used =
-    inr (used_there (live_systems w.stations) w.net.channels link channel here used)
+    inr (used_there (live_stations w.stations) w.net.channels link channel here used)
 
 -- ---- one way
 
@@ -115,7 +115,7 @@ pub record IsOneWay (link other : ℕ) (direction way : Direction) (channel at :
 
 pub one_way : (w : WorldState) → IsSound w → IsLegible w → (link other : ℕ) (direction way : Direction)
     (channel at : Channel) → slice_get w.net.channels link ≡ Some channel → slice_get w.net.channels other ≡ Some at
-    → identity_of (sender direction channel) ≡ identity_of (sender way at)
+    → port_identity_number (sender direction channel) ≡ port_identity_number (sender way at)
     → IsOneWay link other direction way channel at
 one_way w sound legible link other direction way channel at here there same =
     let lanes = world_apart w sound legible _ _ (lane_view direction channel) (lane_view way at)
@@ -134,6 +134,6 @@ ways_meet w p q r sound legible x y =
     let one = one_way w sound legible x.link y.link x.direction y.direction x.channel y.channel x.here y.here
     (x.from ∙ sym y.from) in
     sym x.to
-    ∙ ap (λ d. identity_of (receiver d x.channel)) one.same_way
-    ∙ ap (λ c. identity_of (receiver y.direction c)) one.same_channel
+    ∙ ap (λ d. port_identity_number (receiver d x.channel)) one.same_way
+    ∙ ap (λ c. port_identity_number (receiver y.direction c)) one.same_channel
     ∙ y.to

@@ -1,7 +1,7 @@
 -- What the live systems of a world state of themselves, and that it is bounded as in a settled network.
 use Rattle.std.specs.Prelude.{if◌then◌else◌, List, [], ◌∷◌}
 use Rattle.gptp_graph.specs.Marking.{Statement}
-use Rattle.gptp_graph.specs.MarkingLaws.{AreBounded}
+use Rattle.gptp_graph.specs.MarkingLaws.{StatementsAreBounded}
 use Rattle.gptp_system.specs.State.{clock}
 use Rattle.gptp_acts.specs.declared.station.Station.{Station}
 use Rattle.gptp_acts.specs.World.{WorldState}
@@ -27,4 +27,4 @@ statements_of w = statements w.stations
 -- No live system, near or far, states a root below its component's best, nor that root over fewer steps than its
 -- distance; where the distance is below 255, it states both.
 abbrev pub IsBoundedWorld : WorldState → Type 0
-IsBoundedWorld w = AreBounded (snapshot_of w) (statements_of w)
+IsBoundedWorld w = StatementsAreBounded (snapshot_of w) (statements_of w)

@@ -20,8 +20,8 @@ use Rattle.gptp_acts.specs.declared.station.Station.{Station}
 use Rattle.gptp_acts.specs.World.{Channel, WorldState}
 use Rattle.gptp_settling.specs.Network.{Network}
 use Rattle.gptp_kept.specs.Due.{OfEachPort}
-use Rattle.gptp_kept.specs.View.{identity_of, lane_place}
-use Rattle.gptp_kept.specs.Standing.{is_used, live_systems, snapshot_of}
+use Rattle.gptp_kept.specs.View.{port_identity_number, lane_place}
+use Rattle.gptp_kept.specs.Standing.{channel_is_used, live_stations, snapshot_of}
 
 -- ---- links
 
@@ -33,19 +33,19 @@ pub record IsQuietLink (p : Params) (channel : Channel) : Type 0 where
 -- so is each link that is up between two live systems
 abbrev pub HaveQuietLinks : Params → WorldState → Type 0
 HaveQuietLinks p w = (link : ℕ) (channel : Channel) → slice_get w.net.channels link ≡ Some channel
-    → is_used (live_systems w.stations) channel ≡ true → IsQuietLink p channel
+    → channel_is_used (live_stations w.stations) channel ≡ true → IsQuietLink p channel
 
 -- the greatest delay of these links, where they are up between two of these systems, or 0
-abbrev pub greatest_delay : List System → List Channel → ℕ
-greatest_delay systems [] = 0
-greatest_delay systems (channel ∷ channels) =
-    if is_used systems channel
-    then max channel.bounds.max (greatest_delay systems channels)
-    else greatest_delay systems channels
+abbrev pub greatest_channel_delay : List System → List Channel → ℕ
+greatest_channel_delay systems [] = 0
+greatest_channel_delay systems (channel ∷ channels) =
+    if channel_is_used systems channel
+    then max channel.bounds.max (greatest_channel_delay systems channels)
+    else greatest_channel_delay systems channels
 
 -- that of the links that are up between two live systems
 abbrev pub delay_in : WorldState → ℕ
-delay_in w = greatest_delay (live_systems w.stations) w.net.channels
+delay_in w = greatest_channel_delay (live_stations w.stations) w.net.channels
 
 -- ---- Syncs
 
@@ -101,22 +101,22 @@ at_once p w = record { slack = largest_interval p; step = delay_in w; wait = 0; 
 -- ---- places
 
 -- where the system with this clock stands
-abbrev pub place_of : List Station → ℕ → ℕ
-place_of [] number = 0
-place_of (station ∷ stations) number =
-    if clock station.system == number then 0 else suc (place_of stations number)
+abbrev pub clock_place : List Station → ℕ → ℕ
+clock_place [] number = 0
+clock_place (station ∷ stations) number =
+    if clock station.system == number then 0 else suc (clock_place stations number)
 
 -- the port has this clock and number
-abbrev pub is_port : PortId → PortIdentity → Bool
-is_port p port = p.clock == port.clock && p.port == port.port
+abbrev pub has_port_id : PortId → PortIdentity → Bool
+has_port_id p port = p.clock == port.clock && p.port == port.port
 
 -- Where the lane stands that begins at this port: it is one of the first link, or it stands two places behind where it
 -- stands among the lanes of the others.
 abbrev pub lane_of : List Channel → PortIdentity → ℕ
 lane_of [] port = 0
 lane_of (channel ∷ channels) port =
-    if is_port channel.a port then lane_place 0 FromA
-    else (if is_port channel.b port then lane_place 0 FromB else suc (suc (lane_of channels port)))
+    if has_port_id channel.a port then lane_place 0 FromA
+    else (if has_port_id channel.b port then lane_place 0 FromB else suc (suc (lane_of channels port)))
 
 -- ---- intervals
 
@@ -132,14 +132,14 @@ setups_of stations = map (λ (station : Station). station.setup) stations
 abbrev pub log_of : List Station → PortIdentity → ℤ
 log_of stations port =
     option_map_or (λ (setup : Setup). log_at setup port.port)
-    (slice_get (setups_of stations) (place_of stations port.clock)) (pos 0)
+    (slice_get (setups_of stations) (clock_place stations port.clock)) (pos 0)
 
 -- ---- ports
 
 -- a port that holds this is Disabled exactly where no link of the snapshot is at it
 pub record IsCapableAt (g : Snapshot) (itself : PortId) (h : Held) : Type 0 where
-  pub capable : IsLinked g (identity_of itself) → h ≢ Disabled
-  pub unlinked : (IsLinked g (identity_of itself) → ⊥) → h ≡ Disabled
+  pub capable : IsLinked g (port_identity_number itself) → h ≢ Disabled
+  pub unlinked : (IsLinked g (port_identity_number itself) → ⊥) → h ≡ Disabled
 
 -- from this time on it is so of each port of a live system
 abbrev pub AreCapableFrom : ℕ → WorldState → Type 0
@@ -167,7 +167,7 @@ abbrev pub network_with : Pace → ℕ → ℕ → SettlingTimes → WorldState 
 network_with p m start times w = record {
   graph = snapshot_of w;
   reach = m;
-  place = place_of w.stations;
+  place = clock_place w.stations;
   lane = lane_of w.net.channels;
   log_of = log_of w.stations;
   interval_of = λ port. interval_of (log_of w.stations port);

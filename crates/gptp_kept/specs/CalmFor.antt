@@ -13,7 +13,7 @@ use Rattle.gptp_plan.specs.declared.sync_wait.SyncPaths.{SyncPaths}
 use Rattle.gptp_acts.specs.Prompt.{HavePace}
 use Rattle.gptp_acts.specs.World.{WorldState}
 use Rattle.gptp_kept.specs.Due.{OfEachPort}
-use Rattle.gptp_kept.specs.View.{identity_of}
+use Rattle.gptp_kept.specs.View.{port_identity_number}
 use Rattle.gptp_kept.specs.Calm.{IsQuietWorld, sync_paths_of}
 use Rattle.gptp_kept.specs.Standing.{snapshot_of}
 
@@ -40,7 +40,7 @@ at_once_span m p paths n = settling_span_at_once p (record paths { systems = m }
 
 -- a port is capable exactly where a link of the snapshot is at it, and Disabled exactly where it isn't capable
 pub record IsPortSettled (g : Snapshot) (itself : PortId) (h : Held) (q : Port) : Type 0 where
-  pub capable : (is_capable q.peer ≡ true) ↔ IsLinked g (identity_of itself)
+  pub capable : (is_capable q.peer ≡ true) ↔ IsLinked g (port_identity_number itself)
   pub disabled : (h ≡ Disabled) ↔ (is_capable q.peer ≡ false)
 
 -- so is each port of a live system

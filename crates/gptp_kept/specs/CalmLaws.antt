@@ -10,8 +10,8 @@ use Rattle.gptp_acts.specs.Acts.{Acts, at}
 use Rattle.gptp_acts.specs.Sound.{IsSound}
 use Rattle.gptp_acts.specs.World.{WorldState}
 use Rattle.gptp_settling.specs.Calm.{Calm}
-use Rattle.gptp_settling.specs.Facts.{Facts}
-use Rattle.gptp_settling.specs.Network.{IsNetwork, setting}
+use Rattle.gptp_settling.specs.Facts.{StationFacts}
+use Rattle.gptp_settling.specs.Network.{IsSettlingNetwork, network_setting}
 use Rattle.gptp_kept.specs.Known.{IsKnown}
 use Rattle.gptp_kept.specs.Legible.{IsLegible}
 use Rattle.gptp_kept.specs.SeenLaws.{IsNoChange}
@@ -25,14 +25,14 @@ use Rattle.gptp_kept.specs.Calm.{AreCapableFrom, HaveQuietLinks, IsQuietWorld, n
 abbrev pub HasFacts : Type 0
 HasFacts = (p : Pace) (m start : ℕ) (w : WorldState)
     → IsSound w → IsLegible w → IsKnown p w
-    → Facts (setting (network_of p m start w)) (view w)
+    → StationFacts (network_setting (network_of p m start w)) (view w)
 
 -- a sound, legible and known world has a network of the machine, for each number that bounds the systems of its paths
 abbrev pub HasNetwork : Type 0
 HasNetwork = (p : Pace) (m start : ℕ) (w : WorldState)
     → IsSound w → AreBetween w → IsLegible w → IsKnown p w → BoundsPaths (snapshot_of w) m
     → w.last_change + 2 * largest_interval p ≤ start
-    → IsNetwork (network_of p m start w)
+    → IsSettlingNetwork (network_of p m start w)
 
 -- Such a world is a calm state where its links are quiet, the largest announce interval passes from the last change to
 -- the start, and from the start its ports are disabled exactly where no link of the snapshot is at them.

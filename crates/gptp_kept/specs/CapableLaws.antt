@@ -18,7 +18,7 @@ use Rattle.gptp_acts.specs.Pending.{NothingBefore}
 use Rattle.gptp_acts.specs.Prompt.{IsPromptIn}
 use Rattle.gptp_acts.specs.Sound.{IsSound}
 use Rattle.gptp_acts.specs.World.{WorldState}
-use Rattle.gptp_kept.specs.Measured.{IsMeasured}
+use Rattle.gptp_kept.specs.Measured.{LinkIsMeasured}
 use Rattle.gptp_kept.specs.LegibleLaws.{SetsAnOctet}
 use Rattle.gptp_kept.specs.SeenLaws.{IsNoChange}
 use Rattle.gptp_kept.specs.Calm.{HaveQuietLinks}
@@ -31,26 +31,26 @@ use Rattle.gptp_kept.specs.Watch.{AreUsedCapable, Watches}
 abbrev pub MeasuredAtFirst : {F : Type 0} → (Bounds → ℕ → F → Option ℕ → F → Type 0) → Type 0
 MeasuredAtFirst {F} answers = (n : NetworkState) (fate fate_after : F) (w : WorldState)
     → IsSound (initial n) → Begun answers n fate fate_after w
-    → IsMeasured w
+    → LinkIsMeasured w
 
 -- and stays so from act to act
 abbrev pub MeasuredDone : {F : Type 0} → (Bounds → ℕ → F → Option ℕ → F → Type 0) → Type 0
 MeasuredDone {F} answers = (timed : Timed) (fate fate_after : F) (w w' : WorldState) (done : Done)
-    → SetsAnOctet timed.act → WasDone answers timed fate fate_after w w' done → IsSound w → IsMeasured w
-    → IsMeasured w'
+    → SetsAnOctet timed.act → WasDone answers timed fate fate_after w w' done → IsSound w → LinkIsMeasured w
+    → LinkIsMeasured w'
 
 -- ---- the claim begins
 
 -- after every change of the network
 abbrev pub WatchesChanged : Type 0
 WatchesChanged = (p : Pace) (change : Change) (w : WorldState) (draws : List Draw) (done : Done) (w' : WorldState)
-    → KeepPace p → Acts (Changing change) w draws done w' → IsWorld p w' → IsMeasured w'
+    → KeepPace p → Acts (Changing change) w draws done w' → IsWorld p w' → LinkIsMeasured w'
     → Watches p w'
 
 -- and as the world of a network begins
 abbrev pub WatchesAtFirst : {F : Type 0} → (Bounds → ℕ → F → Option ℕ → F → Type 0) → Type 0
 WatchesAtFirst {F} answers = (n : NetworkState) (fate fate_after : F) (w : WorldState)
-    → IsNetwork n → Begun answers n fate fate_after w → IsWorld (pace_of n) w → IsMeasured w
+    → IsNetwork n → Begun answers n fate fate_after w → IsWorld (pace_of n) w → LinkIsMeasured w
     → Watches (pace_of n) w
 
 -- ---- it is kept
@@ -71,7 +71,7 @@ WatchesLater = (p : Pace) (w : WorldState) (time : ℕ)
 abbrev pub WatchesDone : {F : Type 0} → (Bounds → ℕ → F → Option ℕ → F → Type 0) → Type 0
 WatchesDone {F} answers = (p : Pace) (timed : Timed) (fate fate_after : F) (w w' : WorldState) (done : Done)
     → KeepPace p → IsFitAct timed.act → IsPromptIn w timed.act → SetsAnOctet timed.act
-    → WasDone answers timed fate fate_after w w' done → IsWorld p w → IsMeasured w → Watches p w
+    → WasDone answers timed fate fate_after w w' done → IsWorld p w → LinkIsMeasured w → Watches p w
     → Watches p w'
 
 -- ---- ports become capable

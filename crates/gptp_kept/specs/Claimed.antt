@@ -2,7 +2,7 @@
 use Rattle.gptp_setup.specs.Pace.{Pace}
 use Rattle.gptp_plan.specs.Params.{KeepPace}
 use Rattle.gptp_acts.specs.World.{WorldState}
-use Rattle.gptp_kept.specs.Measured.{IsMeasured}
+use Rattle.gptp_kept.specs.Measured.{LinkIsMeasured}
 use Rattle.gptp_kept.specs.Holds.{Holds, IsWorld}
 use Rattle.gptp_kept.specs.Watch.{Watches}
 use Rattle.gptp_kept.specs.Unanswered.{AreSilent}
@@ -13,7 +13,7 @@ use Rattle.gptp_kept.specs.Unanswered.{AreSilent}
 pub record IsClaimed (p : Pace) (w : WorldState) : Type 0 where
   pub pace : KeepPace p
   pub world : IsWorld p w
-  pub measured : IsMeasured w
+  pub measured : LinkIsMeasured w
   pub watched : Watches p w
   pub silent : AreSilent p w
   pub settling : Holds p w

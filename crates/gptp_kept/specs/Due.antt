@@ -12,7 +12,7 @@ use Rattle.gptp_acts.specs.declared.station.Station.{Station}
 use Rattle.gptp_acts.specs.World.{WorldState}
 
 -- a time isn't before this one, and is within so long of it
-pub record IsWithin (since span time : ℕ) : Type 0 where
+pub record IsSoonAfter (since span time : ℕ) : Type 0 where
   pub least : since ≤ time
   pub most : time ≤ since + span
 
@@ -20,10 +20,10 @@ pub record IsWithin (since span time : ℕ) : Type 0 where
 -- within the announce receipt timeout by the interval that it named, and it asks within one pdelay interval and answers
 -- within one turnaround.
 pub record IsPortKnown (p : Pace) (now : ℕ) (h : Held) (q : Port) : Type 0 where
-  pub announces : is_mine h ≡ true → IsWithin now (interval_of q.log_interval) q.announce
-  pub came : (r : Reception) → received h ≡ Some r → IsWithin r.at (span_by p.params.timeout p.largest r.interval) now
-  pub asks : (t : ℕ) → q.pdelay ≡ Some t → IsWithin now (interval_of p.params.pdelay) t
-  pub answers : (t : ℕ) → q.respond ≡ Some t → IsWithin now p.params.turnaround t
+  pub announces : is_mine h ≡ true → IsSoonAfter now (interval_of q.log_interval) q.announce
+  pub came : (r : Reception) → received h ≡ Some r → IsSoonAfter r.at (span_by p.params.timeout p.largest r.interval) now
+  pub asks : (t : ℕ) → q.pdelay ≡ Some t → IsSoonAfter now (interval_of p.params.pdelay) t
+  pub answers : (t : ℕ) → q.respond ≡ Some t → IsSoonAfter now p.params.turnaround t
 
 -- this is so of each port of each live system; the port at place i has the number i + 1
 abbrev pub OfEachPort : (PortId → Held → Port → Type 0) → WorldState → Type 0

@@ -11,14 +11,14 @@ use Rattle.gptp_acts.specs.Sound.{IsSound}
 use Rattle.gptp_acts.specs.World.{WorldState}
 use Rattle.gptp_measuring.specs.Measured.{HasMeasured}
 use Rattle.gptp_kept.specs.Elsewhere.{IsElsewhere}
-use Rattle.gptp_kept.specs.Measured.{IsMeasured}
-use Rattle.gptp_kept.specs.LinkView.{LinkPlace, least_delay, setting}
+use Rattle.gptp_kept.specs.Measured.{LinkIsMeasured}
+use Rattle.gptp_kept.specs.LinkView.{LinkPlace, least_delay, link_setting}
 use Rattle.gptp_kept.specs.Watched.{IsWatched}
 
 -- a change that leaves a link alone leaves it watched, with the times that it had
 abbrev pub WatchSurvives : Type 0
 WatchSurvives = (at : LinkPlace) (gone calm : ℕ) (change : Change) (w w' : WorldState) (draws : List Draw) (done : Done)
-    → IsSound w → IsMeasured w → IsElsewhere at change w → Acts (Changing change) w draws done w'
+    → IsSound w → LinkIsMeasured w → IsElsewhere at change w → Acts (Changing change) w draws done w'
     → IsWatched gone calm at w
     → IsWatched gone calm at w'
 
@@ -30,13 +30,13 @@ LeavesAlone at (Changing change) w = IsElsewhere at change w
 
 abbrev pub WatchGoesThrough : Type 0
 WatchGoesThrough = (at : LinkPlace) (gone calm : ℕ) (act : Act) (w w' : WorldState) (draws : List Draw) (done : Done)
-    → IsSound w → IsMeasured w → LeavesAlone at act w → Acts act w draws done w' → IsWatched gone calm at w
+    → IsSound w → LinkIsMeasured w → LeavesAlone at act w → Acts act w draws done w' → IsWatched gone calm at w
     → IsWatched gone calm at w'
 
 -- So the port that asks is capable from three intervals between requests behind its own calm on, and its neighbour rate
 -- and mean link delay are those of two exchanges over the link, whatever was changed elsewhere since.
 abbrev pub WatchedPortsStayCapable : Type 0
 WatchedPortsStayCapable = (at : LinkPlace) (gone calm : ℕ) (w : WorldState) (l : IsWatched gone calm at w)
-    → calm + 3 * (setting at w l.link).period ≤ w.time
+    → calm + 3 * (link_setting at w l.link).period ≤ w.time
     → (is_capable l.link.asking.state.peer ≡ true)
-    × HasMeasured (setting at w l.link) (least_delay at w l.link) l.link.asking.state.peer.last
+    × HasMeasured (link_setting at w l.link) (least_delay at w l.link) l.link.asking.state.peer.last

@@ -22,7 +22,7 @@ use Rattle.gptp_acts.specs.Views.{ShowsLive}
 use Rattle.gptp_acts.specs.World.{WorldState}
 use Rattle.gptp_timing.specs.Tree.{IsWayTo}
 use Rattle.gptp_kept.specs.CalmFor.{IsCalmFor}
-use Rattle.gptp_kept.specs.Followers.{parts_of}
+use Rattle.gptp_kept.specs.Followers.{follower_parts}
 use Rattle.gptp_kept.specs.Standing.{snapshot_of}
 
 -- The network has settled, where no path has more than m systems, and what a system so many steps from its root uses
@@ -43,10 +43,10 @@ pub record IsAhead (w : WorldState) (number time : ℕ) (amount : ℤ) : Type 0 
 
 -- The time error of a system so many steps from its root: that of its way, over its parent and the parents of that, in
 -- units of 2^-16 ns. The delays of links are those between which frames are drawn.
-pub record IsErrorOf (p : Params) (w : WorldState) (number steps error : ℕ) : Type 0 where
+pub record IsWayError (p : Params) (w : WorldState) (number steps error : ℕ) : Type 0 where
   pub way : Way
   pub phase : ℕ → ℕ
-  pub leads : IsWayTo (parts_of p w) (snapshot_of w) steps number way phase
+  pub leads : IsWayTo (follower_parts p w) (snapshot_of w) steps number way phase
   pub is : error ≡ time_error way
 
 -- An offset that the near system with this clock has from a time on is exact: it is within the time error of what its
@@ -54,7 +54,7 @@ pub record IsErrorOf (p : Params) (w : WorldState) (number steps error : ℕ) : 
 abbrev pub IsExactInTime : ℕ → WorldState → ℕ → ℤ → Type 0
 IsExactInTime number w time offset = (m steps error : ℕ) (ahead : ℤ)
     → (calm : IsCalmFor (exact_span m (suc steps)) (at time w)) → BoundsPaths (snapshot_of w) m
-    → IsNear (snapshot_of w) number → IsErrorOf calm.pace.params w number (suc steps) error
+    → IsNear (snapshot_of w) number → IsWayError calm.pace.params w number (suc steps) error
     → IsAhead w number time ahead
     → AreWithin error offset ahead
 

@@ -6,22 +6,22 @@ use Rattle.gptp_measuring.specs.FirstLaws.{exchange_span}
 use Rattle.gptp_pdelay.specs.GoodLink.{IsGoodLink}
 use Rattle.gptp_setup.specs.Intervals.{interval_of}
 use Rattle.gptp_acts.specs.World.{Channel, WorldState, receiver, sender}
-use Rattle.gptp_kept.specs.Measured.{IsLiveAt}
-use Rattle.gptp_kept.specs.LinkView.{IsLinkOf, LinkPlace, asks, least_delay, meter, pair, replies, setting}
+use Rattle.gptp_kept.specs.Measured.{StationIsLiveAt}
+use Rattle.gptp_kept.specs.LinkView.{IsLinkOf, LinkPlace, reads_as_request, least_delay, meter, pair, reads_as_reply, link_setting}
 
--- The port that asks sent it at this time: since then exchanges are in their phases, and what they had to measure is
+-- The port that reads_as_request sent it at this time: since then exchanges are in their phases, and what they had to measure is
 -- measured.
 pub record IsFirstAt (first : ℕ) (at : LinkPlace) (w : WorldState) : Type 0 where
   pub link : IsLinkOf at w
-  pub short : exchange_span (setting at w link) < (setting at w link).period
-  pub facts : Facts (setting at w link) first (pair at w link)
-  pub inv : InvFirst (setting at w link) (least_delay at w link) asks replies first (meter at w link)
+  pub short : exchange_span (link_setting at w link) < (link_setting at w link).period
+  pub facts : Facts (link_setting at w link) first (pair at w link)
+  pub inv : InvFirst (link_setting at w link) (least_delay at w link) reads_as_request reads_as_reply first (meter at w link)
 
 -- and one interval between requests and one exchange after it are over before this time
 abbrev pub IsFirstBy : ℕ → ℕ → LinkPlace → WorldState → Type 0
 IsFirstBy first start at w =
     (l : IsFirstAt first at w)
-    × (first + (setting at w l.link).period + exchange_span (setting at w l.link) < start)
+    × (first + (link_setting at w l.link).period + exchange_span (link_setting at w l.link) < start)
 
 -- At this place stands a link that is down, loses nothing and is good, and at its ends two live stations; the pdelay
 -- interval leaves an exchange over it its time.
@@ -30,8 +30,8 @@ pub record StandsDown (at : LinkPlace) (w : WorldState) : Type 0 where
   pub here : slice_get w.net.channels at.link ≡ Some channel
   pub down : channel.up ≡ false
   pub lossless : channel.bounds.loss ≡ 0
-  pub asking : IsLiveAt at.asking (sender at.direction channel).clock w
-  pub answering : IsLiveAt at.answering (receiver at.direction channel).clock w
+  pub asking : StationIsLiveAt at.asking (sender at.direction channel).clock w
+  pub answering : StationIsLiveAt at.answering (receiver at.direction channel).clock w
   pub apart : at.asking ≢ at.answering
   pub good : IsGoodLink channel.bounds.max answering.station.setup.params.turnaround
       asking.station.setup.params.threshold

@@ -22,13 +22,13 @@ use Rattle.gptp_kept.specs.ElsewhereLaws.{LeavesAlone}
 use Rattle.gptp_kept.specs.FirstAt.{IsFirstAt, StandsDown}
 use Rattle.gptp_kept.specs.Holds.{IsWorld}
 use Rattle.gptp_kept.specs.Known.{IsKnown}
-use Rattle.gptp_kept.specs.Measured.{IsMeasured, StandsAt}
-use Rattle.gptp_kept.specs.LinkView.{LinkPlace, least_delay, setting}
+use Rattle.gptp_kept.specs.Measured.{LinkIsMeasured, LinkStandsAt}
+use Rattle.gptp_kept.specs.LinkView.{LinkPlace, least_delay, link_setting}
 
 -- every act that leaves the link alone keeps what is known of it since its first request, a change elsewhere too
 abbrev pub FirstGoesThrough : Type 0
 FirstGoesThrough = (at : LinkPlace) (first : ℕ) (act : Act) (w w' : WorldState) (draws : List Draw) (done : Done)
-    → IsSound w → IsMeasured w → LeavesAlone at act w → Acts act w draws done w' → IsFirstAt first at w
+    → IsSound w → LinkIsMeasured w → LeavesAlone at act w → Acts act w draws done w' → IsFirstAt first at w
     → IsFirstAt first at w'
 
 -- and so does time that passes, up to when something is due
@@ -41,14 +41,14 @@ FirstGoesOn = (at : LinkPlace) (first time : ℕ) (w : WorldState)
 -- exchanges
 abbrev pub FirstIsFull : Type 0
 FirstIsFull = (at : LinkPlace) (first : ℕ) (w : WorldState) (l : IsFirstAt first at w)
-    → first + (setting at w l.link).period + exchange_span (setting at w l.link) < w.time
+    → first + (link_setting at w l.link).period + exchange_span (link_setting at w l.link) < w.time
     → (is_capable l.link.asking.state.peer ≡ true)
-    × HasMeasured (setting at w l.link) (least_delay at w l.link) l.link.asking.state.peer.last
+    × HasMeasured (link_setting at w l.link) (least_delay at w l.link) l.link.asking.state.peer.last
 
 -- a link that comes up is such a one, in both directions, from then on
 abbrev pub LinkUpIsFirst : Type 0
 LinkUpIsFirst = (p : Pace) (at : LinkPlace) (number port : ℕ) (w w' : WorldState) (draws : List Draw) (done : Done)
-    → IsSound w → IsMeasured w → IsKnown p w → (s : StandsDown at w)
+    → IsSound w → LinkIsMeasured w → IsKnown p w → (s : StandsDown at w)
     → IsChannel (port_id number port) at.link w.net s.channel → Acts (Changing (LinkUp number port)) w draws done w'
     → IsFirstAt w.time at w'
 
@@ -56,5 +56,5 @@ LinkUpIsFirst = (p : Pace) (at : LinkPlace) (number port : ℕ) (w w' : WorldSta
 abbrev pub StartIsFirst : {F : Type 0} → (Bounds → ℕ → F → Option ℕ → F → Type 0) → Type 0
 StartIsFirst {F} answers = (n : NetworkState) (fate fate_after : F) (w : WorldState)
     → IsNetwork n → IsSound (initial n) → Begun answers n fate fate_after w → IsWorld (pace_of n) w
-    → (at : LinkPlace) → StandsAt at w
+    → (at : LinkPlace) → LinkStandsAt at w
     → IsFirstAt 0 at w

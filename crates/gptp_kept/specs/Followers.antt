@@ -13,36 +13,36 @@ use Rattle.gptp_system.specs.State.{SystemState}
 use Rattle.gptp_accuracy.specs.TimeError.{Way}
 use Rattle.gptp_acts.specs.declared.station.Station.{Station}
 use Rattle.gptp_acts.specs.World.{Channel, WorldState, receiver, sender}
-use Rattle.gptp_timing.specs.Follower.{Follower, Setting}
+use Rattle.gptp_timing.specs.Follower.{Follower, FollowerSetting}
 use Rattle.gptp_timing.specs.Tree.{IsWayTo, Parts, follower_of}
-use Rattle.gptp_kept.specs.Calm.{is_port, place_of, setups_of}
+use Rattle.gptp_kept.specs.Calm.{has_port_id, clock_place, setups_of}
 use Rattle.gptp_kept.specs.FollowView.{follower_view}
 use Rattle.gptp_kept.specs.LinkView.{LinkPlace}
-use Rattle.gptp_kept.specs.Measured.{IsLiveAt}
-use Rattle.gptp_kept.specs.Standing.{is_used, live_systems, snapshot_of}
-use Rattle.gptp_kept.specs.View.{identity_of}
+use Rattle.gptp_kept.specs.Measured.{StationIsLiveAt}
+use Rattle.gptp_kept.specs.Standing.{channel_is_used, live_stations, snapshot_of}
+use Rattle.gptp_kept.specs.View.{port_identity_number}
 
 -- ---- parts of ways
 
 -- a number of what the system with a clock is set up with; this one where there is no such system
 abbrev pub set_up_with : {X : Type 0} → (Setup → X) → X → List Station → ℕ → X
-set_up_with f none stations clock = option_map_or f (slice_get (setups_of stations) (place_of stations clock)) none
+set_up_with f none stations clock = option_map_or f (slice_get (setups_of stations) (clock_place stations clock)) none
 
 -- a bound of the link in use at a port; 0 where there is none
 abbrev pub bound_at : (Bounds → ℕ) → List System → List Channel → PortIdentity → ℕ
 bound_at f systems [] port = 0
 bound_at f systems (channel ∷ channels) port =
-    if is_used systems channel && (is_port channel.a port || is_port channel.b port)
+    if channel_is_used systems channel && (has_port_id channel.a port || has_port_id channel.b port)
     then f channel.bounds
     else bound_at f systems channels port
 
 -- the drifts and phases of clocks are those of the setups, and delays those of the links in use
-abbrev pub parts_of : Params → WorldState → Parts
-parts_of p w = record {
+abbrev pub follower_parts : Params → WorldState → Parts
+follower_parts p w = record {
   drift = set_up_with (λ setup. setup.drift) (pos 0) w.stations;
   phase = set_up_with (λ setup. setup.phase) 0 w.stations;
-  least = bound_at (λ b. b.min) (live_systems w.stations) w.net.channels;
-  most = bound_at (λ b. b.max) (live_systems w.stations) w.net.channels;
+  least = bound_at (λ b. b.min) (live_stations w.stations) w.net.channels;
+  most = bound_at (λ b. b.max) (live_stations w.stations) w.net.channels;
   interval = interval_of p.pdelay;
   turnaround = p.turnaround;
   residence = p.residence;
@@ -63,10 +63,10 @@ parent_link direction channel = record {
 pub record IsFollower (at : LinkPlace) (w : WorldState) : Type 0 where
   pub channel : Channel
   pub here : slice_get w.net.channels at.link ≡ Some channel
-  pub used : is_used (live_systems w.stations) channel ≡ true
+  pub used : channel_is_used (live_stations w.stations) channel ≡ true
   pub lossless : channel.bounds.loss ≡ 0
-  pub above : IsLiveAt at.asking (sender at.direction channel).clock w
-  pub own : IsLiveAt at.answering (receiver at.direction channel).clock w
+  pub above : StationIsLiveAt at.asking (sender at.direction channel).clock w
+  pub own : StationIsLiveAt at.answering (receiver at.direction channel).clock w
   pub near : IsNear (snapshot_of w) (receiver at.direction channel).clock
   pub parent : IsParent (snapshot_of w) (receiver at.direction channel).clock (parent_link at.direction channel)
 
@@ -74,15 +74,15 @@ pub record IsFollower (at : LinkPlace) (w : WorldState) : Type 0 where
 abbrev pub follower_clock : (at : LinkPlace) (w : WorldState) → IsFollower at w → ℕ
 follower_clock at w f = (receiver at.direction f.channel).clock
 
-abbrev pub state_of : (at : LinkPlace) (w : WorldState) → IsFollower at w → SystemState
-state_of at w f = f.own.station.system
+abbrev pub follower_state : (at : LinkPlace) (w : WorldState) → IsFollower at w → SystemState
+follower_state at w f = f.own.station.system
 
 abbrev pub state_above : (at : LinkPlace) (w : WorldState) → IsFollower at w → SystemState
 state_above at w f = f.above.station.system
 
 -- what is seen of it
 abbrev pub follower : (at : LinkPlace) (w : WorldState) → IsFollower at w → Follower
-follower at w f = follower_view w.time at.direction f.channel (state_of at w f)
+follower at w f = follower_view w.time at.direction f.channel (follower_state at w f)
 
 -- ---- its way
 
@@ -90,10 +90,10 @@ follower at w f = follower_view w.time at.direction f.channel (state_of at w f)
 pub record HasWay (p : Params) (at : LinkPlace) (w : WorldState) (f : IsFollower at w) (steps : ℕ) : Type 0 where
   pub way : Way
   pub phase : ℕ → ℕ
-  pub is : IsWayTo (parts_of p w) (snapshot_of w) (suc steps) (follower_clock at w f) way phase
+  pub is : IsWayTo (follower_parts p w) (snapshot_of w) (suc steps) (follower_clock at w f) way phase
 
 -- the setting that it then has, in a network that is settled from a time on, where no delay is above the longest
 abbrev pub follower_setting : (p : Params) (settled longest : ℕ) (at : LinkPlace) (w : WorldState)
-    (f : IsFollower at w) (steps : ℕ) → HasWay p at w f steps → Setting
+    (f : IsFollower at w) (steps : ℕ) → HasWay p at w f steps → FollowerSetting
 follower_setting p settled longest at w f steps h =
-    follower_of h.way h.phase steps (identity_of (sender at.direction f.channel)) settled longest
+    follower_of h.way h.phase steps (port_identity_number (sender at.direction f.channel)) settled longest

@@ -8,12 +8,12 @@ use Rattle.gptp_acts.specs.Sound.{IsSound}
 use Rattle.gptp_acts.specs.World.{WorldState}
 use Rattle.gptp_settling.specs.Levels.{Invariant}
 use Rattle.gptp_settling.specs.CleanInvariant.{TracesAreClean}
-use Rattle.gptp_settling.specs.Network.{Network, setting}
-use Rattle.gptp_settling.specs.Station.{State}
+use Rattle.gptp_settling.specs.Network.{Network, network_setting}
+use Rattle.gptp_settling.specs.Station.{MachineState}
 use Rattle.gptp_settling.specs.Syncs.{SyncsAreExpected}
 use Rattle.gptp_kept.specs.Known.{IsKnown}
 use Rattle.gptp_kept.specs.Legible.{IsLegible}
-use Rattle.gptp_kept.specs.View.{says, says_sync, view}
+use Rattle.gptp_kept.specs.View.{says_announce, says_sync, view}
 use Rattle.gptp_kept.specs.Calm.{AreCapableFrom, HaveQuietLinks, IsQuietWith, network_at_once, network_of, paths_with}
 use Rattle.gptp_kept.specs.Standing.{AreBetween, snapshot_of}
 
@@ -42,10 +42,10 @@ quick_network p m w = network_at_once p m (start_of p w) w
 
 -- Traces in a state are as clean as they must be, the invariant of that machine holds of it, at the one pace, and at
 -- the other where nothing lapses; and Syncs are expected in it in time.
-pub record IsSettling (p : Pace) (n quick : Network) (seen : State) : Type 0 where
-  pub traces : TracesAreClean says (setting n) seen
-  pub invariant : Invariant says n seen
-  pub at_once : NothingLapses p.params → Invariant says quick seen
+pub record IsSettling (p : Pace) (n quick : Network) (seen : MachineState) : Type 0 where
+  pub traces : TracesAreClean says_announce (network_setting n) seen
+  pub invariant : Invariant says_announce n seen
+  pub at_once : NothingLapses p.params → Invariant says_announce quick seen
   pub expected : SyncsAreExpected says_sync n seen
 
 -- So it is of what that machine sees of the world, for each number that bounds how many systems a path has, where the

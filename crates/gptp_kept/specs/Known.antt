@@ -10,7 +10,7 @@ use Rattle.gptp_system.specs.Times.{IsInTime}
 use Rattle.gptp_plan.specs.Calm.{NothingLapses}
 use Rattle.gptp_acts.specs.declared.station.Station.{Station}
 use Rattle.gptp_acts.specs.Prompt.{HasPace}
-use Rattle.gptp_acts.specs.World.{Channel, WorldState, queue}
+use Rattle.gptp_acts.specs.World.{Channel, WorldState, world_queue}
 use Rattle.gptp_kept.specs.Linked.{MeasureLinks}
 use Rattle.gptp_kept.specs.Measuring.{AreMeasuring}
 use Rattle.gptp_kept.specs.Short.{IsShort}
@@ -40,8 +40,8 @@ pub record IsLogAmong (stations : List Station) (log : ℤ) : Type 0 where
   pub among : In log station.setup.intervals.items
 
 -- no link has a delay above the announce interval of any port, and each frame in flight arrives within it
-abbrev pub ArePrompt : WorldState → Type 0
-ArePrompt w = (log : ℤ) → IsLogAmong w.stations log → IsShort (interval_of log) w
+abbrev pub FramesArePrompt : WorldState → Type 0
+FramesArePrompt w = (log : ℤ) → IsLogAmong w.stations log → IsShort (interval_of log) w
 
 -- the timers of each live system run out within their intervals
 abbrev pub AreInTime : WorldState → Type 0
@@ -51,7 +51,7 @@ AreInTime w = (place : ℕ) (station : Station) → slice_get w.stations place �
 -- this is so of each frame in flight, in either direction of each link
 abbrev pub OfEachFrame : (Channel → Frame → Type 0) → WorldState → Type 0
 OfEachFrame So w = (link : ℕ) (direction : Direction) (channel : Channel) (f : Frame)
-    → slice_get w.net.channels link ≡ Some channel → In f (queue direction channel) → So channel f
+    → slice_get w.net.channels link ≡ Some channel → In f (world_queue direction channel) → So channel f
 
 -- so it is with the largest of them
 abbrev pub AreNear : Pace → WorldState → Type 0
@@ -67,7 +67,7 @@ pub record AreFresh (p : Pace) (w : WorldState) : Type 0 where
 -- what is known of a world of a network with these parameters and this largest interval
 pub record IsKnown (p : Pace) (w : WorldState) : Type 0 where
   pub set : AreSet p w
-  pub prompt : ArePrompt w
+  pub prompt : FramesArePrompt w
   pub in_time : AreInTime w
   pub measuring : AreMeasuring p.params w
   pub time : KnowTime w

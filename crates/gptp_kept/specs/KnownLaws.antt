@@ -4,7 +4,7 @@ use Rattle.gptp_links.specs.declared.bounds.Bounds.{Bounds}
 use Rattle.gptp_links.specs.Fate.{Draw}
 use Rattle.gptp_receipt.specs.declared.held.Held.{Held}
 use Rattle.gptp_receipt.specs.declared.held.Held.TheVariants.{Disabled}
-use Rattle.gptp_system.specs.Follows.{FollowsItself, FollowsPort}
+use Rattle.gptp_system.specs.Follows.{SystemIsRoot, SystemFollowsPort}
 use Rattle.gptp_setup.specs.Intervals.{AreParams, interval_of}
 use Rattle.gptp_setup.specs.Pace.{Pace, largest_interval, span_by}
 use Rattle.gptp_plan.specs.declared.change.Act.{Act}
@@ -15,11 +15,11 @@ use Rattle.gptp_acts.specs.Course.{Begun, WasDone}
 use Rattle.gptp_plan.specs.Network.{IsNetwork, NetworkState, pace_of}
 use Rattle.gptp_plan.specs.Prompt.{IsPromptAct}
 use Rattle.gptp_acts.specs.Prompt.{IsPromptIn}
-use Rattle.gptp_acts.specs.Sends.{IsUnlinked}
+use Rattle.gptp_acts.specs.Sends.{IsUnlinkedPort}
 use Rattle.gptp_acts.specs.Sound.{IsSound}
 use Rattle.gptp_acts.specs.World.{Channel, WorldState}
 use Rattle.gptp_kept.specs.AtRest.{IsPortAtRest, OfEachSystem}
-use Rattle.gptp_kept.specs.Due.{IsPortKnown, IsWithin, OfEachPort}
+use Rattle.gptp_kept.specs.Due.{IsPortKnown, IsSoonAfter, OfEachPort}
 use Rattle.gptp_kept.specs.Known.{IsKnown, IsLogAmong, OfEachFrame}
 
 -- ---- it begins, and is kept
@@ -61,7 +61,7 @@ PortsKnown = (p : Pace) (w : WorldState)
 abbrev pub UnlinkedDisabled : Type 0
 UnlinkedDisabled = (p : Pace) (w : WorldState)
     → IsSound w → IsKnown p w
-    → OfEachPort (λ itself h q. IsUnlinked w.net itself → h ≡ Disabled) w
+    → OfEachPort (λ itself h q. IsUnlinkedPort w.net itself → h ≡ Disabled) w
 
 -- what names the announce interval of a port stays longer than that interval and any delay
 abbrev pub ReceiptsOutlast : Type 0
@@ -81,7 +81,7 @@ PortsAtRest = (w : WorldState)
 abbrev pub SystemsFollow : Type 0
 SystemsFollow = (w : WorldState)
     → IsSound w
-    → OfEachSystem (λ s. FollowsItself s ⊎ FollowsPort s) w
+    → OfEachSystem (λ s. SystemIsRoot s ⊎ SystemFollowsPort s) w
 
 -- ---- frames
 
@@ -102,4 +102,4 @@ FramesNotLate = (w : WorldState)
 abbrev pub FramesFresh : Type 0
 FramesFresh = (p : Pace) (w : WorldState)
     → IsSound w → IsKnown p w → w.last_change + largest_interval p ≤ w.time
-    → OfEachFrame (λ channel f. IsWithin w.time channel.bounds.max f.due) w
+    → OfEachFrame (λ channel f. IsSoonAfter w.time channel.bounds.max f.due) w

@@ -14,7 +14,7 @@ use Rattle.gptp_receipt.specs.declared.held.Reception.{Reception}
 use Rattle.gptp_receipt.specs.Held.{received}
 use Rattle.gptp_system.specs.State.{SystemState}
 use Rattle.gptp_acts.specs.declared.station.Station.{Station}
-use Rattle.gptp_acts.specs.World.{Channel, WorldState, queue}
+use Rattle.gptp_acts.specs.World.{Channel, WorldState, world_queue}
 
 -- each octet is a number below 256
 abbrev pub AreOctets : List ℕ → Type 0
@@ -51,7 +51,7 @@ pub record StationFits (station : Station) : Type 0 where
 -- a link joins two ports, and what is in flight on it says what fits
 pub record ChannelFits (channel : Channel) : Type 0 where
   pub ends : channel.a ≢ channel.b
-  pub frames : (direction : Direction) (f : Frame) → In f (queue direction channel) → SayWhatFits f.octets
+  pub frames : (direction : Direction) (f : Frame) → In f (world_queue direction channel) → SayWhatFits f.octets
 
 -- all systems and links are so
 pub record IsLegible (w : WorldState) : Type 0 where

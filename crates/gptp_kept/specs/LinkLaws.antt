@@ -12,7 +12,7 @@ use Rattle.gptp_plan.specs.declared.change.Act.TheVariants.{Change as Changing}
 use Rattle.gptp_plan.specs.declared.change.Change.{Change}
 use Rattle.gptp_acts.specs.declared.done.Done.{Done}
 use Rattle.gptp_plan.specs.declared.network.Wire.{Wire}
-use Rattle.gptp_acts.specs.Act.{Delivers, Expires}
+use Rattle.gptp_acts.specs.Act.{Delivers, TimerRunsOut}
 use Rattle.gptp_acts.specs.Acts.{Acts, at as at_time}
 use Rattle.gptp_acts.specs.Changing.{StartsAll}
 use Rattle.gptp_acts.specs.Initial.{initial}
@@ -20,27 +20,27 @@ use Rattle.gptp_plan.specs.Network.{NetworkState}
 use Rattle.gptp_plan.specs.Prompt.{IsPromptAct}
 use Rattle.gptp_acts.specs.Pending.{NothingBefore}
 use Rattle.gptp_acts.specs.Sound.{IsSound}
-use Rattle.gptp_acts.specs.World.{WorldState, queue, receiver, sender}
+use Rattle.gptp_acts.specs.World.{WorldState, world_queue, receiver, sender}
 use Rattle.gptp_measuring.specs.Acts.{AnswerTimerExpires, AnswererHears, AskerHears, RequestTimerExpires}
 use Rattle.gptp_measuring.specs.Facts.{Facts, NothingIsDueBefore}
-use Rattle.gptp_measuring.specs.Invariant.{IsFresh}
+use Rattle.gptp_measuring.specs.Invariant.{IsJustChanged}
 use Rattle.gptp_measuring.specs.Meter.{MeterPasses}
 use Rattle.gptp_kept.specs.LegibleLaws.{SetsAnOctet}
-use Rattle.gptp_kept.specs.LinkView.{IsLinkOf, LinkPlace, asks, opposite, pair, replies, setting}
-use Rattle.gptp_kept.specs.LinkActs.{IsOneAct, IsSeen}
-use Rattle.gptp_kept.specs.Measured.{IsMeasured, StandsAt}
+use Rattle.gptp_kept.specs.LinkView.{IsLinkOf, LinkPlace, reads_as_request, other_direction, pair, reads_as_reply, link_setting}
+use Rattle.gptp_kept.specs.LinkActs.{IsOneAct, IsSeenAtLink}
+use Rattle.gptp_kept.specs.Measured.{LinkIsMeasured, LinkStandsAt}
 use Rattle.gptp_kept.specs.Short.{IsShort}
 
 -- time passes at a link as it passes in the world
 abbrev pub TimePasses : Type 0
 TimePasses = (at : LinkPlace) (time : ℕ) (w : WorldState) (l : IsLinkOf at w) → w.time ≤ time
-    → IsSeen (λ k m m'. MeterPasses m m') at w (at_time time w) l
+    → IsSeenAtLink (λ k m m'. MeterPasses m m') at w (at_time time w) l
 
 -- a timer that expires at any system is one act
 abbrev pub ExpiriesAreActs : Type 0
 ExpiriesAreActs = (at : LinkPlace) (place : ℕ) (timer : Timer) (w w' : WorldState) (draws : List Draw)
     (l : IsLinkOf at w)
-    → IsSound w → Expires place timer w draws w'
+    → IsSound w → TimerRunsOut place timer w draws w'
     → IsOneAct at w w' l
 
 -- so is a frame that is delivered on any link
@@ -50,30 +50,30 @@ DeliveriesAreActs = (at : LinkPlace) (link : ℕ) (direction : Direction) (octet
     → IsSound w → Delivers link direction octets w draws answer w'
     → IsOneAct at w w' l
 
--- the Pdelay timer of the port that asks sends a request, and the Respond timer of the port that answers an answer
+-- the Pdelay timer of the port that reads_as_request sends a request, and the Respond timer of the port that answers an answer
 abbrev pub RequestTimersAsk : Type 0
 RequestTimersAsk = (at : LinkPlace) (w w' : WorldState) (draws : List Draw) (l : IsLinkOf at w)
-    → IsSound w → Expires at.asking (timers.Pdelay (sender at.direction l.channel).port) w draws w'
-    → IsSeen (λ k m m'. RequestTimerExpires k asks replies m.pair m'.pair) at w w' l
+    → IsSound w → TimerRunsOut at.asking (timers.Pdelay (sender at.direction l.channel).port) w draws w'
+    → IsSeenAtLink (λ k m m'. RequestTimerExpires k reads_as_request reads_as_reply m.pair m'.pair) at w w' l
 
 abbrev pub AnswerTimersAnswer : Type 0
 AnswerTimersAnswer = (at : LinkPlace) (w w' : WorldState) (draws : List Draw) (l : IsLinkOf at w)
-    → IsSound w → Expires at.answering (timers.Respond (receiver at.direction l.channel).port) w draws w'
-    → IsSeen (λ k m m'. AnswerTimerExpires k asks replies m.pair m'.pair) at w w' l
+    → IsSound w → TimerRunsOut at.answering (timers.Respond (receiver at.direction l.channel).port) w draws w'
+    → IsSeenAtLink (λ k m m'. AnswerTimerExpires k reads_as_request reads_as_reply m.pair m'.pair) at w w' l
 
 -- a frame that is delivered on this link in this direction is heard by the port that answers, and one in the other by
--- the port that asks
+-- the port that reads_as_request
 abbrev pub AnswerersHear : Type 0
 AnswerersHear = (at : LinkPlace) (octets : List ℕ) (w w' : WorldState) (draws : List Draw) (answer : Option Answer)
     (l : IsLinkOf at w)
     → IsSound w → Delivers at.link at.direction octets w draws answer w'
-    → IsSeen (λ k m m'. AnswererHears k asks replies m.pair m'.pair) at w w' l
+    → IsSeenAtLink (λ k m m'. AnswererHears k reads_as_request reads_as_reply m.pair m'.pair) at w w' l
 
 abbrev pub AskersHear : Type 0
 AskersHear = (at : LinkPlace) (octets : List ℕ) (w w' : WorldState) (draws : List Draw) (answer : Option Answer)
     (l : IsLinkOf at w)
-    → IsSound w → Delivers at.link (opposite at.direction) octets w draws answer w'
-    → IsSeen (λ k m m'. AskerHears k asks replies m.pair m'.pair) at w w' l
+    → IsSound w → Delivers at.link (other_direction at.direction) octets w draws answer w'
+    → IsSeenAtLink (λ k m m'. AskerHears k reads_as_request reads_as_reply m.pair m'.pair) at w w' l
 
 -- every act of a world but a change is one act
 abbrev pub ActsAreActs : Type 0
@@ -83,47 +83,47 @@ ActsAreActs = (at : LinkPlace) (act : Act) (w w' : WorldState) (draws : List Dra
 
 -- where two live stations stand at a link that is up, loses nothing and is good, the machine is seen
 abbrev pub LinksAreSeen : Type 0
-LinksAreSeen = (at : LinkPlace) (w : WorldState) → IsSound w → IsMeasured w → StandsAt at w → IsLinkOf at w
+LinksAreSeen = (at : LinkPlace) (w : WorldState) → IsSound w → LinkIsMeasured w → LinkStandsAt at w → IsLinkOf at w
 
 -- what must be known of the measuring is kept by every act, a change too
 abbrev pub MeasuredIsKept : Type 0
 MeasuredIsKept = (act : Act) (w w' : WorldState) (draws : List Draw) (done : Done)
-    → IsSound w → IsMeasured w → SetsAnOctet act → Acts act w draws done w'
-    → IsMeasured w'
+    → IsSound w → LinkIsMeasured w → SetsAnOctet act → Acts act w draws done w'
+    → LinkIsMeasured w'
 
 -- by time that passes
 abbrev pub MeasuredHoldsLater : Type 0
-MeasuredHoldsLater = (time : ℕ) (w : WorldState) → w.time ≤ time → IsMeasured w → IsMeasured (at_time time w)
+MeasuredHoldsLater = (time : ℕ) (w : WorldState) → w.time ≤ time → LinkIsMeasured w → LinkIsMeasured (at_time time w)
 
 -- and by the start of all systems; it holds before that
 abbrev pub StartsMeasured : Type 0
 StartsMeasured = (places : List ℕ) (w w' : WorldState) (draws : List Draw)
-    → IsSound w → IsMeasured w → StartsAll places w draws w'
-    → IsMeasured w'
+    → IsSound w → LinkIsMeasured w → StartsAll places w draws w'
+    → LinkIsMeasured w'
 
 abbrev pub InitiallyMeasured : Type 0
-InitiallyMeasured = (n : NetworkState) → IsMeasured (initial n)
+InitiallyMeasured = (n : NetworkState) → LinkIsMeasured (initial n)
 
 -- nothing at a link is due before anything is that is pending in the world
 abbrev pub NothingIsLate : Type 0
 NothingIsLate = (at : LinkPlace) (time : ℕ) (w : WorldState) (l : IsLinkOf at w)
     → IsSound w → NothingBefore time w.net.pending
-    → NothingIsDueBefore (setting at w l) time (pair at w l)
+    → NothingIsDueBefore (link_setting at w l) time (pair at w l)
 
 -- what is in flight on the link is due by then
 abbrev pub IsGoneBy : ℕ → (at : LinkPlace) (w : WorldState) → IsLinkOf at w → Type 0
-IsGoneBy gone at w l = (direction : Direction) (f : Frame) → In f (queue direction l.channel) → f.due ≤ gone
+IsGoneBy gone at w l = (direction : Direction) (f : Frame) → In f (world_queue direction l.channel) → f.due ≤ gone
 
 -- where what is in flight is due by then, the facts of the machine hold, and the link is fresh as after a change
 abbrev pub FactsBegin : Type 0
 FactsBegin = (at : LinkPlace) (gone : ℕ) (w : WorldState) (l : IsLinkOf at w)
-    → IsSound w → IsMeasured w → IsGoneBy gone at w l
-    → Facts (setting at w l) gone (pair at w l)
+    → IsSound w → LinkIsMeasured w → IsGoneBy gone at w l
+    → Facts (link_setting at w l) gone (pair at w l)
 
 abbrev pub LinksAreFresh : Type 0
 LinksAreFresh = (at : LinkPlace) (gone calm : ℕ) (w : WorldState) (l : IsLinkOf at w)
-    → IsSound w → IsMeasured w → IsGoneBy gone at w l → w.time ≤ gone → w.time < calm
-    → IsFresh (setting at w l) gone calm (pair at w l)
+    → IsSound w → LinkIsMeasured w → IsGoneBy gone at w l → w.time ≤ gone → w.time < calm
+    → IsJustChanged (link_setting at w l) gone calm (pair at w l)
 
 -- every act that sets no longer delay leaves what is in flight due within the span from now, and so does time that
 -- passes

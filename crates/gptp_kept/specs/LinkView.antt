@@ -24,13 +24,13 @@ use Rattle.gptp_system.specs.declared.port.Port.{Port}
 use Rattle.gptp_setup.specs.declared.setup.Params.{Params}
 use Rattle.gptp_setup.specs.declared.setup.Setup.{Setup}
 use Rattle.gptp_setup.specs.Intervals.{interval_of}
-use Rattle.gptp_system.specs.Measures.{Part, part_of}
+use Rattle.gptp_system.specs.Measures.{Part, measure_at}
 use Rattle.gptp_system.specs.State.{clock, number}
 use Rattle.gptp_acts.specs.declared.station.Station.{Station}
-use Rattle.gptp_acts.specs.World.{Channel, WorldState, queue, receiver, sender}
+use Rattle.gptp_acts.specs.World.{Channel, WorldState, world_queue, receiver, sender}
 use Rattle.gptp_measuring.specs.Answerer.{Waiting}
 use Rattle.gptp_measuring.specs.Asker.{Asker, Progress as SeenProgress, Closed, Asked, Answered}
-use Rattle.gptp_measuring.specs.Lanes.{Frame as SeenFrame}
+use Rattle.gptp_measuring.specs.Lanes.{LaneFrame as SeenFrame}
 use Rattle.gptp_measuring.specs.Messages.{Request, Reply, Response, FollowUp}
 use Rattle.gptp_measuring.specs.Meter.{Meter}
 use Rattle.gptp_measuring.specs.Pair.{Pair}
@@ -39,33 +39,33 @@ use Rattle.gptp_measuring.specs.Setting.{Setting}
 -- ---- octets
 
 -- a port by the clock of its system and its number
-abbrev pub identity_of : PortId → PortIdentity
-identity_of p = port_of p.clock p.port
+abbrev pub link_identity : PortId → PortIdentity
+link_identity p = port_of p.clock p.port
 
 -- the request of this port with that sequence
 abbrev pub request_from : PortId → ℕ → Request
-request_from source sequence = record { source = identity_of source; sequence = sequence }
+request_from source sequence = record { source = link_identity source; sequence = sequence }
 
 -- octets say a request exactly where they read as a Pdelay_Req
-abbrev pub asks : List ℕ → Request → Type 0
-asks octets request = (head : Head) × Reads octets (messages.PdelayReq head)
+abbrev pub reads_as_request : List ℕ → Request → Type 0
+reads_as_request octets request = (head : Head) × Reads octets (messages.PdelayReq head)
     × (request ≡ request_from head.source head.sequence)
 
 -- what a response says: who answers, which request, and the time that it carries
 abbrev pub response_view : PdelayResp → Reply
 response_view m =
-    Response (identity_of m.head.source) (request_from m.requester m.head.sequence)
+    Response (link_identity m.head.source) (request_from m.requester m.head.sequence)
     (carried_time m.stamp m.head.correction)
 
 -- and a follow-up
 abbrev pub follow_up_view : PdelayRespFollowUp → Reply
 follow_up_view m =
-    FollowUp (identity_of m.head.source) (request_from m.requester m.head.sequence)
+    FollowUp (link_identity m.head.source) (request_from m.requester m.head.sequence)
     (carried_time m.stamp m.head.correction)
 
 -- octets say a reply exactly where they read as a Pdelay_Resp or as a Pdelay_Resp_Follow_Up
-abbrev pub replies : List ℕ → Reply → Type 0
-replies octets reply =
+abbrev pub reads_as_reply : List ℕ → Reply → Type 0
+reads_as_reply octets reply =
     ((m : PdelayResp) × Reads octets (messages.PdelayResp m) × (reply ≡ response_view m))
     ⊎ ((m : PdelayRespFollowUp) × Reads octets (messages.PdelayRespFollowUp m) × (reply ≡ follow_up_view m))
 
@@ -76,13 +76,13 @@ abbrev pub progress_view : Progress → SeenProgress
 progress_view progresses.Closed = Closed
 progress_view (progresses.Sent request) = Asked request.sequence request.t1
 progress_view (progresses.Answered request response) =
-    Answered request.sequence (identity_of response.source) request.t1 response.t2 response.t4
+    Answered request.sequence (link_identity response.source) request.t1 response.t2 response.t4
 
 -- when the last request went: one period before the next one is due
 abbrev pub asked_at : ℕ → Option ℕ → ℕ
 asked_at period due = option_map_or (λ t. t - period) due 0
 
--- a port, as one that asks
+-- a port, as one that reads_as_request
 abbrev pub asker_view : ℕ → Part → Asker
 asker_view period x = record {
   asked = asked_at period x.pdelay;
@@ -113,22 +113,22 @@ pub record LinkPlace : Type 0 where
   pub answering : ℕ
 
 -- the other direction
-abbrev pub opposite : Direction → Direction
-opposite FromA = FromB
-opposite FromB = FromA
+abbrev pub other_direction : Direction → Direction
+other_direction FromA = FromB
+other_direction FromB = FromA
 
 -- frames in flight
-abbrev pub frame_view : Frame → SeenFrame
-frame_view f = record { due = f.due; octets = f.octets }
+abbrev pub link_frame_view : Frame → SeenFrame
+link_frame_view f = record { due = f.due; octets = f.octets }
 
-abbrev pub lane_view : Direction → Channel → List SeenFrame
-lane_view direction channel = map frame_view (queue direction channel)
+abbrev pub link_lane_view : Direction → Channel → List SeenFrame
+link_lane_view direction channel = map link_frame_view (world_queue direction channel)
 
 -- the link, with the setups of the systems of its asking and of its answering port
 abbrev pub setting_view : Direction → Channel → Setup → Setup → Setting
 setting_view direction channel asking answering = record {
-  asking = identity_of (sender direction channel);
-  answering = identity_of (receiver direction channel);
+  asking = link_identity (sender direction channel);
+  answering = link_identity (receiver direction channel);
   most = channel.bounds.max;
   turnaround = answering.params.turnaround;
   period = interval_of asking.params.pdelay;
@@ -137,14 +137,14 @@ setting_view direction channel asking answering = record {
   answering_clock = local_clock answering.phase answering.drift;
 }
 
--- the two ports and the lanes between them, where the asking port asks at this interval
+-- the two ports and the lanes between them, where the asking port reads_as_request at this interval
 abbrev pub pair_view : ℕ → ℕ → Direction → Channel → Part → Part → Pair
 pair_view time period direction channel asking answering = record {
   time = time;
   asker = asker_view period asking;
   waits = waits_view answering;
-  out = lane_view direction channel;
-  back = lane_view (opposite direction) channel;
+  out = link_lane_view direction channel;
+  back = link_lane_view (other_direction direction) channel;
 }
 
 -- ---- what must be known of a link
@@ -155,8 +155,8 @@ pub record RequestFits (source : PortId) (sequence : ℕ) : Type 0 where
   pub numbered : sequence < 2 ^ 16
 
 -- a request that octets say fits
-abbrev pub SaysWhatFits : List ℕ → Type 0
-SaysWhatFits octets = (head : Head) → Reads octets (messages.PdelayReq head) → RequestFits head.source head.sequence
+abbrev pub RequestSaysWhatFits : List ℕ → Type 0
+RequestSaysWhatFits octets = (head : Head) → Reads octets (messages.PdelayReq head) → RequestFits head.source head.sequence
 
 -- A port measures: it is this one, with the parameters of its system; where its Pdelay timer runs that is due one
 -- period from the beginning or later; and where its Respond timer runs there is an answer that fits.
@@ -165,7 +165,7 @@ pub record IsMeasuring (params : Params) (port : PortId) (x : Part) : Type 0 whe
   pub allowed : x.peer.allowed ≡ params.lost
   pub threshold : x.peer.threshold ≡ params.threshold
   pub next : x.peer.next < 2 ^ 16
-  pub asks : (due : ℕ) → x.pdelay ≡ Some due → interval_of params.pdelay ≤ due
+  pub reads_as_request : (due : ℕ) → x.pdelay ≡ Some due → interval_of params.pdelay ≤ due
   pub owes : (due : ℕ) → x.respond ≡ Some due
       → (owed : Owed) × (x.peer.waiting ≡ Some owed) × RequestFits owed.requester owed.sequence
 
@@ -184,7 +184,7 @@ pub record IsEndAmong (place : ℕ) (port : PortId) (stations : List Station) : 
   pub set_up : IsAsSetUp station
   pub named : clock station.system ≡ port.clock
   pub there : number station.system.ports port.port ≡ Some state
-  pub measures : IsMeasuring station.setup.params port (part_of state)
+  pub measures : IsMeasuring station.setup.params port (measure_at state)
 
 abbrev pub IsEndOf : ℕ → PortId → WorldState → Type 0
 IsEndOf place port w = IsEndAmong place port w.stations
@@ -200,22 +200,22 @@ pub record IsLinkAmong (at : LinkPlace) (channels : List Channel) (stations : Li
   pub apart : at.asking ≢ at.answering
   pub good : IsGoodLink channel.bounds.max answering.station.setup.params.turnaround
       asking.station.setup.params.threshold
-  pub fit : (direction : Direction) (f : Frame) → In f (queue direction channel) → SaysWhatFits f.octets
+  pub fit : (direction : Direction) (f : Frame) → In f (world_queue direction channel) → RequestSaysWhatFits f.octets
 
 abbrev pub IsLinkOf : LinkPlace → WorldState → Type 0
 IsLinkOf at w = IsLinkAmong at w.net.channels w.stations
 
 -- what the machine takes as settled there
-abbrev pub setting : (at : LinkPlace) (w : WorldState) → IsLinkOf at w → Setting
-setting at w l = setting_view at.direction l.channel l.asking.station.setup l.answering.station.setup
+abbrev pub link_setting : (at : LinkPlace) (w : WorldState) → IsLinkOf at w → Setting
+link_setting at w l = setting_view at.direction l.channel l.asking.station.setup l.answering.station.setup
 
 -- and what it sees
 abbrev pub pair : (at : LinkPlace) (w : WorldState) → IsLinkOf at w → Pair
 pair at w l =
     pair_view w.time (interval_of l.asking.station.setup.params.pdelay) at.direction l.channel
-    (part_of l.asking.state) (part_of l.answering.state)
+    (measure_at l.asking.state) (measure_at l.answering.state)
 
--- with the last measurement of the port that asks
+-- with the last measurement of the port that reads_as_request
 abbrev pub meter : (at : LinkPlace) (w : WorldState) → IsLinkOf at w → Meter
 meter at w l = record { pair = pair at w l; last = l.asking.state.peer.last }
 

@@ -5,8 +5,8 @@ use Rattle.gptp_measuring.specs.Measured.{HasMeasured}
 use Rattle.gptp_system.specs.declared.port.Port.{Port}
 use Rattle.gptp_acts.specs.World.{WorldState}
 use Rattle.gptp_kept.specs.Due.{OfEachPort}
-use Rattle.gptp_kept.specs.LinkView.{IsLinkOf, LinkPlace, least_delay, setting}
-use Rattle.gptp_kept.specs.View.{identity_of}
+use Rattle.gptp_kept.specs.LinkView.{IsLinkOf, LinkPlace, least_delay, link_setting}
+use Rattle.gptp_kept.specs.View.{port_identity_number}
 use Rattle.gptp_kept.specs.Standing.{snapshot_of}
 
 -- The one port, in this state, has measured its link to the other: neighbour rate and mean link delay are those of two
@@ -14,12 +14,12 @@ use Rattle.gptp_kept.specs.Standing.{snapshot_of}
 pub record HasMeasuredLink (w : WorldState) (from to : PortIdentity) (q : Port) : Type 0 where
   pub at : LinkPlace
   pub link : IsLinkOf at w
-  pub from_is : (setting at w link).asking ≡ from
-  pub to_is : (setting at w link).answering ≡ to
+  pub from_is : (link_setting at w link).asking ≡ from
+  pub to_is : (link_setting at w link).answering ≡ to
   pub state : link.asking.state ≡ q
-  pub measured : HasMeasured (setting at w link) (least_delay at w link) q.peer.last
+  pub measured : HasMeasured (link_setting at w link) (least_delay at w link) q.peer.last
 
 -- so has each port of a live system each link of the snapshot that is at it
 abbrev pub HaveMeasuredLinks : WorldState → Type 0
-HaveMeasuredLinks w = OfEachPort (λ itself h q. (to : PortIdentity) → Joins (snapshot_of w) (identity_of itself) to
-    → HasMeasuredLink w (identity_of itself) to q) w
+HaveMeasuredLinks w = OfEachPort (λ itself h q. (to : PortIdentity) → Joins (snapshot_of w) (port_identity_number itself) to
+    → HasMeasuredLink w (port_identity_number itself) to q) w

@@ -5,7 +5,7 @@ use Rattle.gptp_pdelay.specs.declared.progress.Progress.TheVariants.{Closed}
 use Rattle.gptp_pdelay.specs.Peer.{PeerState}
 use Rattle.gptp_system.specs.declared.port.Port.{Port}
 use Rattle.gptp_setup.specs.declared.setup.Params.{Params}
-use Rattle.gptp_system.specs.Measures.{Part, part_of}
+use Rattle.gptp_system.specs.Measures.{Part, measure_at}
 use Rattle.gptp_system.specs.State.{SystemState, own}
 use Rattle.gptp_acts.specs.declared.station.Station.{Station}
 use Rattle.gptp_acts.specs.World.{WorldState}
@@ -26,7 +26,7 @@ pub record IsPeerOf (p : Params) (itself : PortId) (peer : PeerState) : Type 0 w
 
 -- What a port measures with is its own; where an answer is due, one is there; and where its Pdelay timer doesn't run,
 -- nothing is measured.
-pub record IsMeasuring (p : Params) (itself : PortId) (x : Part) : Type 0 where
+pub record MeasuresWithItsOwn (p : Params) (itself : PortId) (x : Part) : Type 0 where
   pub peer : IsPeerOf p itself x.peer
   pub owes : (t : ℕ) → x.respond ≡ Some t → IsSome x.peer.waiting
   pub idle : x.pdelay ≡ None → IsIdle x
@@ -34,7 +34,7 @@ pub record IsMeasuring (p : Params) (itself : PortId) (x : Part) : Type 0 where
 -- so it is with each port of a system; the port at place i has the number i + 1
 abbrev pub PortsMeasure : Params → SystemState → Type 0
 PortsMeasure p s =
-    (i : ℕ) (q : Port) → slice_get s.ports i ≡ Some q → IsMeasuring p (own s (suc i)) (part_of q)
+    (i : ℕ) (q : Port) → slice_get s.ports i ≡ Some q → MeasuresWithItsOwn p (own s (suc i)) (measure_at q)
 
 -- and with each live system
 abbrev pub AreMeasuring : Params → WorldState → Type 0

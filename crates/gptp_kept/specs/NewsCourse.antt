@@ -20,7 +20,7 @@ use Rattle.gptp_acts.specs.Sound.{IsSound}
 use Rattle.gptp_acts.specs.World.{WorldState, port_id}
 use Rattle.gptp_kept.specs.Bounded.{IsBoundedWorld}
 use Rattle.gptp_kept.specs.Calm.{HaveQuietLinks, IsQuietWith, delay_in, paths_with, step_with}
-use Rattle.gptp_settling.specs.Network.{clean_from}
+use Rattle.gptp_settling.specs.Network.{machine_clean_from}
 use Rattle.gptp_kept.specs.Claimed.{IsClaimed}
 use Rattle.gptp_kept.specs.Holds.{settling_network}
 use Rattle.gptp_kept.specs.Elsewhere.{IsOtherLink}
@@ -102,12 +102,12 @@ GainSettles {F} answers = (p : Pace) (change : Change) (time start : ℕ) (fate 
 abbrev pub RestIsSound : Type 0
 RestIsSound = (p : Pace) (m : ℕ) (w : WorldState)
     → IsClaimed p w → AllLive w → BoundsPaths (snapshot_of w) m → IsQuietWith p.params (paths_with m w) w
-    → clean_from (settling_network p m w) + delay_in w ≤ w.time
+    → machine_clean_from (settling_network p m w) + delay_in w ≤ w.time
     → IsSoundWorld w
 
 -- beside failed systems too, an announce interval after that
 abbrev pub RestIsSoundBesideFailed : Type 0
 RestIsSoundBesideFailed = (p : Pace) (m : ℕ) (w : WorldState)
     → IsClaimed p w → BoundsPaths (snapshot_of w) m → IsQuietWith p.params (paths_with m w) w
-    → clean_from (settling_network p m w) + largest_interval p ≤ w.time
+    → machine_clean_from (settling_network p m w) + largest_interval p ≤ w.time
     → IsSoundWorld w

@@ -17,12 +17,12 @@ use Rattle.gptp_plan.specs.Params.{KeepPace}
 use Rattle.gptp_kept.specs.FirstAt.{IsFirstBy}
 use Rattle.gptp_kept.specs.Holds.{IsWorld}
 use Rattle.gptp_kept.specs.LinkView.{LinkPlace}
-use Rattle.gptp_kept.specs.Measured.{IsMeasured, StandsAt}
+use Rattle.gptp_kept.specs.Measured.{LinkIsMeasured, LinkStandsAt}
 use Rattle.gptp_kept.specs.SoundWorld.{IsSoundWorld}
 use Rattle.gptp_kept.specs.Unanswered.{IsSilent, StandsUnanswered}
 use Rattle.gptp_plan.specs.SettlingTime.{capability_span}
 use Rattle.gptp_kept.specs.Standing.{snapshot_of}
-use Rattle.gptp_kept.specs.View.{says, says_sync, view}
+use Rattle.gptp_kept.specs.View.{says_announce, says_sync, view}
 use Rattle.gptp_kept.specs.Watched.{IsWatched}
 
 -- The port that asks at the link is capable from this time on: by its first request, one interval between requests and
@@ -35,7 +35,7 @@ IsReadyBy p start at w =
 
 -- so is each link between two live systems that loses nothing and is good
 abbrev pub AreReadyBy : Pace → ℕ → WorldState → Type 0
-AreReadyBy p start w = (at : LinkPlace) → StandsAt at w → IsReadyBy p start at w
+AreReadyBy p start w = (at : LinkPlace) → LinkStandsAt at w → IsReadyBy p start at w
 
 -- The port of a live system whose link leads to one that has failed isn't capable from this time on: it has been
 -- unanswered for long enough.
@@ -72,19 +72,19 @@ turn_network p m start w = network_with p m start (news_in_turn p (paths_with m 
 
 -- there each link is at its stage, and Syncs are expected in time
 pub record IsExpecting (p : Pace) (m start : ℕ) (w : WorldState) : Type 0 where
-  pub invariant : Invariant says (turn_network p m start w) (view w)
+  pub invariant : Invariant says_announce (turn_network p m start w) (view w)
   pub expected : SyncsAreExpected says_sync (turn_network p m start w) (view w)
 
 -- what is claimed of such a world
 pub record IsNews (p : Pace) (start : ℕ) (w : WorldState) : Type 0 where
   pub pace : KeepPace p
   pub world : IsWorld p w
-  pub measured : IsMeasured w
+  pub measured : LinkIsMeasured w
   pub silent : AreSilentBy p start w
   pub sound : IsSoundWorld w
   pub ready : AreReadyBy p start w
   pub settling : (m : ℕ) → BoundsPaths (snapshot_of w) m → HaveQuietLinks p.params w → NothingLapses p.params
-      → Invariant says (news_network p m start w) (view w)
+      → Invariant says_announce (news_network p m start w) (view w)
   pub in_turn : (m : ℕ) → BoundsPaths (snapshot_of w) m → HaveQuietLinks p.params w
       → sync_wait p.params (paths_with m w) < lapse_span p.params
       → IsExpecting p m start w

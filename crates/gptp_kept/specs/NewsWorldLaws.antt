@@ -29,7 +29,7 @@ use Rattle.gptp_plan.specs.SettlingTime.{capability_span}
 use Rattle.gptp_kept.specs.Calm.{HaveQuietLinks, delay_in, paths_with, step_with}
 use Rattle.gptp_kept.specs.Holds.{IsWorld}
 use Rattle.gptp_kept.specs.LegibleLaws.{SetsAnOctet}
-use Rattle.gptp_kept.specs.Measured.{IsMeasured}
+use Rattle.gptp_kept.specs.Measured.{LinkIsMeasured}
 use Rattle.gptp_kept.specs.NewsWorld.{AllLive, AreReadyBy, AreSilentBy, IsNews}
 use Rattle.gptp_kept.specs.SeenLaws.{IsNoChange}
 use Rattle.gptp_kept.specs.Settled.{Settled}
@@ -40,7 +40,7 @@ use Rattle.gptp_kept.specs.Standing.{snapshot_of}
 -- the claim begins: before the start it says nothing of the choice
 abbrev pub NewsBegin : Type 0
 NewsBegin = (p : Pace) (start : ℕ) (w : WorldState)
-    → KeepPace p → IsWorld p w → IsMeasured w → AreSilentBy p start w → IsSoundWorld w → AreReadyBy p start w
+    → KeepPace p → IsWorld p w → LinkIsMeasured w → AreSilentBy p start w → IsSoundWorld w → AreReadyBy p start w
     → w.time < start
     → IsNews p start w
 
@@ -75,7 +75,7 @@ NewsWorldsSettleInTurn = (p : Pace) (start m : ℕ) (w : WorldState)
 -- both its ends will be, one interval between requests and one exchange later.
 abbrev pub LinkUpIsNews : Type 0
 LinkUpIsNews = (p : Pace) (start number port : ℕ) (w : WorldState) (draws : List Draw) (done : Done) (w' : WorldState)
-    → KeepPace p → IsWorld p w → IsWorld p w' → IsMeasured w → AreSilentBy p start w → IsSoundWorld w
+    → KeepPace p → IsWorld p w → IsWorld p w' → LinkIsMeasured w → AreSilentBy p start w → IsSoundWorld w
     → AreReadyBy p start w → ((at : LinkPlace) → StandsUnanswered at w' → IsOtherLink at (port_id number port) w)
     → w.time + interval_of p.params.pdelay + (delay_in w' + p.params.turnaround + delay_in w') < start
     → Acts (Changing (LinkUp number port)) w draws done w'
@@ -116,7 +116,7 @@ NewsAreDone {F} answers = (p : Pace) (start : ℕ) (timed : Timed) (fate fate_af
 abbrev pub PriorityIsNews : Type 0
 PriorityIsNews = (p : Pace) (start number value : ℕ) (w : WorldState) (draws : List Draw) (done : Done)
     (w' : WorldState)
-    → KeepPace p → IsWorld p w → IsWorld p w' → IsMeasured w → AllLive w → IsSoundWorld w → AreReadyBy p start w
+    → KeepPace p → IsWorld p w → IsWorld p w' → LinkIsMeasured w → AllLive w → IsSoundWorld w → AreReadyBy p start w
     → IsGain (Priority1 number value) w → value < 256 → w.time < start
     → Acts (Changing (Priority1 number value)) w draws done w'
     → IsNews p start w'

@@ -1,7 +1,7 @@
 -- What a system says at one of its ports.
 use Rattle.std.specs.Prelude.{ℕ, if◌then◌else◌, List, [], ◌∷◌, map}
 use Rattle.gptp_vector.specs.declared.port.PortId.{PortId}
-use Rattle.gptp_pdelay.specs.Progress.{same_port}
+use Rattle.gptp_pdelay.specs.Progress.{same_identity}
 use Rattle.gptp_system.specs.declared.sending.Sending.{Sending}
 use Rattle.gptp_system.specs.State.{SystemState, own}
 use Rattle.gptp_acts.specs.Sends.{written}
@@ -10,7 +10,7 @@ use Rattle.gptp_acts.specs.Sends.{written}
 abbrev pub sends_at : SystemState → PortId → List Sending → List Sending
 sends_at s port [] = []
 sends_at s port (x ∷ xs) =
-    if same_port (own s x.port) port then x ∷ sends_at s port xs else sends_at s port xs
+    if same_identity (own s x.port) port then x ∷ sends_at s port xs else sends_at s port xs
 
 -- and their octets
 abbrev pub said_at : SystemState → PortId → List Sending → List (List ℕ)

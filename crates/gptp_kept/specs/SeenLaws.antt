@@ -8,13 +8,13 @@ use Rattle.gptp_plan.specs.declared.change.Act.{Act}
 use Rattle.gptp_plan.specs.declared.change.Act.TheVariants.{Change as Changing}
 use Rattle.gptp_acts.specs.declared.done.Done.{Done}
 use Rattle.gptp_acts.specs.declared.station.Station.{Station}
-use Rattle.gptp_acts.specs.Act.{Delivers, Expires}
+use Rattle.gptp_acts.specs.Act.{Delivers, TimerRunsOut}
 use Rattle.gptp_acts.specs.Acts.{Acts, at}
 use Rattle.gptp_acts.specs.Sound.{IsSound}
 use Rattle.gptp_acts.specs.World.{Channel, WorldState}
-use Rattle.gptp_settling.specs.Acts.{Acts as SeenActs, Arrives, Drops, Runs, Waits}
+use Rattle.gptp_settling.specs.Acts.{StationActs as SeenActs, Arrives, Drops, Runs, MomentComes}
 use Rattle.gptp_kept.specs.Legible.{IsLegible}
-use Rattle.gptp_kept.specs.View.{lane_place, lane_view, says, station_view, view}
+use Rattle.gptp_kept.specs.View.{lane_place, lane_view, says_announce, station_view, view}
 
 -- where a system stands in the world, it stands in its view
 abbrev pub StationsAreSeen : Type 0
@@ -29,20 +29,20 @@ LanesAreSeen = (w : WorldState) (link : ℕ) (direction : Direction) (channel : 
 
 -- time that passes is a moment that comes
 abbrev pub TimeIsSeen : Type 0
-TimeIsSeen = (w : WorldState) (time : ℕ) → w.time ≤ time → Waits (view w) (view (at time w))
+TimeIsSeen = (w : WorldState) (time : ℕ) → w.time ≤ time → MomentComes (view w) (view (at time w))
 
 -- a timer that runs out is something that happens at a live system
 abbrev pub ExpiriesAreSeen : Type 0
 ExpiriesAreSeen = (place : ℕ) (timer : Timer) (w : WorldState) (draws : List Draw) (w' : WorldState)
-    → IsSound w → IsLegible w → Expires place timer w draws w'
-    → Runs says (view w) (view w')
+    → IsSound w → IsLegible w → TimerRunsOut place timer w draws w'
+    → Runs says_announce (view w) (view w')
 
 -- a frame that is delivered arrives at a live system, or does nothing
 abbrev pub DeliveriesAreSeen : Type 0
 DeliveriesAreSeen = (link : ℕ) (direction : Direction) (octets : List ℕ) (w : WorldState) (draws : List Draw)
     (answer : Option Answer) (w' : WorldState)
     → IsSound w → IsLegible w → Delivers link direction octets w draws answer w'
-    → Arrives says (view w) (view w') ⊎ Drops says (view w) (view w')
+    → Arrives says_announce (view w) (view w') ⊎ Drops says_announce (view w) (view w')
 
 -- the act changes nothing of the network
 abbrev pub IsNoChange : Act → Type 0
@@ -53,4 +53,4 @@ IsNoChange act = ⊤
 abbrev pub ActsAreSeen : Type 0
 ActsAreSeen = (act : Act) (w : WorldState) (draws : List Draw) (done : Done) (w' : WorldState)
     → IsNoChange act → IsSound w → IsLegible w → Acts act w draws done w'
-    → SeenActs says (view w) (view w')
+    → SeenActs says_announce (view w) (view w')

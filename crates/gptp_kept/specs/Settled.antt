@@ -12,22 +12,22 @@ use Rattle.gptp_roles.specs.declared.role.Role.{Role}
 use Rattle.gptp_roles.specs.declared.role.Role.TheVariants.{Disabled, Master, Slave, Passive}
 use Rattle.gptp_system.specs.Start.{role_at}
 use Rattle.gptp_system.specs.State.{SystemState, clock, parent}
-use Rattle.gptp_system.specs.Steps.{IsPortOf}
+use Rattle.gptp_system.specs.Steps.{HasPortNumber}
 use Rattle.gptp_acts.specs.declared.station.Station.{Station}
 use Rattle.gptp_acts.specs.World.{WorldState}
 use Rattle.gptp_settling.specs.Settled.{IsSlaveOf}
 use Rattle.gptp_kept.specs.Standing.{snapshot_of}
 
 -- a role as the graph has it
-abbrev pub role_of : Role → settled.Role
-role_of Disabled = settled.Disabled
-role_of Master = settled.Master
-role_of Slave = settled.Slave
-role_of Passive = settled.Passive
+abbrev pub graph_role : Role → settled.Role
+graph_role Disabled = settled.Disabled
+graph_role Master = settled.Master
+graph_role Slave = settled.Slave
+graph_role Passive = settled.Passive
 
 -- the slave port, and the port that it follows, as the graph has them
-abbrev pub link_of : ℕ × PortId → ParentLink
-link_of (own_port, there) = record { own_port = own_port; clock = there.clock; port = there.port }
+abbrev pub followed_link : ℕ × PortId → ParentLink
+followed_link (own_port, there) = record { own_port = own_port; clock = there.clock; port = there.port }
 
 -- Its root is the identity of its component's best, and its steps are its distance. Its slave port is the own port of
 -- its parent, and the port that it follows there is the parent's; the best has neither. Each of its ports has its
@@ -36,8 +36,8 @@ pub record IsSettledSystem (g : Snapshot) (s : SystemState) : Type 0 where
   pub root : IsBestIdentity g (clock s) s.root
   pub steps : IsDistance g (clock s) s.steps
   pub slave : IsSlaveOf g (clock s) s.slave
-  pub parent : IsParentIfAny g (clock s) (option_map link_of (parent s))
-  pub roles : (n : ℕ) → IsPortOf s n → IsSettledRole g (port_of (clock s) n) (role_of (role_at s n))
+  pub parent : IsParentIfAny g (clock s) (option_map followed_link (parent s))
+  pub roles : (n : ℕ) → HasPortNumber s n → IsSettledRole g (port_of (clock s) n) (graph_role (role_at s n))
 
 -- so is each near live system
 abbrev pub Settled : WorldState → Type 0

@@ -9,7 +9,7 @@ use Rattle.gptp_graph.specs.Snapshot.{IsLinked, Snapshot, port_of}
 use Rattle.gptp_roles.specs.declared.role.Role.{Role}
 use Rattle.gptp_roles.specs.declared.role.Role.TheVariants.{Disabled}
 use Rattle.gptp_system.specs.State.{SystemState, clock, is_capable_at}
-use Rattle.gptp_system.specs.Steps.{IsPortOf}
+use Rattle.gptp_system.specs.Steps.{HasPortNumber}
 use Rattle.gptp_plan.specs.Calm.{NothingLapses}
 use Rattle.gptp_plan.specs.SettlingTime.{settling_span_with}
 use Rattle.gptp_plan.specs.SyncWait.{step_more}
@@ -17,7 +17,7 @@ use Rattle.gptp_plan.specs.declared.sync_wait.SyncPaths.{SyncPaths}
 use Rattle.gptp_acts.specs.World.{WorldState}
 use Rattle.gptp_settling.specs.Settled.{IsSlaveOf}
 use Rattle.gptp_kept.specs.Standing.{snapshot_of}
-use Rattle.gptp_kept.specs.Settled.{role_of}
+use Rattle.gptp_kept.specs.Settled.{graph_role}
 use Rattle.gptp_kept.specs.CalmFor.{IsCalmFor, at_once_span, capable_span, span_over}
 use Rattle.gptp_kept.specs.Traces.{turns_span}
 
@@ -25,7 +25,7 @@ use Rattle.gptp_kept.specs.Traces.{turns_span}
 
 -- a port of a system is capable exactly where a link of the snapshot is at it
 abbrev pub AreCapable : Snapshot → SystemState → Type 0
-AreCapable g s = (n : ℕ) → IsPortOf s n → (is_capable_at s n ≡ true) ↔ IsLinked g (port_of (clock s) n)
+AreCapable g s = (n : ℕ) → HasPortNumber s n → (is_capable_at s n ≡ true) ↔ IsLinked g (port_of (clock s) n)
 
 -- so it is with the system, once the world has been calm for as long as ports take to become capable
 abbrev pub IsCapableInTime : WorldState → SystemState → Type 0
@@ -68,18 +68,18 @@ FollowsAtOnce number w root steps slave = (m : ℕ)
 abbrev pub PlaysInTime : ℕ → ℕ → WorldState → Role → Type 0
 PlaysInTime number port w role =
     IsCalmFor settling_span_with w → IsNear (snapshot_of w) number
-    → IsSettledRole (snapshot_of w) (port_of number port) (role_of role)
+    → IsSettledRole (snapshot_of w) (port_of number port) (graph_role role)
 
 abbrev pub PlaysByPaths : ℕ → ℕ → WorldState → Role → Type 0
 PlaysByPaths number port w role = (m : ℕ)
     → BoundsPaths (snapshot_of w) m → IsCalmFor (span_over m) w → IsNear (snapshot_of w) number
-    → IsSettledRole (snapshot_of w) (port_of number port) (role_of role)
+    → IsSettledRole (snapshot_of w) (port_of number port) (graph_role role)
 
 abbrev pub PlaysAtOnce : ℕ → ℕ → WorldState → Role → Type 0
 PlaysAtOnce number port w role = (m : ℕ)
     → BoundsPaths (snapshot_of w) m → (calm : IsCalmFor (at_once_span m) w) → NothingLapses calm.pace.params
     → IsNear (snapshot_of w) number
-    → IsSettledRole (snapshot_of w) (port_of number port) (role_of role)
+    → IsSettledRole (snapshot_of w) (port_of number port) (graph_role role)
 
 -- ---- by distance
 
@@ -100,4 +100,4 @@ abbrev pub PlaysByDistance : ℕ → ℕ → WorldState → Role → Type 0
 PlaysByDistance number port w role = (m d : ℕ)
     → BoundsPaths (snapshot_of w) m → IsDistance (snapshot_of w) number d → d < 255
     → IsCalmFor (distance_span m (suc d)) w
-    → IsSettledRole (snapshot_of w) (port_of number port) (role_of role)
+    → IsSettledRole (snapshot_of w) (port_of number port) (graph_role role)

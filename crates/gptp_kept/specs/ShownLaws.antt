@@ -3,7 +3,7 @@ use Rattle.std.specs.Prelude.{ℕ, Option}
 use Rattle.gptp_roles.specs.declared.role.Role.{Role}
 use Rattle.gptp_system.specs.State.{SystemState}
 use Rattle.gptp_acts.specs.Acts.{AtSystem}
-use Rattle.gptp_acts.specs.Views.{Follows, HasRole, ShowsLive}
+use Rattle.gptp_acts.specs.Views.{FollowsRoot, HasRole, ShowsLive}
 use Rattle.gptp_acts.specs.World.{WorldState}
 use Rattle.gptp_kept.specs.Claimed.{Claimed}
 use Rattle.gptp_kept.specs.Shown.{FollowsAtOnce, FollowsByDistance, FollowsByPaths, FollowsInTime, IsCapableInTime, IsEnabledInTime}
@@ -24,7 +24,7 @@ RolesAreEnabled = (number port : ℕ) (w : WorldState) (role : Role)
 -- what a live system is shown to follow is settled in time
 abbrev pub SystemsSettle : Type 0
 SystemsSettle = (number root steps : ℕ) (slave : Option ℕ) (w : WorldState)
-    → Claimed w → AtSystem number w (Follows root steps slave)
+    → Claimed w → AtSystem number w (FollowsRoot root steps slave)
     → FollowsInTime number w root steps slave
 
 -- and so is the role of each port that is shown
@@ -36,7 +36,7 @@ RolesSettle = (number port : ℕ) (w : WorldState) (role : Role)
 -- both are so sooner where paths are shorter than there are systems
 abbrev pub SystemsSettleByPaths : Type 0
 SystemsSettleByPaths = (number root steps : ℕ) (slave : Option ℕ) (w : WorldState)
-    → Claimed w → AtSystem number w (Follows root steps slave)
+    → Claimed w → AtSystem number w (FollowsRoot root steps slave)
     → FollowsByPaths number w root steps slave
 
 abbrev pub RolesSettleByPaths : Type 0
@@ -47,7 +47,7 @@ RolesSettleByPaths = (number port : ℕ) (w : WorldState) (role : Role)
 -- and sooner yet where nothing lapses
 abbrev pub SystemsSettleAtOnce : Type 0
 SystemsSettleAtOnce = (number root steps : ℕ) (slave : Option ℕ) (w : WorldState)
-    → Claimed w → AtSystem number w (Follows root steps slave)
+    → Claimed w → AtSystem number w (FollowsRoot root steps slave)
     → FollowsAtOnce number w root steps slave
 
 abbrev pub RolesSettleAtOnce : Type 0
@@ -58,7 +58,7 @@ RolesSettleAtOnce = (number port : ℕ) (w : WorldState) (role : Role)
 -- and sooner still the nearer the system is to its best
 abbrev pub SystemsSettleByDistance : Type 0
 SystemsSettleByDistance = (number root steps : ℕ) (slave : Option ℕ) (w : WorldState)
-    → Claimed w → AtSystem number w (Follows root steps slave)
+    → Claimed w → AtSystem number w (FollowsRoot root steps slave)
     → FollowsByDistance number w root steps slave
 
 abbrev pub RolesSettleByDistance : Type 0

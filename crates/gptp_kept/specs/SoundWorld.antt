@@ -8,12 +8,12 @@ use Rattle.gptp_acts.specs.Changing.{IsChannel, IsStation}
 use Rattle.gptp_acts.specs.World.{Channel, WorldState, port_id}
 use Rattle.gptp_settling.specs.SoundEverywhere.{IsSoundEverywhere}
 use Rattle.gptp_kept.specs.Standing.{snapshot_of}
-use Rattle.gptp_kept.specs.View.{says, view}
+use Rattle.gptp_kept.specs.View.{says_announce, view}
 
 -- Each Announce in flight, and each that a live system holds, comes from a live system, and names a root worse than the
 -- best of that, or is wholly clean.
 abbrev pub IsSoundWorld : WorldState → Type 0
-IsSoundWorld w = IsSoundEverywhere says (snapshot_of w) (view w)
+IsSoundWorld w = IsSoundEverywhere says_announce (snapshot_of w) (view w)
 
 -- a link at the port is down
 abbrev pub IsDownAt : PortId → WorldState → Type 0

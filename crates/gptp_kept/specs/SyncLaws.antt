@@ -12,7 +12,7 @@ use Rattle.gptp_system.specs.declared.sending.Sending.{Sending}
 use Rattle.gptp_system.specs.Input.{Input, IsTimely, Steps, Frame as FrameHeard, Expires}
 use Rattle.gptp_system.specs.Start.{started}
 use Rattle.gptp_system.specs.State.{SystemState, own}
-use Rattle.gptp_system.specs.Syncing.{leads}
+use Rattle.gptp_system.specs.Syncing.{is_leading}
 use Rattle.gptp_settling.specs.SyncActs.{SyncActs}
 use Rattle.gptp_settling.specs.Syncs.{HaveSyncTimers}
 use Rattle.gptp_links.specs.Fate.{Draw}
@@ -28,24 +28,24 @@ use Rattle.gptp_kept.specs.Legible.{IsLegible}
 use Rattle.gptp_kept.specs.Said.{said_at}
 use Rattle.gptp_kept.specs.SeenLaws.{IsNoChange}
 use Rattle.gptp_kept.specs.SyncView.{ArePaired, AreTimeless, IsHeard, KnowsTime, TakesTime}
-use Rattle.gptp_kept.specs.View.{identity_of, kept_view, says, says_sync, view}
+use Rattle.gptp_kept.specs.View.{port_identity_number, kept_view, says_announce, says_sync, view}
 
 -- at each port a step sends a Sync and its Follow_Up, or nothing of time
 abbrev pub TellsInPairs : Type 0
 TellsInPairs = (input : Input) (now : ℕ) (s s' : SystemState) (sends : List Sending) (answer : Answer) (n : ℕ)
     → IsTimely s now input → KnowsTime s → PortFits (own s n) → Steps input now s s' sends answer
-    → ArePaired (identity_of (own s n)) (said_at s' (own s n) sends) ⊎ AreTimeless (said_at s' (own s n) sends)
+    → ArePaired (port_identity_number (own s n)) (said_at s' (own s n) sends) ⊎ AreTimeless (said_at s' (own s n) sends)
 
 -- every Master port of a system sends both
 abbrev pub TellsTime : SystemState → SystemState → List Sending → Type 0
 TellsTime s s' sends = (i : ℕ) (q : Port) (root steps : ℕ) → slice_get s.held i ≡ Some (Mine root steps)
     → slice_get s.ports i ≡ Some q → PortFits (own s (suc i))
-    → ArePaired (identity_of (own s (suc i))) (said_at s' (own s (suc i)) sends)
+    → ArePaired (port_identity_number (own s (suc i))) (said_at s' (own s (suc i)) sends)
 
 -- so it is where the Sync timer of a root expires that may be grandmaster
 abbrev pub LeadersTell : Type 0
 LeadersTell = (now : ℕ) (s s' : SystemState) (sends : List Sending) (answer : Answer)
-    → leads s ≡ true → Steps (Expires timers.Sync) now s s' sends answer
+    → is_leading s ≡ true → Steps (Expires timers.Sync) now s s' sends answer
     → TellsTime s s' sends
 
 -- and where the Relay timer expires in a network in which something can lapse
@@ -91,7 +91,7 @@ ActsTellSyncs = (p : Pace) (m start : ℕ) (times : SettlingTimes) (act : Act) (
     (w' : WorldState)
     → IsNoChange act → IsSound w → IsLegible w → IsKnown p w → 0 < p.params.sync_timeout
     → Acts act w draws done w'
-    → SyncActs says says_sync (network_with p m start times w) (view w) (view w')
+    → SyncActs says_announce says_sync (network_with p m start times w) (view w) (view w')
 
 -- the timers of time of a sound and known world are those of the machine
 abbrev pub TimersAreSeen : Type 0

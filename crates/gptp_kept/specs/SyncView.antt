@@ -10,7 +10,7 @@ use Rattle.gptp_system.specs.State.{SystemState, can_lead, held_at, is_capable_a
 use Rattle.gptp_acts.specs.declared.station.Station.{Station}
 use Rattle.gptp_acts.specs.World.{WorldState}
 use Rattle.gptp_settling.specs.Frame.{FollowUp, Sync, SyncMessage}
-use Rattle.gptp_kept.specs.View.{identity_of, says_sync}
+use Rattle.gptp_kept.specs.View.{port_identity_number, says_sync}
 
 -- octets tell no time
 abbrev pub IsTimeless : List ℕ → Type 0
@@ -35,7 +35,7 @@ pub record TakesTime (s : SystemState) (p : ℕ) (source : PortIdentity) : Type 
   pub slave : s.slave ≡ Some p
   pub reception : Reception
   pub holds : received (held_at s p) ≡ Some reception
-  pub came : identity_of reception.vector.source ≡ source
+  pub came : port_identity_number reception.vector.source ≡ source
 
 -- a system heard its time now: it will send that on, and its Lapse timer begins anew
 pub record IsHeard (now : ℕ) (s s' : SystemState) : Type 0 where

@@ -8,14 +8,14 @@ use Rattle.gptp_system.specs.State.{clock}
 use Rattle.gptp_system.specs.Syncing.{slave_delay, slave_rate}
 use Rattle.gptp_acts.specs.declared.station.Station.{Station}
 use Rattle.gptp_acts.specs.World.{WorldState}
-use Rattle.gptp_timing.specs.Invariant.{Inv}
+use Rattle.gptp_timing.specs.Invariant.{FollowerInvariant}
 use Rattle.gptp_timing.specs.Right.{IsMeasuredAt}
 use Rattle.gptp_kept.specs.Calm.{HaveQuietLinks, delay_in}
 use Rattle.gptp_kept.specs.FollowView.{tells}
-use Rattle.gptp_kept.specs.Followers.{HasWay, IsFollower, follower, follower_setting, state_of}
+use Rattle.gptp_kept.specs.Followers.{HasWay, IsFollower, follower, follower_setting, follower_state}
 use Rattle.gptp_kept.specs.Holds.{IsWorld}
 use Rattle.gptp_kept.specs.LinkView.{LinkPlace}
-use Rattle.gptp_kept.specs.Measured.{IsMeasured}
+use Rattle.gptp_kept.specs.Measured.{LinkIsMeasured}
 use Rattle.gptp_kept.specs.Settled.{Settled}
 use Rattle.gptp_kept.specs.Standing.{snapshot_of}
 
@@ -24,7 +24,7 @@ use Rattle.gptp_kept.specs.Standing.{snapshot_of}
 pub record IsSettledFrom (p : Pace) (settled longest : ℕ) (w : WorldState) : Type 0 where
   pub pace : KeepPace p
   pub world : IsWorld p w
-  pub measured : IsMeasured w
+  pub measured : LinkIsMeasured w
   pub links : HaveQuietLinks p.params w
   pub choice : Settled w
   pub old : w.last_change + largest_interval p ≤ settled
@@ -36,12 +36,12 @@ pub record IsSettledFrom (p : Pace) (settled longest : ℕ) (w : WorldState) : T
 -- what each system that follows has measured of the link to its parent is right
 abbrev pub AllMeasureRight : Params → WorldState → Type 0
 AllMeasureRight p w = (at : LinkPlace) (f : IsFollower at w) (steps : ℕ) (h : HasWay p at w f steps)
-    → IsMeasuredAt h.way steps (slave_rate (state_of at w f)) (slave_delay (state_of at w f))
+    → IsMeasuredAt h.way steps (slave_rate (follower_state at w f)) (slave_delay (follower_state at w f))
 
 -- the invariant of the machine holds of each system that follows
 abbrev pub AllFollow : Params → ℕ → ℕ → WorldState → Type 0
 AllFollow p settled longest w = (at : LinkPlace) (f : IsFollower at w) (steps : ℕ) (h : HasWay p at w f steps)
-    → Inv (follower_setting p settled longest at w f steps h) tells (follower at w f)
+    → FollowerInvariant (follower_setting p settled longest at w f steps h) tells (follower at w f)
 
 -- what the best of a component still sends on it heard before the network was settled
 abbrev pub RootsAreFresh : Params → ℕ → WorldState → Type 0

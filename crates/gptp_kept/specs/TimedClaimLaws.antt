@@ -12,7 +12,7 @@ use Rattle.gptp_plan.specs.Network.{IsNetwork, NetworkState, pace_of}
 use Rattle.gptp_system.specs.declared.answer.Answer.TheVariants as answers
 use Rattle.gptp_system.specs.State.{local_time}
 use Rattle.gptp_accuracy.specs.TimeError.{time_error_at}
-use Rattle.gptp_acts.specs.Acts.{Acts, Tells, at}
+use Rattle.gptp_acts.specs.Acts.{Acts, TellsHearing, at}
 use Rattle.gptp_acts.specs.Course.{Begun, WasDone}
 use Rattle.gptp_acts.specs.declared.done.Done.{Done}
 use Rattle.gptp_acts.specs.declared.station.Station.{Station}
@@ -24,7 +24,7 @@ use Rattle.gptp_acts.specs.World.{WorldState, port_id}
 use Rattle.gptp_timing.specs.Follower.{from}
 use Rattle.gptp_kept.specs.Claimed.{IsClaimed}
 use Rattle.gptp_kept.specs.Exact.{IsHeardExact}
-use Rattle.gptp_kept.specs.Followers.{HasWay, IsFollower, follower_clock, follower_setting, state_of}
+use Rattle.gptp_kept.specs.Followers.{HasWay, IsFollower, follower_clock, follower_setting, follower_state}
 use Rattle.gptp_kept.specs.LegibleLaws.{SetsAnOctet}
 use Rattle.gptp_kept.specs.LinkView.{LinkPlace}
 use Rattle.gptp_kept.specs.TimedClaim.{AllClaimed, CarriesWhereCalm, IsCalmBy}
@@ -81,13 +81,13 @@ CalmOffsetsAreExact = (p : Pace) (m settled link : ℕ) (direction : Direction) 
     (root after : Station) (offset : ℤ)
     → (h : HasWay p.params place w f steps)
     → Acts (Deliver link direction) w draws done w'
-    → Tells (port_id (follower_clock place w f) port) (Some answers.Used) octets done → AreFollowUp octets
+    → TellsHearing (port_id (follower_clock place w f) port) (Some answers.Used) octets done → AreFollowUp octets
     → IsClaimed p w → CarriesWhereCalm p w → IsCalmBy p m settled w → w.time ≤ 10 ^ 18
     → from (follower_setting p.params settled p.params.threshold place w f steps h) ≤ w.time
     → IsRootOf w (follower_clock place w f) root
     → slice_get w'.stations place.answering ≡ Some after → after.system.offset ≡ Some offset
     → AreWithin (time_error_at h.way (suc steps)) offset
-    (local_time (state_of place w f) w.time -ℤ local_time root.system w.time)
+    (local_time (follower_state place w f) w.time -ℤ local_time root.system w.time)
 
 -- In words that name no place: what an act delivers leaves exact offsets, in every world of a network.
 abbrev pub ReceiptsAreExact : {F : Type 0} → (Bounds → ℕ → F → Option ℕ → F → Type 0) → Type 0

@@ -18,7 +18,7 @@ use Rattle.gptp_plan.specs.declared.change.Timed.{Timed}
 use Rattle.gptp_system.specs.declared.answer.Answer.TheVariants as answers
 use Rattle.gptp_system.specs.State.{clock, local_time}
 use Rattle.gptp_accuracy.specs.TimeError.{time_error_at}
-use Rattle.gptp_acts.specs.Acts.{Acts, Tells, at}
+use Rattle.gptp_acts.specs.Acts.{Acts, TellsHearing, at}
 use Rattle.gptp_acts.specs.Course.{WasDone}
 use Rattle.gptp_acts.specs.declared.done.Done.{Done}
 use Rattle.gptp_acts.specs.declared.station.Station.{Station}
@@ -26,7 +26,7 @@ use Rattle.gptp_acts.specs.World.{WorldState, port_id}
 use Rattle.gptp_timing.specs.Follower.{from}
 use Rattle.gptp_kept.specs.Calm.{HaveQuietLinks}
 use Rattle.gptp_kept.specs.Claimed.{IsClaimed}
-use Rattle.gptp_kept.specs.Followers.{HasWay, IsFollower, follower_clock, follower_setting, state_of}
+use Rattle.gptp_kept.specs.Followers.{HasWay, IsFollower, follower_clock, follower_setting, follower_state}
 use Rattle.gptp_kept.specs.Known.{IsKnown}
 use Rattle.gptp_kept.specs.LinkView.{LinkPlace}
 use Rattle.gptp_kept.specs.MeasuredLinks.{HaveMeasuredLinks}
@@ -91,13 +91,13 @@ OffsetsAreExact = (p : Pace) (settled longest link : ℕ) (direction : Direction
     (root after : Station) (offset : ℤ)
     → (h : HasWay p.params place w f steps)
     → Acts (Deliver link direction) w draws done w'
-    → Tells (port_id (follower_clock place w f) port) (Some answers.Used) octets done → AreFollowUp octets
+    → TellsHearing (port_id (follower_clock place w f) port) (Some answers.Used) octets done → AreFollowUp octets
     → IsSettledFrom p settled longest w → AllMeasureRight p.params w → CarriesTime p.params settled longest w
     → from (follower_setting p.params settled longest place w f steps h) ≤ w.time
     → IsRootOf w (follower_clock place w f) root
     → slice_get w'.stations place.answering ≡ Some after → after.system.offset ≡ Some offset
     → AreWithin (time_error_at h.way (suc steps)) offset
-    (local_time (state_of place w f) w.time -ℤ local_time root.system w.time)
+    (local_time (follower_state place w f) w.time -ℤ local_time root.system w.time)
 
 -- ---- settled worlds
 
@@ -110,7 +110,7 @@ ClaimedIsSettledFrom = (p : Pace) (settled : ℕ) (w : WorldState)
     → IsSettledFrom p settled p.params.threshold w
 
 -- each near live system that isn't the best of its component follows, and has a way as long as its distance is
-pub record Follows (p : Params) (w : WorldState) (number : ℕ) : Type 0 where
+pub record AllNearFollow (p : Params) (w : WorldState) (number : ℕ) : Type 0 where
   pub place : LinkPlace
   pub follower : IsFollower place w
   pub is : follower_clock place w follower ≡ number
@@ -122,7 +122,7 @@ OthersFollow = (p : Pace) (settled longest : ℕ) (w : WorldState) (place : ℕ)
     → IsSettledFrom p settled longest w → slice_get w.stations place ≡ Some station → station.live ≡ true
     → IsNear (snapshot_of w) (clock station.system) → IsBest (snapshot_of w) (clock station.system) best
     → best.clock ≢ clock station.system
-    → Follows p.params w (clock station.system)
+    → AllNearFollow p.params w (clock station.system)
 
 -- what was measured of the links that are followed is right where ports have measured the links of the snapshot
 abbrev pub MeasuredIsRight : Type 0

@@ -16,7 +16,7 @@ use Rattle.gptp_acts.specs.declared.done.Done.TheVariants.{Quiet, Heard}
 use Rattle.gptp_acts.specs.World.{WorldState}
 use Rattle.gptp_settling.specs.Clean.{Clean, Good, Whole}
 use Rattle.gptp_settling.specs.Frame.{Announce}
-use Rattle.gptp_kept.specs.View.{identity_of, said}
+use Rattle.gptp_kept.specs.View.{port_identity_number, said}
 use Rattle.gptp_kept.specs.Standing.{snapshot_of}
 use Rattle.gptp_kept.specs.Calm.{sync_paths_of}
 use Rattle.gptp_kept.specs.CalmFor.{IsCalmFor, capable_span}
@@ -66,11 +66,11 @@ IsCleanInTime w s = (c : ℕ) → IsCalmFor (turns_span c) w → IsTraceClean (s
 -- ---- what its ports hold
 
 -- what a port received, as an Announce
-abbrev pub heard : Reception → Announce
-heard r = record {
+abbrev pub heard_announce : Reception → Announce
+heard_announce r = record {
   root = r.vector.root;
   steps = r.vector.steps;
-  source = identity_of r.vector.source;
+  source = port_identity_number r.vector.source;
   log = r.interval;
   path = r.path;
 }
@@ -80,7 +80,7 @@ pub record IsHeldClean (g : Snapshot) (m number port : ℕ) (r : Reception) : Ty
   pub from : PortIdentity
   pub joins : Joins g from (port_of number port)
   pub no_loop : In number r.path → ⊥
-  pub good : Good g m from (heard r)
+  pub good : Good g m from (heard_announce r)
 
 -- so is what each port received that was sent c turns after ports have become capable
 abbrev pub AreHeldCleanInTime : WorldState → SystemState → Type 0
@@ -94,8 +94,8 @@ pub record IsHeldWhole (g : Snapshot) (number port : ℕ) (r : Reception) : Type
   pub from : PortIdentity
   pub joins : Joins g from (port_of number port)
   pub no_loop : In number r.path → ⊥
-  pub source : identity_of r.vector.source ≡ from
-  pub whole : Whole g from.clock (heard r)
+  pub source : port_identity_number r.vector.source ≡ from
+  pub whole : Whole g from.clock (heard_announce r)
 
 -- so is all that its ports hold once the world has been calm for m turns after its ports have become capable, where no
 -- path of its snapshot has more than m systems

@@ -6,14 +6,14 @@ use Rattle.gptp_graph.specs.Snapshot.{Joins, System, port_of}
 use Rattle.gptp_roles.specs.declared.role.Role.TheVariants.{Master, Slave}
 use Rattle.gptp_system.specs.Start.{role_at}
 use Rattle.gptp_system.specs.State.{SystemState, clock}
-use Rattle.gptp_system.specs.Steps.{IsPortOf}
+use Rattle.gptp_system.specs.Steps.{HasPortNumber}
 use Rattle.gptp_acts.specs.declared.station.Station.{Station}
 use Rattle.gptp_acts.specs.World.{WorldState}
 use Rattle.gptp_kept.specs.Settled.{Settled}
 use Rattle.gptp_kept.specs.Standing.{snapshot_of}
 
 -- a live system of the world
-pub record IsLive (w : WorldState) (s : SystemState) : Type 0 where
+pub record IsLiveStation (w : WorldState) (s : SystemState) : Type 0 where
   pub place : ℕ
   pub station : Station
   pub here : slice_get w.stations place ≡ Some station
@@ -23,11 +23,11 @@ pub record IsLive (w : WorldState) (s : SystemState) : Type 0 where
 -- It has one Slave port and no other. The other end of its link is a Master port of a live system, one step nearer.
 pub record HangsOnParent (w : WorldState) (s : SystemState) : Type 0 where
   pub port : ℕ
-  pub own : IsPortOf s port
+  pub own : HasPortNumber s port
   pub slave : role_at s port ≡ Slave
-  pub only : (n : ℕ) → IsPortOf s n → role_at s n ≡ Slave → n ≡ port
+  pub only : (n : ℕ) → HasPortNumber s n → role_at s n ≡ Slave → n ≡ port
   pub parent : SystemState
-  pub lives : IsLive w parent
+  pub lives : IsLiveStation w parent
   pub there : ℕ
   pub joins : Joins (snapshot_of w) (port_of (clock s) port) (port_of (clock parent) there)
   pub master : role_at parent there ≡ Master
@@ -38,7 +38,7 @@ pub record IsRoot (s : SystemState) : Type 0 where
   pub root : s.root ≡ s.identity
   pub steps : s.steps ≡ 0
   pub slave : s.slave ≡ None
-  pub none : (n : ℕ) → IsPortOf s n → role_at s n ≢ Slave
+  pub none : (n : ℕ) → HasPortNumber s n → role_at s n ≢ Slave
 
 -- priority1 of an identity, its most significant octet (IEEE 802.1AS-2020, 8.6.2.1)
 abbrev pub priority1 : ℕ → ℕ
@@ -50,12 +50,12 @@ priority1 identity = identity / 2 ^ 104
 pub record IsTree (w : WorldState) : Type 0 where
   pub settled : Settled w
   pub others : (s : SystemState) (best : System)
-      → IsLive w s → IsNear (snapshot_of w) (clock s) → IsBest (snapshot_of w) (clock s) best → best.clock ≢ clock s
+      → IsLiveStation w s → IsNear (snapshot_of w) (clock s) → IsBest (snapshot_of w) (clock s) best → best.clock ≢ clock s
       → HangsOnParent w s
   pub best : (s : SystemState) (best : System)
-      → IsLive w s → IsBest (snapshot_of w) (clock s) best → best.clock ≡ clock s
+      → IsLiveStation w s → IsBest (snapshot_of w) (clock s) best → best.clock ≡ clock s
       → IsRoot s
   pub no_grandmaster : (s : SystemState) (best : System)
-      → IsLive w s → IsNear (snapshot_of w) (clock s) → IsBest (snapshot_of w) (clock s) best
+      → IsLiveStation w s → IsNear (snapshot_of w) (clock s) → IsBest (snapshot_of w) (clock s) best
       → 255 ≤ priority1 best.identity
       → 255 ≤ priority1 s.root

@@ -14,71 +14,71 @@ use Rattle.gptp_plan.specs.declared.change.Act.{Act}
 use Rattle.gptp_plan.specs.declared.change.Act.TheVariants.{Change as Changing}
 use Rattle.gptp_plan.specs.declared.change.Change.{Change}
 use Rattle.gptp_acts.specs.declared.done.Done.{Done}
-use Rattle.gptp_acts.specs.Act.{Delivers, Expires}
+use Rattle.gptp_acts.specs.Act.{Delivers, TimerRunsOut}
 use Rattle.gptp_acts.specs.Acts.{Acts, at as at_time}
 use Rattle.gptp_plan.specs.SettlingTime.{capability_span}
 use Rattle.gptp_acts.specs.Sound.{IsSound}
 use Rattle.gptp_acts.specs.World.{WorldState, sender}
 use Rattle.gptp_measuring.specs.Silence.{ActsInVain, AsksInVain, HearsOld, PassesInVain, TimerFacts}
-use Rattle.gptp_kept.specs.Measured.{IsMeasured}
-use Rattle.gptp_kept.specs.LinkView.{LinkPlace, opposite}
+use Rattle.gptp_kept.specs.Measured.{LinkIsMeasured}
+use Rattle.gptp_kept.specs.LinkView.{LinkPlace, other_direction}
 use Rattle.gptp_kept.specs.Known.{IsKnown}
-use Rattle.gptp_kept.specs.Unanswered.{AreSilent, IsOldBy, IsSeen, IsSilent, IsUnansweredAt, StandsUnanswered, setting, view}
+use Rattle.gptp_kept.specs.Unanswered.{AreSilent, IsOldBy, IsSeenUnanswered, IsSilent, IsUnansweredAt, StandsUnanswered, silent_setting, silent_view}
 
 -- where a live and a failed station stand at a link that is up, the machine is seen
 abbrev pub PortsAreSeen : Type 0
-PortsAreSeen = (at : LinkPlace) (w : WorldState) → IsSound w → IsMeasured w → StandsUnanswered at w
+PortsAreSeen = (at : LinkPlace) (w : WorldState) → IsSound w → LinkIsMeasured w → StandsUnanswered at w
     → IsUnansweredAt at w
 
 -- the last request isn't in the future, and the request timer isn't late
 abbrev pub TimersAreKnown : Type 0
 TimersAreKnown = (at : LinkPlace) (p : Pace) (w : WorldState) (l : IsUnansweredAt at w) → IsSound w → IsKnown p w
-    → TimerFacts (setting at w l) (view at w l)
+    → TimerFacts (silent_setting at w l) (silent_view at w l)
 
 -- ---- acts
 
 -- time passes at the port as it passes in the world
-abbrev pub TimePasses : Type 0
-TimePasses = (at : LinkPlace) (gone time : ℕ) (w : WorldState) (l : IsUnansweredAt at w) → w.time ≤ time
+abbrev pub SilentTimePasses : Type 0
+SilentTimePasses = (at : LinkPlace) (gone time : ℕ) (w : WorldState) (l : IsUnansweredAt at w) → w.time ≤ time
     → IsOldBy gone at w l
-    → IsSeen (λ k s s'. PassesInVain s s') gone at w (at_time time w) l
+    → IsSeenUnanswered (λ k s s'. PassesInVain s s') gone at w (at_time time w) l
 
 -- a timer that expires at any system is one act
-abbrev pub ExpiriesAreActs : Type 0
-ExpiriesAreActs = (at : LinkPlace) (gone place : ℕ) (timer : Timer) (w w' : WorldState) (draws : List Draw)
+abbrev pub SilentExpiriesAreActs : Type 0
+SilentExpiriesAreActs = (at : LinkPlace) (gone place : ℕ) (timer : Timer) (w w' : WorldState) (draws : List Draw)
     (l : IsUnansweredAt at w)
-    → IsSound w → IsOldBy gone at w l → Expires place timer w draws w'
-    → IsSeen (λ k s s'. ActsInVain k gone s s') gone at w w' l
+    → IsSound w → IsOldBy gone at w l → TimerRunsOut place timer w draws w'
+    → IsSeenUnanswered (λ k s s'. ActsInVain k gone s s') gone at w w' l
 
 -- so is a frame that is delivered on any link
-abbrev pub DeliveriesAreActs : Type 0
-DeliveriesAreActs = (at : LinkPlace) (gone link : ℕ) (direction : Direction) (octets : List ℕ) (w w' : WorldState)
+abbrev pub SilentDeliveriesAreActs : Type 0
+SilentDeliveriesAreActs = (at : LinkPlace) (gone link : ℕ) (direction : Direction) (octets : List ℕ) (w w' : WorldState)
     (draws : List Draw) (answer : Option Answer) (l : IsUnansweredAt at w)
-    → IsSound w → IsMeasured w → IsOldBy gone at w l → Delivers link direction octets w draws answer w'
-    → IsSeen (λ k s s'. ActsInVain k gone s s') gone at w w' l
+    → IsSound w → LinkIsMeasured w → IsOldBy gone at w l → Delivers link direction octets w draws answer w'
+    → IsSeenUnanswered (λ k s s'. ActsInVain k gone s s') gone at w w' l
 
 -- every act of a world but a change is one act
-abbrev pub ActsAreActs : Type 0
-ActsAreActs = (at : LinkPlace) (gone : ℕ) (act : Act) (w w' : WorldState) (draws : List Draw) (done : Done)
+abbrev pub SilentActsAreActs : Type 0
+SilentActsAreActs = (at : LinkPlace) (gone : ℕ) (act : Act) (w w' : WorldState) (draws : List Draw) (done : Done)
     (l : IsUnansweredAt at w)
-    → IsSound w → IsMeasured w → IsOldBy gone at w l → ((change : Change) → act ≢ Changing change)
+    → IsSound w → LinkIsMeasured w → IsOldBy gone at w l → ((change : Change) → act ≢ Changing change)
     → Acts act w draws done w'
-    → IsSeen (λ k s s'. ActsInVain k gone s s') gone at w w' l
+    → IsSeenUnanswered (λ k s s'. ActsInVain k gone s s') gone at w w' l
 
 -- the port's Pdelay timer asks in vain
-abbrev pub RequestTimersAsk : Type 0
-RequestTimersAsk = (at : LinkPlace) (gone : ℕ) (w w' : WorldState) (draws : List Draw) (l : IsUnansweredAt at w)
+abbrev pub SilentRequestTimersAsk : Type 0
+SilentRequestTimersAsk = (at : LinkPlace) (gone : ℕ) (w w' : WorldState) (draws : List Draw) (l : IsUnansweredAt at w)
     → IsSound w → IsOldBy gone at w l
-    → Expires at.asking (timers.Pdelay (sender at.direction l.channel).port) w draws w'
-    → IsSeen (λ k s s'. AsksInVain k s s') gone at w w' l
+    → TimerRunsOut at.asking (timers.Pdelay (sender at.direction l.channel).port) w draws w'
+    → IsSeenUnanswered (λ k s s'. AsksInVain k s s') gone at w w' l
 
 -- and a frame that is delivered to the port is an old one
-abbrev pub AskersHear : Type 0
-AskersHear = (at : LinkPlace) (gone : ℕ) (octets : List ℕ) (w w' : WorldState) (draws : List Draw)
+abbrev pub SilentAskersHear : Type 0
+SilentAskersHear = (at : LinkPlace) (gone : ℕ) (octets : List ℕ) (w w' : WorldState) (draws : List Draw)
     (answer : Option Answer) (l : IsUnansweredAt at w)
-    → IsSound w → IsMeasured w → IsOldBy gone at w l
-    → Delivers at.link (opposite at.direction) octets w draws answer w'
-    → IsSeen (λ k s s'. HearsOld gone s s') gone at w w' l
+    → IsSound w → LinkIsMeasured w → IsOldBy gone at w l
+    → Delivers at.link (other_direction at.direction) octets w draws answer w'
+    → IsSeenUnanswered (λ k s s'. HearsOld gone s s') gone at w w' l
 
 -- ---- from the last change on
 
@@ -93,7 +93,7 @@ SilenceBegins = (at : LinkPlace) (p : Pace) (w : WorldState)
 abbrev pub SilenceIsKept : Type 0
 SilenceIsKept = (at : LinkPlace) (gone : ℕ) (p : Pace) (act : Act) (w w' : WorldState) (draws : List Draw)
     (done : Done)
-    → IsSound w → IsMeasured w → IsKnown p w → ((change : Change) → act ≢ Changing change) → Acts act w draws done w'
+    → IsSound w → LinkIsMeasured w → IsKnown p w → ((change : Change) → act ≢ Changing change) → Acts act w draws done w'
     → IsSilent gone at w
     → IsSilent gone at w'
 
@@ -121,13 +121,13 @@ NoneStandsAnew = (at : LinkPlace) (act : Act) (w w' : WorldState) (draws : List 
 
 -- so from a change on all such ports are unanswered
 abbrev pub AreSilentAtFirst : Type 0
-AreSilentAtFirst = (p : Pace) (w : WorldState) → IsSound w → IsMeasured w → IsKnown p w → w.last_change ≡ w.time
+AreSilentAtFirst = (p : Pace) (w : WorldState) → IsSound w → LinkIsMeasured w → IsKnown p w → w.last_change ≡ w.time
     → AreSilent p w
 
 -- after every act but a change
 abbrev pub ActsLeaveSilent : Type 0
 ActsLeaveSilent = (p : Pace) (act : Act) (w w' : WorldState) (draws : List Draw) (done : Done)
-    → IsSound w → IsMeasured w → IsKnown p w → ((change : Change) → act ≢ Changing change) → Acts act w draws done w'
+    → IsSound w → LinkIsMeasured w → IsKnown p w → ((change : Change) → act ≢ Changing change) → Acts act w draws done w'
     → AreSilent p w
     → AreSilent p w'
 

@@ -23,35 +23,35 @@ use Rattle.gptp_system.specs.State.{SystemState, clock, trace}
 use Rattle.gptp_system.specs.Touch.{Touch, Hear, Tick, Grow, Enable, Disable, Other}
 use Rattle.gptp_acts.specs.declared.station.Station.{Station}
 use Rattle.gptp_acts.specs.Sends.{written}
-use Rattle.gptp_acts.specs.World.{Channel, WorldState, sender, receiver, queue}
-use Rattle.gptp_settling.specs.Frame.{Announce, Says, SyncId, Sync, FollowUp, SaysSync, Frame as SeenFrame, Lane, Send}
-use Rattle.gptp_settling.specs.Station.{Reception as SeenReception, Held as SeenHeld, Disabled, Aged, Mine, Received, Port as SeenPort, Station as SeenStation, State}
-use Rattle.gptp_settling.specs.Touch.{Touch as SeenTouch}
+use Rattle.gptp_acts.specs.World.{Channel, WorldState, sender, receiver, world_queue}
+use Rattle.gptp_settling.specs.Frame.{Announce, Spelling, SyncId, Sync, FollowUp, SaysSync, AnnounceFrame as SeenFrame, Lane, Send}
+use Rattle.gptp_settling.specs.Station.{Reception as SeenReception, Held as SeenHeld, Disabled, Aged, Mine, Received, Port as SeenPort, Station as SeenStation, MachineState}
+use Rattle.gptp_settling.specs.Touch.{StationTouch as SeenTouch}
 use Rattle.gptp_settling.specs.Touch as touches
 
 -- ---- octets
 
 -- a port by the clock of its system and its number
-abbrev pub identity_of : PortId → PortIdentity
-identity_of p = port_of p.clock p.port
+abbrev pub port_identity_number : PortId → PortIdentity
+port_identity_number p = port_of p.clock p.port
 
--- what an Announce says of the root, the way to it, and the interval of its sender (IEEE 802.1AS-2020, 10.6.3)
+-- what an Announce says_announce of the root, the way to it, and the interval of its sender (IEEE 802.1AS-2020, 10.6.3)
 abbrev pub said : AnnounceView → Announce
 said a = record {
   root = a.body.root;
   steps = a.body.steps;
-  source = identity_of a.head.source;
+  source = port_identity_number a.head.source;
   log = a.head.log_interval;
   path = a.path;
 }
 
 -- octets say an Announce exactly where they read as one
-abbrev pub says : Says
-says octets a = (m : AnnounceView) × Reads octets (messages.Announce m) × (a ≡ said m)
+abbrev pub says_announce : Spelling
+says_announce octets a = (m : AnnounceView) × Reads octets (messages.Announce m) × (a ≡ said m)
 
 -- what the header of a Sync and of its Follow_Up have in common
 abbrev pub sync_id : Head → SyncId
-sync_id head = record { source = identity_of head.source; sequence = head.sequence }
+sync_id head = record { source = port_identity_number head.source; sequence = head.sequence }
 
 -- octets say a Sync exactly where they read as one of two steps, and a Follow_Up where they read as one
 abbrev pub says_sync : SaysSync
@@ -72,7 +72,7 @@ reception_view keep r = record {
   said = record {
     root = r.vector.root;
     steps = r.vector.steps;
-    source = identity_of r.vector.source;
+    source = port_identity_number r.vector.source;
     log = r.interval;
     path = r.path;
   };
@@ -104,7 +104,7 @@ ports_view keep (h ∷ hs) (q ∷ qs) = port_view keep h q ∷ ports_view keep h
 
 -- the Sync that a system keeps
 abbrev pub kept_view : SystemState → Option SyncId
-kept_view s = option_map (λ (k : KeptSync). record { source = identity_of k.source; sequence = k.sequence }) s.sync_in
+kept_view s = option_map (λ (k : KeptSync). record { source = port_identity_number k.source; sequence = k.sequence }) s.sync_in
 
 -- a system in this state
 abbrev pub system_view : Bool → SystemState → SeenStation
@@ -148,11 +148,11 @@ frame_view f = record { due = f.due; octets = f.octets }
 -- one direction of a link
 abbrev pub lane_view : Direction → Channel → Lane
 lane_view direction channel = record {
-  from = identity_of (sender direction channel);
-  to = identity_of (receiver direction channel);
+  from = port_identity_number (sender direction channel);
+  to = port_identity_number (receiver direction channel);
   loss = channel.bounds.loss;
   is_up = channel.up;
-  frames = map frame_view (queue direction channel);
+  frames = map frame_view (world_queue direction channel);
 }
 
 -- each link twice, once each way
@@ -167,7 +167,7 @@ lane_place link FromB = 2 * link + 1
 
 -- ---- the whole world
 
-abbrev pub view : WorldState → State
+abbrev pub view : WorldState → MachineState
 view w = record {
   time = w.time;
   stations = map station_view w.stations;

@@ -8,16 +8,16 @@ use Rattle.gptp_receipt.specs.declared.held.Held.TheVariants.{Disabled}
 use Rattle.gptp_system.specs.declared.port.Port.{Port}
 use Rattle.gptp_acts.specs.World.{WorldState}
 use Rattle.gptp_kept.specs.Due.{OfEachPort}
-use Rattle.gptp_kept.specs.Measured.{StandsAt}
+use Rattle.gptp_kept.specs.Measured.{LinkStandsAt}
 use Rattle.gptp_kept.specs.LinkView.{LinkPlace}
 use Rattle.gptp_kept.specs.Watched.{IsWatched}
-use Rattle.gptp_kept.specs.View.{identity_of}
+use Rattle.gptp_kept.specs.View.{port_identity_number}
 use Rattle.gptp_kept.specs.Standing.{snapshot_of}
 
 -- Wherever two live systems stand at a link that is up, loses nothing and is good, it is watched, in either direction:
 -- old frames are gone the largest announce interval after the last change, and exchanges from two on find nothing old.
 abbrev pub Watches : Pace → WorldState → Type 0
-Watches p w = (at : LinkPlace) → StandsAt at w
+Watches p w = (at : LinkPlace) → LinkStandsAt at w
     → IsWatched (w.last_change + largest_interval p) (w.last_change + 2 * largest_interval p) at w
 
 -- a port that holds this is capable, and so it isn't Disabled
@@ -27,4 +27,4 @@ pub record IsCapablePort (h : Held) (q : Port) : Type 0 where
 
 -- so it is with each port of a live system at which a link of the snapshot is
 abbrev pub AreUsedCapable : WorldState → Type 0
-AreUsedCapable w = OfEachPort (λ itself h q. IsLinked (snapshot_of w) (identity_of itself) → IsCapablePort h q) w
+AreUsedCapable w = OfEachPort (λ itself h q. IsLinked (snapshot_of w) (port_identity_number itself) → IsCapablePort h q) w

@@ -3,12 +3,12 @@ use Rattle.std.specs.Prelude.{ℕ}
 use Rattle.gptp_measuring.specs.Facts.{Facts, IsGood}
 use Rattle.gptp_measuring.specs.Measured.{MeterInv}
 use Rattle.gptp_acts.specs.World.{WorldState}
-use Rattle.gptp_kept.specs.LinkView.{IsLinkOf, LinkPlace, asks, least_delay, meter, pair, replies, setting}
+use Rattle.gptp_kept.specs.LinkView.{IsLinkOf, LinkPlace, reads_as_request, least_delay, meter, pair, reads_as_reply, link_setting}
 
 -- old frames are gone at one time, and exchanges from the other on find nothing old; what is due is known, how far the
--- exchanges are, and what the port that asks has measured by them
+-- exchanges are, and what the port that reads_as_request has measured by them
 pub record IsWatched (gone calm : ℕ) (at : LinkPlace) (w : WorldState) : Type 0 where
   pub link : IsLinkOf at w
-  pub good : IsGood (setting at w link) gone calm
-  pub facts : Facts (setting at w link) gone (pair at w link)
-  pub inv : MeterInv (setting at w link) (least_delay at w link) asks replies gone calm (meter at w link)
+  pub good : IsGood (link_setting at w link) gone calm
+  pub facts : Facts (link_setting at w link) gone (pair at w link)
+  pub inv : MeterInv (link_setting at w link) (least_delay at w link) reads_as_request reads_as_reply gone calm (meter at w link)

@@ -13,15 +13,15 @@ use Rattle.gptp_acts.specs.World.{WorldState}
 use Rattle.gptp_measuring.specs.Facts.{IsGood}
 use Rattle.gptp_measuring.specs.Measured.{HasMeasured}
 use Rattle.gptp_kept.specs.LinkLaws.{IsGoneBy}
-use Rattle.gptp_kept.specs.Measured.{IsMeasured}
-use Rattle.gptp_kept.specs.LinkView.{IsLinkOf, LinkPlace, least_delay, setting}
+use Rattle.gptp_kept.specs.Measured.{LinkIsMeasured}
+use Rattle.gptp_kept.specs.LinkView.{IsLinkOf, LinkPlace, least_delay, link_setting}
 use Rattle.gptp_kept.specs.Watched.{IsWatched}
 
 -- it is watched as soon as what is in flight is known to be due by a time to come
 abbrev pub WatchBegins : Type 0
 WatchBegins = (at : LinkPlace) (gone calm : ℕ) (w : WorldState) (l : IsLinkOf at w)
-    → IsSound w → IsMeasured w → IsGoneBy gone at w l → w.time ≤ gone → w.time < calm
-    → IsGood (setting at w l) gone calm
+    → IsSound w → LinkIsMeasured w → IsGoneBy gone at w l → w.time ≤ gone → w.time < calm
+    → IsGood (link_setting at w l) gone calm
     → IsWatched gone calm at w
 
 -- every act but a change leaves it watched
@@ -41,8 +41,8 @@ WatchGoesOn = (at : LinkPlace) (gone calm time : ℕ) (w : WorldState)
 abbrev pub WatchedPortsBecomeCapable : Type 0
 WatchedPortsBecomeCapable = (at : LinkPlace) (change interval : ℕ) (w : WorldState)
     → (l : IsWatched (change + interval) (change + 2 * interval) at w)
-    → (setting at w l.link).period ≤ interval
-    → change + ((setting at w l.link).allowed + 5) * interval ≤ w.time
+    → (link_setting at w l.link).period ≤ interval
+    → change + ((link_setting at w l.link).allowed + 5) * interval ≤ w.time
     → is_capable l.link.asking.state.peer ≡ true
 
 -- from five announce intervals after the last change on, neighbour rate and mean link delay of the port that asks are
@@ -50,6 +50,6 @@ WatchedPortsBecomeCapable = (at : LinkPlace) (change interval : ℕ) (w : WorldS
 abbrev pub WatchedPortsMeasure : Type 0
 WatchedPortsMeasure = (at : LinkPlace) (change interval : ℕ) (w : WorldState)
     → (l : IsWatched (change + interval) (change + 2 * interval) at w)
-    → (setting at w l.link).period ≤ interval
+    → (link_setting at w l.link).period ≤ interval
     → change + 5 * interval ≤ w.time
-    → HasMeasured (setting at w l.link) (least_delay at w l.link) l.link.asking.state.peer.last
+    → HasMeasured (link_setting at w l.link) (least_delay at w l.link) l.link.asking.state.peer.last

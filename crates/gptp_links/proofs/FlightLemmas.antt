@@ -5,9 +5,9 @@ use Rattle.std.proofs.lemmas.Bool.Decides.{nat_tests}
 use Rattle.std.specs.List.{AllByRecursion}
 use Rattle.std.specs.Option.{option_map}
 use Rattle.slab.specs.Slab.{Slab, get, slab_len, Updates}
-use Rattle.gptp_links.specs.Flights.{with_next, with_last, with_limit, without_first, no_flights, due_of_first, Differ, EndsWith, frame_at, due_at, next_at, chain, keys_of, frames_of, frames_in, queue_of, IsChained, AreBeside, SameRoom, Joins, ChangesOne, AreLinked}
-use Rattle.gptp_links.specs.Queue.{Frame, frame, first, newest_due, AreDueInOrder}
-use Rattle.gptp_links.specs.State.{State, ChangesOnly}
+use Rattle.gptp_links.specs.Flights.{with_next_flight, with_last_flight, with_limit, without_first_flight, no_flights, due_of_first, Differ, EndsWith, frame_at, due_at, next_at, chain, keys_of, frames_of, frames_in, queue_of, DirectionIsChained, AreBeside, SameRoom, JoinsFlight, ChangesOneDirection, FlightsAreLinked}
+use Rattle.gptp_links.specs.Queue.{Frame, frame, first_frame, newest_due, AreDueInOrder}
+use Rattle.gptp_links.specs.State.{LinkState, ChangesOnly}
 use Rattle.gptp_links.specs.declared.flight.Key.{Key}
 use Rattle.gptp_links.specs.declared.flight.Flight.{Flight}
 use Rattle.gptp_links.specs.declared.lane.Lane.{Lane}
@@ -123,7 +123,7 @@ module _ (s t : ℕ → Option Flight) where
       by zero some same = absurd (omega (arith, some))
       by (suc n) some same = rw (same.0, due_at) refl
 
-    chained-kept : IsChained s lane → IsChained t lane
+    chained-kept : DirectionIsChained s lane → DirectionIsChained t lane
     chained-kept chained = record {
       there = rw keys-kept (there-same (keys_of s lane) same chained.there);
       differ = rw keys-kept chained.differ;
@@ -193,10 +193,10 @@ frames-longer s t (k ∷ keys) key same =
 
 -- A frame was put in under a key that was vacant, and what was the last leads to it.
 module _ (s one t : ℕ → Option Flight) (lane : Lane) (key : Key) (f : Flight) (vacant : s key.place ≡ None)
-    (here : one key.place ≡ Some f) (same : (k : ℕ) → k ≢ key.place → one k ≡ s k) (joins : Joins one t lane key)
-    (chained : IsChained s lane) where
+    (here : one key.place ≡ Some f) (same : (k : ℕ) → k ≢ key.place → one k ≡ s k) (joins : JoinsFlight one t lane key)
+    (chained : DirectionIsChained s lane) where
   abbrev longer : Lane
-  longer = with_last key f.due lane
+  longer = with_last_flight key f.due lane
 
   free : AllByRecursion (λ k. k ≢ key.place) (keys_of s lane)
   free = none_vacant s (keys_of s lane) key.place chained.there vacant
@@ -208,13 +208,13 @@ module _ (s one t : ℕ → Option Flight) (lane : Lane) (key : Key) (f : Flight
   came = joins.others key.place (λ some is. tail-differs some (sym is)) ∙ here
 
   -- what stood at another key is as it was, or leads to the new frame
-  left-or-joined : (k : ℕ) → k ≢ key.place → (t k ≡ s k) ⊎ (t k ≡ option_map (with_next key) (s k))
+  left-or-joined : (k : ℕ) → k ≢ key.place → (t k ≡ s k) ⊎ (t k ≡ option_map (with_next_flight key) (s k))
   left-or-joined k differs = elim (cases_eq k lane.tail.place) [
     | inr apart ↦ inl (joins.others k (λ some. apart) ∙ same k differs)
     | inl last ↦ elim (cases_eq lane.count 0) [
       | inl none ↦ inl (joins.others k (λ some. absurd (omega (arith, some, none))) ∙ same k differs)
       | inr some ↦ inr (ap t last ∙ joins.joined (omega (arith, some))
-          ∙ ap (option_map (with_next key)) (ap one (sym last) ∙ same k differs))
+          ∙ ap (option_map (with_next_flight key)) (ap one (sym last) ∙ same k differs))
     ]
   ]
 
@@ -223,7 +223,7 @@ module _ (s one t : ℕ → Option Flight) (lane : Lane) (key : Key) (f : Flight
     | inl is ↦ rw is refl
     | inr is ↦ rw is (by (s k))
   ] where
-    by : (o : Option Flight) → frame_at (λ j. option_map (with_next key) o) k ≡ frame_at (λ j. o) k
+    by : (o : Option Flight) → frame_at (λ j. option_map (with_next_flight key) o) k ≡ frame_at (λ j. o) k
     by None = refl
     by (Some e) = refl
 
@@ -232,7 +232,7 @@ module _ (s one t : ℕ → Option Flight) (lane : Lane) (key : Key) (f : Flight
     | inl is ↦ rw is some
     | inr is ↦ rw is (by (s k) some)
   ] where
-    by : (o : Option Flight) → IsSome o → IsSome (option_map (with_next key) o)
+    by : (o : Option Flight) → IsSome o → IsSome (option_map (with_next_flight key) o)
     by None some = some
     by (Some e) some = grind (arith)
 
@@ -240,10 +240,10 @@ module _ (s one t : ℕ → Option Flight) (lane : Lane) (key : Key) (f : Flight
   next-left k apart differs = rw (joins.others k apart ∙ same k differs) refl
 
   tail-leads : 0 < lane.count → next_at t lane.tail.place ≡ key.place
-  tail-leads some = rw (joins.joined some ∙ ap (option_map (with_next key)) (same lane.tail.place (tail-differs some)))
+  tail-leads some = rw (joins.joined some ∙ ap (option_map (with_next_flight key)) (same lane.tail.place (tail-differs some)))
       (by (s lane.tail.place)
       (last-all s (λ k. IsSome (s k)) lane.tail.place lane.count lane.head.place some chained.tail chained.there)) where
-        by : (o : Option Flight) → IsSome o → next_at (λ j. option_map (with_next key) o) lane.tail.place ≡ key.place
+        by : (o : Option Flight) → IsSome o → next_at (λ j. option_map (with_next_flight key) o) lane.tail.place ≡ key.place
         by None some = absurd (vacant_has_none None some refl)
         by (Some e) some = refl
 
@@ -273,7 +273,7 @@ module _ (s one t : ℕ → Option Flight) (lane : Lane) (key : Key) (f : Flight
         ∙ sym (ap (λ (x : Frame). x.due) (frame-left lane.head.place apart.0))
         ∙ sym (ap (λ (k : Key). due_at t k.place) (not_tested (suc n) 0 key lane.head some))
 
-  pub chained-pushed : newest_due (frames_in s lane) ≤ f.due → IsChained t longer
+  pub chained-pushed : newest_due (frames_in s lane) ≤ f.due → DirectionIsChained t longer
   chained-pushed late = record {
     there = rw keys-pushed (all-push (λ k. IsSome (t k)) (keys_of s lane) key.place
         (all-both (λ k. k ≢ key.place) (λ k. IsSome (s k)) (λ k. IsSome (t k)) (keys_of s lane) some-left free
@@ -314,8 +314,8 @@ module _ (s one t : ℕ → Option Flight) (lane : Lane) (key : Key) (f : Flight
 
 pub changes-pushed : (s one t : Slab Flight) (lane : Lane) (key : Key) (f : Flight) → get s key.place ≡ None
     → Updates s one key.place (Some f) → slab_len one ≡ slab_len s + 1 → one.capacity ≡ s.capacity → SameRoom one t
-    → Joins (get one) (get t) lane key → IsChained (get s) lane → newest_due (frames_in (get s) lane) ≤ f.due
-    → ChangesOne s t lane (with_last key f.due lane)
+    → JoinsFlight (get one) (get t) lane key → DirectionIsChained (get s) lane → newest_due (frames_in (get s) lane) ≤ f.due
+    → ChangesOneDirection s t lane (with_last_flight key f.due lane)
 changes-pushed s one t lane key f vacant updates len capacity room joins chained late =
     let same = room.len in
     record {
@@ -337,9 +337,9 @@ newest-rest e f fs = refl
 
 -- The frame at the head of a direction is gone.
 module _ (s t : ℕ → Option Flight) (lane : Lane) (f : Flight) (found : s lane.head.place ≡ Some f)
-    (same : (k : ℕ) → k ≢ lane.head.place → t k ≡ s k) (some : 0 < lane.count) (chained : IsChained s lane) where
+    (same : (k : ℕ) → k ≢ lane.head.place → t k ≡ s k) (some : 0 < lane.count) (chained : DirectionIsChained s lane) where
   abbrev shorter : Lane
-  shorter = without_first t f.next lane
+  shorter = without_first_flight t f.next lane
 
   abbrev rest : List ℕ
   rest = chain s (lane.count - 1) f.next.place
@@ -402,7 +402,7 @@ module _ (s t : ℕ → Option Flight) (lane : Lane) (f : Flight) (found : s lan
       → (if lane.count == 1 then 0 else due_at t f.next.place) ≡ due_at t f.next.place
   first-left many = not_tested lane.count 1 0 (due_at t f.next.place) (omega (arith, many))
 
-  pub chained-taken : IsChained t shorter
+  pub chained-taken : DirectionIsChained t shorter
   chained-taken = record {
     there = rw keys-left (there-same s t rest rest-same (rw keys-were at chained.there).1);
     differ = rw keys-left (rw keys-were at chained.differ).1;
@@ -433,7 +433,7 @@ module _ (s t : ℕ → Option Flight) (lane : Lane) (f : Flight) (found : s lan
 
 pub changes-taken : (s t : Slab Flight) (lane : Lane) (f : Flight) → get s lane.head.place ≡ Some f
     → Updates s t lane.head.place None → slab_len t + 1 ≡ slab_len s → t.capacity ≡ s.capacity → 0 < lane.count
-    → IsChained (get s) lane → ChangesOne s t lane (without_first (get t) f.next lane)
+    → DirectionIsChained (get s) lane → ChangesOneDirection s t lane (without_first_flight (get t) f.next lane)
 changes-taken s t lane f found updates len capacity some chained = record {
   beside = λ other beside.
       beside-taken (get s) (get t) lane f found updates.others some chained other beside;
@@ -447,7 +447,7 @@ changes-taken s t lane f found updates len capacity some chained = record {
 -- ---- a link
 
 -- a direction has none, and has room for so many
-pub chained-none : (s : ℕ → Option Flight) (limit : ℕ) → IsChained s (no_flights limit)
+pub chained-none : (s : ℕ → Option Flight) (limit : ℕ) → DirectionIsChained s (no_flights limit)
 chained-none s limit = record {
   there = tt;
   differ = tt;
@@ -457,8 +457,8 @@ chained-none s limit = record {
   last_due = refl;
 }
 
-pub chained-roomy : (s : ℕ → Option Flight) (lane : Lane) (limit : ℕ) → IsChained s lane
-    → IsChained s (with_limit limit lane)
+pub chained-roomy : (s : ℕ → Option Flight) (lane : Lane) (limit : ℕ) → DirectionIsChained s lane
+    → DirectionIsChained s (with_limit limit lane)
 chained-roomy s lane limit h = record {
   there = h.there;
   differ = h.differ;
@@ -469,17 +469,17 @@ chained-roomy s lane limit h = record {
 }
 
 -- when the oldest is due
-pub due-first : (s : ℕ → Option Flight) (lane : Lane) → IsChained s lane
-    → due_of_first lane ≡ option_map (λ (f : Frame). f.due) (first (frames_in s lane))
+pub due-first : (s : ℕ → Option Flight) (lane : Lane) → DirectionIsChained s lane
+    → due_of_first lane ≡ option_map (λ (f : Frame). f.due) (first_frame (frames_in s lane))
 due-first s lane h = by lane.count h.first_due where
   by : (n : ℕ) → (0 < n → lane.first_due ≡ due_at s lane.head.place)
       → (if n == 0 then None else Some lane.first_due)
-      ≡ option_map (λ (f : Frame). f.due) (first (frames_of s (chain s n lane.head.place)))
+      ≡ option_map (λ (f : Frame). f.due) (first_frame (frames_of s (chain s n lane.head.place)))
   by zero due = refl
   by (suc n) due = not_tested (suc n) 0 None (Some lane.first_due) (λ none. omega (arith, none))
       ∙ ap Some (due (omega arith))
 
-pub linked-turned : (s : Slab Flight) (one other : Lane) → AreLinked s one other → AreLinked s other one
+pub linked-turned : (s : Slab Flight) (one other : Lane) → FlightsAreLinked s one other → FlightsAreLinked s other one
 linked-turned s one other h =
     let alone = h.alone in
     let room = h.room in
@@ -491,9 +491,9 @@ linked-turned s one other h =
       room = omega (arith, room);
     }
 
--- frames of the first direction came or went
-pub linked-changed : (s t : Slab Flight) (one after other : Lane) → AreLinked s one other → ChangesOne s t one after
-    → after.count ≤ after.limit → AreLinked t after other
+-- frames of the first_frame direction came or went
+pub linked-changed : (s t : Slab Flight) (one after other : Lane) → FlightsAreLinked s one other → ChangesOneDirection s t one after
+    → after.count ≤ after.limit → FlightsAreLinked t after other
 linked-changed s t one after other h changes few =
     let len = changes.len in
     let limit = changes.limit in
@@ -509,36 +509,36 @@ linked-changed s t one after other h changes few =
     }
 
 -- frames of the second direction came or went
-pub linked-changed_back : (s t : Slab Flight) (one other after : Lane) → AreLinked s one other
-    → ChangesOne s t other after → after.count ≤ after.limit → AreLinked t one after
+pub linked-changed_back : (s t : Slab Flight) (one other after : Lane) → FlightsAreLinked s one other
+    → ChangesOneDirection s t other after → after.count ≤ after.limit → FlightsAreLinked t one after
 linked-changed_back s t one other after h changes few =
     linked-turned t after one (linked-changed s t other after one (linked-turned s one other h) changes few)
 
-pub queue-changed_back : (s t : Slab Flight) (one other after : Lane) → AreLinked s one other
-    → ChangesOne s t other after → queue_of (get t) one ≡ queue_of (get s) one
+pub queue-changed_back : (s t : Slab Flight) (one other after : Lane) → FlightsAreLinked s one other
+    → ChangesOneDirection s t other after → queue_of (get t) one ≡ queue_of (get s) one
 queue-changed_back s t one other after h changes =
     rw (changes.frames one (beside-turned (get s) one other h.beside)) refl
 
 -- there is room for more in the slab alone
-pub linked-larger : (s t : Slab Flight) (one other : Lane) → AreLinked s one other
-    → t ≡ record s { capacity = t.capacity } → s.capacity ≤ t.capacity → AreLinked t one other
+pub linked-larger : (s t : Slab Flight) (one other : Lane) → FlightsAreLinked s one other
+    → t ≡ record s { capacity = t.capacity } → s.capacity ≤ t.capacity → FlightsAreLinked t one other
 linked-larger s t one other h kept larger =
     let room = h.room in
-    let same : AreLinked (record s { capacity = t.capacity }) one other = record {
+    let same : FlightsAreLinked (record s { capacity = t.capacity }) one other = record {
       beside = h.beside;
       alone = h.alone;
       few_from_a = h.few_from_a;
       few_from_b = h.few_from_b;
       room = omega (arith, room, larger);
     } in
-    subst (λ (u : Slab Flight). AreLinked u one other) (sym kept) same
+    subst (λ (u : Slab Flight). FlightsAreLinked u one other) (sym kept) same
 
 -- there is room for so many more
-pub linked-roomy : (s t : Slab Flight) (one other : Lane) (more most : ℕ) → AreLinked s one other
+pub linked-roomy : (s t : Slab Flight) (one other : Lane) (more most : ℕ) → FlightsAreLinked s one other
     → t ≡ record s { capacity = t.capacity } → one.count + more + (other.count + most) ≤ t.capacity
-    → AreLinked t (with_limit (one.count + more) one) (with_limit (other.count + most) other)
+    → FlightsAreLinked t (with_limit (one.count + more) one) (with_limit (other.count + most) other)
 linked-roomy s t one other more most h kept fits =
-    let same : AreLinked (record s { capacity = t.capacity }) (with_limit (one.count + more) one)
+    let same : FlightsAreLinked (record s { capacity = t.capacity }) (with_limit (one.count + more) one)
     (with_limit (other.count + most) other) = record {
       beside = record {
         chained = chained-roomy (get s) one (one.count + more) h.beside.chained;
@@ -551,14 +551,14 @@ linked-roomy s t one other more most h kept fits =
       room = fits;
     } in
     subst
-    (λ (u : Slab Flight). AreLinked u (with_limit (one.count + more) one) (with_limit (other.count + most) other))
+    (λ (u : Slab Flight). FlightsAreLinked u (with_limit (one.count + more) one) (with_limit (other.count + most) other))
     (sym kept) same
 
 -- ---- one change after another
 
-pub only-then : (d : Direction) (a b c : State) → ChangesOnly d a b → ChangesOnly d b c → ChangesOnly d a c
-only-then d a b c first second = record {
-  other_way = second.other_way ∙ first.other_way;
-  bounds = second.bounds ∙ first.bounds;
-  up = second.up ∙ first.up;
+pub only-then : (d : Direction) (a b c : LinkState) → ChangesOnly d a b → ChangesOnly d b c → ChangesOnly d a c
+only-then d a b c first_frame second = record {
+  other_way = second.other_way ∙ first_frame.other_way;
+  bounds = second.bounds ∙ first_frame.bounds;
+  up = second.up ∙ first_frame.up;
 }

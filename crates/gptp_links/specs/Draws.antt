@@ -24,6 +24,6 @@ nearest b (Some delay) = Some (max b.min (min delay b.max))
 nearest b None = if b.loss == 0 then Some b.max else None
 
 -- the next answer of a list, and what is left of it
-abbrev pub listed : Bounds → List (Option ℕ) → Option ℕ × List (Option ℕ)
-listed b [] = (Some b.max, [])
-listed b (answer ∷ rest) = (nearest b answer, rest)
+abbrev pub next_listed : Bounds → List (Option ℕ) → Option ℕ × List (Option ℕ)
+next_listed b [] = (Some b.max, [])
+next_listed b (answer ∷ rest) = (nearest b answer, rest)

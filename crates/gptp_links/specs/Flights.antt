@@ -8,11 +8,11 @@ use Rattle.gptp_links.specs.declared.flight.Key.{Key}
 use Rattle.gptp_links.specs.declared.flight.Flight.{Flight}
 use Rattle.gptp_links.specs.declared.lane.Lane.{Lane}
 
-abbrev pub key_of : ℕ → Key
-key_of place = record { place = place }
+abbrev pub flight_key : ℕ → Key
+flight_key place = record { place = place }
 
-abbrev pub with_next : Key → Flight → Flight
-with_next next f = record f { next = next }
+abbrev pub with_next_flight : Key → Flight → Flight
+with_next_flight next f = record f { next = next }
 
 -- no key stands twice
 abbrev pub Differ : List ℕ → Type 0
@@ -28,8 +28,8 @@ EndsWith tail (key ∷ (other ∷ keys)) = EndsWith tail (other ∷ keys)
 -- a direction with room for so many frames, and none
 abbrev pub no_flights : ℕ → Lane
 no_flights limit = record {
-  head = key_of 0;
-  tail = key_of 0;
+  head = flight_key 0;
+  tail = flight_key 0;
   count = 0;
   limit = limit;
   first_due = 0;
@@ -40,8 +40,8 @@ abbrev pub with_limit : ℕ → Lane → Lane
 with_limit limit lane = record lane { limit = limit }
 
 -- with a frame more, the last, that is due then
-abbrev pub with_last : Key → ℕ → Lane → Lane
-with_last key due lane = record {
+abbrev pub with_last_flight : Key → ℕ → Lane → Lane
+with_last_flight key due lane = record {
   head = if lane.count == 0 then key else lane.head;
   tail = key;
   count = lane.count + 1;
@@ -86,8 +86,8 @@ module _ (flights : ℕ → Option Flight) where
   queue_of lane = record { frames = frames_in lane; room = lane.limit - lane.count }
 
   -- without the first frame, that led to this one
-  abbrev pub without_first : Key → Lane → Lane
-  without_first next lane = record lane {
+  abbrev pub without_first_flight : Key → Lane → Lane
+  without_first_flight next lane = record lane {
     head = next;
     count = lane.count - 1;
     first_due = if lane.count == 1 then 0 else due_at next.place;
@@ -96,7 +96,7 @@ module _ (flights : ℕ → Option Flight) where
 
   -- Each key of a direction has a frame and they are different, the frames are due in order, and what is kept of the
   -- first and the last is right.
-  pub record IsChained (lane : Lane) : Type 0 where
+  pub record DirectionIsChained (lane : Lane) : Type 0 where
     pub there : AllByRecursion (λ key. IsSome (flights key)) (keys_of lane)
     pub differ : Differ (keys_of lane)
     pub due_in_order : AreDueInOrder (frames_in lane)
@@ -106,8 +106,8 @@ module _ (flights : ℕ → Option Flight) where
 
   -- no frame of two directions has the same key
   pub record AreBeside (one other : Lane) : Type 0 where
-    pub chained : IsChained one
-    pub other_chained : IsChained other
+    pub chained : DirectionIsChained one
+    pub other_chained : DirectionIsChained other
     pub apart : AllByRecursion (λ key. AllByRecursion (λ k. k ≢ key) (keys_of one)) (keys_of other)
 
 -- the same number of frames, and the same capacity
@@ -116,12 +116,12 @@ pub record SameRoom (old new : Slab Flight) : Type 0 where
   pub capacity : new.capacity ≡ old.capacity
 
 -- the last of a direction leads to this key, and nothing else was changed
-pub record Joins (old new : ℕ → Option Flight) (lane : Lane) (key : Key) : Type 0 where
-  pub joined : 0 < lane.count → new lane.tail.place ≡ option_map (with_next key) (old lane.tail.place)
+pub record JoinsFlight (old new : ℕ → Option Flight) (lane : Lane) (key : Key) : Type 0 where
+  pub joined : 0 < lane.count → new lane.tail.place ≡ option_map (with_next_flight key) (old lane.tail.place)
   pub others : (k : ℕ) → (0 < lane.count → k ≢ lane.tail.place) → new k ≡ old k
 
 -- Of one direction frames came or went, as many as the slab has more or fewer; any other is as it was.
-pub record ChangesOne (old new : Slab Flight) (before after : Lane) : Type 0 where
+pub record ChangesOneDirection (old new : Slab Flight) (before after : Lane) : Type 0 where
   pub beside : (other : Lane) → AreBeside (get old) before other → AreBeside (get new) after other
   pub frames : (other : Lane) → AreBeside (get old) before other → frames_in (get new) other ≡ frames_in (get old) other
   pub len : slab_len new + before.count ≡ slab_len old + after.count
@@ -130,7 +130,7 @@ pub record ChangesOne (old new : Slab Flight) (before after : Lane) : Type 0 whe
 
 -- Both directions of a link are chains through one slab, which holds their frames alone and has room for as many as
 -- both can hold.
-pub record AreLinked (flights : Slab Flight) (from_a from_b : Lane) : Type 0 where
+pub record FlightsAreLinked (flights : Slab Flight) (from_a from_b : Lane) : Type 0 where
   pub beside : AreBeside (get flights) from_a from_b
   pub alone : slab_len flights ≡ from_a.count + from_b.count
   pub few_from_a : from_a.count ≤ from_a.limit

@@ -9,7 +9,7 @@ pub record Frame : Type 0 where
   pub due : ℕ
   pub octets : List ℕ
 
--- the frames in flight, oldest first, and how many more can be sent without being refused
+-- the frames in flight, oldest first_frame, and how many more can be sent without being refused
 pub record Queue : Type 0 where
   pub frames : List Frame
   pub room : ℕ
@@ -17,9 +17,9 @@ pub record Queue : Type 0 where
 abbrev pub frame : ℕ → List ℕ → Frame
 frame due octets = record { due = due; octets = octets }
 
-abbrev pub first : List Frame → Option Frame
-first [] = None
-first (f ∷ fs) = Some f
+abbrev pub first_frame : List Frame → Option Frame
+first_frame [] = None
+first_frame (f ∷ fs) = Some f
 
 abbrev pub last : List Frame → Option Frame
 last [] = None
@@ -56,8 +56,8 @@ pub record IsSent {F : Type 0} (answers : Bounds → ℕ → F → Option ℕ �
   pub frames : after ≡ with_sent before due octets
 
 -- the oldest frame is due
-abbrev pub IsDue : List Frame → ℕ → Type 0
-IsDue frames now = IsSomeAnd (first frames) (λ f. f.due ≤ now)
+abbrev pub FrameIsDue : List Frame → ℕ → Type 0
+FrameIsDue frames now = IsSomeAnd (first_frame frames) (λ f. f.due ≤ now)
 
 -- the oldest frame was taken out, whole
 pub record IsTaken (before : List Frame) (octets : List ℕ) (after : List Frame) : Type 0 where

@@ -3,7 +3,7 @@
 ghost use Rattle.std.specs.Prelude.{◌≡◌};
 ghost use Rattle.std.specs.Option.{option_map};
 ghost use Rattle.slab.specs.Slab.{get, Updates};
-ghost use Rattle.gptp_links.specs.Flights.{due_at, with_next, SameRoom};
+ghost use Rattle.gptp_links.specs.Flights.{due_at, with_next_flight, SameRoom};
 
 use slab::Slab;
 
@@ -35,7 +35,7 @@ pub(crate) fn due_at(flights: &Slab<Flight>, key: Key) -> u64
 /// Makes a frame lead to another.
 pub(crate) fn set_next(flights: &mut Slab<Flight>, key: Key, next: Key)
     ensures updates { Updates flights.old flights.new key.place
-        (option_map (with_next next) (get flights.old key.place)) }
+        (option_map (with_next_flight next) (get flights.old key.place)) }
     ensures room { SameRoom flights.old flights.new }
 {
     if let Some(flight) = flights.get_mut(key.place) {

@@ -4,8 +4,8 @@ ghost use Rattle.std.specs.Prelude.{◌≡◌, ℕ, ◌+◌, ◌-◌, ◌^◌, �
 ghost use Rattle.std.specs.Option.{option_map};
 ghost use Rattle.slab.specs.Slab.{get, slab_len, HasRoomFor};
 ghost use Rattle.gptp_links.specs.Bounds.{Fit};
-ghost use Rattle.gptp_links.specs.Flights.{due_of_first, frames_in, no_flights, with_last, with_limit, without_first, ChangesOne, IsChained, Joins, SameRoom};
-ghost use Rattle.gptp_links.specs.Queue.{frame, first, newest_due, IsDue, IsSent, IsTaken};
+ghost use Rattle.gptp_links.specs.Flights.{due_of_first, frames_in, no_flights, with_last_flight, with_limit, without_first_flight, ChangesOneDirection, DirectionIsChained, JoinsFlight, SameRoom};
+ghost use Rattle.gptp_links.specs.Queue.{frame, first_frame, newest_due, FrameIsDue, IsSent, IsTaken};
 
 use crate::bounds::Bounds;
 use crate::fate::Fate;
@@ -92,12 +92,12 @@ impl Lane {
     ) -> Option<u64>
         requires fit { Fit bounds.now }
         requires early { now ≤ 10 ^ 15 }
-        requires chained { IsChained (get flights.old) self.old }
+        requires chained { DirectionIsChained (get flights.old) self.old }
         requires few { self.old.count < self.old.limit }
         requires room { HasRoomFor flights.old 1 }
         ensures sent { IsSent F.answers bounds.now now fate.old fate.new
             (frames_in (get flights.old) self.old) octets.items (frames_in (get flights.new) self.new) result }
-        ensures others { ChangesOne flights.old flights.new self.old self.new }
+        ensures others { ChangesOneDirection flights.old flights.new self.old self.new }
         ensures count { self.new.count ≤ self.old.count + 1 }
         ensures few { self.new.count ≤ self.new.limit }
     {
@@ -117,12 +117,12 @@ impl Lane {
         flights: &mut Slab<Flight>,
         now: u64,
     ) -> Result<Vec<u8>, NotDue>
-        requires chained { IsChained (get flights.old) self.old }
-        ensures due { IsOk result ↔ IsDue (frames_in (get flights.old) self.old) now }
+        requires chained { DirectionIsChained (get flights.old) self.old }
+        ensures due { IsOk result ↔ FrameIsDue (frames_in (get flights.old) self.old) now }
         ensures taken { IfOk result
             (λ octets. IsTaken (frames_in (get flights.old) self.old) octets.items
             (frames_in (get flights.new) self.new)) }
-        ensures others { ChangesOne flights.old flights.new self.old self.new }
+        ensures others { ChangesOneDirection flights.old flights.new self.old self.new }
         ensures count { self.new.count ≤ self.old.count }
         ensures kept_flights { OnErr result (flights.new ≡ flights.old) }
         ensures kept { OnErr result (self.new ≡ self.old) }
@@ -146,8 +146,8 @@ impl Lane {
 
     /// The oldest frame, if any is in flight.
     pub(crate) fn front<'a>(&self, flights: &'a Slab<Flight>) -> Option<&'a [u8]>
-        requires chained { IsChained (get flights.now) self.now }
-        ensures { option_copied result ≡ option_map (λ f. f.octets) (first (frames_in (get flights.now) self.now)) }
+        requires chained { DirectionIsChained (get flights.now) self.now }
+        ensures { option_copied result ≡ option_map (λ f. f.octets) (first_frame (frames_in (get flights.now) self.now)) }
     {
         if self.count == 0 {
             return None;
@@ -157,13 +157,13 @@ impl Lane {
 
     /// Puts a frame behind all that are in flight.
     fn put(&mut self, flights: &mut Slab<Flight>, due: u64, octets: Vec<u8>)
-        requires chained { IsChained (get flights.old) self.old }
+        requires chained { DirectionIsChained (get flights.old) self.old }
         requires late { newest_due (frames_in (get flights.old) self.old) ≤ due }
         requires few { self.old.count < self.old.limit }
         requires room { HasRoomFor flights.old 1 }
         ensures frames { frames_in (get flights.new) self.new ≡ frames_in (get flights.old) self.old
             ++ frame due octets.items ∷ [] }
-        ensures others { ChangesOne flights.old flights.new self.old self.new }
+        ensures others { ChangesOneDirection flights.old flights.new self.old self.new }
         ensures count { self.new.count ≡ self.old.count + 1 }
     {
         let next = Key { place: 0 };
@@ -175,7 +175,7 @@ impl Lane {
 
     /// Makes the newest frame, if there is one, lead to another.
     fn join(&self, flights: &mut Slab<Flight>, key: Key)
-        ensures joined { Joins (get flights.old) (get flights.new) self.now key }
+        ensures joined { JoinsFlight (get flights.old) (get flights.new) self.now key }
         ensures room { SameRoom flights.old flights.new }
     {
         if self.count > 0 {
@@ -186,7 +186,7 @@ impl Lane {
     /// What is in flight once a frame came behind the others, that is due then.
     fn with_last(self, key: Key, due: u64) -> Lane
         requires few { self.count < self.limit }
-        ensures { result ≡ with_last key due self }
+        ensures { result ≡ with_last_flight key due self }
     {
         let alone = self.count == 0;
         Lane {
@@ -201,11 +201,11 @@ impl Lane {
 
     /// Takes the oldest frame out, of those that there are.
     fn take(&mut self, flights: &mut Slab<Flight>) -> Vec<u8>
-        requires chained { IsChained (get flights.old) self.old }
+        requires chained { DirectionIsChained (get flights.old) self.old }
         requires some { 0 < self.old.count }
         ensures taken { frames_in (get flights.old) self.old
             ≡ frame self.old.first_due result.items ∷ frames_in (get flights.new) self.new }
-        ensures others { ChangesOne flights.old flights.new self.old self.new }
+        ensures others { ChangesOneDirection flights.old flights.new self.old self.new }
         ensures count { self.new.count + 1 ≡ self.old.count }
     {
         let flight = flights.remove(self.head.place);
@@ -216,7 +216,7 @@ impl Lane {
     /// What is in flight once the oldest frame is gone, that led to this one.
     fn without_first(self, flights: &Slab<Flight>, next: Key) -> Lane
         requires some { 0 < self.count }
-        ensures { result ≡ without_first (get flights.now) next self }
+        ensures { result ≡ without_first_flight (get flights.now) next self }
     {
         let alone = self.count == 1;
         Lane {

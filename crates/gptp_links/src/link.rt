@@ -3,7 +3,7 @@
 ghost use Rattle.std.specs.Prelude.{◌≡◌, ℕ, ◌+◌, ◌^◌, ◌<◌, ◌≤◌, ◌↔◌, [], Option, true, false, IsOk, IfOk, OnOk, OnErr, option_copied};
 ghost use Rattle.std.specs.Option.{option_map};
 ghost use Rattle.gptp_links.specs.Bounds.{Fit};
-ghost use Rattle.gptp_links.specs.Queue.{first, AreDueInOrder, IsDue, IsSent, IsTaken};
+ghost use Rattle.gptp_links.specs.Queue.{first_frame, AreDueInOrder, FrameIsDue, IsSent, IsTaken};
 ghost use Rattle.gptp_links.specs.State.{queue, ChangesOnly, HasRoom, KeepsRoom, SameFrames};
 
 use crate::bounds::Bounds;
@@ -40,13 +40,13 @@ pub struct Link {
 }
 
 impl Model for Link {
-    ghost use Rattle.gptp_links.specs.State.{State};
+    ghost use Rattle.gptp_links.specs.State.{LinkState};
 
-    ghost Value = { State };
+    ghost Value = { LinkState };
 
     ghost use Rattle.slab.specs.Slab.{get};
     ghost use Rattle.gptp_links.specs.Bounds.{Fit};
-    ghost use Rattle.gptp_links.specs.Flights.{queue_of, AreLinked};
+    ghost use Rattle.gptp_links.specs.Flights.{queue_of, FlightsAreLinked};
 
     ghost view = { λ link. record {
       bounds = link.bounds;
@@ -55,7 +55,7 @@ impl Model for Link {
       from_b = queue_of (get link.flights) link.from_b;
     } };
 
-    ghost invariant = { λ link. Fit link.bounds × AreLinked link.flights link.from_a link.from_b };
+    ghost invariant = { λ link. Fit link.bounds × FlightsAreLinked link.flights link.from_a link.from_b };
 }
 
 impl Link {
@@ -127,7 +127,7 @@ impl Link {
     /// Takes the oldest frame of a direction out, whole, where it is due. Otherwise, and where nothing is
     /// in flight, it is `NotDue`, and nothing changes.
     pub fn deliver(&mut self, direction: Direction, now: u64) -> Result<Vec<u8>, NotDue>
-        ensures due { IsOk result ↔ IsDue (queue direction self.old).frames now }
+        ensures due { IsOk result ↔ FrameIsDue (queue direction self.old).frames now }
         ensures taken { IfOk result
             (λ octets. IsTaken (queue direction self.old).frames octets.items (queue direction self.new).frames) }
         ensures others { ChangesOnly direction self.old self.new }
@@ -142,7 +142,7 @@ impl Link {
 
     /// The oldest frame in flight in a direction, due or not.
     pub fn front(&self, direction: Direction) -> Option<&[u8]>
-        ensures { option_copied result ≡ option_map (λ f. f.octets) (first (queue direction self.now).frames) }
+        ensures { option_copied result ≡ option_map (λ f. f.octets) (first_frame (queue direction self.now).frames) }
     {
         match direction {
             Direction::FromA => self.from_a.front(&self.flights),
@@ -152,7 +152,7 @@ impl Link {
 
     /// When the oldest frame in flight in a direction is due, in ns.
     pub fn next_due(&self, direction: Direction) -> Option<u64>
-        ensures { result ≡ option_map (λ f. f.due) (first (queue direction self.now).frames) }
+        ensures { result ≡ option_map (λ f. f.due) (first_frame (queue direction self.now).frames) }
     {
         match direction {
             Direction::FromA => self.from_a.next_due(),

@@ -39,9 +39,9 @@ impl ListFate {
 
 impl Fate for ListFate {
     ghost use Rattle.std.specs.Prelude.{◌≡◌};
-    ghost use Rattle.gptp_links.specs.Draws.{listed};
+    ghost use Rattle.gptp_links.specs.Draws.{next_listed};
 
-    ghost answers = { λ bounds sent old answer new. (answer, new) ≡ listed bounds old };
+    ghost answers = { λ bounds sent old answer new. (answer, new) ≡ next_listed bounds old };
 
     fn fate(&mut self, bounds: &Bounds, _sent: u64) -> Option<u64> {
         match self.answers.pop_front() {

@@ -16,7 +16,7 @@ use Rattle.gptp_graph.specs.Snapshot.{IsWellFormed, Snapshot, System}
 use Rattle.gptp_graph.proofs.BestLemmas.{IsBest-reached, IsBest-unique}
 use Rattle.gptp_network.proofs.SnapshotLemmas.{In-permutation}
 use Rattle.gptp_lint.specs.Components.{AreBests, AreChances, IsBestOfOne, IsSecond, decides_by_clock}
-use Rattle.gptp_lint.specs.Labels.{best_at, bests_in, better, second_in, with_other}
+use Rattle.gptp_lint.specs.Labels.{best_at, bests_in, better_label, second_in, with_other}
 use Rattle.gptp_lint.specs.Moments.{chance_at, chance_if}
 use Rattle.gptp_lint.specs.declared.graph.Edge.{Edge}
 use Rattle.gptp_lint.specs.declared.labels.Label.{Label}
@@ -135,8 +135,8 @@ same_some : (x y : ℕ) → Some x ≡ Some y → x ≡ y
 same_some x y e = cc
 
 better_some : (id : ℕ) (before : Option ℕ)
-    → ((better id before ≡ id) ⊎ (before ≡ Some (better id before)))
-    × (better id before ≤ id) × ((c : ℕ) → before ≡ Some c → better id before ≤ c)
+    → ((better_label id before ≡ id) ⊎ (before ≡ Some (better_label id before)))
+    × (better_label id before ≤ id) × ((c : ℕ) → before ≡ Some c → better_label id before ≤ c)
 better_some id None = (inl refl, omega arith, λ c is. absurd cc)
 better_some id (Some other) = by (nat_lt id other) refl
   where
@@ -167,11 +167,11 @@ tells best (Some b) [] = record {
 tells best before (l ∷ ls) =
     by (is_other best l) refl (second_in best (with_other best l before) ls) (tells best (with_other best l before) ls)
   where
-    with_true : is_other best l ≡ true → with_other best l before ≡ Some (better l.identity before)
-    with_true is = ap (λ test. cond test (Some (better l.identity before)) before) is
+    with_true : is_other best l ≡ true → with_other best l before ≡ Some (better_label l.identity before)
+    with_true is = ap (λ test. cond test (Some (better_label l.identity before)) before) is
 
     with_false : is_other best l ≡ false → with_other best l before ≡ before
-    with_false is = ap (λ test. cond test (Some (better l.identity before)) before) is
+    with_false is = ap (λ test. cond test (Some (better_label l.identity before)) before) is
 
     by : (test : Bool) → is_other best l ≡ test → (found : Option ℕ) → Tells best (with_other best l before) ls found
         → Tells best before (l ∷ ls) found
@@ -183,19 +183,19 @@ tells best before (l ∷ ls) =
             l,
             inl refl,
             other_from best l is,
-            sym own ∙ same_some (better l.identity before) b (sym (with_true is) ∙ here),
+            sym own ∙ same_some (better_label l.identity before) b (sym (with_true is) ∙ here),
           )
           | inr kept ↦ inl (kept ∙ sym (with_true is) ∙ here)
         ]
         | inr there ↦ let (k, member, other, same) = there in inr (k, inr member, other, same)
       ];
       low = λ k member other. elim member [
-        | inl here ↦ (let under = told.under (better l.identity before) (with_true is) in
+        | inl here ↦ (let under = told.under (better_label l.identity before) (with_true is) in
             let low = (better_some l.identity before).1 in let same : k.identity ≡ l.identity = ap
             (λ (m : Label). m.identity) here in omega arith)
         | inr behind ↦ told.low k behind other
       ];
-      under = λ c same. (let first = told.under (better l.identity before) (with_true is) in
+      under = λ c same. (let first = told.under (better_label l.identity before) (with_true is) in
           let second = (better_some l.identity before).2 c same in omega arith);
     }
     by false is None told = record {

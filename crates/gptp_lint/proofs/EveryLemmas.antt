@@ -25,14 +25,14 @@ use Rattle.gptp_network.proofs.ExistenceLemmas.{snapshot_exists}
 use Rattle.gptp_network.proofs.MeantLemmas.{SetsOctets, meant_document, meant_octets, stands_below}
 use Rattle.gptp_network.proofs.SnapshotLemmas.{from_filter}
 use Rattle.gptp_network.proofs.TakingLemmas.{in_all}
-use Rattle.gptp_topology.specs.Course.{cable_of, wire_of}
+use Rattle.gptp_topology.specs.Course.{cable_of, cable_wire}
 use Rattle.gptp_topology.specs.Tables.{clocks_of}
-use Rattle.gptp_topology.specs.Times.{IsTime, late_at, times_of}
+use Rattle.gptp_topology.specs.Times.{IsCalmTime, late_at, times_of}
 use Rattle.gptp_topology.specs.declared.times.CalmTime.{CalmTime}
 use Rattle.gptp_time_error.proofs.CalmLemmas.{calm_dec}
-use Rattle.gptp_lint.specs.Components.{AreComponents, IsChance, IsMoment, apart_from, nobody_from}
+use Rattle.gptp_lint.specs.Components.{AreComponents, IsChance, IsBestsMoment, apart_from, nobody_from}
 use Rattle.gptp_lint.specs.Findings.{AreFound}
-use Rattle.gptp_lint.specs.Graph.{HaveOctets}
+use Rattle.gptp_lint.specs.Graph.{NodesHaveOctets}
 use Rattle.gptp_lint.specs.Labels.{bests_in, labels_in}
 use Rattle.gptp_lint.specs.Laws.{EachIsFound}
 use Rattle.gptp_lint.specs.Moments.{AreSorted, Stands, chance_at, edge_after, node_after}
@@ -87,7 +87,7 @@ module _ (n : NetworkState) (network : IsNetwork n) (events : List Timed) where
   stands_so : Stands n events graph_then
   stands_so = record { nodes = refl; edges = refl }
 
-  nodes_octets : ((t : Timed) → In t events → SetsOctets t.act) → HaveOctets (map (node_after events) n.systems)
+  nodes_octets : ((t : Timed) → In t events → SetsOctets t.act) → NodesHaveOctets (map (node_after events) n.systems)
   nodes_octets sets o member =
       let (m, among, is) = from_map (node_after events) o n.systems member in
       let (place, there) = slice_get-In m n.systems among in
@@ -159,7 +159,7 @@ module _ (d : DocumentState) (network : IsNetwork d.network)
   -- a moment
   record HasMoment (at : ℕ) : Type 0 where
     moment : Moment
-    is : IsMoment d moment
+    is : IsBestsMoment d moment
     at_is : moment.at ≡ at
     few : length moment.bests.items ≤ 512
 
@@ -178,7 +178,7 @@ module _ (d : DocumentState) (network : IsNetwork d.network)
   record HaveMoments (times : List ℕ) : Type 0 where
     moments : List Moment
     times_are : map at_of moments ≡ times
-    each : AllByRecursion (IsMoment d) moments
+    each : AllByRecursion (IsBestsMoment d) moments
     few : AllByRecursion (λ (m : Moment). length m.bests.items ≤ 512) moments
 
   moments_exist : (times : List ℕ) → HaveMoments times
@@ -196,7 +196,7 @@ module _ (d : DocumentState) (network : IsNetwork d.network)
   -- whether it is calm at a time, and what bounds its settling then
   record HasTime (at : ℕ) : Type 0 where
     time : CalmTime
-    is : IsTime d time
+    is : IsCalmTime d time
     at_is : time.at ≡ at
 
   time_exists : (at : ℕ) → HasTime at
@@ -227,7 +227,7 @@ module _ (d : DocumentState) (network : IsNetwork d.network)
   record HaveTimes (times : List ℕ) : Type 0 where
     calm : List CalmTime
     times_are : map time_at calm ≡ times
-    each : AllByRecursion (IsTime d) calm
+    each : AllByRecursion (IsCalmTime d) calm
 
   calm_exist : (times : List ℕ) → HaveTimes times
   calm_exist [] = record { calm = []; times_are = refl; each = tt }
@@ -298,7 +298,7 @@ module _ (d : DocumentState) (network : IsNetwork d.network)
 
 -- ---- all findings
 
-wires_back : (ws : List Wire) → map wire_of (map cable_of ws) ≡ ws
+wires_back : (ws : List Wire) → map cable_wire (map cable_of ws) ≡ ws
 wires_back [] = refl
 wires_back (w ∷ ws) = ap (λ vs. w ∷ vs) (wires_back ws)
 

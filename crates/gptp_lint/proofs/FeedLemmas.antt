@@ -183,7 +183,7 @@ shape_has_none shapes.Table = refl
 shape : (s : Shape) → IsPart (shape_word s)
 shape s = part (shape_word s) (shape_has_none s)
 
-test_has_none : (fault : NetworkFault) → HasNoFeed (plans.fault_text fault)
+test_has_none : (fault : NetworkFault) → HasNoFeed (plans.network_fault_text fault)
 test_has_none networks.OutOfRange = refl
 test_has_none networks.DuplicateClock = refl
 test_has_none networks.SelfLink = refl
@@ -194,8 +194,8 @@ test_has_none networks.TooMany = refl
 test_has_none networks.Timing = refl
 test_has_none networks.OutOfMemory = refl
 
-test : (fault : NetworkFault) → IsPart (plans.fault_text fault)
-test fault = part (plans.fault_text fault) (test_has_none fault)
+test : (fault : NetworkFault) → IsPart (plans.network_fault_text fault)
+test fault = part (plans.network_fault_text fault) (test_has_none fault)
 
 port : (p : PortId) → IsPart (port_words p)
 port p = digits_of p.clock then_part part (codes " ") refl then_part natural p.port

@@ -16,14 +16,14 @@ use Rattle.gptp_network.specs.Values.{array_at, kind_of, natural}
 use Rattle.gptp_network.specs.declared.fault.DocumentFault.{DocumentFault}
 use Rattle.gptp_network.specs.declared.fault.DocumentFault.TheVariants.{TooMany}
 use Rattle.gptp_network.proofs.GivenLemmas.{given, next, refused, unless_faulty, Gives}
-use Rattle.gptp_topology.specs.Course.{acted, at_time, course_from, course_of, first, past}
+use Rattle.gptp_topology.specs.Course.{acted, course_at_time, course_from, course_of, first, past}
 use Rattle.gptp_topology.specs.Times.{times_from}
 use Rattle.gptp_topology.specs.Trouble.{loss_in_use}
 use Rattle.gptp_topology.specs.declared.course.Standing.{Standing}
 use Rattle.gptp_lint.specs.Components.{apart_at, apart_from, decides_by_clock, is_told, nobody_at, nobody_from, nobody_if}
-use Rattle.gptp_lint.specs.Labels.{alone, best_at, bests_in, joined, joined_all, labels_in, live_best, relabelled, second_in, united, united_if}
+use Rattle.gptp_lint.specs.Labels.{lone_label, best_at, bests_in, joined, joined_all, labels_in, live_best, relabelled, second_in, united, united_if}
 use Rattle.gptp_lint.specs.Moments.{chance_at, chance_if}
-use Rattle.gptp_lint.specs.Trouble.{long_of, longs_of, lossies_of, next_other, stretch_of, stretches}
+use Rattle.gptp_lint.specs.Trouble.{long_of, longs_of, lossies_of, next_other, lossy_stretch, stretches}
 use Rattle.gptp_lint.specs.declared.components.Apart.{Apart}
 use Rattle.gptp_lint.specs.declared.components.Moment.{Moment}
 use Rattle.gptp_lint.specs.declared.components.Nobody.{Nobody}
@@ -78,10 +78,10 @@ few_past at s = none_or_few (s.at == at) (s ∷ []) (omega arith)
 few_stand : (s : Standing) (ts : List Timed) → length (course_from s ts) ≤ suc (length ts)
 few_stand s [] = omega arith
 few_stand s (t ∷ ts) =
-    few_more (past t.at s []) (course_from (acted t.act (at_time t.at s)) ts) (suc (length ts)) (few_past t.at s)
-    (few_stand (acted t.act (at_time t.at s)) ts)
+    few_more (past t.at s []) (course_from (acted t.act (course_at_time t.at s)) ts) (suc (length ts)) (few_past t.at s)
+    (few_stand (acted t.act (course_at_time t.at s)) ts)
 
-few_begun : (link loss from : ℕ) (to : Option ℕ) → length (stretch_of link loss from to) ≤ 1
+few_begun : (link loss from : ℕ) (to : Option ℕ) → length (lossy_stretch link loss from to) ≤ 1
 few_begun link loss from to =
     let l : Lossy = record { link = link; loss = loss; from = from; to = to } in
     none_or_few (loss == 0) (l ∷ []) (omega arith)
@@ -90,9 +90,9 @@ few_stretches : (link before : ℕ) (ss : List Standing) → length (stretches l
 few_stretches link before [] = omega arith
 few_stretches link before (s ∷ ss) =
     few_more
-    (cond (loss_in_use s == before) [] (stretch_of link (loss_in_use s) s.at (next_other (loss_in_use s) ss)))
+    (cond (loss_in_use s == before) [] (lossy_stretch link (loss_in_use s) s.at (next_other (loss_in_use s) ss)))
     (stretches link (loss_in_use s) ss) (length ss)
-    (none_or_few (loss_in_use s == before) (stretch_of link (loss_in_use s) s.at (next_other (loss_in_use s) ss))
+    (none_or_few (loss_in_use s == before) (lossy_stretch link (loss_in_use s) s.at (next_other (loss_in_use s) ss))
     (few_begun link (loss_in_use s) s.at (next_other (loss_in_use s) ss)))
     (few_stretches link (loss_in_use s) ss)
 
@@ -158,7 +158,7 @@ few_bests g =
     let bests : length (bests_in (labels_in g)) ≤ length (labels_in g) * 1 =
     few_flat best_at 1 (labels_in g) (λ l member. one_or_none (l.lives && (l.best == l.identity)) l.identity) in
     let same : length (labels_in g) ≡ length g.nodes.items =
-    same_joined_all g.edges.items (map alone g.nodes.items) ∙ length-map g.nodes.items alone in
+    same_joined_all g.edges.items (map lone_label g.nodes.items) ∙ length-map g.nodes.items lone_label in
     omega arith
 
 few_chance : (best : ℕ) (second : Option ℕ) → length (chance_if best second) ≤ 1

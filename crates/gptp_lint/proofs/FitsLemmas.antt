@@ -18,8 +18,8 @@ use Rattle.gptp_network.proofs.InUseLemmas.{runs}
 use Rattle.gptp_network.proofs.PassLemmas.{given, kept, passes_at}
 use Rattle.gptp_network.proofs.SnapshotLemmas.{In-permutation, clock_after, from_filter_map, with_clock}
 use Rattle.gptp_lint.specs.Graph.{first_node, place_in}
-use Rattle.gptp_lint.specs.Labels.{alone}
-use Rattle.gptp_lint.specs.Moments.{edge_after, node_after, place_of}
+use Rattle.gptp_lint.specs.Labels.{lone_label}
+use Rattle.gptp_lint.specs.Moments.{edge_after, node_after, node_place}
 use Rattle.gptp_lint.specs.declared.graph.Edge.{Edge}
 use Rattle.gptp_lint.specs.declared.graph.Node.{Node}
 use Rattle.gptp_lint.specs.declared.labels.Label.{Label}
@@ -61,13 +61,13 @@ is_place clock (p ∷ os) once (suc i) o there is =
 module _ (n : NetworkState) (network : IsNetwork n) (events : List Timed) (g : Snapshot)
     (stands : StandsAfter n events g) where
   abbrev label_after : Member → Label
-  label_after m = alone (node_after events m)
+  label_after m = lone_label (node_after events m)
 
   abbrev first_nodes : List Node
   first_nodes = map (λ (m : Member). first_node m.identity) n.systems
 
   abbrev labels : List Label
-  labels = map alone (map (node_after events) n.systems)
+  labels = map lone_label (map (node_after events) n.systems)
 
   abbrev edges : List Edge
   edges = map (edge_after n events) n.links
@@ -80,14 +80,14 @@ module _ (n : NetworkState) (network : IsNetwork n) (events : List Timed) (g : S
 
   member_at : (place : ℕ) (l : Label) → slice_get labels place ≡ Some l → Member_at place l
   member_at place l there =
-      let (o, at, is) = mapped alone (map (node_after events) n.systems) place l there in
+      let (o, at, is) = mapped lone_label (map (node_after events) n.systems) place l there in
       let (m, here, same) = mapped (node_after events) n.systems place o at in
-      record { member = m; there = here; is = ap alone same ∙ is }
+      record { member = m; there = here; is = ap lone_label same ∙ is }
 
   label_at : (place : ℕ) (m : Member) → slice_get n.systems place ≡ Some m
       → slice_get labels place ≡ Some (label_after m)
   label_at place m there =
-      mapped_there alone (map (node_after events) n.systems) place (node_after events m)
+      mapped_there lone_label (map (node_after events) n.systems) place (node_after events m)
       (mapped_there (node_after events) n.systems place m there)
 
   -- a label has the clock of its member
@@ -138,16 +138,16 @@ module _ (n : NetworkState) (network : IsNetwork n) (events : List Timed) (g : S
       (eq-eqb s.clock (own_clock l) (ap own_clock at.is))
 
   -- the label at the place of a link's end has the clock of that end
-  end_clock : (clock : ℕ) (l : Label) → slice_get labels (place_of n clock) ≡ Some l → own_clock l ≡ clock
+  end_clock : (clock : ℕ) (l : Label) → slice_get labels (node_place n clock) ≡ Some l → own_clock l ≡ clock
   end_clock clock l there =
-      let at = member_at (place_of n clock) l there in
+      let at = member_at (node_place n clock) l there in
       ap own_clock (sym at.is) ∙ label_clock at.member
       ∙ place_is clock first_nodes (first_node at.member.identity)
-      (mapped_there (λ (m : Member). first_node m.identity) n.systems (place_of n clock) at.member at.there)
+      (mapped_there (λ (m : Member). first_node m.identity) n.systems (node_place n clock) at.member at.there)
 
   -- and the system there lives, if one of the snapshot has that clock
   live_end : (clock : ℕ) → has_clock g.systems clock ≡ true
-      → (l : Label) × Lives labels (place_of n clock) l × (own_clock l ≡ clock)
+      → (l : Label) × Lives labels (node_place n clock) l × (own_clock l ≡ clock)
   live_end clock has =
       let (s, live, named) = with_clock g.systems clock has in
       let m = living s live in

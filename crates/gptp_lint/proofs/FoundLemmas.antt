@@ -8,8 +8,8 @@ use Rattle.gptp_plan.specs.Network.{IsNetwork}
 use Rattle.gptp_plan.specs.declared.network.Wire.{Wire}
 use Rattle.gptp_network.specs.Document.{DocumentState}
 use Rattle.gptp_network.specs.Events.{AreEvents}
-use Rattle.gptp_topology.specs.Course.{cable_of, wire_of}
-use Rattle.gptp_topology.specs.Times.{AreCalmTimes, IsTime, late_at}
+use Rattle.gptp_topology.specs.Course.{cable_of, cable_wire}
+use Rattle.gptp_topology.specs.Times.{AreCalmTimes, IsCalmTime, late_at}
 use Rattle.gptp_topology.specs.declared.course.Cable.{Cable}
 use Rattle.gptp_topology.specs.declared.times.CalmTime.{CalmTime}
 use Rattle.gptp_lint.specs.Components.{AreComponents}
@@ -21,26 +21,26 @@ use Rattle.gptp_lint.proofs.QuietLemmas.{quiet}
 
 -- ---- one link more
 
-wires_back : (ws : List Wire) → map wire_of (map cable_of ws) ≡ ws
+wires_back : (ws : List Wire) → map cable_wire (map cable_of ws) ≡ ws
 wires_back [] = refl
 wires_back (w ∷ ws) = ap (λ vs. w ∷ vs) (wires_back ws)
 
 -- those before, and those of the links that are left, are all
 pub told_more : {X : Type 0} (f : Wire → List X) (before after all : List X) (cable : Cable) (cables : List Cable)
     (place : ℕ) → drop place cables ≡ cable ∷ drop (place + 1) cables
-    → before ++ flat_map f (map wire_of (drop place cables)) ≡ all
-    → after ≡ before ++ flat_map f (wire_of cable ∷ [])
-    → after ++ flat_map f (map wire_of (drop (place + 1) cables)) ≡ all
+    → before ++ flat_map f (map cable_wire (drop place cables)) ≡ all
+    → after ≡ before ++ flat_map f (cable_wire cable ∷ [])
+    → after ++ flat_map f (map cable_wire (drop (place + 1) cables)) ≡ all
 told_more f before after all cable cables place here so_far is =
-    let rest = map wire_of (drop (place + 1) cables) in
-    ap (λ xs. xs ++ flat_map f rest) (is ∙ ap (λ ys. before ++ ys) (append-nil (f (wire_of cable))))
-    ∙ append_assoc before (f (wire_of cable)) (flat_map f rest)
-    ∙ ap (λ cs. before ++ flat_map f (map wire_of cs)) (sym here) ∙ so_far
+    let rest = map cable_wire (drop (place + 1) cables) in
+    ap (λ xs. xs ++ flat_map f rest) (is ∙ ap (λ ys. before ++ ys) (append-nil (f (cable_wire cable))))
+    ∙ append_assoc before (f (cable_wire cable)) (flat_map f rest)
+    ∙ ap (λ cs. before ++ flat_map f (map cable_wire cs)) (sym here) ∙ so_far
 
 -- ---- all times
 
 -- at none of the times Sync is late exactly where it is at none of the document
-none_late : (d : DocumentState) (times : List CalmTime) → AllByRecursion (IsTime d) times
+none_late : (d : DocumentState) (times : List CalmTime) → AllByRecursion (IsCalmTime d) times
     → NoneIsLate times ↔ ((at : ℕ) → In at (map (λ (t : CalmTime). t.at) times) → late_at d at ≡ None)
 none_late d [] each = (λ none at member. absurd member, λ none. tt)
 none_late d (t ∷ times) (here, more) =
@@ -56,11 +56,11 @@ none_late d (t ∷ times) (here, more) =
 
 pub found : (d : DocumentState) (f : Findings) (cables : List Cable) → IsNetwork d.network
     → AreEvents d.network d.events → cables ≡ map cable_of d.network.links
-    → f.long.items ≡ longs_of d (map wire_of cables) → f.lossy.items ≡ lossies_of d (map wire_of cables)
+    → f.long.items ≡ longs_of d (map cable_wire cables) → f.lossy.items ≡ lossies_of d (map cable_wire cables)
     → AreUnlinked d.network f.unlinked.items → AreComponents d f.components → AreCalmTimes d f.calm.items
     → f.limit ≡ lapse_span d.network.params → AreFound d f
 found d f cables network events are long lossy unlinked components calm limit =
-    let whole : map wire_of cables ≡ d.network.links = ap (map wire_of) are ∙ wires_back d.network.links in
+    let whole : map cable_wire cables ≡ d.network.links = ap (map cable_wire) are ∙ wires_back d.network.links in
     let longs : f.long.items ≡ longs_of d d.network.links = long ∙ ap (longs_of d) whole in
     let lossies : f.lossy.items ≡ lossies_of d d.network.links = lossy ∙ ap (lossies_of d) whole in
     let law = quiet d network events.in_order in

@@ -4,7 +4,7 @@ use Rattle.std.proofs.lemmas.Bool.{eq-eqb, ne_eqb}
 use Rattle.gptp_lists.proofs.MappedLemmas.{taken}
 use Rattle.gptp_lists.proofs.MemberLemmas.{In-parts}
 use Rattle.gptp_roles.specs.Selection.{clock_of}
-use Rattle.gptp_plan.specs.Change.{is_at, link_acted, link_after, link_changed, standing, system_acted, system_stands, with_bounds, with_up}
+use Rattle.gptp_plan.specs.Change.{is_at, link_acted, link_after, link_changed, standing, system_acted, system_stands, member_with_bounds, with_up}
 use Rattle.gptp_plan.specs.Network.{NetworkState}
 use Rattle.gptp_plan.specs.declared.change.Act.{Act}
 use Rattle.gptp_plan.specs.declared.change.Act.TheVariants as acts
@@ -16,7 +16,7 @@ use Rattle.gptp_plan.specs.declared.network.Wire.{Wire}
 use Rattle.gptp_plan.proofs.AfterLemmas.{after_keeps}
 use Rattle.gptp_topology.specs.Course.{cable_of}
 use Rattle.gptp_topology.specs.declared.course.Cable.{Cable}
-use Rattle.gptp_lint.specs.Graph.{Acted, AreFirst, HaveOctets, edge_acted, edge_of, first_node, node_acted, place_in, up_acted, up_changed}
+use Rattle.gptp_lint.specs.Graph.{GraphActed, IsFirstGraph, NodesHaveOctets, edge_acted, edge_of, first_node, lint_node_acted, place_in, up_acted, up_changed}
 use Rattle.gptp_lint.specs.Moments.{Stands, edge_after, node_after}
 use Rattle.gptp_lint.specs.declared.graph.Graph.{Graph}
 use Rattle.gptp_lint.specs.declared.graph.Node.{Node}
@@ -27,10 +27,10 @@ map_map f g h same [] = refl
 map_map f g h same (x ∷ xs) = ap₂ (λ y ys. y ∷ ys) (same x) (map_map f g h same xs)
 
 -- one more identity of fourteen octets
-pub octets_more : (os : List Node) (i : ℕ) (o : Node) → slice_get os i ≡ Some o → HaveOctets (take i os)
-    → o.identity < 2 ^ 112 → HaveOctets (take (i + 1) os)
+pub octets_more : (os : List Node) (i : ℕ) (o : Node) → slice_get os i ≡ Some o → NodesHaveOctets (take i os)
+    → o.identity < 2 ^ 112 → NodesHaveOctets (take (i + 1) os)
 octets_more os i o there before here =
-    subst HaveOctets (sym (taken os i o there)) (λ p member. elim (In-parts p (take i os) (o ∷ []) member) [
+    subst NodesHaveOctets (sym (taken os i o there)) (λ p member. elim (In-parts p (take i os) (o ∷ []) member) [
       | inl front ↦ before p front
       | inr last ↦ elim last [
         | inl same ↦ subst (λ (q : Node). q.identity < 2 ^ 112) (sym same) here
@@ -54,7 +54,7 @@ place_on clock o os left all place is other so_far =
 -- ---- at first
 
 pub stands_first : (n : NetworkState) (cables : List Cable) (g : Graph) → cables ≡ map cable_of n.links
-    → AreFirst n cables g → Stands n [] g
+    → IsFirstGraph n cables g → Stands n [] g
 stands_first n cables g are first = record {
   nodes = first.nodes;
   edges = first.edges ∙ ap (map (edge_of g.nodes.items)) are
@@ -86,7 +86,7 @@ up_set true up w = refl
 up_set false up w = refl
 
 bounds_set : (test : Bool) (least greatest loss : ℕ) (w : Wire)
-    → (cond test (with_bounds least greatest loss w) w).up ≡ w.up
+    → (cond test (member_with_bounds least greatest loss w) w).up ≡ w.up
 bounds_set true least greatest loss w = refl
 bounds_set false least greatest loss w = refl
 
@@ -106,7 +106,7 @@ up_by_act (acts.Expire clock timer) w = refl
 up_by_act (acts.Change change) w = up_by_change change w
 
 node_more : (done : List Timed) (t : Timed) (m : Member)
-    → node_acted t.act (node_after done m) ≡ node_after (done ++ t ∷ []) m
+    → lint_node_acted t.act (node_after done m) ≡ node_after (done ++ t ∷ []) m
 node_more done t m =
     ap₂ (λ identity lives. record { clock = clock_of m.identity; identity = identity; lives = lives })
     (identity_more done t (clock_of m.identity) (standing m)) (live_more done t (clock_of m.identity) (standing m))
@@ -128,10 +128,10 @@ edge_more n done t w =
     }) up
 
 pub stands_more : (n : NetworkState) (done : List Timed) (t : Timed) (old new : Graph) → Stands n done old
-    → Acted t.act old new → Stands n (done ++ t ∷ []) new
+    → GraphActed t.act old new → Stands n (done ++ t ∷ []) new
 stands_more n done t old new stands acts = record {
-  nodes = acts.nodes ∙ ap (map (node_acted t.act)) stands.nodes
-      ∙ map_map (node_after done) (node_acted t.act) (node_after (done ++ t ∷ [])) (node_more done t) n.systems;
+  nodes = acts.nodes ∙ ap (map (lint_node_acted t.act)) stands.nodes
+      ∙ map_map (node_after done) (lint_node_acted t.act) (node_after (done ++ t ∷ [])) (node_more done t) n.systems;
   edges = acts.edges ∙ ap (map (edge_acted t.act)) stands.edges
       ∙ map_map (edge_after n done) (edge_acted t.act) (edge_after n (done ++ t ∷ [])) (edge_more n done t) n.links;
 }

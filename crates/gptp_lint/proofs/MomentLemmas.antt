@@ -13,10 +13,10 @@ use Rattle.gptp_network.specs.Snapshot.{StandsAfter, events_by}
 use Rattle.gptp_network.proofs.ExistenceLemmas.{stands_after}
 use Rattle.gptp_network.proofs.SnapshotLemmas.{member_there, stands_well}
 use Rattle.gptp_topology.proofs.PassedLemmas.{Passed, passed_last, passed_next, passed_same}
-use Rattle.gptp_lint.specs.Components.{AreBests, AreChances, AreMoments, IsChance, IsMoment}
-use Rattle.gptp_lint.specs.Graph.{HaveOctets}
-use Rattle.gptp_lint.specs.Labels.{alone, joined_all, labels_in}
-use Rattle.gptp_lint.specs.Moments.{AreChancesOf, AreSorted, IsMomentOf, IsTold, Stands, edge_after, node_after}
+use Rattle.gptp_lint.specs.Components.{AreBests, AreChances, AreMoments, IsChance, IsBestsMoment}
+use Rattle.gptp_lint.specs.Graph.{NodesHaveOctets}
+use Rattle.gptp_lint.specs.Labels.{lone_label, joined_all, labels_in}
+use Rattle.gptp_lint.specs.Moments.{AreChancesOf, AreSorted, IsMomentOf, MomentIsTold, Stands, edge_after, node_after}
 use Rattle.gptp_lint.specs.declared.components.Moment.{Moment}
 use Rattle.gptp_lint.specs.declared.graph.Edge.{Edge}
 use Rattle.gptp_lint.specs.declared.graph.Graph.{Graph}
@@ -28,7 +28,7 @@ use Rattle.gptp_lint.proofs.LabelLemmas.{Found, all_found, weaker}
 -- ---- what is found at a moment
 
 module _ (n : NetworkState) (network : IsNetwork n) (events : List Timed) (graph : Graph)
-    (stands : Stands n events graph) (octets : HaveOctets graph.nodes.items) where
+    (stands : Stands n events graph) (octets : NodesHaveOctets graph.nodes.items) where
   -- the snapshot then
   g : Snapshot
   g = (stands_after n events network).0
@@ -45,7 +45,7 @@ module _ (n : NetworkState) (network : IsNetwork n) (events : List Timed) (graph
       subst (λ (t : System). t.identity < 2 ^ 112) same node)
 
   abbrev first_labels : List Label
-  first_labels = map alone (map (node_after events) n.systems)
+  first_labels = map lone_label (map (node_after events) n.systems)
 
   abbrev edges : List Edge
   edges = map (edge_after n events) n.links
@@ -71,8 +71,8 @@ module _ (n : NetworkState) (network : IsNetwork n) (events : List Timed) (graph
       let found = weaker g well edges (λ e. ⊥ ⊎ In e edges) (λ e. In e edges) (joined_all edges first_labels)
       (λ e member. inr member) all in
       subst (Found g edges (λ e. In e edges))
-      (ap (λ os. joined_all edges (map alone os)) (sym stands.nodes)
-      ∙ ap (λ es. joined_all es (map alone graph.nodes.items)) (sym stands.edges))
+      (ap (λ os. joined_all edges (map lone_label os)) (sym stands.nodes)
+      ∙ ap (λ es. joined_all es (map lone_label graph.nodes.items)) (sym stands.edges))
       found
 
   bests_are : (bests : List ℕ) → AreSorted graph bests → AreBests g bests
@@ -93,7 +93,7 @@ module _ (n : NetworkState) (network : IsNetwork n) (events : List Timed) (graph
 
 -- the moment of a time
 pub is_moment : (d : DocumentState) (network : IsNetwork d.network) (done : List Timed) (graph : Graph) (at : ℕ)
-    (m : Moment) → Stands d.network done graph → IsMomentOf graph at m → events_by at d.events ≡ done → IsMoment d m
+    (m : Moment) → Stands d.network done graph → IsMomentOf graph at m → events_by at d.events ≡ done → IsBestsMoment d m
 is_moment d network done graph at m stands of now =
     let (g, is, bests) = bests_then d.network network done graph stands of.bests.octets m.bests.items of.bests in
     record {
@@ -116,19 +116,19 @@ at_of m = m.at
 
 -- the times before this one have moments
 abbrev pub MomentsPassed : DocumentState → List Timed → List Timed → ℕ → List Moment → Type 0
-MomentsPassed d = Passed at_of (IsMoment d) d
+MomentsPassed d = Passed at_of (IsBestsMoment d) d
 
 module _ (d : DocumentState) (network : IsNetwork d.network) (done : List Timed) (at : ℕ) (graph : Graph)
     (stands : Stands d.network done graph) (moments : List Moment) where
   -- at the next event
   pub passed_more : (t : Timed) (left : List Timed) (after : List Moment) → MomentsPassed d done (t ∷ left) at moments
-      → IsTold graph at t.at moments after → MomentsPassed d (done ++ t ∷ []) left t.at after
+      → MomentIsTold graph at t.at moments after → MomentsPassed d (done ++ t ∷ []) left t.at after
   passed_more t left after so_far (inl (same, kept)) =
       subst (MomentsPassed d (done ++ t ∷ []) left t.at) (sym kept)
-      (passed_same at_of (IsMoment d) d done at moments t left so_far same)
+      (passed_same at_of (IsBestsMoment d) d done at moments t left so_far same)
   passed_more t left after so_far (inr (apart, (m, of, kept))) =
       subst (MomentsPassed d (done ++ t ∷ []) left t.at) (sym kept)
-      (passed_next at_of (IsMoment d) d done at moments t left m so_far apart of.at_is
+      (passed_next at_of (IsBestsMoment d) d done at moments t left m so_far apart of.at_is
       (is_moment d network done graph at m stands of))
 
   -- after the last event
@@ -136,6 +136,6 @@ module _ (d : DocumentState) (network : IsNetwork d.network) (done : List Timed)
       → after ≡ moments ++ m ∷ [] → AreMoments d after
   passed_all m after so_far of is =
       let (times_are, each) =
-      passed_last at_of (IsMoment d) d done at moments m so_far of.at_is
+      passed_last at_of (IsBestsMoment d) d done at moments m so_far of.at_is
       (is_moment d network done graph at m stands of) in
       subst (AreMoments d) (sym is) (record { times_are = times_are; each = each })

@@ -5,7 +5,7 @@ use Rattle.gptp_lists.specs.Members.{In}
 use Rattle.gptp_setup.specs.declared.setup.Params.{Params}
 use Rattle.gptp_topology.specs.Trouble.{is_long, loss_in_use}
 use Rattle.gptp_topology.specs.declared.course.Standing.{Standing}
-use Rattle.gptp_lint.specs.Trouble.{long_at, long_of, next_other, stretch_of, stretches}
+use Rattle.gptp_lint.specs.Trouble.{long_at, long_of, next_other, lossy_stretch, stretches}
 use Rattle.gptp_lint.specs.declared.trouble.Lossy.{Lossy}
 
 -- none of a list that is nothing
@@ -65,7 +65,7 @@ not_lossy link (r ∷ ss) none s member =
     now = loss_in_use r
 
     begun : List Lossy
-    begun = cond (now == 0) [] (stretch_of link now r.at (next_other now ss))
+    begun = cond (now == 0) [] (lossy_stretch link now r.at (next_other now ss))
 
     free : now ≡ 0
     free = none_begun link r.at now (next_other now ss) (now == 0) refl
@@ -82,7 +82,7 @@ pub no_lossy : (link : ℕ) (ss : List Standing) → ((s : Standing) → In s ss
     → stretches link 0 ss ≡ []
 no_lossy link [] none = refl
 no_lossy link (s ∷ ss) none =
-    ap (λ loss. cond (loss == 0) [] (stretch_of link loss s.at (next_other loss ss)) ++ stretches link loss ss)
+    ap (λ loss. cond (loss == 0) [] (lossy_stretch link loss s.at (next_other loss ss)) ++ stretches link loss ss)
     (none s (inl refl))
     ∙ no_lossy link ss (λ r member. none r (inr member))
 
@@ -90,4 +90,4 @@ no_lossy link (s ∷ ss) none =
 
 -- the one that has begun with this loss, and those behind it
 abbrev pub left : ℕ → ℕ → ℕ → List Standing → List Lossy
-left link loss from ss = stretch_of link loss from (next_other loss ss) ++ stretches link loss ss
+left link loss from ss = lossy_stretch link loss from (next_other loss ss) ++ stretches link loss ss

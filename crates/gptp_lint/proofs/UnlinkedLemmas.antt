@@ -14,10 +14,10 @@ use Rattle.gptp_plan.specs.Network.{IsNetwork, NetworkState}
 use Rattle.gptp_plan.specs.declared.network.Member.{Member}
 use Rattle.gptp_network.proofs.PassLemmas.{kept, passes, passes_at}
 use Rattle.gptp_network.proofs.SnapshotLemmas.{In-permutation, from_filter}
-use Rattle.gptp_topology.specs.Course.{cable_of, is_end}
+use Rattle.gptp_topology.specs.Course.{cable_of, is_cable_end}
 use Rattle.gptp_topology.specs.Tables.{clocks_of}
 use Rattle.gptp_topology.specs.declared.course.Cable.{Cable}
-use Rattle.gptp_lint.specs.Unlinked.{AreUnlinked, IsLinked, IsUnlinked, is_linked, unlinked_in}
+use Rattle.gptp_lint.specs.Unlinked.{AreUnlinked, LinksName, IsUnlinked, is_linked, unlinked_in}
 use Rattle.gptp_lint.proofs.SortedLemmas.{Different-filter, sorted_rising}
 
 abbrev pub own_clock : Member → ℕ
@@ -35,9 +35,9 @@ unlinked_more cables ms place m there =
 
 -- ---- which are named
 
-linked_to : (n : NetworkState) (clock : ℕ) → is_linked (map cable_of n.links) clock ≡ true → IsLinked n clock
+linked_to : (n : NetworkState) (clock : ℕ) → is_linked (map cable_of n.links) clock ≡ true → LinksName n clock
 linked_to n clock is =
-    let (cable, member, ends) = passes (λ (c : Cable). is_end c clock) (map cable_of n.links) is in
+    let (cable, member, ends) = passes (λ (c : Cable). is_cable_end c clock) (map cable_of n.links) is in
     let (w, among, same) = from_map cable_of cable n.links member in (
       w,
       among,
@@ -47,9 +47,9 @@ linked_to n clock is =
       ],
     )
 
-linked_from : (n : NetworkState) (clock : ℕ) → IsLinked n clock → is_linked (map cable_of n.links) clock ≡ true
+linked_from : (n : NetworkState) (clock : ℕ) → LinksName n clock → is_linked (map cable_of n.links) clock ≡ true
 linked_from n clock (w, among, at) =
-    passes_at (λ (c : Cable). is_end c clock) (map cable_of n.links) (cable_of w) (In-map cable_of w n.links among)
+    passes_at (λ (c : Cable). is_cable_end c clock) (map cable_of n.links) (cable_of w) (In-map cable_of w n.links among)
     (elim at [
       | inl a ↦ or_left (clock == w.a.clock) (clock == w.b.clock) (eq-eqb clock w.a.clock (sym a))
       | inr b ↦ or_right (clock == w.a.clock) (clock == w.b.clock) (eq-eqb clock w.b.clock (sym b))
@@ -120,7 +120,7 @@ module _ (n : NetworkState) (network : IsNetwork n) where
             several = several;
           }
 
-      free_of : (clock : ℕ) → (IsLinked n clock → ⊥) → (test : Bool)
+      free_of : (clock : ℕ) → (LinksName n clock → ⊥) → (test : Bool)
           → is_linked (map cable_of n.links) clock ≡ test → test ≡ false
       free_of clock alone true linked = absurd (alone (linked_to n clock linked))
       free_of clock alone false free = refl

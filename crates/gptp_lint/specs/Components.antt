@@ -28,14 +28,14 @@ pub record AreBests (g : Snapshot) (ids : List ℕ) : Type 0 where
   pub are : (id : ℕ) → In id ids ↔ IsBestOfOne g id
 
 -- the bests at a time of a document, and those at each
-pub record IsMoment (d : DocumentState) (m : Moment) : Type 0 where
+pub record IsBestsMoment (d : DocumentState) (m : Moment) : Type 0 where
   pub snapshot : Snapshot
   pub stands : IsSnapshot d m.at snapshot
   pub bests : AreBests snapshot m.bests.items
 
 pub record AreMoments (d : DocumentState) (moments : List Moment) : Type 0 where
   pub times_are : map (λ (m : Moment). m.at) moments ≡ times_of d.events
-  pub each : AllByRecursion (IsMoment d) moments
+  pub each : AllByRecursion (IsBestsMoment d) moments
 
 -- ---- how many there are
 
@@ -53,15 +53,15 @@ apart_from before (m ∷ ms) = apart_at before m ++ apart_from (length m.bests.i
 -- ---- bests that can't be grandmaster
 
 -- a system can be grandmaster where its priority1 is below 255 (IEEE 802.1AS-2020, 8.6.2.1)
-abbrev pub is_capable : ℕ → Bool
-is_capable id = nat_lt (id / 2 ^ 104) 255
+abbrev pub can_be_grandmaster : ℕ → Bool
+can_be_grandmaster id = nat_lt (id / 2 ^ 104) 255
 
 -- a best is told of where it can't be grandmaster, and was no best before
 abbrev pub was_best : List ℕ → ℕ → Bool
 was_best before id = list_any (λ (other : ℕ). other == id) before
 
 abbrev pub is_told : List ℕ → ℕ → Bool
-is_told before id = not (is_capable id) && not (was_best before id)
+is_told before id = not (can_be_grandmaster id) && not (was_best before id)
 
 abbrev pub nobody_if : List ℕ → ℕ → ℕ → List Nobody
 nobody_if before at id = if is_told before id then record { at = at; best = id } ∷ [] else []
@@ -85,21 +85,21 @@ pub record IsSecond (g : Snapshot) (a b : ℕ) : Type 0 where
   pub other : b ≢ a
   pub least : (s : System) → In s g.systems → IsBestIdentity g s.clock a → s.identity ≢ a → b ≤ s.identity
 
--- an octet of an identity by its place from 0, the most significant first: six, and then the eight of the clock
+-- an octet_at of an identity by its place from 0, the most significant first: six, and then the eight of the clock
 -- (IEEE 802.1AS-2020, 10.3.2)
-abbrev pub octet : ℕ → ℕ → ℕ
-octet place identity = slice_index (bytes_high_first 14 identity) place
+abbrev pub octet_at : ℕ → ℕ → ℕ
+octet_at place identity = slice_index (bytes_high_first 14 identity) place
 
 -- they differ in nothing but their clocks
 abbrev pub are_alike : ℕ → ℕ → Bool
 are_alike a b =
-    octet 0 a == octet 0 b && octet 1 a == octet 1 b && octet 2 a == octet 2 b && octet 3 a == octet 3 b
-    && octet 4 a == octet 4 b
-    && octet 5 a == octet 5 b
+    octet_at 0 a == octet_at 0 b && octet_at 1 a == octet_at 1 b && octet_at 2 a == octet_at 2 b && octet_at 3 a == octet_at 3 b
+    && octet_at 4 a == octet_at 4 b
+    && octet_at 5 a == octet_at 5 b
 
 -- a clock decides which of them is grandmaster: both can be, and they are alike
 abbrev pub decides_by_clock : ℕ → ℕ → Bool
-decides_by_clock a b = is_capable a && is_capable b && are_alike a b
+decides_by_clock a b = can_be_grandmaster a && can_be_grandmaster b && are_alike a b
 
 -- the two best of each component between which a clock decides, by the best
 pub record AreChances (g : Snapshot) (pairs : List (ℕ × ℕ)) : Type 0 where

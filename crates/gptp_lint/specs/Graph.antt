@@ -23,22 +23,22 @@ node_changed change o = record {
   lives = (system_changed change o.clock (record { identity = o.identity; live = o.lives })).live;
 }
 
-abbrev pub node_acted : Act → Node → Node
-node_acted act o = record {
+abbrev pub lint_node_acted : Act → Node → Node
+lint_node_acted act o = record {
   clock = o.clock;
   identity = (system_acted act o.clock (record { identity = o.identity; live = o.lives })).identity;
   lives = (system_acted act o.clock (record { identity = o.identity; live = o.lives })).live;
 }
 
 -- a link with these ends is at this port
-abbrev pub ends_at : ℕ → ℕ → PortId → PortId → Bool
-ends_at clock port a b =
+abbrev pub edge_ends_at : ℕ → ℕ → PortId → PortId → Bool
+edge_ends_at clock port a b =
     same_port a (record { clock = clock; port = port }) || same_port b (record { clock = clock; port = port })
 
 -- whether a link with these ends is up after a change, and after an act
 abbrev pub up_changed : Change → PortId → PortId → Bool → Bool
-up_changed (changes.LinkDown clock port) a b up = if ends_at clock port a b then false else up
-up_changed (changes.LinkUp clock port) a b up = if ends_at clock port a b then true else up
+up_changed (changes.LinkDown clock port) a b up = if edge_ends_at clock port a b then false else up
+up_changed (changes.LinkUp clock port) a b up = if edge_ends_at clock port a b then true else up
 up_changed (changes.LinkSet clock port least greatest loss) a b up = up
 up_changed (changes.Fail clock) a b up = up
 up_changed (changes.Recover clock) a b up = up
@@ -68,15 +68,15 @@ edge_of os c =
     record { a = c.a; b = c.b; from = place_in c.a.clock os; to = place_in c.b.clock os; up = c.up }
 
 -- the systems and links of a network at first
-pub record AreFirst (n : NetworkState) (cables : List Cable) (g : Graph) : Type 0 where
+pub record IsFirstGraph (n : NetworkState) (cables : List Cable) (g : Graph) : Type 0 where
   pub nodes : g.nodes.items ≡ map (λ (m : Member). first_node m.identity) n.systems
   pub edges : g.edges.items ≡ map (edge_of g.nodes.items) cables
 
 -- what an act makes of them
-pub record Acted (act : Act) (old new : Graph) : Type 0 where
-  pub nodes : new.nodes.items ≡ map (node_acted act) old.nodes.items
+pub record GraphActed (act : Act) (old new : Graph) : Type 0 where
+  pub nodes : new.nodes.items ≡ map (lint_node_acted act) old.nodes.items
   pub edges : new.edges.items ≡ map (edge_acted act) old.edges.items
 
 -- each identity is of fourteen octets
-abbrev pub HaveOctets : List Node → Type 0
-HaveOctets os = (o : Node) → In o os → o.identity < 2 ^ 112
+abbrev pub NodesHaveOctets : List Node → Type 0
+NodesHaveOctets os = (o : Node) → In o os → o.identity < 2 ^ 112

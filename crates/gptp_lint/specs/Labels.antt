@@ -7,15 +7,15 @@ use Rattle.gptp_lint.specs.declared.graph.Node.{Node}
 use Rattle.gptp_lint.specs.declared.labels.Label.{Label}
 
 -- a system that isn't joined to another
-abbrev pub alone : Node → Label
-alone o = record { identity = o.identity; lives = o.lives; best = o.identity }
+abbrev pub lone_label : Node → Label
+lone_label o = record { identity = o.identity; lives = o.lives; best = o.identity }
 
 -- another best for one
 abbrev pub relabelled : ℕ → ℕ → Label → Label
 relabelled old new l =
     if l.best == old then record { identity = l.identity; lives = l.lives; best = new } else l
 
--- those that have these bests have the better one
+-- those that have these bests have the better_label one
 abbrev pub united : ℕ → ℕ → List Label → List Label
 united one other ls =
     if nat_lt one other then map (relabelled other one) ls
@@ -44,7 +44,7 @@ joined_all (e ∷ es) ls = joined_all es (joined e ls)
 
 -- the systems, each with the best of its component
 abbrev pub labels_in : Graph → List Label
-labels_in g = joined_all g.edges.items (map alone g.nodes.items)
+labels_in g = joined_all g.edges.items (map lone_label g.nodes.items)
 
 -- the identity of a system that is the best of its component
 abbrev pub best_at : Label → List ℕ
@@ -53,15 +53,15 @@ best_at l = if l.lives && (l.best == l.identity) then l.identity ∷ [] else []
 abbrev pub bests_in : List Label → List ℕ
 bests_in = flat_map best_at
 
--- the better one
-abbrev pub better : ℕ → Option ℕ → ℕ
-better id None = id
-better id (Some other) = if nat_lt id other then id else other
+-- the better_label one
+abbrev pub better_label : ℕ → Option ℕ → ℕ
+better_label id None = id
+better_label id (Some other) = if nat_lt id other then id else other
 
 -- the best of the others of the component with this best: this so far, and with one system more
 abbrev pub with_other : ℕ → Label → Option ℕ → Option ℕ
 with_other best l second =
-    if l.lives && ((l.best == best) && not (l.identity == best)) then Some (better l.identity second) else second
+    if l.lives && ((l.best == best) && not (l.identity == best)) then Some (better_label l.identity second) else second
 
 abbrev pub second_in : ℕ → Option ℕ → List Label → Option ℕ
 second_in best second [] = second

@@ -49,8 +49,8 @@ abbrev pub calm_words : Option ℕ → List ℕ
 calm_words (Some bound) = codes " yes bound " ++ decimal bound
 calm_words None = codes " no"
 
-abbrev pub calm_line : CalmTime → List ℕ
-calm_line t = codes "calm " ++ decimal t.at ++ calm_words t.bound
+abbrev pub calm_time_line : CalmTime → List ℕ
+calm_time_line t = codes "calm " ++ decimal t.at ++ calm_words t.bound
 
 -- the line of a system that no link names
 abbrev pub unlinked_line : ℕ → List ℕ
@@ -91,7 +91,7 @@ pub record AreLines (input : List ℕ) (threshold : ℕ) (f : Findings) (lines :
   pub unread : List UnreadKey
   pub unread_are : map placed unread ≡ unread_keys input
   pub near_are : AllByRecursion (NearIsRead (table_of input)) unread
-  pub lines_are : lines ≡ found_lines input threshold f unread ++ map calm_line f.calm.items
+  pub lines_are : lines ≡ found_lines input threshold f unread ++ map calm_time_line f.calm.items
   pub found_is : found ≡ not (length (found_lines input threshold f unread) == 0)
 
 abbrev pub AppendsFindings : List ℕ → ℕ → Findings → List ℕ → List ℕ → Bool → Type 0

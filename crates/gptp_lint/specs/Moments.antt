@@ -10,7 +10,7 @@ use Rattle.gptp_plan.specs.declared.change.Timed.{Timed}
 use Rattle.gptp_plan.specs.declared.network.Member.{Member}
 use Rattle.gptp_plan.specs.declared.network.Wire.{Wire}
 use Rattle.gptp_lint.specs.Components.{decides_by_clock}
-use Rattle.gptp_lint.specs.Graph.{HaveOctets, first_node, place_in}
+use Rattle.gptp_lint.specs.Graph.{NodesHaveOctets, first_node, place_in}
 use Rattle.gptp_lint.specs.Labels.{bests_in, labels_in, second_in}
 use Rattle.gptp_lint.specs.declared.components.Moment.{Moment}
 use Rattle.gptp_lint.specs.declared.graph.Edge.{Edge}
@@ -26,15 +26,15 @@ node_after events m = record {
   lives = (system_after events m).live;
 }
 
-abbrev pub place_of : NetworkState → ℕ → ℕ
-place_of n clock = place_in clock (map (λ (m : Member). first_node m.identity) n.systems)
+abbrev pub node_place : NetworkState → ℕ → ℕ
+node_place n clock = place_in clock (map (λ (m : Member). first_node m.identity) n.systems)
 
 abbrev pub edge_after : NetworkState → List Timed → Wire → Edge
 edge_after n events w = record {
   a = w.a;
   b = w.b;
-  from = place_of n w.a.clock;
-  to = place_of n w.b.clock;
+  from = node_place n w.a.clock;
+  to = node_place n w.b.clock;
   up = (link_after events w).up;
 }
 
@@ -47,7 +47,7 @@ pub record Stands (n : NetworkState) (events : List Timed) (g : Graph) : Type 0 
 pub record AreSorted (g : Graph) (bests : List ℕ) : Type 0 where
   pub all : IsPermutation (bests_in (labels_in g)) bests
   pub sorted : IsSorted nat_cmp bests
-  pub octets : HaveOctets g.nodes.items
+  pub octets : NodesHaveOctets g.nodes.items
 
 -- a time of this, with the bests then
 pub record IsMomentOf (g : Graph) (at : ℕ) (m : Moment) : Type 0 where
@@ -55,8 +55,8 @@ pub record IsMomentOf (g : Graph) (at : ℕ) (m : Moment) : Type 0 where
   pub bests : AreSorted g m.bests.items
 
 -- it is told where the next time is another
-abbrev pub IsTold : Graph → ℕ → ℕ → List Moment → List Moment → Type 0
-IsTold g at next old new =
+abbrev pub MomentIsTold : Graph → ℕ → ℕ → List Moment → List Moment → Type 0
+MomentIsTold g at next old new =
     ((next ≡ at) × (new ≡ old)) ⊎ ((next ≢ at) × ((m : Moment) × IsMomentOf g at m × (new ≡ old ++ m ∷ [])))
 
 -- the two best of the component with this best, where a clock decides between them

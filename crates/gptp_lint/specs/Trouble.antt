@@ -30,8 +30,8 @@ next_other loss [] = None
 next_other loss (s ∷ ss) = if loss_in_use s == loss then next_other loss ss else Some s.at
 
 -- a stretch of times with this loss; there is none without a loss
-abbrev pub stretch_of : ℕ → ℕ → ℕ → Option ℕ → List Lossy
-stretch_of link loss from to =
+abbrev pub lossy_stretch : ℕ → ℕ → ℕ → Option ℕ → List Lossy
+lossy_stretch link loss from to =
     if loss == 0 then [] else record { link = link; loss = loss; from = from; to = to } ∷ []
 
 -- The longest stretches of times with one loss. A stretch begins at each time with another loss than at the time
@@ -39,7 +39,7 @@ stretch_of link loss from to =
 abbrev pub stretches : ℕ → ℕ → List Standing → List Lossy
 stretches link before [] = []
 stretches link before (s ∷ ss) =
-    (if loss_in_use s == before then [] else stretch_of link (loss_in_use s) s.at (next_other (loss_in_use s) ss))
+    (if loss_in_use s == before then [] else lossy_stretch link (loss_in_use s) s.at (next_other (loss_in_use s) ss))
     ++ stretches link (loss_in_use s) ss
 
 -- the long and the lossy links of a document

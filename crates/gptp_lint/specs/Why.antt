@@ -63,5 +63,5 @@ why_words (whys.Taken port link) = codes "port " ++ (port_words port ++ (codes "
 why_words (whys.TooLong greatest most) = codes "key max value " ++ decimal greatest ++ codes " most " ++ decimal most
 why_words (whys.Before at before) = codes "at " ++ decimal at ++ codes " before " ++ decimal before
 why_words (whys.Timing params announce) = timing_words params announce
-why_words (whys.Other fault) = codes "fault " ++ plans.fault_text fault
+why_words (whys.Other fault) = codes "fault " ++ plans.network_fault_text fault
 why_words whys.Memory = codes "memory"

@@ -3,8 +3,8 @@
 ghost use Rattle.std.specs.Prelude.{◌≡◌, ◌++◌, [], map, OnOk, IfOk};
 ghost use Rattle.std.specs.List.{flat_map};
 ghost use Rattle.gptp_topology.specs.Course.{cable_of};
-ghost use Rattle.gptp_lint.specs.Components.{AreComponents, AreMoments, apart_at, apart_from, are_alike, decides_by_clock, is_capable, is_told, nobody_at, nobody_from, nobody_if, was_best};
-ghost use Rattle.gptp_lint.specs.Moments.{AreChancesOf, IsMomentOf, IsTold, Stands, chance_at};
+ghost use Rattle.gptp_lint.specs.Components.{AreComponents, AreMoments, apart_at, apart_from, are_alike, decides_by_clock, can_be_grandmaster, is_told, nobody_at, nobody_from, nobody_if, was_best};
+ghost use Rattle.gptp_lint.specs.Moments.{AreChancesOf, IsMomentOf, MomentIsTold, Stands, chance_at};
 
 use crate::graph::Graph;
 use crate::labels::{Label, bests_of, labels_of, second_of};
@@ -62,7 +62,7 @@ fn tell(
     at: u64,
     next: u64,
 ) -> Result<(), AllocError>
-    ensures { OnOk result (IsTold graph.now at next moments.old.items moments.new.items) }
+    ensures { OnOk result (MomentIsTold graph.now at next moments.old.items moments.new.items) }
 {
     if next != at {
         let moment = moment_of(alloc, graph, at)?;
@@ -121,7 +121,7 @@ fn apart_of(alloc: Global, moments: &[Moment]) -> Result<Vec<Apart>, AllocError>
 
 /// Whether a system can be grandmaster.
 fn is_capable(identity: Identity) -> bool
-    ensures { result ≡ is_capable identity }
+    ensures { result ≡ can_be_grandmaster identity }
 {
     identity.capable()
 }

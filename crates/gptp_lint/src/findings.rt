@@ -2,7 +2,7 @@
 
 ghost use Rattle.std.specs.Prelude.{◌≡◌, ◌++◌, ◌∷◌, [], IfOk, OnOk};
 ghost use Rattle.std.specs.Option.{option_to_list};
-ghost use Rattle.gptp_topology.specs.Course.{names_of, wire_of};
+ghost use Rattle.gptp_topology.specs.Course.{names_of, cable_wire};
 ghost use Rattle.gptp_lint.specs.Findings.{AreFound};
 ghost use Rattle.gptp_lint.specs.Trouble.{longs_of, lossies_of};
 
@@ -51,9 +51,9 @@ fn push_troubles(
     cable: &Cable,
 ) -> Result<(), AllocError>
     requires { names.now ≡ names_of document.now.events }
-    ensures long { OnOk result (long.new.items ≡ long.old.items ++ longs_of document.now (wire_of cable.now ∷ [])) }
+    ensures long { OnOk result (long.new.items ≡ long.old.items ++ longs_of document.now (cable_wire cable.now ∷ [])) }
     ensures lossy { OnOk result
-        (lossy.new.items ≡ lossy.old.items ++ lossies_of document.now (wire_of cable.now ∷ [])) }
+        (lossy.new.items ≡ lossy.old.items ++ lossies_of document.now (cable_wire cable.now ∷ [])) }
 {
     document.well_formed();
     let course = course_of(alloc, cable, document.events(), names)?;

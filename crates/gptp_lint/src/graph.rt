@@ -2,7 +2,7 @@
 
 ghost use Rattle.std.specs.Prelude.{◌≡◌, ◌<◌, ◌+◌, ◌++◌, ◌∷◌, [], length, map, take, IfOk, OnOk};
 ghost use Rattle.gptp_plan.specs.declared.network.Member.{Member};
-ghost use Rattle.gptp_lint.specs.Graph.{Acted, AreFirst, edge_acted, edge_of, first_node, node_acted, node_changed, place_in, up_changed};
+ghost use Rattle.gptp_lint.specs.Graph.{GraphActed, IsFirstGraph, edge_acted, edge_of, first_node, lint_node_acted, node_changed, place_in, up_changed};
 
 use gptp_plan::{Act, Change, Network};
 use gptp_topology::Cable;
@@ -73,7 +73,7 @@ fn change_node(change: &Change, node: &mut Node)
 
 /// Does to a system what an act does.
 fn act_on_node(act: &Act, node: &mut Node)
-    ensures { node.new ≡ node_acted act.now node.old }
+    ensures { node.new ≡ lint_node_acted act.now node.old }
 {
     match act {
         Act::Change(change) => change_node(change, node),
@@ -134,7 +134,7 @@ fn act_on_edge(act: &Act, edge: &mut Edge)
 
 /// Does to each system what an act does.
 fn act_on_nodes(act: &Act, nodes: &mut [Node])
-    ensures { nodes.new ≡ map (node_acted act.now) nodes.old }
+    ensures { nodes.new ≡ map (lint_node_acted act.now) nodes.old }
 {
     for node in nodes.iter_mut() {
         act_on_node(act, node);
@@ -229,7 +229,7 @@ impl Graph {
         network: &Network,
         cables: &[Cable],
     ) -> Result<Self, AllocError>
-        ensures { IfOk result (AreFirst network.now cables.now) }
+        ensures { IfOk result (IsFirstGraph network.now cables.now) }
     {
         let nodes = nodes_of(alloc, network)?;
         let edges = edges_of(alloc, &nodes, cables)?;
@@ -238,7 +238,7 @@ impl Graph {
 
     /// Does what an act does.
     pub(crate) fn act(&mut self, done: &Act)
-        ensures { Acted done.now self.old self.new }
+        ensures { GraphActed done.now self.old self.new }
     {
         act_on_nodes(done, self.nodes.as_mut_slice());
         act_on_edges(done, self.edges.as_mut_slice());

@@ -3,8 +3,8 @@
 ghost use Rattle.std.specs.Prelude.{◌≡◌, ◌<◌, ◌^◌, ◌++◌, map, None, IfOk, OnOk};
 ghost use Rattle.std.specs.List.Sorted.{IsPermutation, IsSorted};
 ghost use Rattle.std.specs.Ordering.{nat_cmp};
-ghost use Rattle.gptp_lint.specs.Graph.{HaveOctets};
-ghost use Rattle.gptp_lint.specs.Labels.{alone, best_at, bests_in, better, joined, joined_all, labels_in, live_best, relabelled, second_in, united, with_other};
+ghost use Rattle.gptp_lint.specs.Graph.{NodesHaveOctets};
+ghost use Rattle.gptp_lint.specs.Labels.{lone_label, best_at, bests_in, better_label, joined, joined_all, labels_in, live_best, relabelled, second_in, united, with_other};
 
 use crate::graph::{Edge, Graph, Node};
 use gptp_vector::Identity;
@@ -27,7 +27,7 @@ fn identity_of(node: &Node) -> Identity
 
 /// A system that isn't joined to another.
 fn alone(node: &Node) -> Label
-    ensures is { result ≡ alone node.now }
+    ensures is { result ≡ lone_label node.now }
     ensures octets { result.identity < 2 ^ 112 }
 {
     let identity = identity_of(node);
@@ -40,8 +40,8 @@ fn alone(node: &Node) -> Label
 
 /// Systems none of which is joined to another.
 fn all_alone(alloc: Global, nodes: &[Node]) -> Result<Vec<Label>, AllocError>
-    ensures are { IfOk result (λ labels. labels.items ≡ map alone nodes.now) }
-    ensures octets { IfOk result (λ labels. HaveOctets nodes.now) }
+    ensures are { IfOk result (λ labels. labels.items ≡ map lone_label nodes.now) }
+    ensures octets { IfOk result (λ labels. NodesHaveOctets nodes.now) }
 {
     let mut labels = Vec::new(alloc);
     for node in nodes {
@@ -114,7 +114,7 @@ fn join_all(labels: &mut [Label], edges: &[Edge])
 /// The systems, each with the best of its component, if it lives.
 pub(crate) fn labels_of(alloc: Global, graph: &Graph) -> Result<Vec<Label>, AllocError>
     ensures are { IfOk result (λ labels. labels.items ≡ labels_in graph.now) }
-    ensures octets { IfOk result (λ labels. HaveOctets graph.now.nodes.items) }
+    ensures octets { IfOk result (λ labels. NodesHaveOctets graph.now.nodes.items) }
 {
     let mut labels = all_alone(alloc, &graph.nodes)?;
     join_all(labels.as_mut_slice(), &graph.edges);
@@ -154,7 +154,7 @@ pub(crate) fn bests_of(alloc: Global, labels: &[Label]) -> Result<Vec<Identity>,
 
 /// The better of two identities.
 fn better(identity: Identity, other: Option<Identity>) -> Identity
-    ensures { result ≡ better identity other }
+    ensures { result ≡ better_label identity other }
 {
     match other {
         Some(other) => { if identity < other { identity } else { other } }

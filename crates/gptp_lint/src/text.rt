@@ -3,7 +3,7 @@
 ghost use Rattle.std.specs.Prelude.{◌≡◌, ◌++◌, ◌∷◌, ◌↔◌, [], Bool, List, ℕ, IfOk, IsTrue, OnOk, map, option_map, slice_get, string_bytes};
 ghost use Rattle.std.specs.List.{flat_map};
 ghost use Rattle.gptp_spelling.specs.Lines.{text_of};
-ghost use Rattle.gptp_lint.specs.LintText.{AppendsFindings, apart_line, calm_line, chance_line, late_line, late_lines, long_line, lossy_line, nobody_line, other_lines, unlinked_line};
+ghost use Rattle.gptp_lint.specs.LintText.{AppendsFindings, apart_line, calm_time_line, chance_line, late_line, late_lines, long_line, lossy_line, nobody_line, other_lines, unlinked_line};
 ghost use Rattle.toml.specs.View.{table_view};
 ghost use Rattle.gptp_lint.specs.Outline.{outline_state};
 ghost use Rattle.gptp_lint.specs.UnreadKeys.{AppendsUnread, unread_of};
@@ -229,7 +229,7 @@ fn write_others(text: &mut String, findings: &Findings) -> Result<(), AllocError
 
 /// Appends the line of a time.
 fn write_calm_time(text: &mut String, time: &CalmTime) -> Result<(), AllocError>
-    ensures { OnOk result (string_bytes text.new ≡ string_bytes text.old ++ (calm_line time.now ++ 10 ∷ [])) }
+    ensures { OnOk result (string_bytes text.new ≡ string_bytes text.old ++ (calm_time_line time.now ++ 10 ∷ [])) }
 {
     match time.bound {
         Some(bound) => writeln!(text, "calm {} yes bound {bound}", time.at),
@@ -239,7 +239,7 @@ fn write_calm_time(text: &mut String, time: &CalmTime) -> Result<(), AllocError>
 
 /// Appends the lines of times.
 fn write_calm_times(text: &mut String, times: &[CalmTime]) -> Result<(), AllocError>
-    ensures { OnOk result (string_bytes text.new ≡ string_bytes text.old ++ text_of (map calm_line times.now)) }
+    ensures { OnOk result (string_bytes text.new ≡ string_bytes text.old ++ text_of (map calm_time_line times.now)) }
 {
     for time in times {
         write_calm_time(text, time)?;

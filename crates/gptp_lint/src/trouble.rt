@@ -2,7 +2,7 @@
 
 ghost use Rattle.std.specs.Prelude.{◌≡◌, ◌++◌, OnOk};
 ghost use Rattle.gptp_setup.specs.declared.setup.Params.{Params};
-ghost use Rattle.gptp_lint.specs.Trouble.{long_at, long_of, stretch_of, stretches};
+ghost use Rattle.gptp_lint.specs.Trouble.{long_at, long_of, lossy_stretch, stretches};
 
 use gptp_plan::Params;
 use gptp_topology::{Standing, is_long, loss_in_use, needed};
@@ -66,7 +66,7 @@ fn push_stretch(
     from: u64,
     to: Option<u64>,
 ) -> Result<(), AllocError>
-    ensures { OnOk result (lossy.new.items ≡ lossy.old.items ++ stretch_of link loss from to) }
+    ensures { OnOk result (lossy.new.items ≡ lossy.old.items ++ lossy_stretch link loss from to) }
 {
     if loss != 0 {
         lossy.push(Lossy {

@@ -1,14 +1,14 @@
 -- The bounds are kept by every act.
 use Rattle.std.proofs.Common.{◌≡◌, ◌≤◌, ◌+◌, ◌++◌, ◌⊎◌, ℕ, max, List, Some, None, sym, ap, subst, ◌∙◌, inl, inr, arith}
 use Rattle.gptp_lists.specs.Members.{In}
-use Rattle.gptp_measuring.specs.Lanes.{Frame, IsMute, AreMute}
+use Rattle.gptp_measuring.specs.Lanes.{LaneFrame, IsMute, AreMute}
 use Rattle.gptp_measuring.specs.Messages.{Request, Reply}
 use Rattle.gptp_measuring.specs.Setting.{Setting}
 use Rattle.gptp_measuring.specs.Asker.{Asker}
 use Rattle.gptp_measuring.specs.Answerer.{Waiting, noted}
 use Rattle.gptp_measuring.specs.Pair.{Pair}
 use Rattle.gptp_measuring.specs.Acts.{RequestTimerExpires, AskerHears, AnswererHears, AnswerTimerExpires, OthersSend}
-use Rattle.gptp_measuring.specs.Acts.{Acts, asks_again, asker_hears, answerer_hears, answers, others_send}
+use Rattle.gptp_measuring.specs.Acts.{PortActs, asks_again, asker_hears, answerer_hears, answers, others_send}
 use Rattle.gptp_measuring.specs.Facts.{Facts}
 use Rattle.gptp_measuring.specs.Bounds.{Bounds, last_arrival}
 use Rattle.gptp_measuring.proofs.LaneLemmas.{was_or_new, left_was_there, front_was_there}
@@ -17,9 +17,9 @@ module _ (k : Setting) (asks : List ℕ → Request → Type 0) (replies : List 
   -- what an act adds to what is pending is nothing to the exchange, or within the bounds
   record Adds (p p' : Pair) : Type 0 where
     asked : p.asker.asked ≤ p'.asker.asked
-    out : (f : Frame) → In f p'.out → In f p.out ⊎ (IsMute asks f ⊎ (f.due ≤ last_arrival k gone p'))
+    out : (f : LaneFrame) → In f p'.out → In f p.out ⊎ (IsMute asks f ⊎ (f.due ≤ last_arrival k gone p'))
     waits : (w : Waiting) → p'.waits ≡ Some w → (p.waits ≡ Some w) ⊎ (w.due ≤ last_arrival k gone p' + k.turnaround)
-    back : (f : Frame) → In f p'.back
+    back : (f : LaneFrame) → In f p'.back
         → In f p.back ⊎ (IsMute replies f ⊎ (f.due ≤ last_arrival k gone p' + k.turnaround + k.most))
 
   -- then the bounds are kept: a later request only widens them
@@ -47,12 +47,12 @@ module _ (k : Setting) (asks : List ℕ → Request → Type 0) (replies : List 
       wider due bound = let on : p.asker.asked ≤ p'.asker.asked = adds.asked in omega arith
 
   -- the lane is as it was
-  same : (now was : List Frame) → now ≡ was → (f : Frame) → In f now → In f was
+  same : (now was : List LaneFrame) → now ≡ was → (f : LaneFrame) → In f now → In f was
   same now was e f at = subst (λ fs. In f fs) e at
 
   -- mute frames were added
-  mute_added : {X : Type 0} (says : List ℕ → X → Type 0) (now was news : List Frame) (bound : ℕ)
-      → now ≡ was ++ news → AreMute says news → (f : Frame) → In f now
+  mute_added : {X : Type 0} (says : List ℕ → X → Type 0) (now was news : List LaneFrame) (bound : ℕ)
+      → now ≡ was ++ news → AreMute says news → (f : LaneFrame) → In f now
       → In f was ⊎ (IsMute says f ⊎ (f.due ≤ bound))
   mute_added says now was news bound e mute f at =
       elim (was_or_new f now was news e at) [ inl old ↦ inl old | inr new ↦ inr (inl (mute f new)) ]
@@ -140,11 +140,11 @@ module _ (k : Setting) (asks : List ℕ → Request → Type 0) (replies : List 
   }
 
   -- every act keeps the bounds
-  pub bounds_kept : (p p' : Pair) → Facts k gone p → Facts k gone p' → Acts k asks replies p p'
+  pub bounds_kept : (p p' : Pair) → Facts k gone p → Facts k gone p' → PortActs k asks replies p p'
       → Bounds k asks replies gone p → Bounds k asks replies gone p'
   bounds_kept p p' was is act b = widened p p' (adds act) b
     where
-      adds : Acts k asks replies p p' → Adds p p'
+      adds : PortActs k asks replies p p' → Adds p p'
       adds (asks_again a) = after_request p p' was is a
       adds (asker_hears a) = after_asker_hears p p' a
       adds (answerer_hears a) = after_answerer_hears p p' b a

@@ -1,14 +1,14 @@
 -- One exchange over a good link is good.
 use Rattle.std.proofs.Common.{◌≤◌, ◌+◌, ℤ, ◌∙◌, arith}
 use Rattle.gptp_pdelay.specs.Clock.{local_clock}
-use Rattle.gptp_pdelay.specs.GoodLink.{IsTimely}
+use Rattle.gptp_pdelay.specs.GoodLink.{ExchangeIsTimely}
 use Rattle.gptp_pdelay.proofs.GoodLinkLemmas.{good_link, good_link_shows_neighbor}
 use Rattle.gptp_measuring.specs.Setting.{Setting, IsExchange}
 use Rattle.gptp_measuring.specs.ExchangeLaws.{HasLocalClocks, ExchangesAreGood, ExchangesShowNeighbor}
 
 -- its times are those of the law of good links
 timely : (k : Setting) (t1 t2 t3 t4 : ℤ) (clocks : HasLocalClocks k) → IsExchange k t1 t2 t3 t4
-    → IsTimely k.most k.turnaround (local_clock clocks.asking_phase clocks.asking_drift)
+    → ExchangeIsTimely k.most k.turnaround (local_clock clocks.asking_phase clocks.asking_drift)
     (local_clock clocks.answering_phase clocks.answering_drift) t1 t2 t3 t4
 timely k t1 t2 t3 t4 clocks exchange =
     let came : exchange.came ≤ exchange.sent + k.most = exchange.there.1 in

@@ -3,19 +3,19 @@ use Rattle.std.proofs.Common.{◌≡◌, ◌≤◌, ◌<◌, ◌+◌, ◌*◌, �
 use Rattle.std.proofs.Common.{arith}
 use Rattle.gptp_lists.specs.Members.{In}
 use Rattle.gptp_pdelay.specs.GoodLink.{IsGoodLink}
-use Rattle.gptp_measuring.specs.Lanes.{Frame}
+use Rattle.gptp_measuring.specs.Lanes.{LaneFrame}
 use Rattle.gptp_measuring.specs.Messages.{Request, Reply}
 use Rattle.gptp_measuring.specs.Setting.{Setting}
 use Rattle.gptp_measuring.specs.Asker.{Asker}
 use Rattle.gptp_measuring.specs.Answerer.{Waiting, noted}
-use Rattle.gptp_measuring.specs.Pair.{Pair, at_time}
-use Rattle.gptp_measuring.specs.Acts.{Acts, asks_again, asker_hears, answerer_hears, answers, others_send}
+use Rattle.gptp_measuring.specs.Pair.{Pair, pair_at_time}
+use Rattle.gptp_measuring.specs.Acts.{PortActs, asks_again, asker_hears, answerer_hears, answers, others_send}
 use Rattle.gptp_measuring.specs.Facts.{Facts, IsDueInTime, IsSentInTime, NothingIsDueBefore, IsGood}
 
 module _ (k : Setting) (gone : ℕ) where
   -- a lane that is sent to in time stays in time
-  lane_kept : (time : ℕ) (was now : List Frame) → IsSentInTime k time was now
-      → ((f : Frame) → In f was → IsDueInTime k gone time f) → (f : Frame) → In f now → IsDueInTime k gone time f
+  lane_kept : (time : ℕ) (was now : List LaneFrame) → IsSentInTime k time was now
+      → ((f : LaneFrame) → In f was → IsDueInTime k gone time f) → (f : LaneFrame) → In f now → IsDueInTime k gone time f
   lane_kept time was now sent before f at = elim (sent f at) [
     | inl old ↦ before f old
     | inr (since, inl by) ↦ record { earliest = since; latest = omega arith }
@@ -56,7 +56,7 @@ module _ (k : Setting) (gone : ℕ) where
   }
 
   timers_kept : (asks : List ℕ → Request → Type 0) (replies : List ℕ → Reply → Type 0) (p p' : Pair)
-      → Acts k asks replies p p' → TimersKept p p'
+      → PortActs k asks replies p p' → TimersKept p p'
   timers_kept asks replies p p' (asks_again act) = record {
     time = act.time;
     asked = inl (ap (λ (b : Asker). b.asked) act.asker);
@@ -95,13 +95,13 @@ module _ (k : Setting) (gone : ℕ) where
 
   -- every act keeps the facts
   pub facts_kept : (asks : List ℕ → Request → Type 0) (replies : List ℕ → Reply → Type 0) (p p' : Pair)
-      → Acts k asks replies p p' → IsSentInTime k p.time p.out p'.out → IsSentInTime k p.time p.back p'.back
+      → PortActs k asks replies p p' → IsSentInTime k p.time p.out p'.out → IsSentInTime k p.time p.back p'.back
       → Facts k gone p → Facts k gone p'
   facts_kept asks replies p p' act = facts_from p p' (timers_kept asks replies p p' act)
 
   -- time that passes keeps them
   pub facts_later : (time : ℕ) (p : Pair) → p.time ≤ time → NothingIsDueBefore k time p → Facts k gone p
-      → Facts k gone (at_time p time)
+      → Facts k gone (pair_at_time p time)
   facts_later time p on due facts = record {
     asked = (let before : p.asker.asked ≤ p.time = facts.asked in omega arith);
     request_timer = due.request_timer;

@@ -2,12 +2,12 @@
 use Rattle.std.proofs.Common.{◌≡◌, ◌≤◌, ◌<◌, ◌+◌, ◌*◌, ◌++◌, ℕ, max, true, List, ◌∷◌, Option, None, refl, sym, ap, subst, ◌∙◌, inl, inr, arith}
 use Rattle.gptp_lists.specs.Members.{In}
 use Rattle.gptp_pdelay.specs.declared.exchange.Measurement.{Measurement}
-use Rattle.gptp_measuring.specs.Lanes.{Frame, AreMute}
+use Rattle.gptp_measuring.specs.Lanes.{LaneFrame, AreMute}
 use Rattle.gptp_measuring.specs.Messages.{Request, Reply}
 use Rattle.gptp_measuring.specs.Setting.{Setting, IsBetween}
-use Rattle.gptp_measuring.specs.Asker.{Asker, Asked, Closed, own_request, after_interval, asks_now}
+use Rattle.gptp_measuring.specs.Asker.{Asker, Asked, Closed, own_request, asker_after_interval, asks_now}
 use Rattle.gptp_measuring.specs.Answerer.{noted}
-use Rattle.gptp_measuring.specs.Pair.{Pair, at_time}
+use Rattle.gptp_measuring.specs.Pair.{Pair, pair_at_time}
 use Rattle.gptp_measuring.specs.Acts.{RequestTimerExpires, AnswerTimerExpires, SendsRequest}
 use Rattle.gptp_measuring.specs.Facts.{Facts, IsSentLate}
 use Rattle.gptp_measuring.specs.Phases.{Phase, Rests, RequestGoes, AnswerWaits, ResponseComes, FollowUpComes}
@@ -16,7 +16,7 @@ use Rattle.gptp_measuring.specs.Invariant.{IsClean}
 use Rattle.gptp_measuring.specs.Meter.{Meter, MeterActs, MeterPasses}
 use Rattle.gptp_measuring.specs.Meter.{meter_asks, meter_hears, meter_heard, meter_answered, meter_rests}
 use Rattle.gptp_measuring.specs.Measured.{HasMeasured, MeasuredSince}
-use Rattle.gptp_measuring.specs.First.{AsksBy, HasAsked, InvFirst, NothingIsPending, IsFirst}
+use Rattle.gptp_measuring.specs.First.{AsksBy, HasAsked, InvFirst, NothingIsPending, HasJustAsked}
 use Rattle.gptp_measuring.specs.FirstLaws.{exchange_span}
 use Rattle.gptp_measuring.proofs.LaneLemmas.{first_is_there, mute_append, mute_rest, new_is_there}
 use Rattle.gptp_measuring.proofs.CountLemmas.{counts_asked}
@@ -56,9 +56,9 @@ module _ (k : Setting) (least : ℕ) (asks : List ℕ → Request → Type 0) (r
       absurd (omega (arith, pending, is.1, there.1, late))
 
   -- a request that is sent where none is in flight is due between the least and the greatest delay
-  pub sent_in_time : (p p' : Pair) (news : List Frame) (sequence : ℕ) → gone ≤ p.time → p'.time ≡ p.time
+  pub sent_in_time : (p p' : Pair) (news : List LaneFrame) (sequence : ℕ) → gone ≤ p.time → p'.time ≡ p.time
       → Facts k gone p' → IsSentLate least p.time p.out p'.out → p'.out ≡ p.out ++ news → AreMute asks p.out
-      → (f : Frame) → In f news → asks f.octets (own_request k sequence) → IsBetween p.time f.due least k.most
+      → (f : LaneFrame) → In f news → asks f.octets (own_request k sequence) → IsBetween p.time f.due least k.most
   sent_in_time p p' news sequence old time facts' long out mute f at says =
       let there = new_is_there f p'.out p.out news out at in
       let due : f.due ≤ max gone (p'.time + k.most) = (facts'.out f there).latest in (
@@ -83,7 +83,7 @@ module _ (k : Setting) (least : ℕ) (asks : List ℕ → Request → Type 0) (r
           counts = clean.counts;
         })
       where
-        in_time : (f : Frame) (reply : Reply) → In f act.news → replies f.octets reply
+        in_time : (f : LaneFrame) (reply : Reply) → In f act.news → replies f.octets reply
             → IsBetween p.time f.due least k.most
         in_time f reply at says =
             let there = new_is_there f p'.back p.back act.news act.back at in
@@ -103,7 +103,7 @@ module _ (k : Setting) (least : ℕ) (asks : List ℕ → Request → Type 0) (r
         → IsClean k least asks replies first p.asker p.waits p.out p.back
         → IsClean k least asks replies first p'.asker p'.waits p'.out p'.back
     request_clean p p' short old facts facts' long act clean =
-        let left = after_interval k.allowed p.asker.progress p.asker in
+        let left = asker_after_interval k.allowed p.asker.progress p.asker in
         let now = act.now in
         let ended = over p facts (omega (arith, short, now)) clean.phase in
         moved k least asks replies gone first (asks_now p.time act.sequence (k.asking_clock p.time) left) p'.asker
@@ -172,7 +172,7 @@ module _ (k : Setting) (least : ℕ) (asks : List ℕ → Request → Type 0) (r
         let now = act.now in
         let ended = over p facts (omega (arith, short, now)) inv.clean.phase in
         measured_still k least first
-        (asks_now p.time act.sequence (k.asking_clock p.time) (after_interval k.allowed p.asker.progress p.asker))
+        (asks_now p.time act.sequence (k.asking_clock p.time) (asker_after_interval k.allowed p.asker.progress p.asker))
         m'.pair.asker m'.last m'.last act.asker refl
         (measured_asked k least first p.asker m.last m'.last p.time act.sequence (k.asking_clock p.time) act.now kept
         (λ since. (ended.closed, inv.measured)))
@@ -227,7 +227,7 @@ module _ (k : Setting) (least : ℕ) (asks : List ℕ → Request → Type 0) (r
 
 module _ (k : Setting) (least : ℕ) (asks : List ℕ → Request → Type 0) (replies : List ℕ → Reply → Type 0) where
   pub first_begins : (sequence first : ℕ) (m : Meter) → 0 < k.period
-      → IsFirst k least asks replies sequence first m.pair → InvFirst k least asks replies first m
+      → HasJustAsked k least asks replies sequence first m.pair → InvFirst k least asks replies first m
   first_begins sequence first m positive is =
       let a = m.pair.asker in
       let open' = is.progress in
@@ -270,7 +270,7 @@ module _ (k : Setting) (least : ℕ) (asks : List ℕ → Request → Type 0) (r
 
   -- A request that is sent where nothing is pending is such a first one, whatever the port had measured and counted.
   pub asked_first : (gone : ℕ) (p p' : Pair) (last : Option Measurement) (sequence : ℕ) (left : Asker)
-      (news : List Frame) → 0 < k.period → gone ≤ p.time → p'.time ≡ p.time → Facts k gone p'
+      (news : List LaneFrame) → 0 < k.period → gone ≤ p.time → p'.time ≡ p.time → Facts k gone p'
       → IsSentLate least p.time p.out p'.out
       → p'.asker ≡ asks_now p.time sequence (k.asking_clock p.time) left → p'.waits ≡ p.waits → p'.back ≡ p.back
       → p'.out ≡ p.out ++ news → SendsRequest asks (own_request k sequence) news → NothingIsPending asks replies p
@@ -299,7 +299,7 @@ module _ (k : Setting) (least : ℕ) (asks : List ℕ → Request → Type 0) (r
         p.time,
         old,
         omega (arith, now, due),
-        asked_first gone p m'.pair m'.last act.sequence (after_interval k.allowed p.asker.progress p.asker) act.news
+        asked_first gone p m'.pair m'.last act.sequence (asker_after_interval k.allowed p.asker.progress p.asker) act.news
             (omega (arith, short)) old act.time facts' there act.asker act.waits act.back act.out act.sent clear,
       )
 
@@ -367,7 +367,7 @@ module _ (k : Setting) (least : ℕ) (asks : List ℕ → Request → Type 0) (r
       subst (λ (n : Meter). AsksBy k least asks replies gone by n) (sym is) (go asked)
     where
       go : AsksBy k least asks replies gone by m
-          → AsksBy k least asks replies gone by (record { pair = at_time m.pair time; last = m.last })
+          → AsksBy k least asks replies gone by (record { pair = pair_at_time m.pair time; last = m.last })
       go (inl (clear, due)) = inl (record { out = clear.out; waits = clear.waits; back = clear.back }, due)
       go (inr (first, since, until, inv)) =
           inr (first, since, until, first_later first m _ (time, on, refl) inv)

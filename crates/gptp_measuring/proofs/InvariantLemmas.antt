@@ -2,19 +2,19 @@
 use Rattle.std.proofs.Common.{◌≡◌, ◌≤◌, ◌<◌, ◌+◌, ◌++◌, ℕ, max, true, List, ◌∷◌, Option, Some, None, refl, sym, ap}
 use Rattle.std.proofs.Common.{subst, ◌∙◌, inl, inr, arith}
 use Rattle.gptp_lists.specs.Members.{In}
-use Rattle.gptp_measuring.specs.Lanes.{Frame, IsMute, AreMute}
+use Rattle.gptp_measuring.specs.Lanes.{LaneFrame, IsMute, AreMute}
 use Rattle.gptp_measuring.specs.Messages.{Request, Reply, FollowUp}
 use Rattle.gptp_measuring.specs.Setting.{Setting, IsBetween}
-use Rattle.gptp_measuring.specs.Asker.{Asker, Closed, Answered, own_request, after_interval, asks_now, completed, Takes}
+use Rattle.gptp_measuring.specs.Asker.{Asker, Closed, Answered, own_request, asker_after_interval, asks_now, asker_completed, TakesReply}
 use Rattle.gptp_measuring.specs.Answerer.{Waiting}
-use Rattle.gptp_measuring.specs.Pair.{Pair, Passes}
-use Rattle.gptp_measuring.specs.Acts.{RequestTimerExpires, AnswerTimerExpires, Acts}
+use Rattle.gptp_measuring.specs.Pair.{Pair, TimeOnlyPasses}
+use Rattle.gptp_measuring.specs.Acts.{RequestTimerExpires, AnswerTimerExpires, PortActs}
 use Rattle.gptp_measuring.specs.Acts.{asks_again, asker_hears, answerer_hears, answers, others_send}
 use Rattle.gptp_measuring.specs.Facts.{Facts, IsGood, IsSentLate}
 use Rattle.gptp_measuring.specs.Bounds.{Bounds}
 use Rattle.gptp_measuring.specs.Phases.{Phase, Rests, RequestGoes, AnswerWaits, ResponseComes, FollowUpComes}
-use Rattle.gptp_measuring.specs.Counts.{Counts}
-use Rattle.gptp_measuring.specs.Invariant.{IsClean, InvFrom, Inv, IsFresh}
+use Rattle.gptp_measuring.specs.Counts.{RequestsMeasure}
+use Rattle.gptp_measuring.specs.Invariant.{IsClean, InvFrom, PortInvariant, IsJustChanged}
 use Rattle.gptp_measuring.proofs.LaneLemmas.{mute_rest, new_is_there}
 use Rattle.gptp_measuring.proofs.BoundLemmas
 use Rattle.gptp_measuring.proofs.PhaseLemmas
@@ -23,7 +23,7 @@ use Rattle.gptp_measuring.proofs.CountLemmas.{counts_recorded, counts_completed,
 module _ (k : Setting) (least : ℕ) (asks : List ℕ → Request → Type 0) (replies : List ℕ → Reply → Type 0)
     (gone calm : ℕ) where
   -- the parts of a clean exchange are those of the state after the act
-  pub moved : (a a' : Asker) (w w' : Option Waiting) (o o' b b' : List Frame) → a' ≡ a → w' ≡ w → o' ≡ o → b' ≡ b
+  pub moved : (a a' : Asker) (w w' : Option Waiting) (o o' b b' : List LaneFrame) → a' ≡ a → w' ≡ w → o' ≡ o → b' ≡ b
       → IsClean k least asks replies calm a w o b → IsClean k least asks replies calm a' w' o' b'
   moved a a' w w' o o' b b' ea ew eo eb clean = rw (ea, ew, eo, eb) clean
 
@@ -33,13 +33,13 @@ module _ (k : Setting) (least : ℕ) (asks : List ℕ → Request → Type 0) (r
       → IsBetween (came + k.turnaround) heard least k.most
       → a.progress ≡ Answered sequence k.answering (k.asking_clock a.asked) (k.answering_clock came)
       (k.asking_clock heard)
-      → Takes k replies time octets a a'
+      → TakesReply k replies time octets a a'
       → replies octets (FollowUp k.answering (own_request k sequence) (k.answering_clock (came + k.turnaround)))
-      → a' ≡ completed true a
+      → a' ≡ asker_completed true a
   completes_well a a' octets time sequence came heard there home progress takes said =
       let (good, is_good, is) = takes.follow_up sequence (k.asking_clock a.asked) (k.answering_clock came)
       (k.answering_clock (came + k.turnaround)) (k.asking_clock heard) progress said in
-      is ∙ ap (λ good. completed good a) (is_good (record {
+      is ∙ ap (λ good. asker_completed good a) (is_good (record {
         sent = a.asked;
         came = came;
         back = heard;
@@ -52,8 +52,8 @@ module _ (k : Setting) (least : ℕ) (asks : List ℕ → Request → Type 0) (r
       }))
 
   -- the port that asks hears the oldest frame
-  pub asker_heard : (a a' : Asker) (w : Option Waiting) (out : List Frame) (front : Frame) (rest : List Frame)
-      (time : ℕ) → front.due ≡ time → Takes k replies time front.octets a a'
+  pub asker_heard : (a a' : Asker) (w : Option Waiting) (out : List LaneFrame) (front : LaneFrame) (rest : List LaneFrame)
+      (time : ℕ) → front.due ≡ time → TakesReply k replies time front.octets a a'
       → IsClean k least asks replies calm a w out (front ∷ rest) → IsClean k least asks replies calm a' w out rest
   asker_heard a a' w out front rest time now takes clean = by_phase clean.phase
     where
@@ -86,7 +86,7 @@ module _ (k : Setting) (least : ℕ) (asks : List ℕ → Request → Type 0) (r
       by_phase (ResponseComes sequence came there progress asks_none none (inr (mute, later))) = unmoved mute
           (ResponseComes sequence came there progress asks_none none later)
       by_phase (FollowUpComes sequence came heard there home progress asks_none none (inl ((said, by), behind))) =
-          moved (completed true a) a' w w out out rest rest
+          moved (asker_completed true a) a' w w out out rest rest
           (completes_well a a' front.octets time sequence came heard there home progress takes said) refl refl refl
           (record { phase = Rests refl asks_none none behind; counts = counts_completed k calm a clean.counts })
       by_phase (FollowUpComes sequence came heard there home progress asks_none none (inr (mute, later))) = unmoved mute
@@ -136,7 +136,7 @@ module _ (k : Setting) (least : ℕ) (asks : List ℕ → Request → Type 0) (r
     where
       -- what the interval before left
       left : Asker
-      left = after_interval k.allowed p.asker.progress p.asker
+      left = asker_after_interval k.allowed p.asker.progress p.asker
 
       late : calm ≤ p.time
       late = let asked : p'.asker.asked ≡ p.time = ap (λ (b : Asker). b.asked) act.asker in omega arith
@@ -144,7 +144,7 @@ module _ (k : Setting) (least : ℕ) (asks : List ℕ → Request → Type 0) (r
       pends : NothingPends p
       pends = nothing_pends p good facts act.now late inv.bounds
 
-      in_time : (f : Frame) → In f act.news → asks f.octets (own_request k act.sequence)
+      in_time : (f : LaneFrame) → In f act.news → asks f.octets (own_request k act.sequence)
           → IsBetween p.time f.due least k.most
       in_time f at says =
           let there = new_is_there f p'.out p.out act.news act.out at in
@@ -164,7 +164,7 @@ module _ (k : Setting) (least : ℕ) (asks : List ℕ → Request → Type 0) (r
       goes = PhaseLemmas.request_goes k least asks replies left p.waits p.out p.back act.news p.time act.sequence
           pends.out pends.waits pends.back in_time act.sent
 
-      known : calm ≤ p.asker.asked → (p.asker.progress ≡ Closed) × Counts k calm p.asker
+      known : calm ≤ p.asker.asked → (p.asker.progress ≡ Closed) × RequestsMeasure k calm p.asker
       known old =
           let clean = inv.clean old in (
             PhaseLemmas.closed_where_nothing_pends k least asks replies p.asker p.waits p.out p.back pends.out
@@ -186,11 +186,11 @@ module _ (k : Setting) (least : ℕ) (asks : List ℕ → Request → Type 0) (r
       })
     where
       -- no reply is in flight while one waits
-      silent : (f : Frame) (reply : Reply) → In f p.back → replies f.octets reply → ⊥
+      silent : (f : LaneFrame) (reply : Reply) → In f p.back → replies f.octets reply → ⊥
       silent f reply at says = PhaseLemmas.silent_while_waiting k least asks replies p.asker p.waits p.out p.back
           act.waiting act.was clean.phase f at reply says
 
-      in_time : (f : Frame) (reply : Reply) → In f act.news → replies f.octets reply
+      in_time : (f : LaneFrame) (reply : Reply) → In f act.news → replies f.octets reply
           → IsBetween p.time f.due least k.most
       in_time f reply at says =
           let there = new_is_there f p'.back p.back act.news act.back at in
@@ -209,7 +209,7 @@ module _ (k : Setting) (least : ℕ) (asks : List ℕ → Request → Type 0) (r
 
   -- every act keeps exchanges clean
   clean_kept : (p p' : Pair) → IsGood k gone calm → Facts k gone p → Facts k gone p'
-      → IsSentLate least p.time p.out p'.out → IsSentLate least p.time p.back p'.back → Acts k asks replies p p'
+      → IsSentLate least p.time p.out p'.out → IsSentLate least p.time p.back p'.back → PortActs k asks replies p p'
       → InvFrom k least asks replies gone calm p → calm ≤ p'.asker.asked
       → IsClean k least asks replies calm p'.asker p'.waits p'.out p'.back
   clean_kept p p' good facts facts' there home (asks_again act) inv since =
@@ -254,7 +254,7 @@ module _ (k : Setting) (least : ℕ) (asks : List ℕ → Request → Type 0) (r
 
   -- every act keeps the invariant
   pub inv_from_kept : (p p' : Pair) → IsGood k gone calm → Facts k gone p → Facts k gone p'
-      → IsSentLate least p.time p.out p'.out → IsSentLate least p.time p.back p'.back → Acts k asks replies p p'
+      → IsSentLate least p.time p.out p'.out → IsSentLate least p.time p.back p'.back → PortActs k asks replies p p'
       → InvFrom k least asks replies gone calm p → InvFrom k least asks replies gone calm p'
   inv_from_kept p p' good facts facts' there home act inv = record {
     bounds = BoundLemmas.bounds_kept k asks replies gone p p' facts facts' act inv.bounds;
@@ -262,7 +262,7 @@ module _ (k : Setting) (least : ℕ) (asks : List ℕ → Request → Type 0) (r
   }
 
   -- time that passes keeps it
-  pub inv_from_later : (p p' : Pair) → Passes p p' → InvFrom k least asks replies gone calm p
+  pub inv_from_later : (p p' : Pair) → TimeOnlyPasses p p' → InvFrom k least asks replies gone calm p
       → InvFrom k least asks replies gone calm p'
   inv_from_later p p' (time, on, is) inv = subst (λ (q : Pair). InvFrom k least asks replies gone calm q) (sym is)
       (record {
@@ -275,7 +275,7 @@ module _ (k : Setting) (least : ℕ) (asks : List ℕ → Request → Type 0) (r
       })
 
   -- it holds just after every change
-  pub inv_from_begins : (p : Pair) → IsFresh k gone calm p → InvFrom k least asks replies gone calm p
+  pub inv_from_begins : (p : Pair) → IsJustChanged k gone calm p → InvFrom k least asks replies gone calm p
   inv_from_begins p fresh = record {
     bounds = record {
       request = λ f request at says. let due : f.due ≤ gone = fresh.out f at in omega arith;
@@ -287,7 +287,7 @@ module _ (k : Setting) (least : ℕ) (asks : List ℕ → Request → Type 0) (r
 
 -- an act takes no time
 pub act_takes_no_time : (k : Setting) (asks : List ℕ → Request → Type 0) (replies : List ℕ → Reply → Type 0)
-    (p p' : Pair) → Acts k asks replies p p' → p'.time ≡ p.time
+    (p p' : Pair) → PortActs k asks replies p p' → p'.time ≡ p.time
 act_takes_no_time k asks replies p p' (asks_again act) = act.time
 act_takes_no_time k asks replies p p' (asker_hears act) = act.time
 act_takes_no_time k asks replies p p' (answerer_hears act) = act.time
@@ -296,8 +296,8 @@ act_takes_no_time k asks replies p p' (others_send act) = act.time
 
 -- the same where nothing is known of the least delay
 module _ (k : Setting) (asks : List ℕ → Request → Type 0) (replies : List ℕ → Reply → Type 0) (gone calm : ℕ) where
-  pub inv_kept : (p p' : Pair) → IsGood k gone calm → Facts k gone p → Facts k gone p' → Acts k asks replies p p'
-      → Inv k asks replies gone calm p → Inv k asks replies gone calm p'
+  pub inv_kept : (p p' : Pair) → IsGood k gone calm → Facts k gone p → Facts k gone p' → PortActs k asks replies p p'
+      → PortInvariant k asks replies gone calm p → PortInvariant k asks replies gone calm p'
   inv_kept p p' good facts facts' act inv = inv_from_kept k 0 asks replies gone calm p p' good facts facts'
       (λ f at. inr (after f.due (facts'.out f at).earliest)) (λ f at. inr (after f.due (facts'.back f at).earliest))
       act inv
@@ -305,14 +305,14 @@ module _ (k : Setting) (asks : List ℕ → Request → Type 0) (replies : List 
       after : (due : ℕ) → p'.time ≤ due → p.time + 0 ≤ due
       after due since = let same = act_takes_no_time k asks replies p p' act in omega (arith, since, same)
 
-  pub inv_later : (p p' : Pair) → Passes p p' → Inv k asks replies gone calm p → Inv k asks replies gone calm p'
+  pub inv_later : (p p' : Pair) → TimeOnlyPasses p p' → PortInvariant k asks replies gone calm p → PortInvariant k asks replies gone calm p'
   inv_later = inv_from_later k 0 asks replies gone calm
 
-  pub inv_begins : (p : Pair) → IsFresh k gone calm p → Inv k asks replies gone calm p
+  pub inv_begins : (p : Pair) → IsJustChanged k gone calm p → PortInvariant k asks replies gone calm p
   inv_begins = inv_from_begins k 0 asks replies gone calm
 
   -- and holds where it does for whatever least delay
-  pub inv_forgets : (least : ℕ) (p : Pair) → InvFrom k least asks replies gone calm p → Inv k asks replies gone calm p
+  pub inv_forgets : (least : ℕ) (p : Pair) → InvFrom k least asks replies gone calm p → PortInvariant k asks replies gone calm p
   inv_forgets least p inv = record {
     bounds = inv.bounds;
     clean = λ since. (let clean = inv.clean since in

@@ -10,12 +10,12 @@ use Rattle.gptp_pdelay.specs.Measured.{IsCarried, Moments}
 use Rattle.gptp_measuring.specs.Lanes.{IsMute}
 use Rattle.gptp_measuring.specs.Messages.{Request, Reply}
 use Rattle.gptp_measuring.specs.Setting.{Setting, IsBetween}
-use Rattle.gptp_measuring.specs.Asker.{Asker, Closed, Asked, Answered, after_interval, asks_now, completed}
-use Rattle.gptp_measuring.specs.Pair.{Pair, at_time}
+use Rattle.gptp_measuring.specs.Asker.{Asker, Closed, Asked, Answered, asker_after_interval, asks_now, asker_completed}
+use Rattle.gptp_measuring.specs.Pair.{Pair, pair_at_time}
 use Rattle.gptp_measuring.specs.Acts.{RequestTimerExpires, AskerHears}
 use Rattle.gptp_measuring.specs.Facts.{Facts, IsGood, IsSentLate}
 use Rattle.gptp_measuring.specs.Phases.{Phase, Rests, RequestGoes, AnswerWaits, ResponseComes, FollowUpComes}
-use Rattle.gptp_measuring.specs.Invariant.{Inv, IsFresh}
+use Rattle.gptp_measuring.specs.Invariant.{PortInvariant, IsJustChanged}
 use Rattle.gptp_measuring.specs.Meter.{Measures, Meter, MeterActs, MeterPasses, TakesMeasure, act_of}
 use Rattle.gptp_measuring.specs.Meter.{meter_asks, meter_hears, meter_heard, meter_answered, meter_rests}
 use Rattle.gptp_measuring.specs.Measured.{HasMeasured, HasTaken, MeasuredSince, MeterInv}
@@ -56,7 +56,7 @@ module _ (k : Setting) (least : ℕ) (calm : ℕ) where
   pub measured_asked : (a : Asker) (last last' : Option Measurement) (time sequence : ℕ) (t1 : ℤ)
       → a.asked + k.period ≡ time → (a.progress ≡ Closed → last' ≡ last)
       → (calm ≤ a.asked → (a.progress ≡ Closed) × MeasuredSince k least calm a last)
-      → MeasuredSince k least calm (asks_now time sequence t1 (after_interval k.allowed a.progress a)) last'
+      → MeasuredSince k least calm (asks_now time sequence t1 (asker_after_interval k.allowed a.progress a)) last'
   measured_asked a last last' time sequence t1 now kept known = record {
     one = λ case. elim case [
       | inl late ↦ (let (closed, since) = known (omega (arith, late, now)) in
@@ -71,7 +71,7 @@ module _ (k : Setting) (least : ℕ) (calm : ℕ) where
   }
     where
       taken : last' ≡ last → HasTaken k least a last
-          → HasTaken k least (asks_now time sequence t1 (after_interval k.allowed a.progress a)) last'
+          → HasTaken k least (asks_now time sequence t1 (asker_after_interval k.allowed a.progress a)) last'
       taken same h = record {
         measured = h.measured;
         moments = h.moments;
@@ -94,7 +94,7 @@ module _ (k : Setting) (least : ℕ) (calm : ℕ) where
       (k.asking_clock heard)
       → Measures last last' (k.asking_clock a.asked) (k.answering_clock came)
       (k.answering_clock (came + k.turnaround)) (k.asking_clock heard)
-      → MeasuredSince k least calm a last → MeasuredSince k least calm (completed true a) last'
+      → MeasuredSince k least calm a last → MeasuredSince k least calm (asker_completed true a) last'
   measured_completed a last last' sequence came heard short there home open' measures since = record {
     one = λ case. taken;
     two = λ case. both (since.one (inl (elim case [ inl late ↦ omega arith | inr (late, closed) ↦ late ])));
@@ -111,7 +111,7 @@ module _ (k : Setting) (least : ℕ) (calm : ℕ) where
         home_short = home.1;
       }
 
-      taken : HasTaken k least (completed true a) last'
+      taken : HasTaken k least (asker_completed true a) last'
       taken = record {
         measured = measures.measured;
         moments = moments;
@@ -194,7 +194,7 @@ module _ (k : Setting) (least : ℕ) (asks : List ℕ → Request → Type 0) (r
           (k.answering_clock came) (k.asking_clock m.pair.time) (k.asking_clock a.asked) progress since)
       by_phase (ResponseComes sequence came there progress asks_none none (inr (mute, later))) = unmoved mute
       by_phase (FollowUpComes sequence came heard there home progress asks_none none (inl ((said, by), behind))) =
-          measured_still k least calm (completed true a) m'.pair.asker m'.last m'.last
+          measured_still k least calm (asker_completed true a) m'.pair.asker m'.last m'.last
           (completes_well k least asks replies gone calm a m'.pair.asker act.front.octets m.pair.time sequence came
           heard there home progress act.asker said) refl
           (measured_completed k least calm a m.last m'.last sequence came heard short there home progress
@@ -209,7 +209,7 @@ module _ (k : Setting) (least : ℕ) (asks : List ℕ → Request → Type 0) (r
       → MeterInv k least asks replies gone calm m → calm ≤ m'.pair.asker.asked
       → MeasuredSince k least calm m'.pair.asker m'.last
   measured_sent m m' good facts act kept inv since = measured_still k least calm
-      (asks_now p.time act.sequence (k.asking_clock p.time) (after_interval k.allowed p.asker.progress p.asker))
+      (asks_now p.time act.sequence (k.asking_clock p.time) (asker_after_interval k.allowed p.asker.progress p.asker))
       m'.pair.asker m'.last m'.last act.asker refl
       (measured_asked k least calm p.asker m.last m'.last p.time act.sequence (k.asking_clock p.time) act.now kept
       known)
@@ -272,13 +272,13 @@ pub meter_later : (k : Setting) (least : ℕ) (asks : List ℕ → Request → T
 meter_later k least asks replies gone calm m m' (time, on, is) inv =
     subst (λ (n : Meter). MeterInv k least asks replies gone calm n) (sym is)
     (record {
-      phases = inv_from_later k least asks replies gone calm m.pair (at_time m.pair time) (time, on, refl) inv.phases;
+      phases = inv_from_later k least asks replies gone calm m.pair (pair_at_time m.pair time) (time, on, refl) inv.phases;
       measured = inv.measured;
     })
 
 -- it holds just after every change
 pub meter_begins : (k : Setting) (least : ℕ) (asks : List ℕ → Request → Type 0) (replies : List ℕ → Reply → Type 0)
-    (gone calm : ℕ) (m : Meter) → IsFresh k gone calm m.pair → MeterInv k least asks replies gone calm m
+    (gone calm : ℕ) (m : Meter) → IsJustChanged k gone calm m.pair → MeterInv k least asks replies gone calm m
 meter_begins k least asks replies gone calm m fresh = record {
   phases = inv_from_begins k least asks replies gone calm m.pair fresh;
   measured = λ since. let before : m.pair.asker.asked < calm = fresh.asked in absurd (omega (arith, before, since));
@@ -331,7 +331,7 @@ measured_along k least asks replies gone calm (o ∷ run) m n good inv (facts, i
 pub runs_end_measured : (k : Setting) (least : ℕ) (asks : List ℕ → Request → Type 0)
     (replies : List ℕ → Reply → Type 0) (threshold change interval : ℕ) (m n : Meter) (run : List Meter)
     → IsGoodLink k.most k.turnaround threshold → 2 * threshold + k.turnaround < k.period → k.period ≤ interval
-    → IsFresh k (change + interval) (change + 2 * interval) m.pair
+    → IsJustChanged k (change + interval) (change + 2 * interval) m.pair
     → IsMeterRun k least asks replies (change + interval) m run → In n (m ∷ run) → change + 5 * interval ≤ n.pair.time
     → HasMeasured k least n.last
 runs_end_measured k least asks replies threshold change interval m n run link short period fresh is at late =
@@ -342,6 +342,6 @@ runs_end_measured k least asks replies threshold change interval m n run link sh
 
 -- the invariant of capability
 pub meter_is_inv : (k : Setting) (least : ℕ) (asks : List ℕ → Request → Type 0) (replies : List ℕ → Reply → Type 0)
-    (gone calm : ℕ) (m : Meter) → MeterInv k least asks replies gone calm m → Inv k asks replies gone calm m.pair
+    (gone calm : ℕ) (m : Meter) → MeterInv k least asks replies gone calm m → PortInvariant k asks replies gone calm m.pair
 meter_is_inv k least asks replies gone calm m inv =
     inv_forgets k asks replies gone calm least m.pair inv.phases

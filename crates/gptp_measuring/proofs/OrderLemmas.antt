@@ -5,10 +5,10 @@ use Rattle.std.specs.Bool.{⊤}
 use Rattle.std.proofs.lemmas.Bool.{cases_lt}
 use Rattle.gptp_lists.specs.Members.{In}
 use Rattle.gptp_graph.specs.Snapshot.{PortIdentity}
-use Rattle.gptp_measuring.specs.Lanes.{Frame, IsMute, AreMute, FirstIs}
+use Rattle.gptp_measuring.specs.Lanes.{LaneFrame, IsMute, AreMute, FirstIs}
 use Rattle.gptp_measuring.specs.Messages.{Request, Reply, Response, FollowUp}
 use Rattle.gptp_measuring.specs.Setting.{Setting}
-use Rattle.gptp_measuring.specs.Asker.{Asker, Asked, Answered, Closed, Progress, after_interval, asks_now, completed, own_request}
+use Rattle.gptp_measuring.specs.Asker.{Asker, Asked, Answered, Closed, Progress, asker_after_interval, asks_now, asker_completed, own_request}
 use Rattle.gptp_measuring.specs.Answerer.{noted}
 use Rattle.gptp_measuring.specs.Pair.{Pair}
 use Rattle.gptp_measuring.specs.Acts.{RequestTimerExpires, AskerHears}
@@ -19,7 +19,7 @@ use Rattle.gptp_measuring.specs.Meter.{Meter, MeterActs, MeterPasses}
 use Rattle.gptp_measuring.specs.Meter.{meter_asks, meter_hears, meter_heard, meter_answered, meter_rests}
 use Rattle.gptp_measuring.specs.First.{InvFirst}
 use Rattle.gptp_measuring.specs.FirstLaws.{exchange_span}
-use Rattle.gptp_measuring.specs.Order.{Answers, AnswersIt, AreUntold, FollowUpFirst, FollowsIt, IsNotBefore, IsOrdered, ResponseFirst, Tells, either, least_exchange}
+use Rattle.gptp_measuring.specs.Order.{Answers, AnswersIt, AreUntold, FollowUpFirst, FollowsIt, IsNotBefore, IsOrdered, ResponseFirst, Tells, either_order, least_exchange}
 use Rattle.gptp_measuring.specs.Order.{FollowUpAhead, IsCapable, ResponseAhead, Untold}
 use Rattle.gptp_measuring.proofs.FirstLemmas.{IsOver, over}
 use Rattle.gptp_measuring.proofs.InvariantLemmas.{completes_well}
@@ -55,8 +55,8 @@ module _ (k : Setting) (least : ℕ) (asks : List ℕ → Request → Type 0) (r
       let p' = m'.pair in
       let now = act.now in
       let ended = over k least asks replies gone p facts (omega (arith, short, now)) inv.clean.phase in
-      let left : after_interval k.allowed p.asker.progress p.asker ≡ p.asker =
-      ap (λ (q : Progress). after_interval k.allowed q p.asker) ended.closed in
+      let left : asker_after_interval k.allowed p.asker.progress p.asker ≡ p.asker =
+      ap (λ (q : Progress). asker_after_interval k.allowed q p.asker) ended.closed in
       let becomes : p'.asker ≡ asks_now p.time act.sequence (k.asking_clock p.time) p.asker =
       act.asker ∙ ap (asks_now p.time act.sequence (k.asking_clock p.time)) left in
       let asked : p'.asker.asked ≡ p.time = ap (λ (a : Asker). a.asked) becomes in
@@ -116,7 +116,7 @@ module _ (k : Setting) (least : ℕ) (asks : List ℕ → Request → Type 0) (r
           }
       by_phase (ResponseComes sequence came there progress asks_none none (inr (mute, later))) = unmoved mute
       by_phase (FollowUpComes sequence came heard there home progress asks_none none (inl ((said, by), behind))) =
-          let becomes : m'.pair.asker ≡ completed true a =
+          let becomes : m'.pair.asker ≡ asker_completed true a =
           completes_well k least asks replies 0 0 a m'.pair.asker act.front.octets m.pair.time sequence came heard there
           home progress act.asker said in
           let asked : m'.pair.asker.asked ≡ a.asked = ap (λ (b : Asker). b.asked) becomes in
@@ -175,46 +175,46 @@ module _ (k : Setting) (least : ℕ) (asks : List ℕ → Request → Type 0) (r
 
 module _ (k : Setting) (least : ℕ) (asks : List ℕ → Request → Type 0) (replies : List ℕ → Reply → Type 0)
     (tells : List ℕ → Type 0) (first : ℕ) where
-  abbrev Ordered : Asker → List Frame → Type 0
+  abbrev Ordered : Asker → List LaneFrame → Type 0
   Ordered a back = IsOrdered k tells replies first a back
 
   -- a reply isn't mute
-  answers_not_mute : (sequence : ℕ) (f : Frame) → AnswersIt k tells replies sequence f → IsMute replies f → ⊥
+  answers_not_mute : (sequence : ℕ) (f : LaneFrame) → AnswersIt k tells replies sequence f → IsMute replies f → ⊥
   answers_not_mute sequence f (t2, said) mute = mute (Response k.answering (own_request k sequence) t2) said
 
-  follows_not_mute : (sequence : ℕ) (f : Frame) → FollowsIt k tells replies sequence f → IsMute replies f → ⊥
+  follows_not_mute : (sequence : ℕ) (f : LaneFrame) → FollowsIt k tells replies sequence f → IsMute replies f → ⊥
   follows_not_mute sequence f (t3, said) mute = mute (FollowUp k.answering (own_request k sequence) t3) said
 
-  mute_of : (f : Frame) → IsMute (either tells replies) f → IsMute replies f
+  mute_of : (f : LaneFrame) → IsMute (either_order tells replies) f → IsMute replies f
   mute_of f mute reply said = mute (Answers reply) said
 
-  -- frames of which none tells: what is known of the first reply is known of the first frame of either kind
-  untold_first : (P P' : Frame → Type 0) (Q Q' : List Frame → Type 0) (fs : List Frame) → AreUntold tells fs
-      → ((f : Frame) → P f → P' f) → ((gs : List Frame) → AreUntold tells gs → Q gs → Q' gs)
-      → FirstIs replies P Q fs → FirstIs (either tells replies) P' Q' fs
+  -- frames of which none tells: what is known of the first reply is known of the first frame of either_order kind
+  untold_first : (P P' : LaneFrame → Type 0) (Q Q' : List LaneFrame → Type 0) (fs : List LaneFrame) → AreUntold tells fs
+      → ((f : LaneFrame) → P f → P' f) → ((gs : List LaneFrame) → AreUntold tells gs → Q gs → Q' gs)
+      → FirstIs replies P Q fs → FirstIs (either_order tells replies) P' Q' fs
   untold_first P P' Q Q' [] untold one behind h = absurd h
   untold_first P P' Q Q' (f ∷ fs) untold one behind (inl here) =
       inl (one f here.0, behind fs (λ g at. untold g (inr at)) here.1)
   untold_first P P' Q Q' (f ∷ fs) untold one behind (inr later) =
       inr (mute, untold_first P P' Q Q' fs (λ g at. untold g (inr at)) one behind later.1)
     where
-      mute : IsMute (either tells replies) f
+      mute : IsMute (either_order tells replies) f
       mute (Answers reply) said = later.0 reply said
       mute Tells said = untold f (inl refl) said
 
   -- more frames behind
-  follow_up_more : (sequence : ℕ) (back news : List Frame) → FollowUpFirst k tells replies sequence back
+  follow_up_more : (sequence : ℕ) (back news : List LaneFrame) → FollowUpFirst k tells replies sequence back
       → FollowUpFirst k tells replies sequence (back ++ news)
   follow_up_more sequence back news =
-      first_append (either tells replies) (FollowsIt k tells replies sequence) (λ gs. ⊤) back news (λ gs any. tt)
+      first_append (either_order tells replies) (FollowsIt k tells replies sequence) (λ gs. ⊤) back news (λ gs any. tt)
 
-  response_more : (sequence : ℕ) (back news : List Frame) → ResponseFirst k tells replies sequence back
+  response_more : (sequence : ℕ) (back news : List LaneFrame) → ResponseFirst k tells replies sequence back
       → ResponseFirst k tells replies sequence (back ++ news)
   response_more sequence back news =
-      first_append (either tells replies) (AnswersIt k tells replies sequence)
+      first_append (either_order tells replies) (AnswersIt k tells replies sequence)
       (FollowUpFirst k tells replies sequence) back news (λ gs. follow_up_more sequence gs news)
 
-  ordered_more : (a : Asker) (back news : List Frame) → Ordered a back
+  ordered_more : (a : Asker) (back news : List LaneFrame) → Ordered a back
       → (AreUntold tells back → Ordered a (back ++ news))
       → Ordered a (back ++ news)
   ordered_more a back news (IsCapable late capable) untold = IsCapable late capable
@@ -225,7 +225,7 @@ module _ (k : Setting) (least : ℕ) (asks : List ℕ → Request → Type 0) (r
       FollowUpAhead sequence source t1 t2 t4 late open' (follow_up_more sequence back news ahead)
 
   -- From the time on by which the second request was answered, the port is capable or the answer is in flight.
-  answer_is_ahead : (gone from : ℕ) (m : Meter) (news : List Frame) → first + k.period + k.most + k.turnaround < from
+  answer_is_ahead : (gone from : ℕ) (m : Meter) (news : List LaneFrame) → first + k.period + k.most + k.turnaround < from
       → from ≤ m.pair.time → Facts k gone m.pair → InvFirst k least asks replies first m
       → AreUntold tells m.pair.back → Ordered m.pair.asker (m.pair.back ++ news)
   answer_is_ahead gone from m news past late facts inv untold = elim inv.since [
@@ -271,10 +271,10 @@ module _ (k : Setting) (least : ℕ) (asks : List ℕ → Request → Type 0) (r
           (λ hs few mute. tt) follow_up))
 
   -- frames are sent to the port, which is as it was
-  ordered_sent : (gone from : ℕ) (m m' : Meter) (news : List Frame)
+  ordered_sent : (gone from : ℕ) (m m' : Meter) (news : List LaneFrame)
       → first + k.period + k.most + k.turnaround < from → Facts k gone m.pair → InvFirst k least asks replies first m
       → m'.pair.asker ≡ m.pair.asker → m'.pair.back ≡ m.pair.back ++ news
-      → ((f : Frame) → In f m'.pair.back → tells f.octets → In f m.pair.back ⊎ (from ≤ m.pair.time))
+      → ((f : LaneFrame) → In f m'.pair.back → tells f.octets → In f m.pair.back ⊎ (from ≤ m.pair.time))
       → Ordered m.pair.asker m.pair.back → Ordered m'.pair.asker m'.pair.back
   ordered_sent gone from m m' news past facts inv same back sent order =
       subst (λ (a : Asker). Ordered a m'.pair.back) (sym same)
@@ -304,11 +304,11 @@ module _ (k : Setting) (least : ℕ) (asks : List ℕ → Request → Type 0) (r
       a' : Asker
       a' = m'.pair.asker
 
-      unmoved : (rest : List Frame) → IsMute replies act.front → Ordered a rest → Ordered a' rest
+      unmoved : (rest : List LaneFrame) → IsMute replies act.front → Ordered a rest → Ordered a' rest
       unmoved rest mute was = subst (λ (b : Asker). Ordered b rest) (sym (act.asker.nothing mute)) was
 
       -- the follow-up of the second request or a later one is heard
-      full : first + k.period ≤ a.asked → a' ≡ completed true a → Ordered a' act.rest
+      full : first + k.period ≤ a.asked → a' ≡ asker_completed true a → Ordered a' act.rest
       full late becomes =
           let asked : a'.asked ≡ a.asked = ap (λ (b : Asker). b.asked) becomes in
           let measured : a.measured ≡ true = inv.clean.counts.one (inl late) in
@@ -316,7 +316,7 @@ module _ (k : Setting) (least : ℕ) (asks : List ℕ → Request → Type 0) (r
           (ap (λ (b : Asker). b.capable) becomes ∙ ap (λ b. b && true) measured)
 
       recorded : (sequence : ℕ) (t1 t2 t4 : ℤ) → a' ≡ record a { progress = Answered sequence k.answering t1 t2 t4 }
-          → first + k.period ≤ a.asked → (rest : List Frame) → FollowUpFirst k tells replies sequence rest
+          → first + k.period ≤ a.asked → (rest : List LaneFrame) → FollowUpFirst k tells replies sequence rest
           → Ordered a' rest
       recorded sequence t1 t2 t4 becomes late rest ahead =
           let asked : a'.asked ≡ a.asked = ap (λ (b : Asker). b.asked) becomes in
@@ -416,7 +416,7 @@ module _ (k : Setting) (least : ℕ) (asks : List ℕ → Request → Type 0) (r
 
       becomes : m'.pair.asker ≡ asks_now p.time act.sequence (k.asking_clock p.time) p.asker
       becomes = act.asker ∙ ap (λ (q : Progress).
-          asks_now p.time act.sequence (k.asking_clock p.time) (after_interval k.allowed q p.asker)) ended.closed
+          asks_now p.time act.sequence (k.asking_clock p.time) (asker_after_interval k.allowed q p.asker)) ended.closed
 
       by : Ordered p.asker p.back → Ordered m'.pair.asker p.back
       by (IsCapable late capable) =
@@ -430,7 +430,7 @@ module _ (k : Setting) (least : ℕ) (asks : List ℕ → Request → Type 0) (r
   pub order_kept : (gone from : ℕ) (m m' : Meter) → exchange_span k < k.period
       → first + k.period + k.most + k.turnaround < from → Facts k gone m.pair → InvFirst k least asks replies first m
       → MeterActs k asks replies m m'
-      → ((f : Frame) → In f m'.pair.back → tells f.octets → In f m.pair.back ⊎ (from ≤ m.pair.time))
+      → ((f : LaneFrame) → In f m'.pair.back → tells f.octets → In f m.pair.back ⊎ (from ≤ m.pair.time))
       → Ordered m.pair.asker m.pair.back → Ordered m'.pair.asker m'.pair.back
   order_kept gone from m m' short past facts inv (meter_asks act kept) sent order =
       ordered_asks gone m m' short facts act inv order

@@ -2,7 +2,7 @@
 use Rattle.std.proofs.Common.{◌≡◌, ◌+◌, ◌++◌, ℕ, List, ◌∷◌, Option, Some, None, refl, sym, ap, subst, ◌∙◌, inl}
 use Rattle.std.proofs.Common.{inr, arith}
 use Rattle.gptp_lists.specs.Members.{In}
-use Rattle.gptp_measuring.specs.Lanes.{Frame, IsMute, AreMute}
+use Rattle.gptp_measuring.specs.Lanes.{LaneFrame, IsMute, AreMute}
 use Rattle.gptp_measuring.specs.Messages.{Request, Reply, Response, FollowUp}
 use Rattle.gptp_measuring.specs.Setting.{Setting, IsBetween}
 use Rattle.gptp_measuring.specs.Asker.{Asker, Closed, own_request, asks_now}
@@ -17,7 +17,7 @@ use Rattle.gptp_measuring.proofs.LaneLemmas.{first_is_there}
 module _ (k : Setting) (least : ℕ) (asks : List ℕ → Request → Type 0) (replies : List ℕ → Reply → Type 0)
     (a : Asker) where
   -- frames that are no replies, behind the follow-up
-  follow_up_append : (sequence came : ℕ) (back news : List Frame) → AreMute replies news
+  follow_up_append : (sequence came : ℕ) (back news : List LaneFrame) → AreMute replies news
       → FollowUpInFlight k least asks replies sequence came back
       → FollowUpInFlight k least asks replies sequence came (back ++ news)
   follow_up_append sequence came back news mute =
@@ -25,7 +25,7 @@ module _ (k : Setting) (least : ℕ) (asks : List ℕ → Request → Type 0) (r
       back news (λ gs old. mute_append replies gs news old mute)
 
   -- frames that are no requests, sent to the port that answers, change no phase
-  pub more_out : (waits : Option Waiting) (out back news : List Frame) → AreMute asks news
+  pub more_out : (waits : Option Waiting) (out back news : List LaneFrame) → AreMute asks news
       → Phase k least asks replies a waits out back → Phase k least asks replies a waits (out ++ news) back
   more_out waits out back news mute (Rests closed asks_none none replies_none) =
       Rests closed (mute_append asks out news asks_none mute) none replies_none
@@ -41,7 +41,7 @@ module _ (k : Setting) (least : ℕ) (asks : List ℕ → Request → Type 0) (r
       FollowUpComes sequence came heard there home progress (mute_append asks out news asks_none mute) none follow_up
 
   -- frames that are no replies, sent to the port that asks, change no phase
-  pub more_back : (waits : Option Waiting) (out back news : List Frame) → AreMute replies news
+  pub more_back : (waits : Option Waiting) (out back news : List LaneFrame) → AreMute replies news
       → Phase k least asks replies a waits out back → Phase k least asks replies a waits out (back ++ news)
   more_back waits out back news mute (Rests closed asks_none none replies_none) =
       Rests closed asks_none none (mute_append replies back news replies_none mute)
@@ -59,13 +59,13 @@ module _ (k : Setting) (least : ℕ) (asks : List ℕ → Request → Type 0) (r
       (follow_up_append sequence came back news mute follow_up)
 
   -- octets that are no request leave what waits
-  kept_waiting : (time : ℕ) (front : Frame) (waits waits' : Option Waiting) → IsMute asks front
+  kept_waiting : (time : ℕ) (front : LaneFrame) (waits waits' : Option Waiting) → IsMute asks front
       → Notes k asks time front.octets waits waits' → waits' ≡ waits
   kept_waiting time front waits waits' mute (inl (nothing, kept)) = kept
   kept_waiting time front waits waits' mute (inr (request, one, new)) = absurd (mute request one.said)
 
   -- octets that are the last request make it wait
-  now_waiting : (sequence time : ℕ) (front : Frame) (waits waits' : Option Waiting)
+  now_waiting : (sequence time : ℕ) (front : LaneFrame) (waits waits' : Option Waiting)
       → asks front.octets (own_request k sequence)
       → Notes k asks time front.octets waits waits' → waits' ≡ Some (noted k (own_request k sequence) time)
   now_waiting sequence time front waits waits' said (inl (nothing, kept)) =
@@ -74,7 +74,7 @@ module _ (k : Setting) (least : ℕ) (asks : List ℕ → Request → Type 0) (r
       subst (λ (r : Request). waits' ≡ Some (noted k r time)) (sym (one.only (own_request k sequence) said)) new
 
   -- the port that answers hears the oldest frame: where that is the last request, it waits now
-  pub answerer_heard : (waits waits' : Option Waiting) (front : Frame) (rest back : List Frame) (time : ℕ)
+  pub answerer_heard : (waits waits' : Option Waiting) (front : LaneFrame) (rest back : List LaneFrame) (time : ℕ)
       → front.due ≡ time → Notes k asks time front.octets waits waits'
       → Phase k least asks replies a waits (front ∷ rest) back → Phase k least asks replies a waits' rest back
   answerer_heard waits waits' front rest back time now notes (Rests closed asks_none none replies_none) =
@@ -102,8 +102,8 @@ module _ (k : Setting) (least : ℕ) (asks : List ℕ → Request → Type 0) (r
       (kept_waiting time front waits waits' (asks_none front (inl refl)) notes ∙ none) follow_up
 
   -- the answer to the last request is response and follow-up, in this order
-  answer_in_flight : (sequence came : ℕ) (news : List Frame)
-      → ((f : Frame) (reply : Reply) → In f news → replies f.octets reply
+  answer_in_flight : (sequence came : ℕ) (news : List LaneFrame)
+      → ((f : LaneFrame) (reply : Reply) → In f news → replies f.octets reply
       → IsBetween (came + k.turnaround) f.due least k.most)
       → SendsAnswer k replies (noted k (own_request k sequence) came) (came + k.turnaround) news
       → ResponseInFlight k least asks replies sequence came news
@@ -129,8 +129,8 @@ module _ (k : Setting) (least : ℕ) (asks : List ℕ → Request → Type 0) (r
       (λ hs same mute. mute)) sent
 
   -- the answer's timer expires: what waited is in flight
-  pub answered : (waiting : Waiting) (out back news : List Frame) (time : ℕ) → waiting.due ≡ time
-      → ((f : Frame) (reply : Reply) → In f news → replies f.octets reply → IsBetween time f.due least k.most)
+  pub answered : (waiting : Waiting) (out back news : List LaneFrame) (time : ℕ) → waiting.due ≡ time
+      → ((f : LaneFrame) (reply : Reply) → In f news → replies f.octets reply → IsBetween time f.due least k.most)
       → SendsAnswer k replies waiting time news
       → Phase k least asks replies a (Some waiting) out back → Phase k least asks replies a None out (back ++ news)
   answered waiting out back news time now in_time sent (Rests closed asks_none none replies_none) = absurd cc
@@ -143,9 +143,9 @@ module _ (k : Setting) (least : ℕ) (asks : List ℕ → Request → Type 0) (r
       let own_sent : SendsAnswer k replies (noted k (own_request k sequence) came) (came + k.turnaround) news =
       subst (λ (w : Waiting). SendsAnswer k replies w (came + k.turnaround) news) same
       (subst (λ t. SendsAnswer k replies waiting t news) then sent) in
-      let due : (f : Frame) (reply : Reply) → In f news → replies f.octets reply
+      let due : (f : LaneFrame) (reply : Reply) → In f news → replies f.octets reply
       → IsBetween (came + k.turnaround) f.due least k.most =
-      subst (λ t. (f : Frame) (reply : Reply) → In f news → replies f.octets reply → IsBetween t f.due least k.most)
+      subst (λ t. (f : LaneFrame) (reply : Reply) → In f news → replies f.octets reply → IsBetween t f.due least k.most)
       then in_time in
       ResponseComes sequence came there progress asks_none refl
       (first_behind replies (IsItsResponse k least asks replies sequence came)
@@ -158,7 +158,7 @@ module _ (k : Setting) (least : ℕ) (asks : List ℕ → Request → Type 0) (r
       (FollowUpComes sequence came heard there home progress asks_none none follow_up) = absurd cc
 
   -- no reply is in flight while a request waits
-  pub silent_while_waiting : (waits : Option Waiting) (out back : List Frame) (w : Waiting) → waits ≡ Some w
+  pub silent_while_waiting : (waits : Option Waiting) (out back : List LaneFrame) (w : Waiting) → waits ≡ Some w
       → Phase k least asks replies a waits out back → AreMute replies back
   silent_while_waiting waits out back w some (Rests closed asks_none none replies_none) = replies_none
   silent_while_waiting waits out back w some (RequestGoes sequence progress request none replies_none) = replies_none
@@ -170,7 +170,7 @@ module _ (k : Setting) (least : ℕ) (asks : List ℕ → Request → Type 0) (r
       (FollowUpComes sequence came heard there home progress asks_none none follow_up) = absurd cc
 
   -- where nothing is pending, no request is open
-  pub closed_where_nothing_pends : (waits : Option Waiting) (out back : List Frame) → AreMute asks out → waits ≡ None
+  pub closed_where_nothing_pends : (waits : Option Waiting) (out back : List LaneFrame) → AreMute asks out → waits ≡ None
       → AreMute replies back → Phase k least asks replies a waits out back → a.progress ≡ Closed
   closed_where_nothing_pends waits out back asks_none none replies_none (Rests closed a1 n1 r1) = closed
   closed_where_nothing_pends waits out back asks_none none replies_none (RequestGoes sequence progress request n1 r1) =
@@ -193,8 +193,8 @@ module _ (k : Setting) (least : ℕ) (asks : List ℕ → Request → Type 0) (r
       (FollowUp k.answering (own_request k sequence) (k.answering_clock (came + k.turnaround))) is.0)
 
   -- a request that is sent where none is in flight is the only one
-  pub request_is_only : (out news : List Frame) (time sequence : ℕ) → AreMute asks out
-      → ((f : Frame) → In f news → asks f.octets (own_request k sequence) → IsBetween time f.due least k.most)
+  pub request_is_only : (out news : List LaneFrame) (time sequence : ℕ) → AreMute asks out
+      → ((f : LaneFrame) → In f news → asks f.octets (own_request k sequence) → IsBetween time f.due least k.most)
       → SendsRequest asks (own_request k sequence) news
       → RequestInFlight k least asks replies sequence time (out ++ news)
   request_is_only out news time sequence asks_none in_time sent =
@@ -205,9 +205,9 @@ module _ (k : Setting) (least : ℕ) (asks : List ℕ → Request → Type 0) (r
       (AreMute asks) news (λ f at said. (said, in_time f at said)) (λ gs same mute. mute) sent)
 
   -- where nothing else is pending it begins an exchange
-  pub request_goes : (waits : Option Waiting) (out back news : List Frame) (time sequence : ℕ) → AreMute asks out
+  pub request_goes : (waits : Option Waiting) (out back news : List LaneFrame) (time sequence : ℕ) → AreMute asks out
       → waits ≡ None → AreMute replies back
-      → ((f : Frame) → In f news → asks f.octets (own_request k sequence) → IsBetween time f.due least k.most)
+      → ((f : LaneFrame) → In f news → asks f.octets (own_request k sequence) → IsBetween time f.due least k.most)
       → SendsRequest asks (own_request k sequence) news
       → Phase k least asks replies (asks_now time sequence (k.asking_clock time) a) waits (out ++ news) back
   request_goes waits out back news time sequence asks_none none replies_none in_time sent =
@@ -215,7 +215,7 @@ module _ (k : Setting) (least : ℕ) (asks : List ℕ → Request → Type 0) (r
 
 -- whatever the least delay is, a phase is one where nothing is known of it
 pub phase_forgets : (k : Setting) (least : ℕ) (asks : List ℕ → Request → Type 0) (replies : List ℕ → Reply → Type 0)
-    (a : Asker) (waits : Option Waiting) (out back : List Frame) → Phase k least asks replies a waits out back
+    (a : Asker) (waits : Option Waiting) (out back : List LaneFrame) → Phase k least asks replies a waits out back
     → Phase k 0 asks replies a waits out back
 phase_forgets k least asks replies a waits out back (Rests closed asks_none none replies_none) =
     Rests closed asks_none none replies_none

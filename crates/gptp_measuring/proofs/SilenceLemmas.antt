@@ -4,7 +4,7 @@ use Rattle.std.proofs.Common.{subst, inl, inr, arith, List, [], ◌∷◌}
 use Rattle.std.proofs.Math.Nat.{add-mul, mul-le-mul_left, mul-le-mul_right}
 use Rattle.gptp_lists.specs.Members.{In}
 use Rattle.gptp_measuring.specs.Setting.{Setting}
-use Rattle.gptp_measuring.specs.Asker.{Asker, Progress, Closed, Asked, Answered, after_interval, given_up, asks_now}
+use Rattle.gptp_measuring.specs.Asker.{Asker, Progress, Closed, Asked, Answered, asker_after_interval, asker_given_up, asks_now}
 use Rattle.gptp_measuring.specs.Silence.{Unanswered, TimerFacts, AsksInVain, ActsInVain, InvUnanswered, IsRunInVain}
 use Rattle.gptp_measuring.specs.SilenceLaws.{RunsInVainEndIncapable}
 
@@ -15,7 +15,7 @@ module _ (k : Setting) (gone : ℕ) where
 
   -- a request that is given up counts as lost, and when too many are the port isn't capable
   accounts_given_up : (a : Asker) → a.lost ≤ k.allowed
-      → (a.capable ≡ true → a.asked ≤ gone + k.period + a.lost * k.period) → AccountsFor a.asked (given_up k.allowed a)
+      → (a.capable ≡ true → a.asked ≤ gone + k.period + a.lost * k.period) → AccountsFor a.asked (asker_given_up k.allowed a)
   unfolding AccountsFor
   accounts_given_up a lost since = by_test (nat_lt k.allowed (a.lost + 1)) refl
     where
@@ -41,7 +41,7 @@ module _ (k : Setting) (gone : ℕ) where
 
   -- an interval that ends leaves as much
   accounts_after : (s : Unanswered) → InvUnanswered k gone s → (q : Progress) → s.asker.progress ≡ q
-      → AccountsFor s.asker.asked (after_interval k.allowed q s.asker)
+      → AccountsFor s.asker.asked (asker_after_interval k.allowed q s.asker)
   unfolding AccountsFor
   accounts_after s inv Closed is = (
     inv.lost,
@@ -55,12 +55,12 @@ module _ (k : Setting) (gone : ℕ) where
 
   -- and then a request is sent
   asked_in_vain : (s s' : Unanswered) (act : AsksInVain k s s')
-      → AccountsFor s.asker.asked (after_interval k.allowed s.asker.progress s.asker) → InvUnanswered k gone s'
+      → AccountsFor s.asker.asked (asker_after_interval k.allowed s.asker.progress s.asker) → InvUnanswered k gone s'
   unfolding AccountsFor
   asked_in_vain s s' act (lost, counts) = of_asker s'.asker act.asker
     where
       next : Asker
-      next = asks_now s.time act.sequence act.t1 (after_interval k.allowed s.asker.progress s.asker)
+      next = asks_now s.time act.sequence act.t1 (asker_after_interval k.allowed s.asker.progress s.asker)
 
       of_asker : (a : Asker) → a ≡ next → InvUnanswered k gone (record { time = s'.time; asker = a })
       of_asker a e = rw e (record {
@@ -68,7 +68,7 @@ module _ (k : Setting) (gone : ℕ) where
         counts = λ capable. inr (
           (λ closed. absurd cc),
           let before : s.asker.asked
-              ≤ gone + (after_interval k.allowed s.asker.progress s.asker).lost * k.period = counts capable in
+              ≤ gone + (asker_after_interval k.allowed s.asker.progress s.asker).lost * k.period = counts capable in
               let now : s.asker.asked + k.period ≡ s.time = act.now in omega arith,
         );
       })

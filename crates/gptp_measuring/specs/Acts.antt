@@ -1,25 +1,25 @@
 -- The acts that two ports and their lanes see, on a link that loses nothing. How long a frame takes isn't said here:
 -- the due times of frames are facts of the state before and after.
 use Rattle.std.specs.Prelude.{◌≡◌, ◌++◌, ℕ, ◌+◌, List, ◌∷◌, Some, None}
-use Rattle.gptp_measuring.specs.Lanes.{Frame, AreMute, FirstIs}
+use Rattle.gptp_measuring.specs.Lanes.{LaneFrame, AreMute, FirstIs}
 use Rattle.gptp_measuring.specs.Messages.{Request, Reply, Response, FollowUp}
 use Rattle.gptp_measuring.specs.Setting.{Setting}
-use Rattle.gptp_measuring.specs.Asker.{own_request, after_interval, asks_now, Takes}
+use Rattle.gptp_measuring.specs.Asker.{own_request, asker_after_interval, asks_now, TakesReply}
 use Rattle.gptp_measuring.specs.Answerer.{Waiting, Notes}
 use Rattle.gptp_measuring.specs.Pair.{Pair}
 
 -- of the frames one is this request, and no other is a request
-abbrev pub SendsRequest : (List ℕ → Request → Type 0) → Request → List Frame → Type 0
+abbrev pub SendsRequest : (List ℕ → Request → Type 0) → Request → List LaneFrame → Type 0
 SendsRequest asks request news =
-    FirstIs asks (λ (f : Frame). asks f.octets request) (AreMute asks) news
+    FirstIs asks (λ (f : LaneFrame). asks f.octets request) (AreMute asks) news
 
 -- of the frames one is this reply, Q holds of those behind it, and those before it are no replies
-abbrev pub SendsReply : (List ℕ → Reply → Type 0) → Reply → (List Frame → Type 0) → List Frame → Type 0
-SendsReply replies reply Q news = FirstIs replies (λ (f : Frame). replies f.octets reply) Q news
+abbrev pub SendsReply : (List ℕ → Reply → Type 0) → Reply → (List LaneFrame → Type 0) → List LaneFrame → Type 0
+SendsReply replies reply Q news = FirstIs replies (λ (f : LaneFrame). replies f.octets reply) Q news
 
 -- of the frames two are replies: the response to the request that waited, with its t2, and behind it the follow-up,
 -- which has the local time as t3
-abbrev pub SendsAnswer : Setting → (List ℕ → Reply → Type 0) → Waiting → ℕ → List Frame → Type 0
+abbrev pub SendsAnswer : Setting → (List ℕ → Reply → Type 0) → Waiting → ℕ → List LaneFrame → Type 0
 SendsAnswer k replies waiting time news = SendsReply replies (Response k.answering waiting.request waiting.t2)
     (SendsReply replies (FollowUp k.answering waiting.request (k.answering_clock time)) (AreMute replies)) news
 
@@ -32,8 +32,8 @@ module _ (k : Setting) (asks : List ℕ → Request → Type 0) (replies : List 
     pub now : p.asker.asked + k.period ≡ p.time
     pub sequence : ℕ
     pub asker : p'.asker
-        ≡ asks_now p.time sequence (k.asking_clock p.time) (after_interval k.allowed p.asker.progress p.asker)
-    pub news : List Frame
+        ≡ asks_now p.time sequence (k.asking_clock p.time) (asker_after_interval k.allowed p.asker.progress p.asker)
+    pub news : List LaneFrame
     pub out : p'.out ≡ p.out ++ news
     pub sent : SendsRequest asks (own_request k sequence) news
 
@@ -41,13 +41,13 @@ module _ (k : Setting) (asks : List ℕ → Request → Type 0) (replies : List 
   pub record AskerHears : Type 0 where
     pub time : p'.time ≡ p.time
     pub waits : p'.waits ≡ p.waits
-    pub front : Frame
-    pub rest : List Frame
+    pub front : LaneFrame
+    pub rest : List LaneFrame
     pub was : p.back ≡ front ∷ rest
     pub now : front.due ≡ p.time
     pub back : p'.back ≡ rest
-    pub asker : Takes k replies p.time front.octets p.asker p'.asker
-    pub news : List Frame
+    pub asker : TakesReply k replies p.time front.octets p.asker p'.asker
+    pub news : List LaneFrame
     pub out : p'.out ≡ p.out ++ news
     pub mute : AreMute asks news
 
@@ -55,13 +55,13 @@ module _ (k : Setting) (asks : List ℕ → Request → Type 0) (replies : List 
   pub record AnswererHears : Type 0 where
     pub time : p'.time ≡ p.time
     pub asker : p'.asker ≡ p.asker
-    pub front : Frame
-    pub rest : List Frame
+    pub front : LaneFrame
+    pub rest : List LaneFrame
     pub was : p.out ≡ front ∷ rest
     pub now : front.due ≡ p.time
     pub out : p'.out ≡ rest
     pub waits : Notes k asks p.time front.octets p.waits p'.waits
-    pub news : List Frame
+    pub news : List LaneFrame
     pub back : p'.back ≡ p.back ++ news
     pub mute : AreMute replies news
 
@@ -74,7 +74,7 @@ module _ (k : Setting) (asks : List ℕ → Request → Type 0) (replies : List 
     pub was : p.waits ≡ Some waiting
     pub now : waiting.due ≡ p.time
     pub waits : p'.waits ≡ None
-    pub news : List Frame
+    pub news : List LaneFrame
     pub back : p'.back ≡ p.back ++ news
     pub sent : SendsAnswer k replies waiting p.time news
 
@@ -83,17 +83,17 @@ module _ (k : Setting) (asks : List ℕ → Request → Type 0) (replies : List 
     pub time : p'.time ≡ p.time
     pub asker : p'.asker ≡ p.asker
     pub waits : p'.waits ≡ p.waits
-    pub ahead : List Frame
-    pub behind : List Frame
+    pub ahead : List LaneFrame
+    pub behind : List LaneFrame
     pub out : p'.out ≡ p.out ++ ahead
     pub back : p'.back ≡ p.back ++ behind
     pub asks_nothing : AreMute asks ahead
     pub replies_nothing : AreMute replies behind
 
   -- one act
-  pub data Acts : Type 0 where
-    asks_again : RequestTimerExpires → Acts
-    asker_hears : AskerHears → Acts
-    answerer_hears : AnswererHears → Acts
-    answers : AnswerTimerExpires → Acts
-    others_send : OthersSend → Acts
+  pub data PortActs : Type 0 where
+    asks_again : RequestTimerExpires → PortActs
+    asker_hears : AskerHears → PortActs
+    answerer_hears : AnswererHears → PortActs
+    answers : AnswerTimerExpires → PortActs
+    others_send : OthersSend → PortActs

@@ -13,7 +13,7 @@ pub data Progress : Type 0 where
   Answered : ℕ → PortIdentity → ℤ → ℤ → ℤ → Progress
 
 -- `asked` is the time of the last request, which is one period before the request timer is due. The port has `measured`
--- where an exchange was completed since the reset, and so many requests were `lost` in a row without one.
+-- where an exchange was asker_completed since the reset, and so many requests were `lost` in a row without one.
 pub record Asker : Type 0 where
   pub asked : ℕ
   pub progress : Progress
@@ -26,16 +26,16 @@ abbrev pub own_request : Setting → ℕ → Request
 own_request k sequence = record { source = k.asking; sequence = sequence }
 
 -- An open request is given up: it counts as lost, and where more are lost than allowed the port is reset.
-abbrev pub given_up : ℕ → Asker → Asker
-given_up allowed a = if nat_lt allowed (a.lost + 1)
+abbrev pub asker_given_up : ℕ → Asker → Asker
+asker_given_up allowed a = if nat_lt allowed (a.lost + 1)
     then record a { progress = Closed; measured = false; lost = 0; capable = false }
     else record a { progress = Closed; lost = a.lost + 1 }
 
 -- what an interval that ends leaves: where no request is open nothing is given up
-abbrev pub after_interval : ℕ → Progress → Asker → Asker
-after_interval allowed Closed a = a
-after_interval allowed (Asked sequence t1) a = given_up allowed a
-after_interval allowed (Answered sequence source t1 t2 t4) a = given_up allowed a
+abbrev pub asker_after_interval : ℕ → Progress → Asker → Asker
+asker_after_interval allowed Closed a = a
+asker_after_interval allowed (Asked sequence t1) a = asker_given_up allowed a
+asker_after_interval allowed (Answered sequence source t1 t2 t4) a = asker_given_up allowed a
 
 -- a request is sent, at time and t1
 abbrev pub asks_now : ℕ → ℕ → ℤ → Asker → Asker
@@ -43,15 +43,15 @@ asks_now time sequence t1 a = record a { asked = time; progress = Asked sequence
 
 -- An exchange is complete; it is good where its delay is at most the threshold. The port is capable where it is good
 -- and isn't the first since the reset.
-abbrev pub completed : Bool → Asker → Asker
-completed good a =
+abbrev pub asker_completed : Bool → Asker → Asker
+asker_completed good a =
     record a { progress = Closed; measured = true; lost = 0; capable = a.measured && good }
 
 -- What the port makes of octets that it hears. Nothing, where they are no reply. Where a request is open, a response to
 -- it is recorded, with the local time as t4. Where one is recorded, a follow-up to it completes the exchange, which is
 -- good at least where the four times are those of one exchange over the link. Other replies send no request; no more is
 -- said of them.
-pub record Takes (k : Setting) (replies : List ℕ → Reply → Type 0) (time : ℕ) (octets : List ℕ) (a a' : Asker) : Type 0
+pub record TakesReply (k : Setting) (replies : List ℕ → Reply → Type 0) (time : ℕ) (octets : List ℕ) (a a' : Asker) : Type 0
   where
     pub nothing : ((r : Reply) → replies octets r → ⊥) → a' ≡ a
     pub asked : a'.asked ≡ a.asked
@@ -60,4 +60,4 @@ pub record Takes (k : Setting) (replies : List ℕ → Reply → Type 0) (time :
         → a' ≡ record a { progress = Answered sequence k.answering t1 t2 (k.asking_clock time) }
     pub follow_up : (sequence : ℕ) (t1 t2 t3 t4 : ℤ) → a.progress ≡ Answered sequence k.answering t1 t2 t4
         → replies octets (FollowUp k.answering (own_request k sequence) t3)
-        → (good : Bool) × (IsExchange k t1 t2 t3 t4 → good ≡ true) × (a' ≡ completed good a)
+        → (good : Bool) × (IsExchange k t1 t2 t3 t4 → good ≡ true) × (a' ≡ asker_completed good a)

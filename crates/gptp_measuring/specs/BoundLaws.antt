@@ -3,12 +3,12 @@ use Rattle.std.specs.Prelude.{ℕ, List}
 use Rattle.gptp_measuring.specs.Messages.{Request, Reply}
 use Rattle.gptp_measuring.specs.Setting.{Setting}
 use Rattle.gptp_measuring.specs.Pair.{Pair}
-use Rattle.gptp_measuring.specs.Acts.{Acts}
+use Rattle.gptp_measuring.specs.Acts.{PortActs}
 use Rattle.gptp_measuring.specs.Facts.{Facts}
 use Rattle.gptp_measuring.specs.Bounds.{Bounds}
 
 -- every act keeps the bounds
 abbrev pub BoundsAreKept : (List ℕ → Request → Type 0) → (List ℕ → Reply → Type 0) → Type 0
 BoundsAreKept asks replies = (k : Setting) (gone : ℕ) (p p' : Pair)
-    → Facts k gone p → Facts k gone p' → Acts k asks replies p p' → Bounds k asks replies gone p
+    → Facts k gone p → Facts k gone p' → PortActs k asks replies p p' → Bounds k asks replies gone p
     → Bounds k asks replies gone p'

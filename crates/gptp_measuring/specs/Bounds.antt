@@ -1,7 +1,7 @@
 -- How late what belongs to an exchange can be, by the time of the last request, whatever was in flight before.
 use Rattle.std.specs.Prelude.{◌≡◌, ℕ, ◌+◌, ◌≤◌, max, List, Some}
 use Rattle.gptp_lists.specs.Members.{In}
-use Rattle.gptp_measuring.specs.Lanes.{Frame}
+use Rattle.gptp_measuring.specs.Lanes.{LaneFrame}
 use Rattle.gptp_measuring.specs.Messages.{Request, Reply}
 use Rattle.gptp_measuring.specs.Setting.{Setting}
 use Rattle.gptp_measuring.specs.Answerer.{Waiting}
@@ -15,7 +15,7 @@ last_arrival k gone p = max gone (p.asker.asked + k.most)
 pub record Bounds (k : Setting) (asks : List ℕ → Request → Type 0) (replies : List ℕ → Reply → Type 0) (gone : ℕ)
     (p : Pair) : Type 0
   where
-    pub request : (f : Frame) (request : Request) → In f p.out → asks f.octets request → f.due ≤ last_arrival k gone p
+    pub request : (f : LaneFrame) (request : Request) → In f p.out → asks f.octets request → f.due ≤ last_arrival k gone p
     pub waiting : (w : Waiting) → p.waits ≡ Some w → w.due ≤ last_arrival k gone p + k.turnaround
-    pub reply : (f : Frame) (reply : Reply) → In f p.back → replies f.octets reply
+    pub reply : (f : LaneFrame) (reply : Reply) → In f p.back → replies f.octets reply
         → f.due ≤ last_arrival k gone p + k.turnaround + k.most

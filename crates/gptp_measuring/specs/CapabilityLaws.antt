@@ -5,51 +5,51 @@ use Rattle.gptp_graph.specs.Snapshot.{PortIdentity}
 use Rattle.gptp_pdelay.specs.GoodLink.{IsGoodLink}
 use Rattle.gptp_measuring.specs.Messages.{Request, Reply}
 use Rattle.gptp_measuring.specs.Setting.{Setting}
-use Rattle.gptp_measuring.specs.Pair.{Pair, Passes}
-use Rattle.gptp_measuring.specs.Asker.{Closed, Answered, completed}
-use Rattle.gptp_measuring.specs.Acts.{AskerHears, Acts}
+use Rattle.gptp_measuring.specs.Pair.{Pair, TimeOnlyPasses}
+use Rattle.gptp_measuring.specs.Asker.{Closed, Answered, asker_completed}
+use Rattle.gptp_measuring.specs.Acts.{AskerHears, PortActs}
 use Rattle.gptp_measuring.specs.Facts.{Facts, IsGood}
-use Rattle.gptp_measuring.specs.Invariant.{Inv, IsFresh}
-use Rattle.gptp_measuring.specs.Runs.{IsRun}
+use Rattle.gptp_measuring.specs.Invariant.{PortInvariant, IsJustChanged}
+use Rattle.gptp_measuring.specs.Runs.{IsPortRun}
 
 module _ (asks : List ℕ → Request → Type 0) (replies : List ℕ → Reply → Type 0) where
   -- every act keeps the invariant
-  abbrev pub InvIsKept : Type 0
-  InvIsKept = (k : Setting) (gone calm : ℕ) (p p' : Pair)
-      → IsGood k gone calm → Facts k gone p → Facts k gone p' → Acts k asks replies p p'
-      → Inv k asks replies gone calm p
-      → Inv k asks replies gone calm p'
+  abbrev pub PortInvariantIsKept : Type 0
+  PortInvariantIsKept = (k : Setting) (gone calm : ℕ) (p p' : Pair)
+      → IsGood k gone calm → Facts k gone p → Facts k gone p' → PortActs k asks replies p p'
+      → PortInvariant k asks replies gone calm p
+      → PortInvariant k asks replies gone calm p'
 
   -- time that passes keeps it
-  abbrev pub InvHoldsLater : Type 0
-  InvHoldsLater = (k : Setting) (gone calm : ℕ) (p p' : Pair)
-      → Passes p p' → Inv k asks replies gone calm p
-      → Inv k asks replies gone calm p'
+  abbrev pub PortInvariantHoldsLater : Type 0
+  PortInvariantHoldsLater = (k : Setting) (gone calm : ℕ) (p p' : Pair)
+      → TimeOnlyPasses p p' → PortInvariant k asks replies gone calm p
+      → PortInvariant k asks replies gone calm p'
 
   -- it holds just after every change
-  abbrev pub InvBegins : Type 0
-  InvBegins = (k : Setting) (gone calm : ℕ) (p : Pair)
-      → IsFresh k gone calm p
-      → Inv k asks replies gone calm p
+  abbrev pub PortInvariantBegins : Type 0
+  PortInvariantBegins = (k : Setting) (gone calm : ℕ) (p : Pair)
+      → IsJustChanged k gone calm p
+      → PortInvariant k asks replies gone calm p
 
   -- a request that was sent at `calm` or later isn't lost: when its period ends it is closed
   abbrev pub NoRequestIsLost : Type 0
   NoRequestIsLost = (k : Setting) (gone calm : ℕ) (p : Pair)
-      → IsGood k gone calm → Facts k gone p → Inv k asks replies gone calm p → calm ≤ p.asker.asked
+      → IsGood k gone calm → Facts k gone p → PortInvariant k asks replies gone calm p → calm ≤ p.asker.asked
       → p.asker.asked + k.period ≡ p.time
       → p.asker.progress ≡ Closed
 
   -- its exchange is good: where its response is recorded, what is heard leaves that so, or completes the exchange well
   abbrev pub NoExchangeIsBad : Type 0
   NoExchangeIsBad = (k : Setting) (gone calm : ℕ) (p p' : Pair) (sequence : ℕ) (source : PortIdentity) (t1 t2 t4 : ℤ)
-      → Inv k asks replies gone calm p → calm ≤ p.asker.asked → p.asker.progress ≡ Answered sequence source t1 t2 t4
+      → PortInvariant k asks replies gone calm p → calm ≤ p.asker.asked → p.asker.progress ≡ Answered sequence source t1 t2 t4
       → AskerHears k asks replies p p'
-      → (p'.asker ≡ p.asker) ⊎ (p'.asker ≡ completed true p.asker)
+      → (p'.asker ≡ p.asker) ⊎ (p'.asker ≡ asker_completed true p.asker)
 
   -- three periods after `calm` the port is capable
   abbrev pub CapableFromCalm : Type 0
   CapableFromCalm = (k : Setting) (gone calm : ℕ) (p : Pair)
-      → Facts k gone p → Inv k asks replies gone calm p → calm + 3 * k.period ≤ p.time
+      → Facts k gone p → PortInvariant k asks replies gone calm p → calm + 3 * k.period ≤ p.time
       → p.asker.capable ≡ true
 
 -- L + 5 announce intervals after the last change the port is capable, where old frames are gone after one of them and L
@@ -57,7 +57,7 @@ module _ (asks : List ℕ → Request → Type 0) (replies : List ℕ → Reply 
 abbrev pub CapabilitySettles : (List ℕ → Request → Type 0) → (List ℕ → Reply → Type 0) → Type 0
 CapabilitySettles asks replies = (k : Setting) (change interval : ℕ) (p : Pair)
     → k.period ≤ interval → Facts k (change + interval) p
-    → Inv k asks replies (change + interval) (change + 2 * interval) p
+    → PortInvariant k asks replies (change + interval) (change + 2 * interval) p
     → change + (k.allowed + 5) * interval ≤ p.time
     → p.asker.capable ≡ true
 
@@ -66,6 +66,6 @@ CapabilitySettles asks replies = (k : Setting) (change interval : ℕ) (p : Pair
 abbrev pub RunsEndCapable : (List ℕ → Request → Type 0) → (List ℕ → Reply → Type 0) → Type 0
 RunsEndCapable asks replies = (k : Setting) (threshold change interval : ℕ) (p q : Pair) (run : List Pair)
     → IsGoodLink k.most k.turnaround threshold → 2 * threshold + k.turnaround < k.period → k.period ≤ interval
-    → IsFresh k (change + interval) (change + 2 * interval) p
-    → IsRun k asks replies (change + interval) p run → In q (p ∷ run) → change + (k.allowed + 5) * interval ≤ q.time
+    → IsJustChanged k (change + interval) (change + 2 * interval) p
+    → IsPortRun k asks replies (change + interval) p run → In q (p ∷ run) → change + (k.allowed + 5) * interval ≤ q.time
     → q.asker.capable ≡ true

@@ -5,7 +5,7 @@ use Rattle.gptp_measuring.specs.Asker.{Asker, Closed}
 
 -- The first request from `calm` on begins an exchange that finds nothing old. One period later, or once that request is
 -- closed, the port has measured; and another period later, or once the request after it is closed, it is capable.
-pub record Counts (k : Setting) (calm : ℕ) (a : Asker) : Type 0 where
+pub record RequestsMeasure (k : Setting) (calm : ℕ) (a : Asker) : Type 0 where
   pub one : (calm + k.period ≤ a.asked) ⊎ (a.progress ≡ Closed) → a.measured ≡ true
   pub two : (calm + 2 * k.period ≤ a.asked) ⊎ ((calm + k.period ≤ a.asked) × (a.progress ≡ Closed))
       → a.capable ≡ true

@@ -3,14 +3,14 @@ use Rattle.std.specs.Prelude.{ℕ, ◌+◌, ◌*◌, ◌<◌, ◌≤◌, List}
 use Rattle.gptp_pdelay.specs.GoodLink.{IsGoodLink}
 use Rattle.gptp_measuring.specs.Messages.{Request, Reply}
 use Rattle.gptp_measuring.specs.Setting.{Setting}
-use Rattle.gptp_measuring.specs.Pair.{Pair, at_time}
-use Rattle.gptp_measuring.specs.Acts.{Acts}
+use Rattle.gptp_measuring.specs.Pair.{Pair, pair_at_time}
+use Rattle.gptp_measuring.specs.Acts.{PortActs}
 use Rattle.gptp_measuring.specs.Facts.{Facts, IsSentInTime, NothingIsDueBefore, IsGood}
 
 -- every act keeps the facts, where it sends in time
 abbrev pub FactsAreKept : (List ℕ → Request → Type 0) → (List ℕ → Reply → Type 0) → Type 0
 FactsAreKept asks replies = (k : Setting) (gone : ℕ) (p p' : Pair)
-    → Acts k asks replies p p' → IsSentInTime k p.time p.out p'.out → IsSentInTime k p.time p.back p'.back
+    → PortActs k asks replies p p' → IsSentInTime k p.time p.out p'.out → IsSentInTime k p.time p.back p'.back
     → Facts k gone p
     → Facts k gone p'
 
@@ -18,7 +18,7 @@ FactsAreKept asks replies = (k : Setting) (gone : ℕ) (p p' : Pair)
 abbrev pub FactsHoldLater : Type 0
 FactsHoldLater = (k : Setting) (gone time : ℕ) (p : Pair)
     → p.time ≤ time → NothingIsDueBefore k time p → Facts k gone p
-    → Facts k gone (at_time p time)
+    → Facts k gone (pair_at_time p time)
 
 -- The limits on threshold, turnaround and intervals leave an exchange over a good link its time, where old frames are
 -- gone one announce interval after the last change, and exchanges that begin two after it find nothing old.

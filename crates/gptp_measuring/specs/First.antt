@@ -38,7 +38,7 @@ module _ (k : Setting) (least : ℕ) (asks : List ℕ → Request → Type 0) (r
       ⊎ ((first : ℕ) × (gone ≤ first) × (first ≤ by) × InvFirst first m)
 
   -- the port has just sent its first request, and nothing else is in flight or waits
-  pub record IsFirst (sequence first : ℕ) (p : Pair) : Type 0 where
+  pub record HasJustAsked (sequence first : ℕ) (p : Pair) : Type 0 where
     pub asked : p.asker.asked ≡ first
     pub progress : p.asker.progress ≡ Asked sequence (k.asking_clock first)
     pub out : RequestInFlight k least asks replies sequence first p.out

@@ -6,7 +6,7 @@ use Rattle.gptp_measuring.specs.Setting.{Setting}
 use Rattle.gptp_measuring.specs.Facts.{Facts, IsSentLate}
 use Rattle.gptp_measuring.specs.Meter.{Meter, MeterActs, MeterPasses}
 use Rattle.gptp_measuring.specs.Measured.{HasMeasured}
-use Rattle.gptp_measuring.specs.First.{AsksBy, InvFirst, IsFirst}
+use Rattle.gptp_measuring.specs.First.{AsksBy, InvFirst, HasJustAsked}
 
 -- how long an exchange over the link takes at most
 abbrev pub exchange_span : Setting → ℕ
@@ -16,7 +16,7 @@ module _ (asks : List ℕ → Request → Type 0) (replies : List ℕ → Reply 
   -- the invariant holds just behind the first request
   abbrev pub FirstBegins : Type 0
   FirstBegins = (k : Setting) (least sequence first : ℕ) (m : Meter)
-      → 0 < k.period → IsFirst k least asks replies sequence first m.pair
+      → 0 < k.period → HasJustAsked k least asks replies sequence first m.pair
       → InvFirst k least asks replies first m
 
   -- every act keeps it, where old frames were gone by the first request, and the answer of a request is back before the

@@ -5,7 +5,7 @@ use Rattle.gptp_pdelay.specs.GoodLink.{IsGoodLink}
 use Rattle.gptp_measuring.specs.Messages.{Request, Reply}
 use Rattle.gptp_measuring.specs.Setting.{Setting}
 use Rattle.gptp_measuring.specs.Facts.{Facts, IsGood, IsSentLate}
-use Rattle.gptp_measuring.specs.Invariant.{Inv, IsFresh}
+use Rattle.gptp_measuring.specs.Invariant.{PortInvariant, IsJustChanged}
 use Rattle.gptp_measuring.specs.Meter.{Meter, MeterActs, MeterPasses}
 use Rattle.gptp_measuring.specs.Measured.{HasMeasured, MeterInv}
 use Rattle.gptp_measuring.specs.Runs.{IsMeterRun}
@@ -28,14 +28,14 @@ module _ (asks : List ℕ → Request → Type 0) (replies : List ℕ → Reply 
   -- it holds just after every change
   abbrev pub MeterInvBegins : Type 0
   MeterInvBegins = (k : Setting) (least gone calm : ℕ) (m : Meter)
-      → IsFresh k gone calm m.pair
+      → IsJustChanged k gone calm m.pair
       → MeterInv k least asks replies gone calm m
 
   -- so the invariant of capability holds too, in which nothing is known of the least delay
   abbrev pub MeterInvIsInv : Type 0
   MeterInvIsInv = (k : Setting) (least gone calm : ℕ) (m : Meter)
       → MeterInv k least asks replies gone calm m
-      → Inv k asks replies gone calm m.pair
+      → PortInvariant k asks replies gone calm m.pair
 
   -- three periods after `calm` the last measurement is that of two exchanges, one after the other
   abbrev pub MeasuredFromCalm : Type 0
@@ -56,6 +56,6 @@ module _ (asks : List ℕ → Request → Type 0) (replies : List ℕ → Reply 
   abbrev pub RunsEndMeasured : Type 0
   RunsEndMeasured = (k : Setting) (least threshold change interval : ℕ) (m n : Meter) (run : List Meter)
       → IsGoodLink k.most k.turnaround threshold → 2 * threshold + k.turnaround < k.period → k.period ≤ interval
-      → IsFresh k (change + interval) (change + 2 * interval) m.pair
+      → IsJustChanged k (change + interval) (change + 2 * interval) m.pair
       → IsMeterRun k least asks replies (change + interval) m run → In n (m ∷ run) → change + 5 * interval ≤ n.pair.time
       → HasMeasured k least n.last

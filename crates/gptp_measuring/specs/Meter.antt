@@ -5,9 +5,9 @@ use Rattle.gptp_pdelay.specs.Exchange.{mean_delay, neighbor_rate}
 use Rattle.gptp_measuring.specs.Messages.{Request, Reply, Response, FollowUp}
 use Rattle.gptp_measuring.specs.Setting.{Setting}
 use Rattle.gptp_measuring.specs.Asker.{Asker, Closed, Asked, Answered, own_request}
-use Rattle.gptp_measuring.specs.Pair.{Pair, at_time}
+use Rattle.gptp_measuring.specs.Pair.{Pair, pair_at_time}
 use Rattle.gptp_measuring.specs.Acts.{RequestTimerExpires, AskerHears, AnswererHears, AnswerTimerExpires, OthersSend}
-use Rattle.gptp_measuring.specs.Acts.{Acts, asks_again, asker_hears, answerer_hears, answers, others_send}
+use Rattle.gptp_measuring.specs.Acts.{PortActs, asks_again, asker_hears, answerer_hears, answers, others_send}
 
 -- the two ports, and the last measurement of the one that asks since its reset
 pub record Meter : Type 0 where
@@ -47,7 +47,7 @@ module _ (k : Setting) (asks : List ℕ → Request → Type 0) (replies : List 
     meter_rests : OthersSend k asks replies m.pair m'.pair → m'.last ≡ m.last → MeterActs
 
   -- the act of the two ports alone
-  abbrev pub act_of : MeterActs → Acts k asks replies m.pair m'.pair
+  abbrev pub act_of : MeterActs → PortActs k asks replies m.pair m'.pair
   act_of (meter_asks act kept) = asks_again act
   act_of (meter_hears act takes) = asker_hears act
   act_of (meter_heard act kept) = answerer_hears act
@@ -57,4 +57,4 @@ module _ (k : Setting) (asks : List ℕ → Request → Type 0) (replies : List 
 -- time passes and nothing else happens
 abbrev pub MeterPasses : Meter → Meter → Type 0
 MeterPasses m m' = (time : ℕ) × (m.pair.time ≤ time)
-    × (m' ≡ record { pair = at_time m.pair time; last = m.last })
+    × (m' ≡ record { pair = pair_at_time m.pair time; last = m.last })

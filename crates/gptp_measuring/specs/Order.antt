@@ -2,7 +2,7 @@
 use Rattle.std.specs.Prelude.{◌≡◌, ◌≢◌, ⊤, ℕ, ℤ, ◌+◌, ◌≤◌, true, false, List}
 use Rattle.gptp_lists.specs.Members.{In}
 use Rattle.gptp_graph.specs.Snapshot.{PortIdentity}
-use Rattle.gptp_measuring.specs.Lanes.{Frame, FirstIs}
+use Rattle.gptp_measuring.specs.Lanes.{LaneFrame, FirstIs}
 use Rattle.gptp_measuring.specs.Messages.{Reply, Response, FollowUp}
 use Rattle.gptp_measuring.specs.Setting.{Setting}
 use Rattle.gptp_measuring.specs.Asker.{Asker, Closed, Asked, Answered, own_request}
@@ -27,34 +27,34 @@ pub data Heard : Type 0 where
   Answers : Reply → Heard
   Tells : Heard
 
-abbrev pub either : (List ℕ → Type 0) → (List ℕ → Reply → Type 0) → List ℕ → Heard → Type 0
-either tells replies octets (Answers reply) = replies octets reply
-either tells replies octets Tells = tells octets
+abbrev pub either_order : (List ℕ → Type 0) → (List ℕ → Reply → Type 0) → List ℕ → Heard → Type 0
+either_order tells replies octets (Answers reply) = replies octets reply
+either_order tells replies octets Tells = tells octets
 
 -- no frame of the lane tells
-abbrev pub AreUntold : (List ℕ → Type 0) → List Frame → Type 0
-AreUntold tells fs = (f : Frame) → In f fs → tells f.octets → ⊥
+abbrev pub AreUntold : (List ℕ → Type 0) → List LaneFrame → Type 0
+AreUntold tells fs = (f : LaneFrame) → In f fs → tells f.octets → ⊥
 
 module _ (k : Setting) (tells : List ℕ → Type 0) (replies : List ℕ → Reply → Type 0) (sequence : ℕ) where
   -- the frame is a response, or a follow-up, to that request
-  abbrev pub AnswersIt : Frame → Type 0
+  abbrev pub AnswersIt : LaneFrame → Type 0
   AnswersIt f = (t2 : ℤ) × replies f.octets (Response k.answering (own_request k sequence) t2)
 
-  abbrev pub FollowsIt : Frame → Type 0
+  abbrev pub FollowsIt : LaneFrame → Type 0
   FollowsIt f = (t3 : ℤ) × replies f.octets (FollowUp k.answering (own_request k sequence) t3)
 
   -- no frame before the follow-up tells
-  abbrev pub FollowUpFirst : List Frame → Type 0
-  FollowUpFirst fs = FirstIs (either tells replies) FollowsIt (λ gs. ⊤) fs
+  abbrev pub FollowUpFirst : List LaneFrame → Type 0
+  FollowUpFirst fs = FirstIs (either_order tells replies) FollowsIt (λ gs. ⊤) fs
 
   -- nor does one before the response
-  abbrev pub ResponseFirst : List Frame → Type 0
-  ResponseFirst fs = FirstIs (either tells replies) AnswersIt FollowUpFirst fs
+  abbrev pub ResponseFirst : List LaneFrame → Type 0
+  ResponseFirst fs = FirstIs (either_order tells replies) AnswersIt FollowUpFirst fs
 
 module _ (k : Setting) (tells : List ℕ → Type 0) (replies : List ℕ → Reply → Type 0) (first : ℕ) (a : Asker) where
   -- What tells comes behind the follow-up that makes the port capable: the port is capable; or nothing that tells is in
   -- flight to it; or what is in flight is behind the answer to the second request, or to a later one.
-  pub data IsOrdered (back : List Frame) : Type 0 where
+  pub data IsOrdered (back : List LaneFrame) : Type 0 where
     IsCapable : first + k.period ≤ a.asked → a.capable ≡ true → IsOrdered back
     Untold : AreUntold tells back → IsOrdered back
     ResponseAhead : (sequence : ℕ) (t1 : ℤ) → first + k.period ≤ a.asked → a.progress ≡ Asked sequence t1

@@ -2,7 +2,7 @@
 -- finds it capable.
 use Rattle.std.specs.Prelude.{◌≡◌, ◌⊎◌, ℕ, ◌+◌, ◌<◌, ◌≤◌, true, List}
 use Rattle.gptp_lists.specs.Members.{In}
-use Rattle.gptp_measuring.specs.Lanes.{Frame}
+use Rattle.gptp_measuring.specs.Lanes.{LaneFrame}
 use Rattle.gptp_measuring.specs.Messages.{Request, Reply}
 use Rattle.gptp_measuring.specs.Setting.{Setting}
 use Rattle.gptp_measuring.specs.Acts.{AskerHears}
@@ -37,7 +37,7 @@ module _ (asks : List ℕ → Request → Type 0) (replies : List ℕ → Reply 
   OrderIsKept tells = (k : Setting) (least gone first from : ℕ) (m m' : Meter)
       → exchange_span k < k.period → first + k.period + k.most + k.turnaround < from
       → Facts k gone m.pair → InvFirst k least asks replies first m → MeterActs k asks replies m m'
-      → ((f : Frame) → In f m'.pair.back → tells f.octets → In f m.pair.back ⊎ (from ≤ m.pair.time))
+      → ((f : LaneFrame) → In f m'.pair.back → tells f.octets → In f m.pair.back ⊎ (from ≤ m.pair.time))
       → IsOrdered k tells replies first m.pair.asker m.pair.back
       → IsOrdered k tells replies first m'.pair.asker m'.pair.back
 

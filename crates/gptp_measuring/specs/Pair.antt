@@ -1,7 +1,7 @@
 -- The two ports of one direction of a link, as far as the one measures the delay to the other, and the two lanes
 -- between them. The other direction of the link is a second such pair over the same lanes, exchanged.
 use Rattle.std.specs.Prelude.{◌≡◌, ◌≤◌, ℕ, List, Option}
-use Rattle.gptp_measuring.specs.Lanes.{Frame}
+use Rattle.gptp_measuring.specs.Lanes.{LaneFrame}
 use Rattle.gptp_measuring.specs.Asker.{Asker}
 use Rattle.gptp_measuring.specs.Answerer.{Waiting}
 
@@ -11,13 +11,13 @@ pub record Pair : Type 0 where
   pub time : ℕ
   pub asker : Asker
   pub waits : Option Waiting
-  pub out : List Frame
-  pub back : List Frame
+  pub out : List LaneFrame
+  pub back : List LaneFrame
 
 -- the same at another time
-abbrev pub at_time : Pair → ℕ → Pair
-at_time p time = record p { time = time }
+abbrev pub pair_at_time : Pair → ℕ → Pair
+pair_at_time p time = record p { time = time }
 
 -- time passes and nothing else happens
-abbrev pub Passes : Pair → Pair → Type 0
-Passes p p' = (time : ℕ) × (p.time ≤ time) × (p' ≡ at_time p time)
+abbrev pub TimeOnlyPasses : Pair → Pair → Type 0
+TimeOnlyPasses p p' = (time : ℕ) × (p.time ≤ time) × (p' ≡ pair_at_time p time)

@@ -2,19 +2,19 @@
 use Rattle.std.specs.Prelude.{◌⊎◌, ℕ, List, [], ◌∷◌}
 use Rattle.gptp_measuring.specs.Messages.{Request, Reply}
 use Rattle.gptp_measuring.specs.Setting.{Setting}
-use Rattle.gptp_measuring.specs.Pair.{Pair, Passes}
-use Rattle.gptp_measuring.specs.Acts.{Acts}
+use Rattle.gptp_measuring.specs.Pair.{Pair, TimeOnlyPasses}
+use Rattle.gptp_measuring.specs.Acts.{PortActs}
 use Rattle.gptp_measuring.specs.Facts.{Facts, IsSentLate}
 use Rattle.gptp_measuring.specs.Meter.{Meter, MeterActs, MeterPasses}
 
 -- time passes, or one act happens
 abbrev pub IsStep : Setting → (List ℕ → Request → Type 0) → (List ℕ → Reply → Type 0) → Pair → Pair → Type 0
-IsStep k asks replies p p' = Passes p p' ⊎ Acts k asks replies p p'
+IsStep k asks replies p p' = TimeOnlyPasses p p' ⊎ PortActs k asks replies p p'
 
 -- from p the states of the list come in turn, each by one step, and of all of them the facts are known
-abbrev pub IsRun : Setting → (List ℕ → Request → Type 0) → (List ℕ → Reply → Type 0) → ℕ → Pair → List Pair → Type 0
-IsRun k asks replies gone p [] = Facts k gone p
-IsRun k asks replies gone p (q ∷ rest) = Facts k gone p × IsStep k asks replies p q × IsRun k asks replies gone q rest
+abbrev pub IsPortRun : Setting → (List ℕ → Request → Type 0) → (List ℕ → Reply → Type 0) → ℕ → Pair → List Pair → Type 0
+IsPortRun k asks replies gone p [] = Facts k gone p
+IsPortRun k asks replies gone p (q ∷ rest) = Facts k gone p × IsStep k asks replies p q × IsPortRun k asks replies gone q rest
 
 -- time passes, or one act happens whose new frames take the least delay or more, with what becomes of the measurement
 abbrev pub IsMeterStep : Setting → ℕ → (List ℕ → Request → Type 0) → (List ℕ → Reply → Type 0) → Meter → Meter → Type 0

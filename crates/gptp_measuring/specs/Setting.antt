@@ -17,8 +17,8 @@ pub record Setting : Type 0 where
   pub answering_clock : ℕ → ℤ
 
 -- y is from s on, by s + most at the latest
-abbrev pub IsInTime : ℕ → ℕ → ℕ → Type 0
-IsInTime s y most = (s ≤ y) × (y ≤ s + most)
+abbrev pub IsByMost : ℕ → ℕ → ℕ → Type 0
+IsByMost s y most = (s ≤ y) × (y ≤ s + most)
 
 -- y is from s + least on, by s + most at the latest
 abbrev pub IsBetween : ℕ → ℕ → ℕ → ℕ → Type 0
@@ -35,5 +35,5 @@ pub record IsExchange (k : Setting) (t1 t2 t3 t4 : ℤ) : Type 0 where
   pub is_t2 : t2 ≡ k.answering_clock came
   pub is_t3 : t3 ≡ k.answering_clock (came + k.turnaround)
   pub is_t4 : t4 ≡ k.asking_clock back
-  pub there : IsInTime sent came k.most
-  pub home : IsInTime (came + k.turnaround) back k.most
+  pub there : IsByMost sent came k.most
+  pub home : IsByMost (came + k.turnaround) back k.most

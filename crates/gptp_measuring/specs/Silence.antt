@@ -1,6 +1,6 @@
 -- A port on a link whose other end has failed: after the old frames nothing comes, and each request is lost.
 use Rattle.std.specs.Prelude.{◌≡◌, ◌≢◌, ◌⊎◌, ℕ, ◌+◌, ◌*◌, ◌≤◌, ℤ, true, List, [], ◌∷◌}
-use Rattle.gptp_measuring.specs.Asker.{Asker, Closed, after_interval, asks_now}
+use Rattle.gptp_measuring.specs.Asker.{Asker, Closed, asker_after_interval, asks_now}
 use Rattle.gptp_measuring.specs.Setting.{Setting}
 
 -- the time, and the port that asks
@@ -19,7 +19,7 @@ pub record AsksInVain (k : Setting) (s s' : Unanswered) : Type 0 where
   pub now : s.asker.asked + k.period ≡ s.time
   pub sequence : ℕ
   pub t1 : ℤ
-  pub asker : s'.asker ≡ asks_now s.time sequence t1 (after_interval k.allowed s.asker.progress s.asker)
+  pub asker : s'.asker ≡ asks_now s.time sequence t1 (asker_after_interval k.allowed s.asker.progress s.asker)
 
 -- an old frame is heard, whatever it does to the exchange: it sends no request, and loses none
 pub record HearsOld (gone : ℕ) (s s' : Unanswered) : Type 0 where

@@ -1,6 +1,6 @@
 //! Laws on a port on a link that is up, loses nothing and is good, between two live systems.
 
-ghost use Rattle.gptp_measuring.specs.CapabilityLaws.{InvIsKept, InvHoldsLater, InvBegins};
+ghost use Rattle.gptp_measuring.specs.CapabilityLaws.{PortInvariantIsKept, PortInvariantHoldsLater, PortInvariantBegins};
 ghost use Rattle.gptp_measuring.specs.CapabilityLaws.{NoRequestIsLost, NoExchangeIsBad};
 ghost use Rattle.gptp_measuring.specs.CapabilityLaws.{CapableFromCalm, CapabilitySettles, RunsEndCapable};
 
@@ -9,17 +9,17 @@ use crate::coding::Coding;
 /// Every act keeps the invariant: an exchange that begins after the old frames are gone goes through its phases, and
 /// with the second of them the port is capable.
 pub fn invariant_kept<C: Coding>()
-    ensures { InvIsKept C.asks C.replies }
+    ensures { PortInvariantIsKept C.asks C.replies }
 {}
 
 /// The invariant holds as time passes.
 pub fn invariant_holds_later<C: Coding>()
-    ensures { InvHoldsLater C.asks C.replies }
+    ensures { PortInvariantHoldsLater C.asks C.replies }
 {}
 
 /// The invariant holds just after every change, whatever is open and in flight.
 pub fn invariant_begins<C: Coding>()
-    ensures { InvBegins C.asks C.replies }
+    ensures { PortInvariantBegins C.asks C.replies }
 {}
 
 /// No request that is sent after the old frames are gone is lost: its exchange is complete before the next request.

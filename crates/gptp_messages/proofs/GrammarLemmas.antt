@@ -9,9 +9,9 @@ use Rattle.gptp_messages.specs.declared.refused.Refused.{Refused}
 use Rattle.gptp_messages.specs.declared.tlv.TlvKind.TheVariants.{PathTrace, Information}
 use Rattle.gptp_messages.specs.Frame.{field}
 use Rattle.gptp_messages.specs.Tlv.{FirstTlv}
-use Rattle.gptp_messages.specs.Announce.{IsPath, ReadsPath, announce_tlvs}
+use Rattle.gptp_messages.specs.Announce.{IsPathTrace, ReadsPath, announce_tlvs}
 use Rattle.gptp_messages.specs.FollowUp.{ReadsRate, follow_up_tlvs}
-use Rattle.gptp_messages.specs.Grammar.{PassesHeader, ReadsTlvs, message_of, Reads, RefusesTlvs, RefusesStamp, Refuses}
+use Rattle.gptp_messages.specs.Grammar.{PassesHeader, ReadsTlvs, message_of, Reads, RefusesTlvs, RefusesStamp, RefusesFrame}
 use Rattle.gptp_messages.proofs.TlvLemmas.{one_first}
 
 -- a path trace whose length is no multiple of eight has no reading
@@ -19,11 +19,11 @@ pub odd_path : (octets value path : List ℕ) → FirstTlv PathTrace octets (Som
     → ReadsPath octets path → ⊥
 odd_path octets value path first odd reads =
     let e = one_first PathTrace octets reads.value (Some value) reads.first first in
-    let is : IsPath (Some value) path = rw e at reads.is in
+    let is : IsPathTrace (Some value) path = rw e at reads.is in
     odd is.0
 
 -- one value of a path trace is one path
-one_value : (v : Option (List ℕ)) (p q : List ℕ) → IsPath v p → IsPath v q → p ≡ q
+one_value : (v : Option (List ℕ)) (p q : List ℕ) → IsPathTrace v p → IsPathTrace v q → p ≡ q
 one_value None p q p-is q-is = p-is ∙ sym q-is
 one_value (Some value) p q p-is q-is = p-is.1 ∙ sym q-is.1
 
@@ -31,7 +31,7 @@ one_value (Some value) p q p-is q-is = p-is.1 ∙ sym q-is.1
 one_path : (octets p q : List ℕ) → ReadsPath octets p → ReadsPath octets q → p ≡ q
 one_path octets p q p-reads q-reads =
     let e = one_first PathTrace octets p-reads.value q-reads.value p-reads.first q-reads.first in
-    let p-is : IsPath q-reads.value p = rw e at p-reads.is in
+    let p-is : IsPathTrace q-reads.value p = rw e at p-reads.is in
     one_value q-reads.value p q p-is q-reads.is
 
 -- without an information TLV, or with one of another length, no rate is read
@@ -80,7 +80,7 @@ one_reading f m n m-reads n-reads =
     ∙ sym is
 
 -- what reads as a message isn't refused
-pub never_both : (f : List ℕ) (m : Message) (e : Refused) → Reads f m → Refuses f e → ⊥
+pub never_both : (f : List ℕ) (m : Message) (e : Refused) → Reads f m → RefusesFrame f e → ⊥
 never_both f m e reads (inl fault) = let none = reads.header.header in absurd cc
 never_both f m e reads (inr (inl refuses)) =
     let kinds = one_kind f reads.kind refuses.kind reads.header refuses.header in
@@ -96,7 +96,7 @@ not_first f d e tlvs stamp =
     tlvs.unread (rw (← kinds) stamp.tlvs)
 
 -- a frame is refused in one way
-pub one_refusal : (f : List ℕ) (d e : Refused) → Refuses f d → Refuses f e → d ≡ e
+pub one_refusal : (f : List ℕ) (d e : Refused) → RefusesFrame f d → RefusesFrame f e → d ≡ e
 one_refusal f d e (inl d-fault) (inl e-fault) = cc
 one_refusal f d e (inl d-fault) (inr (inl tlvs)) = absurd (let none = tlvs.header.header in cc)
 one_refusal f d e (inl d-fault) (inr (inr stamp)) = absurd (let none = stamp.header.header in cc)
@@ -108,12 +108,12 @@ one_refusal f d e (inr (inl tlvs)) (inr (inr stamp)) = absurd (not_first f d e t
 one_refusal f d e (inr (inr stamp)) (inr (inl tlvs)) = absurd (not_first f e d tlvs stamp)
 
 -- an answer that reads or refuses is the only one
-pub only_reading : (f : List ℕ) (r : Result Message Refused) → IfOk r (Reads f) → IfErr r (Refuses f) → (m : Message)
+pub only_reading : (f : List ℕ) (r : Result Message Refused) → IfOk r (Reads f) → IfErr r (RefusesFrame f) → (m : Message)
     → Reads f m → r ≡ Ok m
 only_reading f (Ok n) reads refuses m m-reads = ap Ok (one_reading f n m reads m-reads)
 only_reading f (Err e) reads refuses m m-reads = absurd (never_both f m e m-reads refuses)
 
-pub only_refusal : (f : List ℕ) (r : Result Message Refused) → IfOk r (Reads f) → IfErr r (Refuses f) → (e : Refused)
-    → Refuses f e → r ≡ Err e
+pub only_refusal : (f : List ℕ) (r : Result Message Refused) → IfOk r (Reads f) → IfErr r (RefusesFrame f) → (e : Refused)
+    → RefusesFrame f e → r ≡ Err e
 only_refusal f (Ok n) reads refuses e e-refuses = absurd (never_both f n e reads e-refuses)
 only_refusal f (Err d) reads refuses e e-refuses = ap Err (one_refusal f d e refuses e-refuses)

@@ -15,11 +15,11 @@ use Rattle.gptp_messages.specs.Timestamp.{stamp_of, HasStamp}
 use Rattle.gptp_messages.specs.PeerDelay.{requester_of}
 use Rattle.gptp_messages.specs.Announce.{announce_body_of, announce_tlvs, ReadsPath}
 use Rattle.gptp_messages.specs.FollowUp.{follow_up_tlvs, ReadsRate, RefusesFollowUp}
-use Rattle.gptp_messages.specs.Grammar.{PassesHeader, Reads, Refuses}
+use Rattle.gptp_messages.specs.Grammar.{PassesHeader, Reads, RefusesFrame}
 
 module _ (f : List ℕ) (kind : MessageType) (header : PassesHeader f kind) where
   -- a timestamp out of its range, behind no TLVs
-  pub resp-refused : (e : Refused) → kind ≡ PdelayResp → (e ≡ refusals.StampRange) × (HasStamp f → ⊥) → Refuses f e
+  pub resp-refused : (e : Refused) → kind ≡ PdelayResp → (e ≡ refusals.StampRange) × (HasStamp f → ⊥) → RefusesFrame f e
   resp-refused e is refused =
       inr (inr (record {
         kind = PdelayResp;
@@ -30,7 +30,7 @@ module _ (f : List ℕ) (kind : MessageType) (header : PassesHeader f kind) wher
       }))
 
   pub resp_follow_up-refused : (e : Refused) → kind ≡ PdelayRespFollowUp → (e ≡ refusals.StampRange) × (HasStamp f → ⊥)
-      → Refuses f e
+      → RefusesFrame f e
   resp_follow_up-refused e is refused =
       inr (inr (record {
         kind = PdelayRespFollowUp;
@@ -40,7 +40,7 @@ module _ (f : List ℕ) (kind : MessageType) (header : PassesHeader f kind) wher
         is = refused.0;
       }))
 
-  pub follow_up-refused : (e : Refused) → kind ≡ FollowUp → RefusesFollowUp f e → Refuses f e
+  pub follow_up-refused : (e : Refused) → kind ≡ FollowUp → RefusesFollowUp f e → RefusesFrame f e
   follow_up-refused e is (inl (tlv, unread)) =
       inr (inl (record {
         kind = FollowUp;
@@ -58,7 +58,7 @@ module _ (f : List ℕ) (kind : MessageType) (header : PassesHeader f kind) wher
       }))
 
   pub announce-refused : (e : Refused) → kind ≡ Announce → (e ≡ refusals.Tlv)
-      × ((path : List ℕ) → ReadsPath (announce_tlvs f) path → ⊥) → Refuses f e
+      × ((path : List ℕ) → ReadsPath (announce_tlvs f) path → ⊥) → RefusesFrame f e
   announce-refused e is refused =
       inr (inl (record {
         kind = Announce;

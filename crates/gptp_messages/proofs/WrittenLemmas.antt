@@ -27,7 +27,7 @@ use Rattle.gptp_messages.specs.Tlv.{Tlv, Fits, FirstTlv, spelled, is_of_kind, tl
 use Rattle.gptp_messages.specs.Announce.{announce_body_of, announce_tlvs, ReadsPath, path_trace, announce_front, written_body, written_announce, AnnounceFits}
 use Rattle.gptp_messages.specs.Timestamp.{stamp_of, HasStamp, written_stamp}
 use Rattle.gptp_messages.specs.PeerDelay.{requester_of, written_request, written_response, ResponseFits}
-use Rattle.gptp_messages.specs.FollowUp.{follow_up_tlvs, ReadsRate, information, written_sync, written_follow_up, FollowUpFits}
+use Rattle.gptp_messages.specs.FollowUp.{follow_up_tlvs, ReadsRate, information_tlv, written_sync, written_follow_up, FollowUpFits}
 use Rattle.gptp_messages.specs.Grammar.{header_fault, PassesHeader, Reads, ReadsTlvs, StampIsRead, Written, MessageFits, ReadsBack, message_of}
 use Rattle.gptp_messages.proofs.PathLemmas.{field-big_bytes, length-path_octets, clocks-path_octets}
 use Rattle.gptp_messages.proofs.GrammarLemmas.{one_reading, never_both}
@@ -267,7 +267,7 @@ module _ (kind : MessageType) (make : Head → Timestamp → PortId → Message)
 
 -- ---- a Follow_Up
 
-information-is : (rate : ℤ) → is_of_kind Information (information rate) ≡ true
+information-is : (rate : ℤ) → is_of_kind Information (information_tlv rate) ≡ true
 unfolding field
 information-is rate = refl
 
@@ -280,7 +280,7 @@ module _ (m : FollowUpFields) (rest : List ℕ) (fits : FollowUpFits m) where
 
   follow_up-rate : ReadsRate (follow_up_tlvs follow_up) m.rate
   follow_up-rate =
-      let tlv = information m.rate in
+      let tlv = information_tlv m.rate in
       let tlvs : follow_up_tlvs follow_up ≡ spelled tlv =
       tlvs_are FollowUp m.head (written_follow_up m.origin m.rate) rest follow_up-spells 44 (spelled tlv) (omega arith)
       refl in
@@ -298,14 +298,14 @@ module _ (m : FollowUpFields) (rest : List ℕ) (fits : FollowUpFits m) where
   follow_up-reads =
       let behind = written_follow_up m.origin m.rate in
       let head = head_is FollowUp m.head behind rest follow_up-spells in
-      let stamp = stamp-back FollowUp m.head m.origin (spelled (information m.rate)) rest fits.origin in
+      let stamp = stamp-back FollowUp m.head m.origin (spelled (information_tlv m.rate)) rest fits.origin in
       record {
         kind = FollowUp;
         header = passes FollowUp m.head behind rest follow_up-spells;
         path = [];
         rate = m.rate;
         tlvs = follow_up-rate;
-        stamp = stamp-in_range FollowUp m.head m.origin (spelled (information m.rate)) rest fits.origin;
+        stamp = stamp-in_range FollowUp m.head m.origin (spelled (information_tlv m.rate)) rest fits.origin;
         is = λ i. messages.FollowUp (record { head = sym head i; origin = sym stamp i; rate = m.rate });
       }
 

@@ -27,15 +27,15 @@ abbrev pub announce_tlvs : List ℕ → List ℕ
 announce_tlvs f = slice_range f 64 (message_length f)
 
 -- A path trace is a whole number of clockIdentities. No path trace is the empty sequence (profile).
-abbrev pub IsPath : Option (List ℕ) → List ℕ → Type 0
-IsPath None path = path ≡ []
-IsPath (Some value) path = (length value % 8 ≡ 0) × (path ≡ clocks value)
+abbrev pub IsPathTrace : Option (List ℕ) → List ℕ → Type 0
+IsPathTrace None path = path ≡ []
+IsPathTrace (Some value) path = (length value % 8 ≡ 0) × (path ≡ clocks value)
 
 -- the octets are TLVs, the first path trace of which is this path
 pub record ReadsPath (octets path : List ℕ) : Type 0 where
   pub value : Option (List ℕ)
   pub first : FirstTlv PathTrace octets value
-  pub is : IsPath value path
+  pub is : IsPathTrace value path
 
 -- the 30 octets between the header and the TLVs as they are written: the fields in their places, and 0
 -- in every other octet

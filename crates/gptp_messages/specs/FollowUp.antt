@@ -21,7 +21,7 @@ written_sync = 0 ∷ 0 ∷ 0 ∷ 0 ∷ 0 ∷ 0 ∷ 0 ∷ 0 ∷ 0 ∷ 0 ∷ []
 abbrev pub follow_up_tlvs : List ℕ → List ℕ
 follow_up_tlvs f = slice_range f 44 (message_length f)
 
--- The octets are TLVs, the first Follow_Up information TLV of which has 28 octets and this cumulativeScaledRateOffset
+-- The octets are TLVs, the first Follow_Up information_tlv TLV of which has 28 octets and this cumulativeScaledRateOffset
 -- (IEEE 802.1AS-2020, 11.4.4.3).
 pub record ReadsRate (octets : List ℕ) (rate : ℤ) : Type 0 where
   pub value : List ℕ
@@ -37,8 +37,8 @@ RefusesFollowUp f e =
 
 -- organizationId, organizationSubType and the rate; gmTimeBaseIndicator, lastGmPhaseChange and scaledLastGmFreqChange
 -- are 0
-abbrev pub information : ℤ → TypedValue
-information rate = record {
+abbrev pub information_tlv : ℤ → TypedValue
+information_tlv rate = record {
   tlv_type = tlv_type_of Information;
   value =
       (0x00 ∷ 0x80 ∷ 0xC2 ∷ 0x00 ∷ 0x00 ∷ 0x01 ∷ big_bytes 4 (cast_unsigned w32 rate))
@@ -47,7 +47,7 @@ information rate = record {
 
 -- what stands behind the header of a Follow_Up
 abbrev pub written_follow_up : Timestamp → ℤ → List ℕ
-written_follow_up origin rate = written_stamp origin ++ spelled (information rate)
+written_follow_up origin rate = written_stamp origin ++ spelled (information_tlv rate)
 
 pub record FollowUpFits (m : FollowUp) : Type 0 where
   pub head : HeadFits m.head

@@ -98,8 +98,8 @@ pub record RefusesStamp (f : List ℕ) (e : Refused) : Type 0 where
   pub is : e ≡ refusals.StampRange
 
 -- a frame is refused by the first test that it fails
-abbrev pub Refuses : List ℕ → Refused → Type 0
-Refuses f e = (header_fault f ≡ Some e) ⊎ (RefusesTlvs f e ⊎ RefusesStamp f e)
+abbrev pub RefusesFrame : List ℕ → Refused → Type 0
+RefusesFrame f e = (header_fault f ≡ Some e) ⊎ (RefusesTlvs f e ⊎ RefusesStamp f e)
 
 -- the one spelling of a message
 abbrev pub Written : Message → List ℕ
@@ -129,4 +129,4 @@ MessageFits (messages.Announce a) = AnnounceFits a
 pub record ReadsBack (m : Message) (rest : List ℕ) : Type 0 where
   pub same : Reads (Written m ++ rest) m
   pub only : (n : Message) → Reads (Written m ++ rest) n → n ≡ m
-  pub never_refused : (e : Refused) → Refuses (Written m ++ rest) e → ⊥
+  pub never_refused : (e : Refused) → RefusesFrame (Written m ++ rest) e → ⊥

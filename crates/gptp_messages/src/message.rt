@@ -1,7 +1,7 @@
 //! Reading a frame, and writing one.
 
 ghost use Rattle.std.specs.Prelude.{◌≡◌, ◌+◌, ◌<◌, ◌++◌, length, vec_len, vec_capacity, IfOk, IfErr, OnOk, OnErr, MatchResult, Ok, Err, Some};
-ghost use Rattle.gptp_messages.specs.Grammar.{Reads, Refuses, PassesHeader, Written, PathHasRoom, header_fault};
+ghost use Rattle.gptp_messages.specs.Grammar.{Reads, RefusesFrame, PassesHeader, Written, PathHasRoom, header_fault};
 
 use crate::announce::AnnounceView;
 use crate::follow_up::{FollowUp, follow_up_octets};
@@ -68,7 +68,7 @@ fn check_header(frame: &[u8]) -> Result<MessageType, Refused>
 fn read_message(frame: &[u8], message_type: MessageType) -> Result<Message<'_>, Refused>
     requires { PassesHeader frame.now message_type }
     ensures read { IfOk result (Reads frame.now) }
-    ensures refused { IfErr result (Refuses frame.now) }
+    ensures refused { IfErr result (RefusesFrame frame.now) }
 {
     match message_type {
         MessageType::Sync => Ok(Message::Sync {
@@ -112,8 +112,8 @@ fn read_message(frame: &[u8], message_type: MessageType) -> Result<Message<'_>, 
 pub fn decode(frame: &[u8]) -> Result<Message<'_>, Refused>
     ensures read { IfOk result (Reads frame.now) }
     ensures only { (m : Message) → Reads frame.now m → result ≡ Ok m }
-    ensures refused { IfErr result (Refuses frame.now) }
-    ensures first { (e : Refused) → Refuses frame.now e → result ≡ Err e }
+    ensures refused { IfErr result (RefusesFrame frame.now) }
+    ensures first { (e : Refused) → RefusesFrame frame.now e → result ≡ Err e }
 {
     let message_type = check_header(frame)?;
     read_message(frame, message_type)

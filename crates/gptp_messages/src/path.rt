@@ -28,7 +28,7 @@ impl<'a> Model for PathView<'a> {
 impl<'a> PathView<'a> {
     ghost use Rattle.std.specs.Prelude.{◌≡◌, ◌%◌, ◌↔◌, IsTrue, Contains, [], length, slice_get};
     ghost use Rattle.std.specs.Prelude.{◌≤◌, IsOk, IfErr, OnOk, OnErr};
-    ghost use Rattle.gptp_vector.specs.Trace.{clock_of as clock_inside};
+    ghost use Rattle.gptp_vector.specs.Trace.{clock_left_out as clock_inside};
     ghost use Rattle.gptp_messages.specs.Path.{clocks, path_octets};
 
     /// The path with no clock.

@@ -5,7 +5,7 @@ use Rattle.gptp_setup.specs.Intervals.{interval_of, IsLog}
 use Rattle.gptp_setup.proofs.IntervalLemmas.{interval_most}
 use Rattle.gptp_plan.specs.Allowed.{IsFitAct}
 use Rattle.gptp_plan.specs.Calm.{last_change}
-use Rattle.gptp_network.specs.Events.{timed, AreInOrder, AreEvents, IsEvent, IsChange}
+use Rattle.gptp_network.specs.Events.{timed, AreInOrder, AreEvents, IsEvent, IsPossibleChange}
 use Rattle.gptp_network.specs.declared.events.Event.{Event}
 use Rattle.gptp_plan.specs.Network.{NetworkState, smallest_of}
 use Rattle.gptp_plan.specs.Allowed.{AreAllowed, IsAllowed}
@@ -37,7 +37,7 @@ each_behind n [] t h k = (k, tt)
 each_behind n (e ∷ es) t h k = (h.0, each_behind n es t h.1 k)
 
 pub event_added : (n : NetworkState) (es : List Timed) (e : Event) → AreEvents n es → last_change es ≤ e.at
-    → e.at ≤ 800000000000000 → IsChange n e.change → AreEvents n (es ++ timed e ∷ [])
+    → e.at ≤ 800000000000000 → IsPossibleChange n e.change → AreEvents n (es ++ timed e ∷ [])
 event_added n es e h later early fits = record {
   in_order = in_order_behind es (timed e) h.in_order later;
   each = each_behind n es (timed e) h.each (record { early = early; change = e.change; act = refl; fits = fits });
@@ -79,7 +79,7 @@ early_from n es h = from_each es h.each where
 
 -- ---- events as acts
 
-fit_from : (n : NetworkState) (change : Change) → IsLog (smallest_of n) → IsChange n change
+fit_from : (n : NetworkState) (change : Change) → IsLog (smallest_of n) → IsPossibleChange n change
     → IsFitAct (acts.Change change)
 fit_from n (changes.LinkDown name port) log is = tt
 fit_from n (changes.LinkUp name port) log is = tt
@@ -112,7 +112,7 @@ events_allowed n es log h = each_allowed es h.each where
 
 -- ---- events as prompt acts
 
-prompt_from : (n : NetworkState) (change : Change) → IsChange n change
+prompt_from : (n : NetworkState) (change : Change) → IsPossibleChange n change
     → IsPromptAct (interval_of (smallest_of n)) (acts.Change change)
 prompt_from n (changes.LinkDown name port) is = tt
 prompt_from n (changes.LinkUp name port) is = tt

@@ -11,7 +11,7 @@ use Rattle.gptp_vector.specs.declared.port.PortId.{PortId}
 use Rattle.gptp_roles.specs.Selection.{clock_of}
 use Rattle.gptp_setup.specs.Intervals.{interval_of, IsLog}
 use Rattle.gptp_setup.specs.declared.setup.Params.{Params}
-use Rattle.gptp_plan.specs.Network.{has_clock, has_port, is_any_slower, is_member_in_range, is_member_timed, is_taken, is_wire_in_range, link_fault, same_port, smallest_of, system_fault, CanAddLink, CanAddSystem, IsFree, IsFresh, IsMember, IsPort, NetworkState}
+use Rattle.gptp_plan.specs.Network.{members_have_clock, has_port, is_any_slower, is_member_in_range, is_member_timed, is_taken, is_wire_in_range, link_fault, same_port, smallest_of, system_fault, CanAddLink, CanAddSystem, IsFree, IsNewClock, IsMember, IsPort, NetworkState}
 use Rattle.gptp_plan.specs.Params.{are_counts_in_range, are_in_range, are_intervals_in_range, are_times_in_range, is_log, is_timed, params_fault, AreInRange, KeepParams}
 use Rattle.gptp_plan.specs.declared.change.Change.{Change}
 use Rattle.gptp_plan.specs.declared.change.Change.TheVariants as changes
@@ -20,8 +20,8 @@ use Rattle.gptp_plan.specs.declared.fault.NetworkFault.TheVariants as faults
 use Rattle.gptp_plan.specs.declared.network.Member.{Member}
 use Rattle.gptp_plan.specs.declared.network.Wire.{Wire}
 use Rattle.gptp_plan.proofs.LogLemmas.{all_prompt, interval_least}
-use Rattle.gptp_network.specs.Events.{change_fault, IsChange, IsInRange}
-use Rattle.gptp_network.specs.Links.{port_id}
+use Rattle.gptp_network.specs.Events.{change_fault, IsPossibleChange, IsInRange}
+use Rattle.gptp_network.specs.Links.{port_numbered}
 use Rattle.gptp_network.proofs.PassLemmas.{passes}
 
 -- ---- tests
@@ -63,7 +63,7 @@ each_passes test P so (x ∷ xs) is (suc k) d within =
 
 -- ---- systems
 
-is_fresh : (systems : List Member) (c : ℕ) → has_clock systems c ≡ false → IsFresh systems c
+is_fresh : (systems : List Member) (c : ℕ) → members_have_clock systems c ≡ false → IsNewClock systems c
 is_fresh systems c none i m there same =
     let differ = none_passes (λ (x : Member). clock_of x.identity == c) systems none i m there in
     let e : true ≡ false = sym (eq-eqb (clock_of m.identity) c same) ∙ differ in cc
@@ -88,7 +88,7 @@ system_fits n m none =
     let room = passed (nat_le 512 (length n.systems)) _ _ none in
     let range = passed (not (is_member_in_range m)) _ _ room.1 in
     let timing = passed (not (is_member_timed n.params m)) _ _ range.1 in
-    let clocks = passed (has_clock n.systems (clock_of m.identity)) _ _ timing.1 in
+    let clocks = passed (members_have_clock n.systems (clock_of m.identity)) _ _ timing.1 in
     let delays = passed (list_any (is_any_slower n.links) m.intervals.items) _ None clocks.1 in
     record {
       room = no_fewer 512 (length n.systems) room.0;
@@ -238,11 +238,11 @@ is_there : (there : Bool) → (if not there then Some faults.NoSuchPort else Non
 is_there there none = was_true there (passed (not there) _ None none).0
 
 pub change_fits : (n : NetworkState) (change : Change) → change_fault n change ≡ None → IsInRange change
-    → IsChange n change
-change_fits n (changes.LinkDown name port) none range = is_there (is_taken n.links (port_id name port)) none
-change_fits n (changes.LinkUp name port) none range = is_there (is_taken n.links (port_id name port)) none
+    → IsPossibleChange n change
+change_fits n (changes.LinkDown name port) none range = is_there (is_taken n.links (port_numbered name port)) none
+change_fits n (changes.LinkUp name port) none range = is_there (is_taken n.links (port_numbered name port)) none
 change_fits n (changes.LinkSet name port least greatest loss) none range =
-    let there = is_taken n.links (port_id name port) in
+    let there = is_taken n.links (port_numbered name port) in
     let order = passed (nat_lt greatest least) _ _ none in
     let taken = passed (not there) _ _ order.1 in
     let delay = passed (nat_lt (interval_of (smallest_of n)) greatest) _ None taken.1 in (
@@ -254,7 +254,7 @@ change_fits n (changes.LinkSet name port least greatest loss) none range =
         share = range.1;
       },
     )
-change_fits n (changes.Fail name) none range = is_there (has_clock n.systems name) none
-change_fits n (changes.Recover name) none range = is_there (has_clock n.systems name) none
-change_fits n (changes.Priority1 name value) none range = is_there (has_clock n.systems name) none
-change_fits n (changes.Inject name port frame) none range = is_there (is_taken n.links (port_id name port)) none
+change_fits n (changes.Fail name) none range = is_there (members_have_clock n.systems name) none
+change_fits n (changes.Recover name) none range = is_there (members_have_clock n.systems name) none
+change_fits n (changes.Priority1 name value) none range = is_there (members_have_clock n.systems name) none
+change_fits n (changes.Inject name port frame) none range = is_there (is_taken n.links (port_numbered name port)) none

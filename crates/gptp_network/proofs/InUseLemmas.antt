@@ -14,7 +14,7 @@ use Rattle.gptp_graph.proofs.PathBoundLemmas.{adjacent_joined, two_from}
 use Rattle.gptp_roles.specs.Selection.{clock_of}
 use Rattle.gptp_vector.specs.declared.port.PortId.{PortId}
 use Rattle.gptp_plan.specs.Change.{joined_after, link_after, live_after, system_after}
-use Rattle.gptp_plan.specs.InUse.{are_several, far_clock, is_used, lives, lives_between, neighbour, neighbours, path_systems}
+use Rattle.gptp_plan.specs.InUse.{any_differ, far_clock, is_used, lives, lives_between, neighbour, neighbours, path_systems}
 use Rattle.gptp_plan.specs.InUse as plans
 use Rattle.gptp_plan.specs.Network.{IsNetwork, NetworkState}
 use Rattle.gptp_plan.specs.declared.change.Timed.{Timed}
@@ -27,13 +27,13 @@ use Rattle.gptp_network.proofs.SnapshotLemmas.{In-permutation, clock_after, from
 
 -- ---- two that differ
 
-several_from : (xs : List ℕ) → are_several xs ≡ true → (x y : ℕ) × In x xs × In y xs × (x ≢ y)
+several_from : (xs : List ℕ) → any_differ xs ≡ true → (x y : ℕ) × In x xs × In y xs × (x ≢ y)
 several_from [] is = absurd cc
 several_from (x ∷ xs) is =
     let (y, member, other) = passes (λ y. not (y == x)) xs is in
     (x, y, inl refl, inr member, λ same. eqb-false y x (not-true (y == x) other) (sym same))
 
-several_back : (xs : List ℕ) (x y : ℕ) → In x xs → In y xs → (x ≢ y) → are_several xs ≡ true
+several_back : (xs : List ℕ) (x y : ℕ) → In x xs → In y xs → (x ≢ y) → any_differ xs ≡ true
 several_back [] x y member other apart = absurd member
 several_back (z ∷ zs) x y (inl first) (inl second) apart = absurd (apart (first ∙ sym second))
 several_back (z ∷ zs) x y (inl first) (inr member) apart =
@@ -241,10 +241,10 @@ module _ (n : NetworkState) (network : IsNetwork n) (events : List Timed) (g : S
       (and_from (paths.are_joined g clock x) (paths.are_joined g clock y) (adjacent_joined g clock x to_x)
       (adjacent_joined g clock y to_y))))
 
-  two_is : (clock : ℕ) → are_several (neighbours n.systems n.links events clock) ≡ paths.has_two_neighbours g clock
+  two_is : (clock : ℕ) → any_differ (neighbours n.systems n.links events clock) ≡ paths.has_two_neighbours g clock
   two_is clock =
       let xs = neighbours n.systems n.links events clock in
-      same_tests (are_several xs) (paths.has_two_neighbours g clock)
+      same_tests (any_differ xs) (paths.has_two_neighbours g clock)
       (λ is. let (x, y, one, other, apart) = several_from xs is in
       has_two clock (x, y, in_adjacent clock x one, in_adjacent clock y other, apart))
       (λ is. let (x, y, to_x, to_y, apart) = two_from g clock is in
@@ -267,7 +267,7 @@ module _ (n : NetworkState) (network : IsNetwork n) (events : List Timed) (g : S
       by rest true = omega (arith, rest)
       by rest false = omega (arith, rest)
 
-  systems_are : plans.live_systems n.systems events ≡ length g.systems
+  systems_are : plans.count_live n.systems events ≡ length g.systems
   systems_are =
       let moved = length_permutation (live_systems n.systems events) g.systems stands.systems in
       let all = length-map (filter_map (live_after events) n.systems) system_of in

@@ -17,7 +17,7 @@ use Rattle.gptp_graph.specs.Snapshot.{IsWellFormed, Snapshot, System as LiveSyst
 use Rattle.gptp_roles.specs.Selection.{clock_of}
 use Rattle.gptp_plan.specs.Calm.{last_change}
 use Rattle.gptp_plan.specs.Change.{standing, system_acted, system_stands, with_live, with_priority1}
-use Rattle.gptp_plan.specs.Network.{link_fault, logs_of, system_fault, with_link, with_system, without_members, IsKept, IsNetwork, NetworkState}
+use Rattle.gptp_plan.specs.Network.{link_fault, logs_of, system_fault, with_link, with_system, without_members, IsKeptNetwork, IsNetwork, NetworkState}
 use Rattle.gptp_plan.specs.Params.{is_between, params_fault}
 use Rattle.gptp_plan.specs.declared.change.Act.{Act}
 use Rattle.gptp_plan.specs.declared.change.Act.TheVariants as acts
@@ -150,7 +150,7 @@ system_read version announce t =
 
 -- ---- the network
 
-as_kept : (n : NetworkState) → IsNetwork n → IsKept n (reduce int_min (logs_of n)) (reduce int_max (logs_of n))
+as_kept : (n : NetworkState) → IsNetwork n → IsKeptNetwork n (reduce int_min (logs_of n)) (reduce int_max (logs_of n))
 as_kept n is = record { network = is; smallest = refl; largest = refl }
 
 with_system_read : (version : ℕ) (d : Data) (n : NetworkState) → IsNetwork n

@@ -14,21 +14,21 @@ use Rattle.gptp_graph.specs.PathBound.{HasTwoNeighbours, has_two_neighbours, wit
 use Rattle.gptp_graph.specs.Snapshot.{IsLinked, clocks, IsWellFormed, Joins, PortIdentity, Snapshot, System, port_of}
 use Rattle.gptp_graph.proofs.PathBoundLemmas.{two_back, two_from}
 use Rattle.gptp_graph.proofs.SystemLemmas.{same_clock}
-use Rattle.gptp_network.specs.PathBound.{AreKnown, are_several, with_neighbour}
+use Rattle.gptp_network.specs.PathBound.{NeighboursAreKnown, are_several, with_neighbour}
 use Rattle.gptp_network.specs.declared.path_bound.Neighbours.{Neighbours}
 use Rattle.gptp_network.specs.declared.path_bound.Neighbours.TheVariants.{Nobody, One, Several}
 
 module _ (g : Snapshot) (wf : IsWellFormed g) (v : ℕ) where
   -- ports are numbered from 1
-  pub known_at_first : AreKnown g v 1 Nobody
+  pub known_at_first : NeighboursAreKnown g v 1 Nobody
   known_at_first m below (q, joins) =
       let (s, live, is) = wf.ends (port_of v m) q joins in
       let first : 1 ≤ m = is.first in
       absurd (omega arith)
 
   -- the port that is next leads nowhere
-  pub known_none : (n : ℕ) (known : Neighbours) → AreKnown g v n known → (IsLinked g (port_of v n) → ⊥)
-      → AreKnown g v (n + 1) known
+  pub known_none : (n : ℕ) (known : Neighbours) → NeighboursAreKnown g v n known → (IsLinked g (port_of v n) → ⊥)
+      → NeighboursAreKnown g v (n + 1) known
   known_none n Nobody before none = λ m below linked. elim (ℕ_discrete m n) [
     | yes same ↦ none (subst (λ k. IsLinked g (port_of v k)) same linked)
     | no other ↦ before m (omega arith) linked
@@ -43,8 +43,8 @@ module _ (g : Snapshot) (wf : IsWellFormed g) (v : ℕ) where
   known_none n Several two none = two
 
   -- it leads to a system
-  pub known_some : (n : ℕ) (known : Neighbours) (other : PortIdentity) → AreKnown g v n known
-      → Joins g (port_of v n) other → AreKnown g v (n + 1) (with_neighbour known other.clock)
+  pub known_some : (n : ℕ) (known : Neighbours) (other : PortIdentity) → NeighboursAreKnown g v n known
+      → Joins g (port_of v n) other → NeighboursAreKnown g v (n + 1) (with_neighbour known other.clock)
   known_some n Nobody other before there = (
     (n, other.port, there),
     λ m q below joins. elim (ℕ_discrete m n) [
@@ -55,7 +55,7 @@ module _ (g : Snapshot) (wf : IsWellFormed g) (v : ℕ) where
   )
   known_some n (One w) other (joined, all) there = by (w == other.clock) refl
     where
-      by : (b : Bool) → (w == other.clock) ≡ b → AreKnown g v (n + 1) (with_neighbour (One w) other.clock)
+      by : (b : Bool) → (w == other.clock) ≡ b → NeighboursAreKnown g v (n + 1) (with_neighbour (One w) other.clock)
       by true same = rw same (
         joined,
         λ m q below joins. elim (ℕ_discrete m n) [
@@ -69,7 +69,7 @@ module _ (g : Snapshot) (wf : IsWellFormed g) (v : ℕ) where
   known_some n Several other two there = two
 
   -- all ports of the system have been gone through
-  pub known_all : (s : System) (known : Neighbours) → In s g.systems → s.clock ≡ v → AreKnown g v (s.ports + 1) known
+  pub known_all : (s : System) (known : Neighbours) → In s g.systems → s.clock ≡ v → NeighboursAreKnown g v (s.ports + 1) known
       → are_several known ≡ has_two_neighbours g v
   known_all s known live named are = by (has_two_neighbours g v) refl
     where
@@ -81,7 +81,7 @@ module _ (g : Snapshot) (wf : IsWellFormed g) (v : ℕ) where
           let ports : t.ports ≡ s.ports = ap (λ (u : System). u.ports) same in
           omega arith
 
-      not_two : (known : Neighbours) → AreKnown g v (s.ports + 1) known → HasTwoNeighbours g v
+      not_two : (known : Neighbours) → NeighboursAreKnown g v (s.ports + 1) known → HasTwoNeighbours g v
           → are_several known ≡ true
       not_two Nobody none (x, y, (m, k, joins), other, apart) =
           absurd (none m (within m (port_of x k) joins) (port_of x k, joins))
@@ -90,7 +90,7 @@ module _ (g : Snapshot) (wf : IsWellFormed g) (v : ℕ) where
           ∙ sym (all n (port_of y l) (within n (port_of y l) to_y) to_y)))
       not_two Several two more = refl
 
-      not_one : (known : Neighbours) → AreKnown g v (s.ports + 1) known → (HasTwoNeighbours g v → ⊥)
+      not_one : (known : Neighbours) → NeighboursAreKnown g v (s.ports + 1) known → (HasTwoNeighbours g v → ⊥)
           → are_several known ≡ false
       not_one Nobody none less = refl
       not_one (One w) one less = refl
@@ -103,7 +103,7 @@ module _ (g : Snapshot) (wf : IsWellFormed g) (v : ℕ) where
 
 -- so the neighbours of the system at a place are known
 pub known_at : (g : Snapshot) (place : ℕ) (s : System) (known : Neighbours) → IsWellFormed g
-    → Some s ≡ slice_get g.systems place → AreKnown g s.clock (s.ports + 1) known
+    → Some s ≡ slice_get g.systems place → NeighboursAreKnown g s.clock (s.ports + 1) known
     → are_several known ≡ has_two_neighbours g (get_or (clocks g) place 0)
 known_at g place s known wf there are =
     let at : slice_get (clocks g) place ≡ Some s.clock =

@@ -16,7 +16,7 @@ use Rattle.gptp_plan.specs.declared.fault.NetworkFault.TheVariants as networks
 use Rattle.gptp_network.specs.Faults.{◌>>=◌, document_fault, tested}
 use Rattle.gptp_network.specs.Found.{link_from, system_from}
 use Rattle.gptp_network.specs.Intervals.{intervals_in, one_for_each, whole_numbers}
-use Rattle.gptp_network.specs.Links.{port_id}
+use Rattle.gptp_network.specs.Links.{port_numbered}
 use Rattle.gptp_network.specs.Members.{count}
 use Rattle.gptp_network.specs.ReadEvents.{bounds_why, change_why, clock_why, port_why, unlinked}
 use Rattle.gptp_network.specs.ReadIntervals.{because, far_member, first_why, intervals_why, kind_why, other_member, range_why, read_array}
@@ -140,14 +140,14 @@ bounds_faults n port least greatest networks.OutOfMemory = refl
 
 pub change_faults : (n : NetworkState) (change : Change) (f : NetworkFault)
     → fault_of (change_why n change f) ≡ document_fault f
-change_faults n (changes.LinkDown name port) f = port_faults n (port_id name port) f
-change_faults n (changes.LinkUp name port) f = port_faults n (port_id name port) f
+change_faults n (changes.LinkDown name port) f = port_faults n (port_numbered name port) f
+change_faults n (changes.LinkUp name port) f = port_faults n (port_numbered name port) f
 change_faults n (changes.LinkSet name port least greatest loss) f =
-    bounds_faults n (port_id name port) least greatest f
+    bounds_faults n (port_numbered name port) least greatest f
 change_faults n (changes.Fail name) f = clock_faults name f
 change_faults n (changes.Recover name) f = clock_faults name f
 change_faults n (changes.Priority1 name value) f = clock_faults name f
-change_faults n (changes.Inject name port frame) f = port_faults n (port_id name port) f
+change_faults n (changes.Inject name port frame) f = port_faults n (port_numbered name port) f
 
 -- ---- intervals
 

@@ -5,7 +5,7 @@ use Rattle.toml.specs.Data.{Data, Members, as_table}
 use Rattle.gptp_setup.specs.Intervals.{interval_of}
 use Rattle.gptp_plan.specs.Calm.{last_change}
 use Rattle.gptp_plan.specs.Faults.{first_fault}
-use Rattle.gptp_plan.specs.Network.{NetworkState, has_clock, is_taken, smallest_of}
+use Rattle.gptp_plan.specs.Network.{NetworkState, members_have_clock, is_taken, smallest_of}
 use Rattle.gptp_plan.specs.declared.change.Act.TheVariants as acts
 use Rattle.gptp_plan.specs.declared.change.Change.{Change}
 use Rattle.gptp_plan.specs.declared.change.Change.TheVariants as changes
@@ -13,7 +13,7 @@ use Rattle.gptp_plan.specs.declared.change.Timed.{Timed}
 use Rattle.gptp_plan.specs.declared.fault.NetworkFault.{NetworkFault}
 use Rattle.gptp_plan.specs.declared.fault.NetworkFault.TheVariants as networks
 use Rattle.gptp_network.specs.Faults.{◌>>=◌, tested}
-use Rattle.gptp_network.specs.Links.{port_id}
+use Rattle.gptp_network.specs.Links.{port_numbered}
 use Rattle.gptp_network.specs.Members.{limited, each_of}
 use Rattle.gptp_network.specs.Values.{clock, natural, octets, text, kind_of, array_at}
 use Rattle.gptp_network.specs.declared.events.Event.{Event}
@@ -87,17 +87,17 @@ event_of t = do
 
 -- the tests of each kind, in their order
 abbrev pub link_fault_at : NetworkState → ℕ → ℕ → Option NetworkFault
-link_fault_at n name port = first_fault ((not (is_taken n.links (port_id name port)), networks.NoSuchPort) ∷ [])
+link_fault_at n name port = first_fault ((not (is_taken n.links (port_numbered name port)), networks.NoSuchPort) ∷ [])
 
 abbrev pub system_fault_at : NetworkState → ℕ → Option NetworkFault
-system_fault_at n name = first_fault ((not (has_clock n.systems name), networks.NoSuchPort) ∷ [])
+system_fault_at n name = first_fault ((not (members_have_clock n.systems name), networks.NoSuchPort) ∷ [])
 
 abbrev pub change_fault : NetworkState → Change → Option NetworkFault
 change_fault n (changes.LinkDown name port) = link_fault_at n name port
 change_fault n (changes.LinkUp name port) = link_fault_at n name port
 change_fault n (changes.LinkSet name port least greatest loss) = first_fault (
     (nat_lt greatest least, networks.OutOfRange)
-    ∷ (not (is_taken n.links (port_id name port)), networks.NoSuchPort)
+    ∷ (not (is_taken n.links (port_numbered name port)), networks.NoSuchPort)
     ∷ (nat_lt (interval_of (smallest_of n)) greatest, networks.DelayTooLong)
     ∷ [])
 change_fault n (changes.Fail name) = system_fault_at n name
@@ -140,22 +140,22 @@ IsInRange (changes.LinkSet name port least greatest loss) = (1 ≤ least) × (lo
 IsInRange _ = ⊤
 
 -- a change that can be made in the network: what it names is there, and the bounds that it sets can be those of a link
-abbrev pub IsChange : NetworkState → Change → Type 0
-IsChange n (changes.LinkDown name port) = is_taken n.links (port_id name port) ≡ true
-IsChange n (changes.LinkUp name port) = is_taken n.links (port_id name port) ≡ true
-IsChange n (changes.LinkSet name port least greatest loss) =
-    (is_taken n.links (port_id name port) ≡ true) × AreBounds n least greatest loss
-IsChange n (changes.Fail name) = has_clock n.systems name ≡ true
-IsChange n (changes.Recover name) = has_clock n.systems name ≡ true
-IsChange n (changes.Priority1 name value) = has_clock n.systems name ≡ true
-IsChange n (changes.Inject name port frame) = is_taken n.links (port_id name port) ≡ true
+abbrev pub IsPossibleChange : NetworkState → Change → Type 0
+IsPossibleChange n (changes.LinkDown name port) = is_taken n.links (port_numbered name port) ≡ true
+IsPossibleChange n (changes.LinkUp name port) = is_taken n.links (port_numbered name port) ≡ true
+IsPossibleChange n (changes.LinkSet name port least greatest loss) =
+    (is_taken n.links (port_numbered name port) ≡ true) × AreBounds n least greatest loss
+IsPossibleChange n (changes.Fail name) = members_have_clock n.systems name ≡ true
+IsPossibleChange n (changes.Recover name) = members_have_clock n.systems name ≡ true
+IsPossibleChange n (changes.Priority1 name value) = members_have_clock n.systems name ≡ true
+IsPossibleChange n (changes.Inject name port frame) = is_taken n.links (port_numbered name port) ≡ true
 
 -- an event of the network
 pub record IsEvent (n : NetworkState) (t : Timed) : Type 0 where
   pub early : t.at ≤ 800000000000000
   pub change : Change
   pub act : t.act ≡ acts.Change change
-  pub fits : IsChange n change
+  pub fits : IsPossibleChange n change
 
 -- no event is earlier than one before it
 abbrev pub AreInOrder : List Timed → Type 0

@@ -29,8 +29,8 @@ tested (Some fault) x = Err (document_fault fault)
 tested None x = Ok x
 
 -- The answer's fault is the one that is meant, but that memory can be refused at any point.
-abbrev pub Refuses : {X T : Type 0} → Result X DocumentFault → Result T DocumentFault → Type 0
-Refuses meant result = IfErr result (λ e. (e ≡ OutOfMemory) ⊎ (meant ≡ Err e))
+abbrev pub RefusesDocument : {X T : Type 0} → Result X DocumentFault → Result T DocumentFault → Type 0
+RefusesDocument meant result = IfErr result (λ e. (e ≡ OutOfMemory) ⊎ (meant ≡ Err e))
 
 -- a fault as its number and its name
 abbrev pub fault_text : DocumentFault → List ℕ

@@ -11,8 +11,8 @@ use Rattle.gptp_network.specs.declared.fault.DocumentFault.{DocumentFault}
 use Rattle.gptp_network.specs.declared.links.Link.{Link}
 
 -- the port with this number of the system with this clock
-abbrev pub port_id : ℕ → ℕ → PortId
-port_id name number = record { clock = name; port = number }
+abbrev pub port_numbered : ℕ → ℕ → PortId
+port_numbered name number = record { clock = name; port = number }
 
 -- the keys of a link, in their order, with their ranges and defaults
 unfoldable pub link_of : Members → Result Link DocumentFault
@@ -25,7 +25,7 @@ link_of t = do
   greatest ← natural (codes "max") 1 16000000000 None t
   loss ← natural (codes "loss") 0 1000 (Some 0) t
   up ← flag (codes "up") true t
-  Ok (record { a = port_id a a_port; b = port_id b b_port; min = least; max = greatest; loss = loss; up = up })
+  Ok (record { a = port_numbered a a_port; b = port_numbered b b_port; min = least; max = greatest; loss = loss; up = up })
 
 -- links are numbered from 0 in their order
 abbrev pub wire_of : ℕ → Link → Wire

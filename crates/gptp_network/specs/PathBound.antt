@@ -18,8 +18,8 @@ are_several (One first) = false
 are_several Several = true
 
 -- No port below n leads anywhere; or each that leads anywhere leads to this system; or the system has two neighbours.
-abbrev pub AreKnown : Snapshot → ℕ → ℕ → Neighbours → Type 0
-AreKnown g v n Nobody = (m : ℕ) → m < n → IsLinked g (port_of v m) → ⊥
-AreKnown g v n (One w) = Adjacent g v w
+abbrev pub NeighboursAreKnown : Snapshot → ℕ → ℕ → Neighbours → Type 0
+NeighboursAreKnown g v n Nobody = (m : ℕ) → m < n → IsLinked g (port_of v m) → ⊥
+NeighboursAreKnown g v n (One w) = Adjacent g v w
     × ((m : ℕ) (q : PortIdentity) → m < n → Joins g (port_of v m) q → q.clock ≡ w)
-AreKnown g v n Several = HasTwoNeighbours g v
+NeighboursAreKnown g v n Several = HasTwoNeighbours g v

@@ -13,7 +13,7 @@ use Rattle.gptp_plan.specs.declared.fault.NetworkFault.TheVariants as networks
 use Rattle.gptp_network.specs.Events.{change_fault, timed}
 use Rattle.gptp_network.specs.Faults.{◌>>=◌}
 use Rattle.gptp_network.specs.Found.{system_from}
-use Rattle.gptp_network.specs.Links.{port_id}
+use Rattle.gptp_network.specs.Links.{port_numbered}
 use Rattle.gptp_network.specs.ReadLinks.{is_there, no_port}
 use Rattle.gptp_network.specs.ReadMembers.{limited_in, read_each, section_in}
 use Rattle.gptp_network.specs.Reading.{clock_at, kind_at, natural_at, octets_at, text_at}
@@ -118,14 +118,14 @@ bounds_why n port least greatest networks.OutOfMemory = whys.Memory
 bounds_why n port least greatest fault = whys.Other fault
 
 abbrev pub change_why : NetworkState → Change → NetworkFault → Why
-change_why n (changes.LinkDown name port) fault = port_why n (port_id name port) fault
-change_why n (changes.LinkUp name port) fault = port_why n (port_id name port) fault
+change_why n (changes.LinkDown name port) fault = port_why n (port_numbered name port) fault
+change_why n (changes.LinkUp name port) fault = port_why n (port_numbered name port) fault
 change_why n (changes.LinkSet name port least greatest loss) fault =
-    bounds_why n (port_id name port) least greatest fault
+    bounds_why n (port_numbered name port) least greatest fault
 change_why n (changes.Fail name) fault = clock_why name fault
 change_why n (changes.Recover name) fault = clock_why name fault
 change_why n (changes.Priority1 name value) fault = clock_why name fault
-change_why n (changes.Inject name port frame) fault = port_why n (port_id name port) fault
+change_why n (changes.Inject name port frame) fault = port_why n (port_numbered name port) fault
 
 -- an event is no earlier than the one before
 abbrev pub no_earlier : ℕ → Event → Result Event Why

@@ -10,7 +10,7 @@ use Rattle.gptp_plan.specs.declared.network.Member.{Member}
 use Rattle.gptp_plan.specs.declared.network.Wire.{Wire}
 use Rattle.gptp_network.specs.Faults.{◌>>=◌}
 use Rattle.gptp_network.specs.Found.{link_from, system_from}
-use Rattle.gptp_network.specs.Links.{port_id, wire_of}
+use Rattle.gptp_network.specs.Links.{port_numbered, wire_of}
 use Rattle.gptp_network.specs.ReadMembers.{limited_in, read_each, section_in}
 use Rattle.gptp_network.specs.Reading.{clock_at, flag_at, kind_at, natural_at}
 use Rattle.gptp_network.specs.Why.{told}
@@ -33,7 +33,7 @@ read_link t = do
   greatest ← natural_at MAX t
   loss ← natural_at LOSS t
   up ← flag_at names.Up true t
-  Ok (record { a = port_id a a_port; b = port_id b b_port; min = least; max = greatest; loss = loss; up = up })
+  Ok (record { a = port_numbered a a_port; b = port_numbered b b_port; min = least; max = greatest; loss = loss; up = up })
 
 -- no system has the port, or its system has fewer
 abbrev pub no_port : PortId → Option (ℕ × ℕ) → Why

@@ -10,7 +10,7 @@ ghost use Rattle.gptp_plan.specs.Prompt.{ArePromptActs};
 ghost use Rattle.gptp_plan.specs.SettlingTime.{settles};
 ghost use Rattle.gptp_network.specs.Adding.{adding_fault, with_event, with_first};
 ghost use Rattle.gptp_network.specs.Events.{AreEvents, IsInRange};
-ghost use Rattle.gptp_network.specs.Faults.{Refuses};
+ghost use Rattle.gptp_network.specs.Faults.{RefusesDocument};
 ghost use Rattle.gptp_network.specs.Snapshot.{IsSnapshot};
 ghost use Rattle.gptp_network.specs.Document.{Parses, Means, Fails, IsNoToml, document_of};
 ghost use Rattle.gptp_network.specs.ReadDocument.{read_document, read_version, read_whole_network};
@@ -221,7 +221,7 @@ fn whole_network_of(alloc: Global, version: u64, table: &Table) -> Result<Networ
 #[tactic(auto, using(crate::proofs::ForgetLemmas::read_is, crate::proofs::ForgetLemmas::refused_is))]
 fn document_of(alloc: Global, table: &Table) -> Result<Document, DocumentFault>
     ensures document { IfOk result (λ d. document_of (table_view table.now) ≡ Ok d) }
-    ensures refused { Refuses (document_of (table_view table.now)) result }
+    ensures refused { RefusesDocument (document_of (table_view table.now)) result }
 {
     match Document::of_table(alloc, table) {
         Ok(document) => Ok(document),

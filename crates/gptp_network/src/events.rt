@@ -3,7 +3,7 @@
 ghost use Rattle.std.specs.Prelude.{◌≡◌, ◌≤◌, ◌++◌, ◌∷◌, [], Ok, Some, None, OnErr, OnOk, IfOk, IfErr};
 ghost use Rattle.toml.specs.View.{view, items_view, table_view};
 ghost use Rattle.gptp_plan.specs.Calm.{last_change};
-ghost use Rattle.gptp_network.specs.Events.{link_fault_at, system_fault_at, change_fault, timed, AreEvents, AreInOrder, IsInRange, IsChange};
+ghost use Rattle.gptp_network.specs.Events.{link_fault_at, system_fault_at, change_fault, timed, AreEvents, AreInOrder, IsInRange, IsPossibleChange};
 ghost use Rattle.gptp_network.specs.Adding.{adding_fault};
 ghost use Rattle.gptp_network.specs.ReadEvents.{bounds_why, change_why, clock_why, port_why, put_event, read_change, read_event, read_events, read_fail, read_inject, read_link_down, read_link_set, read_link_up, read_priority1, read_recover, read_with_event, unlinked};
 ghost use Rattle.gptp_network.specs.ReadMembers.{read_each};
@@ -184,7 +184,7 @@ fn system_fault_at(network: &Network, clock: ClockId) -> Option<NetworkFault>
 /// The first test that a change fails.
 fn change_fault(network: &Network, change: &Change) -> Option<NetworkFault>
     ensures is { result ≡ change_fault network.now change.now }
-    ensures fits { result ≡ None → IsInRange change.now → IsChange network.now change.now }
+    ensures fits { result ≡ None → IsInRange change.now → IsPossibleChange network.now change.now }
 {
     match *change {
         Change::LinkDown { clock, port } => link_fault_at(network, clock, port),
@@ -227,7 +227,7 @@ pub(crate) fn adding_fault(
     ensures is { result ≡ adding_fault (record { network = network.now; events = events.now }) at change.now }
     ensures later { result ≡ None → last_change events.now ≤ at }
     ensures early { result ≡ None → at ≤ 800000000000000 }
-    ensures fits { result ≡ None → IsInRange change.now → IsChange network.now change.now }
+    ensures fits { result ≡ None → IsInRange change.now → IsPossibleChange network.now change.now }
 {
     if 4096 <= events.len() {
         Some(DocumentFault::TooMany)
@@ -273,7 +273,7 @@ pub(crate) fn push_event(
     requires are_events { AreEvents network.now events.old.items }
     requires later { last_change events.old.items ≤ event.at }
     requires early { event.at ≤ 800000000000000 }
-    requires fits { IsChange network.now event.change }
+    requires fits { IsPossibleChange network.now event.change }
     ensures are_events { OnOk result (AreEvents network.now events.new.items) }
     ensures events { OnOk result (events.new.items ≡ events.old.items ++ timed event ∷ []) }
     ensures memory { IfErr result (λ e. e ≡ DocumentFault.OutOfMemory) }

@@ -46,12 +46,12 @@ impl Snapshot {
     ghost use Rattle.std.specs.Prelude.{◌≡◌, ◌<◌, ◌≤◌, ◌+◌, length, get_or};
     ghost use Rattle.gptp_graph.specs.PathBound.{BoundsPaths, has_two_neighbours, path_bound, with_two_neighbours};
     ghost use Rattle.gptp_graph.specs.Snapshot.{clocks};
-    ghost use Rattle.gptp_network.specs.PathBound.{AreKnown};
+    ghost use Rattle.gptp_network.specs.PathBound.{NeighboursAreKnown};
 
     /// What is known of the neighbours of a system with one port more.
     fn with_port(&self, known: Neighbours, port: PortId) -> Neighbours
-        requires known { AreKnown self.now port.clock port.port known }
-        ensures { AreKnown self.now port.clock (port.port + 1) result }
+        requires known { NeighboursAreKnown self.now port.clock port.port known }
+        ensures { NeighboursAreKnown self.now port.clock (port.port + 1) result }
     {
         self.well_formed();
         match self.other_end(port) {
@@ -62,7 +62,7 @@ impl Snapshot {
 
     /// What the first ports of a system, so many, lead to.
     fn neighbours(&self, clock: ClockId, ports: u8) -> Neighbours
-        ensures { AreKnown self.now clock (ports + 1) result }
+        ensures { NeighboursAreKnown self.now clock (ports + 1) result }
     {
         self.well_formed();
         let mut known = Neighbours::Nobody;

@@ -1,4 +1,4 @@
--- The offset that the second of two systems is left by a Follow_Up is exact, as each act of their world promises.
+-- The offset that the second_member of two systems is left by a Follow_Up is exact, as each act of their world promises.
 use Rattle.std.proofs.Common.{◌≡◌, ◌≤◌, ◌+◌, ◌-ℤ◌, ℕ, zero, suc, ℤ, pos, true, [], ◌∷◌, Option, Some, length, slice_get, refl, sym, ap, subst, ◌∙◌, inl, inr, arith}
 use Rattle.std.proofs.lemmas.Int.{ints}
 use Rattle.std.proofs.lemmas.Option.{none-some, same_Some}
@@ -25,9 +25,9 @@ use Rattle.gptp_graph.proofs.LinkLemmas.{Joins-sym}
 use Rattle.gptp_kept.specs.Calm.{IsQuietWorld, sync_paths_of}
 use Rattle.gptp_kept.specs.CalmFor.{IsCalmFor}
 use Rattle.gptp_kept.specs.Claimed.{Claimed}
-use Rattle.gptp_kept.specs.Exact.{IsAhead, IsErrorOf, IsExactInTime, IsHeardExact, exact_span}
-use Rattle.gptp_kept.specs.Followers.{bound_at, parts_of}
-use Rattle.gptp_kept.specs.Standing.{live_systems, snapshot_of}
+use Rattle.gptp_kept.specs.Exact.{IsAhead, IsWayError, IsExactInTime, IsHeardExact, exact_span}
+use Rattle.gptp_kept.specs.Followers.{bound_at, follower_parts}
+use Rattle.gptp_kept.specs.Standing.{live_stations, snapshot_of}
 use Rattle.gptp_kept.proofs.FollowPartLemmas.{bound_is, clock_shown, set_up_is}
 use Rattle.gptp_kept.proofs.WayLemmas.{way_of}
 use Rattle.gptp_links.specs.declared.bounds.Bounds.{Bounds}
@@ -39,10 +39,10 @@ use Rattle.gptp_plan.specs.Change.{link_after}
 use Rattle.gptp_plan.specs.Network.{IsNetwork, pace_of, wire}
 use Rattle.gptp_plan.specs.declared.change.Timed.{Timed}
 use Rattle.gptp_plan.specs.declared.network.Wire.{Wire}
-use Rattle.gptp_reached.specs.Headline.{HeadlineOnTime, IsCalm, LeavesOffset}
+use Rattle.gptp_reached.specs.Headline.{HeadlineOnTime, WorldIsCalm, LeavesOffset}
 use Rattle.gptp_reached.specs.HeadlineLaws.{RunsAreExact, WorldsAreExact}
 use Rattle.gptp_reached.specs.PlayedLaws.{IsPlayable}
-use Rattle.gptp_reached.specs.Reached.{Shape, shape, shape_after, wire_of}
+use Rattle.gptp_reached.specs.Reached.{Shape, shape, shape_after, channel_wire}
 use Rattle.gptp_reached.proofs.CalmKeptLemmas.{no_change}
 use Rattle.gptp_reached.proofs.CalmLemmas.{quiet_stands, set_stands}
 use Rattle.gptp_reached.proofs.KeptLemmas.{acts_stand, time_stands}
@@ -50,8 +50,8 @@ use Rattle.gptp_reached.proofs.SyncPathLemmas.{paths_stand}
 use Rattle.gptp_roles.specs.Selection.{clock_of}
 use Rattle.gptp_scaled.specs.Counts.{AreWithin}
 use Rattle.gptp_system.specs.State.{clock, local_time}
-use Rattle.gptp_timing.specs.Tree.{IsWayTo, Parts, last_link, root_way}
-use Rattle.gptp_network_rows.specs.Pair.{IsPairSince, RunsOfTwoAreExact, WorldsOfTwoAreExact, end_station, first, pair_document, pair_network, pair_pace, pair_snapshot, params, second}
+use Rattle.gptp_timing.specs.Tree.{IsWayTo, Parts, last_link, tree_root_way}
+use Rattle.gptp_network_rows.specs.Pair.{IsPairSince, RunsOfTwoAreExact, WorldsOfTwoAreExact, end_station, first_member, pair_document, pair_network, pair_pace, pair_snapshot, params, second_member}
 use Rattle.gptp_network_rows.proofs.PairLemmas.{bounded, calm as is_calm, follows, led, near, pace_is, paths_are, snapshot_is}
 
 -- ---- what holds of numbers
@@ -106,7 +106,7 @@ goes_on answers time timed fate fate_after w w' done k sound next was =
 module _ (w : WorldState) (time : ℕ) (k : IsPairSince 27000000000 w) (sound : IsSound w) (claimed : Claimed w)
     (passed : w.time ≤ time) where
   abbrev pub x : Parts
-  x = parts_of params w
+  x = follower_parts params w
 
   abbrev pub there : ParentLink
   there = record { own_port = 1; clock = 1; port = 1 }
@@ -186,20 +186,20 @@ module _ (w : WorldState) (time : ℕ) (k : IsPairSince 27000000000 w) (sound : 
         ∙ (λ i. local_clock (phase_is i) (drift_is i) t)
 
   bound_there : (f : Bounds → ℕ)
-      → bound_at f (live_systems w.stations) w.net.channels (port_of 2 1) ≡ f pair_wire.bounds
+      → bound_at f (live_stations w.stations) w.net.channels (port_of 2 1) ≡ f pair_wire.bounds
   bound_there f =
       let way = way_of w (port_of 1 1) (port_of 2 1)
       (Joins-sym (snapshot_of w) (port_of 2 1) (port_of 1 1) parent.nearer.joins) in
-      let (v, at_place, same) = alike (link_after []) wire_of pair_network.links w.net.channels (sym k.stands.links)
+      let (v, at_place, same) = alike (link_after []) channel_wire pair_network.links w.net.channels (sym k.stands.links)
       way.link way.channel way.here in
-      ap (bound_at f (live_systems w.stations) w.net.channels) (sym way.to)
+      ap (bound_at f (live_stations w.stations) w.net.channels) (sym way.to)
       ∙ bound_is f w sound claimed.is.world.legible way.link way.direction way.channel way.here way.used
       ∙ ap (λ (l : Wire). f l.bounds) (sym same) ∙ ap (λ (l : Wire). f l.bounds) (only_link way.link v at_place)
 
   -- ---- its way
 
   abbrev pub way : Way
-  way = longer (root_way x 1) (last_link x 2 there)
+  way = longer (tree_root_way x 1) (last_link x 2 there)
 
   pub phases : ℕ → ℕ
   phases zero = x.phase 1
@@ -207,12 +207,12 @@ module _ (w : WorldState) (time : ℕ) (k : IsPairSince 27000000000 w) (sound : 
 
   pub leads : IsWayTo x (snapshot_of w) 1 2 way phases
   unfolding phases
-  leads = (there, root_way x 1, parent, (of_pair (λ g. IsDistance g 1 0) led.steps, refl, refl), refl, refl)
+  leads = (there, tree_root_way x 1, parent, (of_pair (λ g. IsDistance g 1 0) led.steps, refl, refl), refl, refl)
 
   pub way_is : way ≡ short_way
   way_is =
-      let root = drift_is 0 1 first refl refl in
-      let own = drift_is 1 2 second refl refl in
+      let root = drift_is 0 1 first_member refl refl in
+      let own = drift_is 1 2 second_member refl refl in
       let least = bound_there (λ b. b.min) in
       let most = bound_there (λ b. b.max) in
       λ i. record {
@@ -223,32 +223,32 @@ module _ (w : WorldState) (time : ℕ) (k : IsPairSince 27000000000 w) (sound : 
         residence = 1000;
       }
 
-  error : IsErrorOf params w 2 1 19
+  error : IsWayError params w 2 1 19
   error = record { way = way; phase = phases; leads = leads; is = sym (ap time_error way_is ∙ short_error) }
 
   -- ---- its clocks
 
-  pub first_is : (best : System) → In best pair_snapshot.systems → first ≡ best.identity → 1 ≡ best.clock
+  pub first_is : (best : System) → In best pair_snapshot.systems → first_member ≡ best.identity → 1 ≡ best.clock
   first_is best (inl same) is = sym (ap (λ (s : System). s.clock) same)
   first_is best (inr (inl same)) is =
-      let other : first ≡ second = is ∙ ap (λ (s : System). s.identity) same in absurd (omega (arith, other))
+      let other : first_member ≡ second_member = is ∙ ap (λ (s : System). s.identity) same in absurd (omega (arith, other))
   first_is best (inr (inr none)) is = absurd none
 
   ahead : IsAhead w 2 time (pos 0)
   ahead =
-      let (best, is_best, is) : IsBestIdentity pair_snapshot 2 first = follows.root in
-      let own = found 1 2 second refl refl in
-      let root = found 0 1 first refl refl in
+      let (best, is_best, is) : IsBestIdentity pair_snapshot 2 first_member = follows.root in
+      let own = found 1 2 second_member refl refl in
+      let root = found 0 1 first_member refl refl in
       record {
         own = own.0.system;
-        shows = shows 1 2 second refl refl;
+        shows = shows 1 2 second_member refl refl;
         best = best;
         is_best = of_pair (λ g. IsBest g 2 best) is_best;
         root = root.0.system;
         shows_root = subst (λ c. ShowsLive c w root.0.system) (first_is best is_best.live is)
-            (shows 0 1 first refl refl);
+            (shows 0 1 first_member refl refl);
         is = none_ahead (local_time own.0.system time) (local_time root.0.system time) (local_clock 0 (pos 0) time)
-            (time_is 1 2 second refl refl time) (time_is 0 1 first refl refl time);
+            (time_is 1 2 second_member refl refl time) (time_is 0 1 first_member refl refl time);
       }
 
   -- ---- its offset
@@ -257,7 +257,7 @@ module _ (w : WorldState) (time : ℕ) (k : IsPairSince 27000000000 w) (sound : 
   exact offset promised = promised 2 0 19 (pos 0) calm few (of_pair (λ g. IsNear g 2) near) error ahead
 
   -- what the theorem asks
-  pub calm_pair : IsCalm pair_pace w
+  pub calm_pair : WorldIsCalm pair_pace w
   calm_pair = record {
     of = calm.set;
     links = λ link member used.

@@ -38,7 +38,7 @@ use Rattle.gptp_acts.specs.Advancing.{Advanced, Told}
 use Rattle.gptp_acts.specs.Prompt.{HavePace}
 use Rattle.gptp_acts.specs.declared.station.Station.{Station}
 use Rattle.gptp_acts.specs.Sound.{IsSound}
-use Rattle.gptp_acts.specs.Views.{Follows, HasPort, IsLiveSystem, ShowsLive}
+use Rattle.gptp_acts.specs.Views.{FollowsRoot, HasPort, IsLiveSystem, ShowsLive}
 use Rattle.gptp_acts.specs.World.{WorldState}
 use Rattle.gptp_network.specs.Snapshot.{StandsAfter}
 use Rattle.gptp_roles.specs.declared.role.Role.{Role}
@@ -47,12 +47,12 @@ use Rattle.gptp_settling.specs.Clean.{Clean, Whole}
 use Rattle.gptp_settling.specs.Frame.{Announce}
 use Rattle.gptp_settling.specs.Settled.{IsSlaveOf}
 use Rattle.gptp_system.specs.State.{SystemState, clock, is_capable_at, trace}
-use Rattle.gptp_system.specs.Steps.{IsPortOf}
+use Rattle.gptp_system.specs.Steps.{HasPortNumber}
 use Rattle.gptp_kept.specs.Claimed.{Claimed}
-use Rattle.gptp_kept.specs.Settled.{role_of}
+use Rattle.gptp_kept.specs.Settled.{graph_role}
 use Rattle.gptp_kept.specs.Shown.{AreCapable, FollowsByDistance, FollowsByPaths, FollowsInTime, IsCapableInTime, IsEnabledInTime, IsSettledFor, PlaysInTime, distance_span}
 use Rattle.gptp_kept.specs.CalmFor.{capable_span, span_over}
-use Rattle.gptp_kept.specs.Standing.{live_systems, snapshot_of, standing}
+use Rattle.gptp_kept.specs.Standing.{live_stations, snapshot_of, standing_system}
 use Rattle.gptp_kept.specs.Traces.{IsCleanInTime, IsTraceClean, announced, turns_span}
 use Rattle.gptp_kept.proofs.SystemLemmas.{live_from, live_there}
 use Rattle.gptp_certificate.specs.Settled.{IsRightInTime}
@@ -63,7 +63,7 @@ use Rattle.gptp_reached.proofs.CalmLemmas.{quiet_stands, set_stands}
 use Rattle.gptp_reached.proofs.PlayedLemmas.{played_stands}
 use Rattle.gptp_reached.proofs.SnapshotLemmas.{snapshots_stand, systems_stand}
 use Rattle.gptp_reached.proofs.SyncPathLemmas.{paths_stand}
-use Rattle.gptp_network_rows.specs.Pair.{HasBegun, IsPairAt, first, following, leading, pair_document, pair_network, pair_pace, pair_paths, pair_snapshot, second}
+use Rattle.gptp_network_rows.specs.Pair.{HasBegun, IsPairAt, first_member, following_pair, leading, pair_document, pair_network, pair_pace, pair_paths, pair_snapshot, second_member}
 
 -- ---- the network
 
@@ -117,7 +117,7 @@ module _ {F : Type 0} (answers : Bounds → ℕ → F → Option ℕ → F → T
   so : StandsAs pair_network [] w
   so = reached.stands
 
-  systems : live_systems w.stations ≡ pair_snapshot.systems
+  systems : live_stations w.stations ≡ pair_snapshot.systems
   systems = systems_stand pair_network [] w so reached.sound
 
   have_pace : HavePace (pace_of pair_network) w
@@ -143,23 +143,23 @@ pub well_formed : IsWellFormed pair_snapshot
 unfolding ℕ_discrete dec_le dec_lt dec_both dec_either IsLower-dec PortIdentity-dec
 well_formed = (sure_well_formed pair_snapshot).1 refl
 
-pub choice : IsSettledChoice pair_snapshot (leading ∷ following ∷ [])
+pub choice : IsSettledChoice pair_snapshot (leading ∷ following_pair ∷ [])
 unfolding ℕ_discrete dec_le dec_lt dec_both dec_either IsLower-dec PortIdentity-dec
 choice =
-    let passes = (sure_passes pair_snapshot (leading ∷ following ∷ [])).1 refl in
-    sound pair_snapshot (leading ∷ following ∷ []) well_formed passes
+    let passes = (sure_passes pair_snapshot (leading ∷ following_pair ∷ [])).1 refl in
+    sound pair_snapshot (leading ∷ following_pair ∷ []) well_formed passes
 
 pub led : IsSettledLine pair_snapshot leading
 led = choice.settled leading (inl refl)
 
-pub follows : IsSettledLine pair_snapshot following
-follows = choice.settled following (inr (inl refl))
+pub follows : IsSettledLine pair_snapshot following_pair
+follows = choice.settled following_pair (inr (inl refl))
 
 -- ---- whatever settles so
 
-pub root_is : (root : ℕ) → IsBestIdentity pair_snapshot 2 root → root ≡ first
+pub root_is : (root : ℕ) → IsBestIdentity pair_snapshot 2 root → root ≡ first_member
 root_is root (best, is, same) =
-    let (other, also, is_first) : IsBestIdentity pair_snapshot 2 first = follows.root in
+    let (other, also, is_first) : IsBestIdentity pair_snapshot 2 first_member = follows.root in
     let one = IsBest-unique pair_snapshot 2 best other well_formed is also in
     same ∙ ap (λ (s : System). s.identity) one ∙ sym is_first
 
@@ -214,23 +214,23 @@ there time number identity w at among =
     }
 
 pub first_there : (time : ℕ) (w : WorldState) → IsPairAt time w → AtSystem 1 w (HasPort 1)
-first_there time w at = there time 1 first w at (inl refl)
+first_there time w at = there time 1 first_member w at (inl refl)
 
 pub second_there : (time : ℕ) (w : WorldState) → IsPairAt time w → AtSystem 2 w (HasPort 1)
-second_there time w at = there time 2 second w at (inr (inl refl))
+second_there time w at = there time 2 second_member w at (inr (inl refl))
 
 pub second_lives : (time : ℕ) (w : WorldState) → IsPairAt time w → AtSystem 2 w IsLiveSystem
 second_lives time w at =
     let stands = second_there time w at in
     record { place = stands.place; station = stands.station; is = stands.is; so = stands.so.live }
 
--- a system that is shown as the second has one port
-pub second_has_port : (time : ℕ) (w : WorldState) (s : SystemState) → IsPairAt time w → ShowsLive 2 w s → IsPortOf s 1
+-- a system that is shown as the second_member has one port
+pub second_has_port : (time : ℕ) (w : WorldState) (s : SystemState) → IsPairAt time w → ShowsLive 2 w s → HasPortNumber s 1
 second_has_port time w s at shows =
     let among = live_there w.stations shows.place shows.station shows.is.here shows.live in
     let ports : length shows.station.system.ports ≡ 1 =
-    ports_of (standing shows.station) shows.is.named
-    (subst (In (standing shows.station)) (ap (λ (g : Snapshot). g.systems) at.snapshot) among) in
+    ports_of (standing_system shows.station) shows.is.named
+    (subst (In (standing_system shows.station)) (ap (λ (g : Snapshot). g.systems) at.snapshot) among) in
     let is : length s.ports ≡ 1 = ap (λ (x : SystemState). length x.ports) shows.state ∙ ports in
     record { least = omega arith; most = omega (arith, is) }
   where
@@ -261,7 +261,7 @@ second_is_enabled w role at shown =
 -- ---- what its world shows
 
 pub second_follows : (w : WorldState) (root steps : ℕ) (slave : Option ℕ) → IsPairAt 26000000000 w
-    → FollowsInTime 2 w root steps slave → (root ≡ first) × (steps ≡ 1) × (slave ≡ Some 1)
+    → FollowsInTime 2 w root steps slave → (root ≡ first_member) × (steps ≡ 1) × (slave ≡ Some 1)
 second_follows w root steps port at shown =
     let by_rest : IsNear (snapshot_of w) 2 → IsSettledFor (snapshot_of w) 2 root steps port =
     shown (at.calm settling_span_with (omega arith)) in
@@ -275,7 +275,7 @@ bounded v u us way = path_bounded pair_snapshot v u us well_formed way
 
 -- two seconds sooner, as it is one step away
 pub second_follows_sooner : (w : WorldState) (root steps : ℕ) (slave : Option ℕ) → IsPairAt 24000000000 w
-    → FollowsByDistance 2 w root steps slave → (root ≡ first) × (steps ≡ 1) × (slave ≡ Some 1)
+    → FollowsByDistance 2 w root steps slave → (root ≡ first_member) × (steps ≡ 1) × (slave ≡ Some 1)
 second_follows_sooner w root steps port at shown =
     let is : IsSettledFor pair_snapshot 2 root steps port =
     subst (λ g. IsSettledFor g 2 root steps port) at.snapshot
@@ -285,7 +285,7 @@ second_follows_sooner w root steps port at shown =
     (root_is root is.best, steps_are steps is.distance, slave_is port is.parent)
 
 pub second_follows_by_paths : (w : WorldState) (root steps : ℕ) (slave : Option ℕ) → IsPairAt 26000000000 w
-    → FollowsByPaths 2 w root steps slave → (root ≡ first) × (steps ≡ 1) × (slave ≡ Some 1)
+    → FollowsByPaths 2 w root steps slave → (root ≡ first_member) × (steps ≡ 1) × (slave ≡ Some 1)
 second_follows_by_paths w root steps port at shown =
     let is : IsSettledFor pair_snapshot 2 root steps port =
     subst (λ g. IsSettledFor g 2 root steps port) at.snapshot
@@ -295,24 +295,24 @@ second_follows_by_paths w root steps port at shown =
 
 -- what calls show of the ports at both ends
 abbrev ShowsRole : ℕ → Role → settled.Role → Type 0
-ShowsRole clock role wanted = IsSettledRole pair_snapshot (port_of clock 1) wanted → role_of role ≡ wanted
+ShowsRole clock role wanted = IsSettledRole pair_snapshot (port_of clock 1) wanted → graph_role role ≡ wanted
 
 role_shown : (w : WorldState) (clock : ℕ) (role : Role) → IsPairAt 26000000000 w → IsNear pair_snapshot clock
     → PlaysInTime clock 1 w role → (wanted : settled.Role) → ShowsRole clock role wanted
 role_shown w clock role at is_near shown wanted want =
-    let by_rest : IsNear (snapshot_of w) clock → IsSettledRole (snapshot_of w) (port_of clock 1) (role_of role) =
+    let by_rest : IsNear (snapshot_of w) clock → IsSettledRole (snapshot_of w) (port_of clock 1) (graph_role role) =
     shown (at.calm settling_span_with (omega arith)) in
-    let is : IsSettledRole pair_snapshot (port_of clock 1) (role_of role) =
-    subst (λ g. IsNear g clock → IsSettledRole g (port_of clock 1) (role_of role)) at.snapshot by_rest is_near in
-    role_is clock (role_of role) wanted is want
+    let is : IsSettledRole pair_snapshot (port_of clock 1) (graph_role role) =
+    subst (λ g. IsNear g clock → IsSettledRole g (port_of clock 1) (graph_role role)) at.snapshot by_rest is_near in
+    role_is clock (graph_role role) wanted is want
 
-is_slave : (role : Role) → role_of role ≡ settled.Slave → role ≡ roles.Slave
+is_slave : (role : Role) → graph_role role ≡ settled.Slave → role ≡ roles.Slave
 is_slave roles.Disabled same = absurd cc
 is_slave roles.Master same = absurd cc
 is_slave roles.Slave same = refl
 is_slave roles.Passive same = absurd cc
 
-is_master : (role : Role) → role_of role ≡ settled.Master → role ≡ roles.Master
+is_master : (role : Role) → graph_role role ≡ settled.Master → role ≡ roles.Master
 is_master roles.Disabled same = absurd cc
 is_master roles.Master same = refl
 is_master roles.Slave same = absurd cc
@@ -328,13 +328,13 @@ first_plays w role at shown = is_master role (role_shown w 1 role at near_first 
 
 -- ---- what its calls answer
 
--- the second is found, and follows the first by whatever shows what it follows
+-- the second_member is found, and follows the first_member by whatever shows what it follows
 found_following : (time : ℕ) (w : WorldState) (Shows : ℕ → ℕ → ℕ → Option ℕ → Type 0) (clock : ℕ)
     (found : Option (ℕ × ℕ × Option ℕ)) → clock ≡ 2 → IsPairAt time w
     → ((root steps : ℕ) (port : Option ℕ) → Shows 2 root steps port
-    → (root ≡ first) × (steps ≡ 1) × (port ≡ Some 1))
+    → (root ≡ first_member) × (steps ≡ 1) × (port ≡ Some 1))
     → IfSome found (λ f. Shows clock f.0 f.1 f.2) → IfNone found (AtSystem clock w IsLiveSystem → ⊥)
-    → found ≡ Some (first, 1, Some 1)
+    → found ≡ Some (first_member, 1, Some 1)
 found_following time w Shows clock None named at is some none =
     absurd (none (subst (λ c. AtSystem c w IsLiveSystem) (sym named) (second_lives time w at)))
 found_following time w Shows clock (Some (root, steps, port)) named at is some none =
@@ -344,26 +344,26 @@ found_following time w Shows clock (Some (root, steps, port)) named at is some n
 
 pub followed : (w : WorldState) (clock : ℕ) (found : Option (ℕ × ℕ × Option ℕ)) → clock ≡ 2
     → IsPairAt 26000000000 w → IfSome found (λ f. FollowsInTime clock w f.0 f.1 f.2)
-    → IfNone found (AtSystem clock w IsLiveSystem → ⊥) → found ≡ Some (first, 1, Some 1)
+    → IfNone found (AtSystem clock w IsLiveSystem → ⊥) → found ≡ Some (first_member, 1, Some 1)
 followed w clock found named at =
     found_following 26000000000 w (λ c root steps port. FollowsInTime c w root steps port) clock found named at
     (λ root steps port. second_follows w root steps port at)
 
 pub followed_sooner : (w : WorldState) (clock : ℕ) (found : Option (ℕ × ℕ × Option ℕ)) → clock ≡ 2
     → IsPairAt 24000000000 w → IfSome found (λ f. FollowsByDistance clock w f.0 f.1 f.2)
-    → IfNone found (AtSystem clock w IsLiveSystem → ⊥) → found ≡ Some (first, 1, Some 1)
+    → IfNone found (AtSystem clock w IsLiveSystem → ⊥) → found ≡ Some (first_member, 1, Some 1)
 followed_sooner w clock found named at =
     found_following 24000000000 w (λ c root steps port. FollowsByDistance c w root steps port) clock found named at
     (λ root steps port. second_follows_sooner w root steps port at)
 
 pub followed_by_paths : (w : WorldState) (clock : ℕ) (found : Option (ℕ × ℕ × Option ℕ)) → clock ≡ 2
     → IsPairAt 26000000000 w → IfSome found (λ f. FollowsByPaths clock w f.0 f.1 f.2)
-    → IfNone found (AtSystem clock w IsLiveSystem → ⊥) → found ≡ Some (first, 1, Some 1)
+    → IfNone found (AtSystem clock w IsLiveSystem → ⊥) → found ≡ Some (first_member, 1, Some 1)
 followed_by_paths w clock found named at =
     found_following 26000000000 w (λ c root steps port. FollowsByPaths c w root steps port) clock found named at
     (λ root steps port. second_follows_by_paths w root steps port at)
 
--- the second lives, by a clock that is its
+-- the second_member lives, by a clock that is its
 pub lives : (time : ℕ) (w : WorldState) (clock : ℕ) → clock ≡ 2 → IsPairAt time w → AtSystem clock w IsLiveSystem
 lives time w clock named at = subst (λ c. AtSystem c w IsLiveSystem) (sym named) (second_lives time w at)
 
@@ -389,7 +389,7 @@ has_role w (Some role) at none same = absurd cc
 
 -- ---- what it announces
 
--- the first alone is joined to the second
+-- the first_member alone is joined to the second_member
 only_neighbour : (other : ℕ) → Adjacent pair_snapshot 2 other → other ≡ 1
 only_neighbour other (m, n, inl (inl same)) =
     absurd (let clock : 2 ≡ 1 = ap (λ (l : Link). l.a.clock) same in omega (arith, clock))
@@ -397,7 +397,7 @@ only_neighbour other (m, n, inl (inr none)) = absurd none
 only_neighbour other (m, n, inr (inl same)) = ap (λ (l : Link). l.a.clock) same
 only_neighbour other (m, n, inr (inr none)) = absurd none
 
--- a way of one link from the second leads to the first
+-- a way of one link from the second_member leads to the first_member
 one_link : (end : ℕ) (others : List ℕ) → IsPath pair_snapshot 2 end others → length others ≡ 1 → others ≡ 1 ∷ []
 one_link end [] way long = absurd (omega (arith, long))
 one_link end (other ∷ []) way long = ap (λ x. x ∷ []) (only_neighbour other way.route.0)
@@ -416,7 +416,7 @@ announces trace s same steps (inr whole) =
     sym (reverse-reverse trace) ∙ ap reverse back
 
 pub second_announces : (w : WorldState) (s : SystemState) (root steps : ℕ) (port : Option ℕ) → IsPairAt 26000000000 w
-    → IsSound w → AtSystem 2 w (Follows root steps port) → FollowsInTime 2 w root steps port → ShowsLive 2 w s
+    → IsSound w → AtSystem 2 w (FollowsRoot root steps port) → FollowsInTime 2 w root steps port → ShowsLive 2 w s
     → IsCleanInTime w s → trace s ≡ 1 ∷ 2 ∷ []
 second_announces w s root steps port at sound found settled shows shown =
     let place : found.place ≡ shows.place =
@@ -437,7 +437,7 @@ second_announces w s root steps port at sound found settled shows shown =
 
 -- ---- what both state
 
-rising : IsRising (line_clocks (leading ∷ following ∷ []))
+rising : IsRising (line_clocks (leading ∷ following_pair ∷ []))
 rising = ((λ y among. later y among), ((λ y among. absurd among), tt))
   where
     later : (y : ℕ) → In y (2 ∷ []) → 1 < y
@@ -445,8 +445,8 @@ rising = ((λ y among. later y among), ((λ y among. absurd among), tt))
     later y (inr none) = absurd none
 
 pub certified : (w : WorldState) (lines : List SystemLine) → IsPairAt 26000000000 w → States w lines
-    → IsRightInTime w lines → lines ≡ leading ∷ following ∷ []
+    → IsRightInTime w lines → lines ≡ leading ∷ following_pair ∷ []
 certified w lines at states right =
-    same_choice pair_snapshot lines (leading ∷ following ∷ []) well_formed
+    same_choice pair_snapshot lines (leading ∷ following_pair ∷ []) well_formed
     (subst (λ g. IsSettledChoice g lines) at.snapshot (right (at.calm settling_span_with (omega arith)))) choice
     states.rising rising

@@ -14,7 +14,7 @@ use Rattle.gptp_pdelay.specs.Clock.{local_clock}
 use Rattle.gptp_reading.specs.Reading.{IsBestsTime, IsReadingErrorOf, reading_error_at}
 use Rattle.gptp_reading.specs.Readings.{HeadlineOnReadings, LeavesReading, RunsReadExactly, WorldsReadExactly}
 use Rattle.gptp_scaled.specs.Counts.{AreWithin}
-use Rattle.gptp_network_rows.specs.Pair.{IsPairSince, first, pair_document, pair_pace, pair_snapshot, params}
+use Rattle.gptp_network_rows.specs.Pair.{IsPairSince, first_member, pair_document, pair_pace, pair_snapshot, params}
 use Rattle.gptp_network_rows.specs.Readings.{RunsOfTwoReadExactly, WorldsOfTwoReadExactly}
 use Rattle.gptp_network_rows.proofs.ExactLemmas.{calm_pair, few, first_is, found, late, leads, of_pair, phases, playable, short_way, shows, time_is, way, way_is}
 use Rattle.gptp_network_rows.proofs.PairLemmas.{follows, near}
@@ -34,16 +34,16 @@ module _ (w : WorldState) (time : ℕ) (k : IsPairSince 27000000000 w) (sound : 
 
   shown : IsBestsTime w 2 (time + 100000000) (local_clock 0 (pos 0) (time + 100000000))
   shown =
-      let (best, is_best, is) : IsBestIdentity pair_snapshot 2 first = follows.root in
-      let root = found w time k sound claimed passed 0 1 first refl refl in
+      let (best, is_best, is) : IsBestIdentity pair_snapshot 2 first_member = follows.root in
+      let root = found w time k sound claimed passed 0 1 first_member refl refl in
       record {
         best = best;
         is_best = of_pair w time k sound claimed passed (λ g. IsBest g 2 best) is_best;
         root = root.0.system;
         shows = subst (λ c. ShowsLive c w root.0.system)
             (first_is w time k sound claimed passed best is_best.live is)
-            (shows w time k sound claimed passed 0 1 first refl refl);
-        is = sym (time_is w time k sound claimed passed 0 1 first refl refl (time + 100000000));
+            (shows w time k sound claimed passed 0 1 first_member refl refl);
+        is = sym (time_is w time k sound claimed passed 0 1 first_member refl refl (time + 100000000));
       }
 
   read_by_theorem : (w' : WorldState) (done : Done) (read : ℤ) → HeadlineOnReadings w time w' done

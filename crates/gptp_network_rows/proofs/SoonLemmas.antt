@@ -3,7 +3,7 @@ use Rattle.std.proofs.Common.{◌≡◌, ◌≤◌, ℕ, List, [], Option, Some,
 use Rattle.std.specs.Prelude.{IfNone, IfSome}
 use Rattle.gptp_acts.specs.Acts.{AtSystem}
 use Rattle.gptp_acts.specs.Advancing.{Advanced, Told}
-use Rattle.gptp_acts.specs.Views.{Follows, IsLiveSystem}
+use Rattle.gptp_acts.specs.Views.{FollowsRoot, IsLiveSystem}
 use Rattle.gptp_acts.specs.World.{WorldState}
 use Rattle.gptp_graph.specs.Distance.{IsDistance, IsNear}
 use Rattle.gptp_graph.specs.PathBound.{BoundsPaths}
@@ -17,7 +17,7 @@ use Rattle.gptp_lists.proofs.MemberLemmas.{slice_get-In}
 use Rattle.gptp_plan.specs.Network.{pace_of}
 use Rattle.gptp_plan.specs.SyncWait.{sync_paths}
 use Rattle.gptp_plan.specs.declared.sync_wait.SyncPaths.{SyncPaths}
-use Rattle.gptp_reached.specs.Headline.{IsCalm}
+use Rattle.gptp_reached.specs.Headline.{WorldIsCalm}
 use Rattle.gptp_reached.specs.Soon.{StartsSettle}
 use Rattle.gptp_reached.proofs.CalmLemmas.{pace_stands, quiet_stands}
 use Rattle.gptp_reached.proofs.SyncPathLemmas.{paths_stand}
@@ -27,7 +27,7 @@ use Rattle.gptp_soon.specs.Documents.{ActsFindSettled, SettlesSoon}
 use Rattle.gptp_soon.specs.Exactly.{SettlesBy}
 use Rattle.gptp_soon.specs.Gains.{exchanged_from}
 use Rattle.gptp_system.specs.State.{clock}
-use Rattle.gptp_network_rows.specs.Pair.{HasBegun, IsPairAt, first, pair_document, pair_network, pair_pace, pair_snapshot}
+use Rattle.gptp_network_rows.specs.Pair.{HasBegun, IsPairAt, first_member, pair_document, pair_network, pair_pace, pair_snapshot}
 use Rattle.gptp_network_rows.specs.Soon.{IsPairSoon, RunsOfTwoSettleSoon}
 use Rattle.gptp_network_rows.proofs.ExactLemmas.{playable}
 use Rattle.gptp_network_rows.proofs.PairLemmas.{bounded, calm as is_calm, comes_to, lives, near, pace_is, paths_are, root_is, slave_is, steps_are}
@@ -38,7 +38,7 @@ module _ {F : Type 0} (answers : Bounds → ℕ → F → Option ℕ → F → T
   there : IsPairAt 2000002501 w
   there = comes_to answers fate fate_after told 2000002501 start w k advanced claimed
 
-  calm : IsCalm (pace_of pair_network) w
+  calm : WorldIsCalm (pace_of pair_network) w
   calm =
       let quiet = quiet_stands pair_network [] w k.network there.since.stands claimed.is.world.sound is_calm in
       record {
@@ -68,10 +68,10 @@ module _ {F : Type 0} (answers : Bounds → ℕ → F → Option ℕ → F → T
         (subst (λ p. HasSettledBy p 2 (capable_from p w 0) w) (sym pace_is) late)).tree.settled;
   }
 
--- the second is found, and follows the first
+-- the second is found, and follows the first_member
 pub followed_soon : (w : WorldState) (number : ℕ) (found : Option (ℕ × ℕ × Option ℕ)) → number ≡ 2 → IsPairSoon w
-    → IfSome found (λ f. AtSystem number w (Follows f.0 f.1 f.2))
-    → IfNone found (AtSystem number w IsLiveSystem → ⊥) → found ≡ Some (first, 1, Some 1)
+    → IfSome found (λ f. AtSystem number w (FollowsRoot f.0 f.1 f.2))
+    → IfNone found (AtSystem number w IsLiveSystem → ⊥) → found ≡ Some (first_member, 1, Some 1)
 followed_soon w number None named k some none = absurd (none (lives 2000002501 w number named k.at))
 followed_soon w number (Some (root, steps, port)) named k some none =
     let own : clock some.station.system ≡ 2 = some.is.named ∙ named in
@@ -79,7 +79,7 @@ followed_soon w number (Some (root, steps, port)) named k some none =
     subst (λ g. IsNear g (clock some.station.system)) (sym k.at.snapshot)
     (subst (IsNear pair_snapshot) (sym own) near) in
     let is = k.settled some.place some.station some.is.here some.so.live close in
-    let root_same : root ≡ first =
+    let root_same : root ≡ first_member =
     some.so.root_is
     ∙ root_is some.station.system.root
     (subst (λ n. IsBestIdentity pair_snapshot n some.station.system.root) own

@@ -49,14 +49,14 @@ params = record {
 }
 
 -- priority1 246, clockClass 248, clockAccuracy 254, offsetScaledLogVariance 436a, priority2 248, and clock 1
-abbrev pub first : ℕ
-first = 0xf6f8fe436af80000000000000001
+abbrev pub first_member : ℕ
+first_member = 0xf6f8fe436af80000000000000001
 
 -- the same with clock 2
-abbrev pub second : ℕ
-second = 0xf6f8fe436af80000000000000002
+abbrev pub second_member : ℕ
+second_member = 0xf6f8fe436af80000000000000002
 
--- one port announces each second
+-- one port announces each second_member
 abbrev pub each_second : ArrayVec ℤ
 each_second = record { items = pos 0 ∷ [] }
 
@@ -68,7 +68,7 @@ end_station identity = member identity 1 0 (pos 0) each_second
 abbrev pub pair_network : NetworkState
 pair_network = record {
   params = params;
-  systems = end_station first ∷ end_station second ∷ [];
+  systems = end_station first_member ∷ end_station second_member ∷ [];
   links = wire 0 (port_id 1 1) (port_id 2 1) 500 500 0 true ∷ [];
 }
 
@@ -84,27 +84,27 @@ pair_paths = record { systems = 2; delay = 500 }
 abbrev pub pair_snapshot : Snapshot
 pair_snapshot = record {
   systems =
-      record { clock = 1; identity = first; ports = 1 }
-      ∷ record { clock = 2; identity = second; ports = 1 }
+      record { clock = 1; identity = first_member; ports = 1 }
+      ∷ record { clock = 2; identity = second_member; ports = 1 }
       ∷ [];
   links = record { a = port_of 1 1; b = port_of 2 1 } ∷ [];
 }
 
--- what both state once all has settled: the second follows the first
+-- what both state once all has settled: the second_member follows the first_member
 abbrev pub leading : SystemLine
 leading = record {
   clock = 1;
-  root = first;
+  root = first_member;
   steps = 0;
   far = false;
   parent = None;
   ports = record { number = 1; role = settled.Master } ∷ [];
 }
 
-abbrev pub following : SystemLine
-following = record {
+abbrev pub following_pair : SystemLine
+following_pair = record {
   clock = 2;
-  root = first;
+  root = first_member;
   steps = 1;
   far = false;
   parent = Some (record { own_port = 1; clock = 1; port = 1 });
@@ -139,11 +139,11 @@ pub record IsPairAt (time : ℕ) (w : WorldState) : Type 0 where
 
 -- ---- what is said and held in it
 
--- what the port of a system received, if it holds that, came from the first over nothing between
+-- what the port of a system received, if it holds that, came from the first_member over nothing between
 abbrev pub HoldsFirstAlone : SystemState → Type 0
 HoldsFirstAlone s = (r : Reception) → received (held_at s 1) ≡ Some r → r.path ≡ 1 ∷ []
 
--- what it received once ports were capable came from the first
+-- what it received once ports were capable came from the first_member
 abbrev pub HoldsFromFirst : SystemState → Type 0
 HoldsFromFirst s = (r : Reception) → received (held_at s 1) ≡ Some r → 15000000000 ≤ r.at
     → r.vector.source ≡ port_id 1 1
@@ -156,7 +156,7 @@ HearsAnnounce number m (Heard clock port answer frame) =
 
 -- ---- how exact offsets are in it
 
--- an act in their world leaves the second an offset that is exact but for rounding
+-- an act in their world leaves the second_member an offset that is exact but for rounding
 abbrev pub WorldsOfTwoAreExact : {F : Type 0} → (Bounds → ℕ → F → Option ℕ → F → Type 0) → Type 0
 WorldsOfTwoAreExact {F} answers = (timed : Timed) (fate fate_after : F) (w w' : WorldState) (done : Done) (offset : ℤ)
     → IsPairSince 27000000000 w → AllClaimed w → WasDone answers timed fate fate_after w w' done

@@ -14,7 +14,7 @@ ghost use Rattle.gptp_roles.specs.declared.role.Role.TheVariants.{Disabled, Mast
 ghost use Rattle.gptp_scaled.specs.Counts.{AreWithin};
 ghost use Rattle.gptp_network_rows.specs.Pair.{HasBegun, HearsAnnounce, HoldsFirstAlone, HoldsFromFirst, IsPairAt, IsPairSince};
 ghost use Rattle.gptp_network_rows.specs.Pair.{RunsOfTwoAreExact, WorldsOfTwoAreExact};
-ghost use Rattle.gptp_network_rows.specs.Pair.{each_second, first, following, leading, pair_network, second};
+ghost use Rattle.gptp_network_rows.specs.Pair.{each_second, first_member, following_pair, leading, pair_network, second_member};
 
 use arrayvec::ArrayVec;
 use gptp_certificate::{Certificate, write_certificate};
@@ -65,8 +65,8 @@ const LAST: u64 = 28_000_000_000;
 
 /// The identity with this clock, and all defaults.
 fn identity(clock: u8) -> Identity
-    ensures first { clock ≡ 1 → result ≡ first }
-    ensures second { clock ≡ 2 → result ≡ second }
+    ensures first { clock ≡ 1 → result ≡ first_member }
+    ensures second { clock ≡ 2 → result ≡ second_member }
 {
     Identity::of_octets([246, 248, 254, 0x43, 0x6a, 248, 0, 0, 0, 0, 0, 0, 0, clock])
 }
@@ -143,7 +143,7 @@ fn pair_at<F: Fate + Drop>(alloc: Global, fate: F, time: u64) -> Result<World<F>
 #[tactic(auto, using(crate::proofs::PairLemmas::followed))]
 fn second_follows<F: Fate + Drop>(world: &World<F>) -> Option<(Identity, u16, Option<u8>)>
     requires { IsPairAt 26000000000 world.now.scene }
-    ensures { result ≡ Some (first, 1, Some 1) }
+    ensures { result ≡ Some (first_member, 1, Some 1) }
 {
     world.follows(ClockId::from(2))
 }
@@ -154,7 +154,7 @@ pub fn follow_at_rest<F: Fate + Drop>(
     alloc: Global,
     fate: F,
 ) -> Result<Option<(Identity, u16, Option<u8>)>, NetworkFault>
-    ensures { IfOk result (λ followed. followed ≡ Some (first, 1, Some 1)) }
+    ensures { IfOk result (λ followed. followed ≡ Some (first_member, 1, Some 1)) }
 {
     let world = pair_at(alloc, fate, SETTLED)?;
     Ok(second_follows(&world))
@@ -163,7 +163,7 @@ pub fn follow_at_rest<F: Fate + Drop>(
 /// What it follows, one step away from the best.
 fn second_follows_sooner<F: Fate + Drop>(world: &World<F>) -> Option<(Identity, u16, Option<u8>)>
     requires { IsPairAt 24000000000 world.now.scene }
-    ensures { result ≡ Some (first, 1, Some 1) }
+    ensures { result ≡ Some (first_member, 1, Some 1) }
 {
     let second = ClockId::from(2);
     world.follows(second)
@@ -174,7 +174,7 @@ pub fn follow_by_distance<F: Fate + Drop>(
     alloc: Global,
     fate: F,
 ) -> Result<Option<(Identity, u16, Option<u8>)>, NetworkFault>
-    ensures { IfOk result (λ followed. followed ≡ Some (first, 1, Some 1)) }
+    ensures { IfOk result (λ followed. followed ≡ Some (first_member, 1, Some 1)) }
 {
     let world = pair_at(alloc, fate, SOONER)?;
     Ok(second_follows_sooner(&world))
@@ -183,7 +183,7 @@ pub fn follow_by_distance<F: Fate + Drop>(
 /// What it follows, as no path has more than two systems.
 fn second_follows_by_paths<F: Fate + Drop>(world: &World<F>) -> Option<(Identity, u16, Option<u8>)>
     requires { IsPairAt 26000000000 world.now.scene }
-    ensures { result ≡ Some (first, 1, Some 1) }
+    ensures { result ≡ Some (first_member, 1, Some 1) }
 {
     let second = ClockId::from(2);
     world.follows(second)
@@ -194,7 +194,7 @@ pub fn follow_by_paths<F: Fate + Drop>(
     alloc: Global,
     fate: F,
 ) -> Result<Option<(Identity, u16, Option<u8>)>, NetworkFault>
-    ensures { IfOk result (λ followed. followed ≡ Some (first, 1, Some 1)) }
+    ensures { IfOk result (λ followed. followed ≡ Some (first_member, 1, Some 1)) }
 {
     let world = pair_at(alloc, fate, SETTLED)?;
     Ok(second_follows_by_paths(&world))
@@ -203,7 +203,7 @@ pub fn follow_by_paths<F: Fate + Drop>(
 /// What both systems state.
 fn certify<F: Fate + Drop>(alloc: Global, world: &World<F>) -> Result<Certificate, NetworkFault>
     requires { IsPairAt 26000000000 world.now.scene }
-    ensures { IfOk result (λ certificate. certificate.lines ≡ leading ∷ following ∷ []) }
+    ensures { IfOk result (λ certificate. certificate.lines ≡ leading ∷ following_pair ∷ []) }
 {
     match write_certificate(alloc, world) {
         Ok(certificate) => Ok(certificate),
@@ -213,7 +213,7 @@ fn certify<F: Fate + Drop>(alloc: Global, world: &World<F>) -> Result<Certificat
 
 /// What both state once all has settled: that the second follows the first. Refused for want of memory alone.
 pub fn certify_at_rest<F: Fate + Drop>(alloc: Global, fate: F) -> Result<Certificate, NetworkFault>
-    ensures { IfOk result (λ certificate. certificate.lines ≡ leading ∷ following ∷ []) }
+    ensures { IfOk result (λ certificate. certificate.lines ≡ leading ∷ following_pair ∷ []) }
 {
     let world = pair_at(alloc, fate, SETTLED)?;
     certify(alloc, &world)

@@ -2,7 +2,7 @@
 //! in ns.
 
 ghost use Rattle.std.specs.Prelude.{◌≡◌, IfOk, OnOk, Some};
-ghost use Rattle.gptp_network_rows.specs.Pair.{HasBegun, first};
+ghost use Rattle.gptp_network_rows.specs.Pair.{HasBegun, first_member};
 ghost use Rattle.gptp_network_rows.specs.Soon.{IsPairSoon, RunsOfTwoSettleSoon};
 
 use crate::drawn::begun;
@@ -35,7 +35,7 @@ fn go_on<F: Fate + Drop>(world: &mut World<F>) -> Result<(), NetworkFault>
 /// What the second system follows then.
 fn second_follows<F: Fate + Drop>(world: &World<F>) -> Option<(Identity, u16, Option<u8>)>
     requires { IsPairSoon world.now.scene }
-    ensures { result ≡ Some (first, 1, Some 1) }
+    ensures { result ≡ Some (first_member, 1, Some 1) }
 {
     world.follows(ClockId::from(2))
 }
@@ -46,7 +46,7 @@ pub fn follow_soon<F: Fate + Drop>(
     alloc: Global,
     fate: F,
 ) -> Result<Option<(Identity, u16, Option<u8>)>, NetworkFault>
-    ensures { IfOk result (λ followed. followed ≡ Some (first, 1, Some 1)) }
+    ensures { IfOk result (λ followed. followed ≡ Some (first_member, 1, Some 1)) }
 {
     let mut world = begun(alloc, fate)?;
     go_on(&mut world)?;

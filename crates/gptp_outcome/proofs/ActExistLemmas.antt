@@ -11,7 +11,7 @@ use Rattle.gptp_links.specs.Fate.{Draw}
 use Rattle.gptp_links.specs.Queue.{frame, Frame}
 use Rattle.gptp_setup.specs.declared.timer.Timer.{Timer}
 use Rattle.gptp_system.specs.declared.answer.Answer.{Answer}
-use Rattle.gptp_system.specs.Input.{Expires as TimerExpires, Frame as FrameHeard}
+use Rattle.gptp_system.specs.Input.{TimerRunsOut as TimerExpires, Frame as FrameHeard}
 use Rattle.gptp_system.specs.State.{clock, due}
 use Rattle.gptp_system.specs.Steps.{IsDue, IsUp}
 use Rattle.gptp_plan.specs.declared.change.Act.{Act}
@@ -21,12 +21,12 @@ use Rattle.gptp_acts.specs.declared.done.Done.{Done}
 use Rattle.gptp_acts.specs.declared.done.Done.TheVariants.{Quiet, Heard}
 use Rattle.gptp_acts.specs.declared.item.Item.TheVariants.{Arrival}
 use Rattle.gptp_acts.specs.declared.station.Station.{Station}
-use Rattle.gptp_acts.specs.Act.{Expires, Hears, Takes}
+use Rattle.gptp_acts.specs.Act.{TimerRunsOut, Hears, TakesFrame}
 use Rattle.gptp_acts.specs.Acts.{at, Acts, AtPlace, AtSystem, Changes, Delivery, IsOldestDue, IsReadyAct}
 use Rattle.gptp_acts.specs.Agrees.{stopped}
-use Rattle.gptp_acts.specs.Pending.{without_first}
+use Rattle.gptp_acts.specs.Pending.{without_first_entry}
 use Rattle.gptp_acts.specs.Sound.{IsWired}
-use Rattle.gptp_acts.specs.World.{queue, receiver, station_due, with_queue, Channel, Net, WorldState}
+use Rattle.gptp_acts.specs.World.{world_queue, receiver, station_due, with_queue, Channel, Net, WorldState}
 use Rattle.gptp_acts.proofs.AheadLemmas.{live_due, requeued_fit}
 use Rattle.gptp_acts.proofs.StayLemmas.{carry_join, net_stays, takes_carry}
 use Rattle.gptp_acts.proofs.WiredLemmas.{time_wired}
@@ -80,7 +80,7 @@ IsDelivered link direction w draws v = (done : Done) × Delivery link direction 
 
 -- a timer of the system of a clock runs out
 abbrev HasExpired : ℕ → Timer → WorldState → List Draw → WorldState → Type 0
-HasExpired number timer w draws v = AtSystem number w (λ place station. Expires place timer w draws v)
+HasExpired number timer w draws v = AtSystem number w (λ place station. TimerRunsOut place timer w draws v)
 
 -- an act is done, and something is told of it
 abbrev IsDone : Act → WorldState → List Draw → WorldState → Type 0
@@ -108,19 +108,19 @@ module _ {F : Type 0} (answers : Bounds → ℕ → F → Option ℕ → F → T
       rest : List Frame
       rest = oldest.so.rest
 
-      front : queue direction channel ≡ frame w.time octets ∷ rest
+      front : world_queue direction channel ≡ frame w.time octets ∷ rest
       front = oldest.so.front ∙ ap (λ (t : ℕ). frame t octets ∷ rest) oldest.so.due
 
       net : Net
       net = record {
         channels = slice_set w.net.channels link (with_queue direction rest channel);
-        pending = without_first (Arrival link direction) w.net.pending;
+        pending = without_first_entry (Arrival link direction) w.net.pending;
       }
 
       emptied : WorldState
       emptied = record w { net = net }
 
-      takes : Takes link direction w.time octets channel w.net net
+      takes : TakesFrame link direction w.time octets channel w.net net
       takes = record { rest = rest; here = oldest.here; front = front; is = refl }
 
       frames : AllByRecursion IsOfOctets (oldest.so.oldest ∷ rest)
@@ -150,7 +150,7 @@ module _ {F : Type 0} (answers : Bounds → ℕ → F → Option ℕ → F → T
 
       up : channel.up ≡ true
       up =
-          in_flight_up channel.up (queue direction channel) oldest.so.oldest rest
+          in_flight_up channel.up (world_queue direction channel) oldest.so.oldest rest
           (is.flow link direction channel oldest.here).still oldest.so.front
 
       tells : (answer : Option Answer) (draws : List Draw) (v : WorldState)

@@ -9,7 +9,7 @@ use Rattle.gptp_links.specs.Queue.{frame, Frame}
 use Rattle.gptp_setup.specs.declared.timer.Timer.{Timer}
 use Rattle.gptp_system.specs.declared.answer.Answer.{Answer}
 use Rattle.gptp_system.specs.Input.{PortDown, PortUp, Priority}
-use Rattle.gptp_system.specs.Input.{Expires as TimerExpires, Frame as FrameHeard}
+use Rattle.gptp_system.specs.Input.{TimerRunsOut as TimerExpires, Frame as FrameHeard}
 use Rattle.gptp_plan.specs.declared.change.Act.{Act}
 use Rattle.gptp_plan.specs.declared.change.Act.TheVariants.{Deliver, Expire, Change as Changing}
 use Rattle.gptp_plan.specs.declared.change.Change.{Change}
@@ -18,12 +18,12 @@ use Rattle.gptp_acts.specs.declared.done.Done.{Done}
 use Rattle.gptp_acts.specs.declared.done.Done.TheVariants.{Quiet, Heard}
 use Rattle.gptp_acts.specs.declared.item.Item.TheVariants.{Arrival}
 use Rattle.gptp_acts.specs.declared.station.Station.{Station}
-use Rattle.gptp_acts.specs.Act.{Delivers, Expires, Hears}
-use Rattle.gptp_acts.specs.Acts.{set_to, Acts, Changes, Delivery, Tells}
+use Rattle.gptp_acts.specs.Act.{Delivers, TimerRunsOut, Hears}
+use Rattle.gptp_acts.specs.Acts.{set_to, Acts, Changes, Delivery, TellsHearing}
 use Rattle.gptp_acts.specs.Agrees.{stopped}
 use Rattle.gptp_acts.specs.Changing.{brought_up, failed, taken_down, with_bounds, with_setup, with_station, CallsIfLive, ComesUpIf, FailsIf, GoesDownIf, InjectsIf, RecoversIf}
-use Rattle.gptp_acts.specs.Pending.{without_first}
-use Rattle.gptp_acts.specs.World.{port_id, queue, receiver, with_queue, Channel, Net, WorldState}
+use Rattle.gptp_acts.specs.Pending.{without_first_entry}
+use Rattle.gptp_acts.specs.World.{port_id, world_queue, receiver, with_queue, Channel, Net, WorldState}
 use Rattle.gptp_acts.proofs.StayLemmas.{brought_up_stays, carry_join, taken_down_stays, takes_carry}
 use Rattle.gptp_outcome.specs.ActLaws.{IsSameAct, SameDone}
 use Rattle.gptp_outcome.specs.Named.{AnswersOnce, HaveOwnPorts, IsNamed}
@@ -47,7 +47,7 @@ fronts_once time octets said xs ys e = (ap octets_of e, ap behind e)
 
 -- what is told of one frame that reached one port, with one answer, is the same
 tells_once : (reached : PortId) (answer : Option Answer) (octets : List ℕ) (done said : Done)
-    → Tells reached answer octets done → Tells reached answer octets said → SameDone done said
+    → TellsHearing reached answer octets done → TellsHearing reached answer octets said → SameDone done said
 tells_once reached answer octets Quiet said k l = absurd k
 tells_once reached answer octets (Heard clock port told sent) Quiet k l = absurd l
 tells_once reached answer octets (Heard clock port told sent) (Heard number place tells others) k l =
@@ -78,10 +78,10 @@ module _ {F : Type 0} (answers : Bounds → ℕ → F → Option ℕ → F → T
       let channels : l.channel ≡ k.channel =
       same_there w.net.channels link l.channel k.channel l.takes.here k.takes.here in
       let (same, rests) = fronts_once w.time others octets l.takes.rest k.takes.rest
-      (sym l.takes.front ∙ ap (queue direction) channels ∙ k.takes.front) in
+      (sym l.takes.front ∙ ap (world_queue direction) channels ∙ k.takes.front) in
       let left : List Frame → Channel → Net = λ rest c. record {
         channels = slice_set w.net.channels link (with_queue direction rest c);
-        pending = without_first (Arrival link direction) w.net.pending;
+        pending = without_first_entry (Arrival link direction) w.net.pending;
       } in
       let nets : l.net ≡ k.net =
       l.takes.is ∙ ap (λ (rest : List Frame). left rest l.channel) rests
@@ -109,10 +109,10 @@ module _ {F : Type 0} (answers : Bounds → ℕ → F → Option ℕ → F → T
       let (draws, worlds, answer, octets) =
       delivers_once link direction k.octets l.octets w v u ds es k.answer l.answer is both k.delivers l.delivers in
       let channels : l.channel ≡ k.channel = same_there w.net.channels link l.channel k.channel l.here k.here in
-      let told : Tells (receiver direction k.channel) k.answer k.octets said =
-      subst (λ (c : Channel). Tells (receiver direction c) k.answer k.octets said) channels
-      (subst (λ (a : Option Answer). Tells (receiver direction l.channel) a k.octets said) (sym answer)
-      (subst (λ (xs : List ℕ). Tells (receiver direction l.channel) l.answer xs said) (sym octets) l.told)) in
+      let told : TellsHearing (receiver direction k.channel) k.answer k.octets said =
+      subst (λ (c : Channel). TellsHearing (receiver direction c) k.answer k.octets said) channels
+      (subst (λ (a : Option Answer). TellsHearing (receiver direction l.channel) a k.octets said) (sym answer)
+      (subst (λ (xs : List ℕ). TellsHearing (receiver direction l.channel) l.answer xs said) (sym octets) l.told)) in
       record {
         draws_are = draws;
         done_is = tells_once (receiver direction k.channel) k.answer k.octets done said k.told told;
@@ -199,7 +199,7 @@ module _ {F : Type 0} (answers : Bounds → ℕ → F → Option ℕ → F → T
   -- ---- all acts
 
   expires_once : (place : ℕ) (timer : Timer) (w v u : WorldState) (ds es : List Draw) → IsNamed w
-      → AreDrawn answers once ds es → Expires place timer w ds v → Expires place timer w es u → (ds ≡ es) × (v ≡ u)
+      → AreDrawn answers once ds es → TimerRunsOut place timer w ds v → TimerRunsOut place timer w es u → (ds ≡ es) × (v ≡ u)
   expires_once place timer w v u ds es is both k l =
       let same = calls_once answers once place (TimerExpires timer) (stopped place timer w) v u ds es k.answer l.answer
       is.ports both k.calls l.calls in
@@ -220,7 +220,7 @@ module _ {F : Type 0} (answers : Bounds → ℕ → F → Option ℕ → F → T
   acts_drawn_once (Expire number timer) w v u ds es done said is both k l =
       quiet_once ds es done said v u k.0 l.0
       (expires_once k.1.place timer w v u ds es is both k.1.so
-      (system_too number w (λ place station. Expires place timer w ds v) (λ place station. Expires place timer w es u)
+      (system_too number w (λ place station. TimerRunsOut place timer w ds v) (λ place station. TimerRunsOut place timer w es u)
       is.clocks k.1 l.1))
   acts_drawn_once (Changing c) w v u ds es done said is both k l =
       quiet_once ds es done said v u k.0 l.0

@@ -14,7 +14,7 @@ use Rattle.gptp_system.specs.declared.answer.Answer.{Answer}
 use Rattle.gptp_system.specs.Facts.{IsSystem}
 use Rattle.gptp_system.specs.Input.{Input, IsTimely, PortUp}
 use Rattle.gptp_system.specs.Start.{started}
-use Rattle.gptp_system.specs.Steps.{IsPortOf}
+use Rattle.gptp_system.specs.Steps.{HasPortNumber}
 use Rattle.gptp_system.proofs.ReadyLemmas.{started_ready}
 use Rattle.gptp_system.proofs.SystemLemmas.{starts_system}
 use Rattle.gptp_acts.specs.declared.station.Station.{Station}
@@ -147,7 +147,7 @@ module _ {F : Type 0} (answers : Bounds → ℕ → F → Option ℕ → F → T
   -- the ports of a live system come up, one after another
   calls_all_exist : (place : ℕ) (ps : List ℕ) (w : WorldState) (station : Station) (fate : F)
       → slice_get w.stations place ≡ Some station → station.live ≡ true
-      → ((p : ℕ) → In p ps → IsPortOf station.system p) → CanCall w
+      → ((p : ℕ) → In p ps → HasPortNumber station.system p) → CanCall w
       → Comes answers w fate (CallsAll place (map PortUp ps) w)
   calls_all_exist place [] w station fate here live ports can =
       comes_without answers w w fate (CallsAll place [] w) (refl, refl) (itself_on w can)

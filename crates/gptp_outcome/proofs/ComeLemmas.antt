@@ -13,7 +13,7 @@ use Rattle.gptp_links.proofs.DrawLemmas.{draws-append}
 use Rattle.gptp_setup.specs.Intervals.{AreParams, IsMoment}
 use Rattle.gptp_system.specs.Facts.{IsSystem}
 use Rattle.gptp_system.specs.State.{clock, SystemState}
-use Rattle.gptp_system.specs.Steps.{IsPortOf}
+use Rattle.gptp_system.specs.Steps.{HasPortNumber}
 use Rattle.gptp_acts.specs.declared.station.Station.{Station}
 use Rattle.gptp_acts.specs.Ahead.{AreFit}
 use Rattle.gptp_acts.specs.Pending.{Entry}
@@ -77,7 +77,7 @@ stands_still w w' place station on here =
     record { new = new; here = there; same = subst (λ (x : Station). IsSameSystem x new) one was.same }
 
 -- a port of a system that has its ports still is one of it
-pub port_still : (old new : SystemState) (p : ℕ) → length new.ports ≡ length old.ports → IsPortOf old p → IsPortOf new p
+pub port_still : (old new : SystemState) (p : ℕ) → length new.ports ≡ length old.ports → HasPortNumber old p → HasPortNumber new p
 port_still old new p count port =
     record { least = port.least; most = let most = port.most in omega arith }
 
@@ -144,7 +144,7 @@ pub record HasEnd (port : PortId) (stations : List Station) : Type 0 where
   pub station : Station
   pub here : slice_get stations place ≡ Some station
   pub named : clock station.system ≡ port.clock
-  pub port_of : IsPortOf station.system port.port
+  pub port_of : HasPortNumber station.system port.port
 
 -- each link ends at ports of systems
 abbrev pub HaveEnds : WorldState → Type 0

@@ -21,7 +21,7 @@ use Rattle.gptp_acts.specs.Acts.{at}
 use Rattle.gptp_acts.specs.Advancing.{Advanced, Advances, Told}
 use Rattle.gptp_acts.specs.Course.{Begun, WasDone}
 use Rattle.gptp_acts.specs.Initial.{initial}
-use Rattle.gptp_acts.specs.Pending.{entry, Entry, IsNext, NothingBefore}
+use Rattle.gptp_acts.specs.Pending.{pending_entry, Entry, IsNext, NothingBefore}
 use Rattle.gptp_acts.specs.Views.{IsActOf, IsNextAct}
 use Rattle.gptp_acts.specs.World.{WorldState}
 use Rattle.gptp_acts.proofs.AdvanceLemmas.{next_not_before}
@@ -36,14 +36,14 @@ use Rattle.gptp_outcome.proofs.SendLemmas.{draws_once}
 
 -- ---- the next act
 
--- the first entry that is due at a time
+-- the first pending_entry that is due at a time
 first_at : ℕ → List Entry → Option Item
 first_at time [] = None
 first_at time (e ∷ es) = if e.time == time then Some e.item else first_at time es
 
 -- it is the one before which all are due later
 first_found : (before : List Entry) (time : ℕ) (item : Item) (after : List Entry)
-    → All (λ (e : Entry). time < e.time) before → first_at time (before ++ entry time item ∷ after) ≡ Some item
+    → All (λ (e : Entry). time < e.time) before → first_at time (before ++ pending_entry time item ∷ after) ≡ Some item
 unfolding first_at
 first_found [] time item after later =
     let same : (time == time) ≡ true = grind (arith, nat_tests) in rw same refl

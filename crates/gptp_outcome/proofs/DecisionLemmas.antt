@@ -8,7 +8,7 @@ use Rattle.gptp_scaled.specs.Rate.{FitsRate, scaled_by}
 use Rattle.gptp_scaled.specs.ScaledNs.{FitsScaled}
 use Rattle.gptp_scaled.specs.Stamp.{scaled_of}
 use Rattle.gptp_messages.specs.declared.announce.AnnounceView.{AnnounceView}
-use Rattle.gptp_receipt.specs.Qualification.{place_of, Fails, FirstFailure, Qualified}
+use Rattle.gptp_receipt.specs.Qualification.{test_number, FailsTest, FirstFailure, Qualified}
 use Rattle.gptp_receipt.specs.declared.qualification.Why.{Why}
 use Rattle.gptp_receipt.specs.declared.qualification.Why.TheVariants as whys
 use Rattle.gptp_correction.specs.declared.correction.Hop.{Hop}
@@ -136,7 +136,7 @@ judged_by_length a c foreign near clear (inr short) =
     inl (record { foreign = foreign; near = near; no_loop = clear; short = short })
 judged_by_length a c foreign near clear (inl long) = inr (whys.TraceTooLong, record { fails = long; first = first })
   where
-    first : (earlier : Why) → place_of earlier < 4 → Fails a c earlier → ⊥
+    first : (earlier : Why) → test_number earlier < 4 → FailsTest a c earlier → ⊥
     first whys.OwnMessage before fails = foreign fails
     first whys.TooManySteps before fails = let few = near in let many = fails in omega arith
     first whys.Loop before fails = clear fails
@@ -148,7 +148,7 @@ judged_by_path a c foreign near (inr clear) =
     judged_by_length a c foreign near clear (cases_lt 255 (length a.path))
 judged_by_path a c foreign near (inl passed) = inr (whys.Loop, record { fails = passed; first = first })
   where
-    first : (earlier : Why) → place_of earlier < 3 → Fails a c earlier → ⊥
+    first : (earlier : Why) → test_number earlier < 3 → FailsTest a c earlier → ⊥
     first whys.OwnMessage before fails = foreign fails
     first whys.TooManySteps before fails = let few = near in let many = fails in omega arith
     first whys.Loop before fails = let later = before in omega arith
@@ -160,7 +160,7 @@ judged_by_steps a c foreign (inl near) =
     judged_by_path a c foreign near (contained_by c a.path (member_or_not c a.path))
 judged_by_steps a c foreign (inr far) = inr (whys.TooManySteps, record { fails = far; first = first })
   where
-    first : (earlier : Why) → place_of earlier < 2 → Fails a c earlier → ⊥
+    first : (earlier : Why) → test_number earlier < 2 → FailsTest a c earlier → ⊥
     first whys.OwnMessage before fails = foreign fails
     first whys.TooManySteps before fails = let later = before in omega arith
     first whys.Loop before fails = let later = before in omega arith
@@ -170,7 +170,7 @@ judged_by_source : (a : AnnounceView) (c : ℕ) → Decided (a.head.source.clock
 judged_by_source a c (inr foreign) = judged_by_steps a c foreign (cases_lt a.body.steps 255)
 judged_by_source a c (inl own) = inr (whys.OwnMessage, record { fails = own; first = first })
   where
-    first : (earlier : Why) → place_of earlier < 1 → Fails a c earlier → ⊥
+    first : (earlier : Why) → test_number earlier < 1 → FailsTest a c earlier → ⊥
     first whys.OwnMessage before fails = let later = before in omega arith
     first whys.TooManySteps before fails = let later = before in omega arith
     first whys.Loop before fails = let later = before in omega arith

@@ -13,7 +13,7 @@ use Rattle.gptp_system.specs.State.{clock}
 use Rattle.gptp_vector.specs.declared.port.PortId.{PortId}
 use Rattle.gptp_plan.specs.Allowed.{AreAllowed, IsAllowed}
 use Rattle.gptp_plan.specs.Change.{link_after}
-use Rattle.gptp_plan.specs.Network.{IsNetwork, NetworkState, has_clock, is_taken, pace_of, same_port}
+use Rattle.gptp_plan.specs.Network.{IsNetwork, NetworkState, members_have_clock, is_taken, pace_of, same_port}
 use Rattle.gptp_plan.specs.declared.change.Act.{Act}
 use Rattle.gptp_plan.specs.declared.change.Change.{Change}
 use Rattle.gptp_plan.specs.declared.change.Change.TheVariants.{LinkDown, LinkUp, LinkSet, Fail, Recover, Priority1, Inject}
@@ -32,14 +32,14 @@ use Rattle.gptp_acts.proofs.AdvanceLemmas.{nothing_sooner}
 use Rattle.gptp_kept.proofs.LinkLaneLemmas.{true_same}
 use Rattle.gptp_kept.proofs.OutlineLemmas.{change_time, starts_are_last}
 use Rattle.gptp_network.specs.Document.{DocumentState}
-use Rattle.gptp_network.specs.Events.{AreInOrder, IsChange, IsEvent}
+use Rattle.gptp_network.specs.Events.{AreInOrder, IsPossibleChange, IsEvent}
 use Rattle.gptp_network.specs.Snapshot.{events_by}
 use Rattle.gptp_network.proofs.EventLemmas.{events_allowed}
 use Rattle.gptp_network.proofs.PassLemmas.{passes}
 use Rattle.gptp_network.proofs.SnapshotLemmas.{clock_after}
 use Rattle.gptp_report.specs.Transitions.{Courses, Makes, Passes, PassesTo, Transition, Unfolds, transition}
 use Rattle.gptp_reached.specs.PlayedLaws.{IsPlayable}
-use Rattle.gptp_reached.specs.Reached.{Shape, StandsAs, shape, shape_after, wire_of}
+use Rattle.gptp_reached.specs.Reached.{Shape, StandsAs, shape, shape_after, channel_wire}
 use Rattle.gptp_reached.proofs.BeginLemmas.{begun_stands}
 use Rattle.gptp_reached.proofs.ChangeLemmas.{changes_stand}
 use Rattle.gptp_reached.proofs.KeptLemmas.{acts_stand, time_stands}
@@ -63,7 +63,7 @@ module _ (n : NetworkState) (events : List Timed) (w : WorldState) (so : StandsA
   link_there port taken =
       let (v, member, is) = passes (λ (x : Wire). same_port x.a port || same_port x.b port) n.links taken in
       let (place, there) = slice_get-In v n.links member in
-      let (channel, here, same) = alike wire_of (link_after events) w.net.channels n.links so.links place v there in
+      let (channel, here, same) = alike channel_wire (link_after events) w.net.channels n.links so.links place v there in
       let keeps = after_keeps events v in
       let a : channel.a ≡ v.a = ap (λ (x : Wire). x.a) same ∙ keeps.a in
       let b : channel.b ≡ v.b = ap (λ (x : Wire). x.b) same ∙ keeps.b in
@@ -78,7 +78,7 @@ module _ (n : NetworkState) (events : List Timed) (w : WorldState) (so : StandsA
       }
 
   -- the system of a clock of the network
-  system_there : IsSound w → (number : ℕ) → has_clock n.systems number ≡ true → AtSystem number w AnySystem
+  system_there : IsSound w → (number : ℕ) → members_have_clock n.systems number ≡ true → AtSystem number w AnySystem
   system_there sound number has =
       let (m, member, is) = passes (λ (x : Member). clock_of x.identity == number) n.systems has in
       let (place, there) = slice_get-In m n.systems member in
@@ -94,7 +94,7 @@ module _ (n : NetworkState) (events : List Timed) (w : WorldState) (so : StandsA
         so = tt;
       }
 
-  change_there : (change : Change) → IsSound w → IsChange n change → IsThereToChange change w
+  change_there : (change : Change) → IsSound w → IsPossibleChange n change → IsThereToChange change w
   change_there (LinkDown number port) sound is = link_there (port_id number port) is
   change_there (LinkUp number port) sound is = link_there (port_id number port) is
   change_there (LinkSet number port least greatest loss) sound (is, bounds) = link_there (port_id number port) is

@@ -15,7 +15,7 @@ use Rattle.gptp_scaled.specs.Stamp.{Timestamp}
 use Rattle.gptp_messages.specs.declared.announce.AnnounceBody.{AnnounceBody}
 use Rattle.gptp_messages.specs.declared.head.Head.{Head}
 use Rattle.gptp_messages.specs.Announce.{path_trace, written_announce, written_body}
-use Rattle.gptp_messages.specs.FollowUp.{information, written_follow_up, written_sync}
+use Rattle.gptp_messages.specs.FollowUp.{information_tlv, written_follow_up, written_sync}
 use Rattle.gptp_messages.specs.Frame.{written_port}
 use Rattle.gptp_messages.specs.Grammar.{Written}
 use Rattle.gptp_messages.specs.Path.{path_octets}
@@ -32,14 +32,14 @@ use Rattle.gptp_system.specs.declared.sending.Body.{Body}
 use Rattle.gptp_system.specs.declared.sending.Body.TheVariants as bodies
 use Rattle.gptp_system.specs.declared.sending.Sending.{Sending}
 use Rattle.gptp_system.specs.Facts.{IsSystem}
-use Rattle.gptp_system.specs.Ready.{IsPort}
+use Rattle.gptp_system.specs.Ready.{IsReadyPort}
 use Rattle.gptp_system.specs.Reacts.{IsOwnAnnounce}
 use Rattle.gptp_system.specs.Sends.{announcement}
 use Rattle.gptp_system.specs.State.{clock, own, trace, SystemState}
 use Rattle.gptp_system.proofs.SystemLemmas.{system_slave}
-use Rattle.gptp_acts.specs.Sends.{message_of, written}
+use Rattle.gptp_acts.specs.Sends.{sent_message, written}
 use Rattle.gptp_reached.proofs.ClaimedLemmas.{each_there}
-use Rattle.gptp_outcome.specs.GoingOn.{AreOctets, AreOfFrame}
+use Rattle.gptp_outcome.specs.GoingOn.{AllAreOctets, AreOfFrame}
 
 -- ---- octets
 
@@ -48,12 +48,12 @@ octet_below : (k x : ℕ) → byte_at k x < 256
 octet_below zero x = mod_below x 256 (omega arith)
 octet_below (suc k) x = mod_below (x / 256 ^ suc k) 256 (omega arith)
 
-number_octets : (n x : ℕ) → AreOctets (big_bytes n x)
+number_octets : (n x : ℕ) → AllAreOctets (big_bytes n x)
 number_octets zero x = tt
 number_octets (suc n) x = (octet_below n x, number_octets n x)
 
 -- octets behind octets
-joined : (xs ys : List ℕ) → AreOctets xs → AreOctets ys → AreOctets (xs ++ ys)
+joined : (xs ys : List ℕ) → AllAreOctets xs → AllAreOctets ys → AllAreOctets (xs ++ ys)
 joined [] ys front back = back
 joined (x ∷ xs) ys front back = (front.0, joined xs ys front.1 back)
 
@@ -62,7 +62,7 @@ abbrev are_small : List ℕ → Bool
 are_small [] = true
 are_small (x ∷ xs) = ltb x 256 && are_small xs
 
-small_octets : (xs : List ℕ) → are_small xs ≡ true → AreOctets xs
+small_octets : (xs : List ℕ) → are_small xs ≡ true → AllAreOctets xs
 small_octets [] is = tt
 small_octets (x ∷ xs) is =
     let parts = and_parts (ltb x 256) (are_small xs) is in (ltb-true x 256 parts.0, small_octets xs parts.1)
@@ -78,20 +78,20 @@ flag_octet false = omega arith
 interval_octet : (log : ℤ) → FitsSigned w8 log → cast_unsigned w8 log < 256
 interval_octet log fits = (Fits-of_z fits).fits
 
-port_octets : (p : PortId) → AreOctets (written_port p)
+port_octets : (p : PortId) → AllAreOctets (written_port p)
 port_octets p = joined (big_bytes 8 p.clock) (big_bytes 2 p.port) (number_octets 8 p.clock) (number_octets 2 p.port)
 
-stamp_octets : (t : Timestamp) → AreOctets (written_stamp t)
+stamp_octets : (t : Timestamp) → AllAreOctets (written_stamp t)
 stamp_octets t =
     joined (big_bytes 6 t.seconds) (big_bytes 4 t.nanos) (number_octets 6 t.seconds) (number_octets 4 t.nanos)
 
-tlv_octets : (t : Tlv) → AreOctets t.value → AreOctets (spelled t)
+tlv_octets : (t : Tlv) → AllAreOctets t.value → AllAreOctets (spelled t)
 tlv_octets t value =
     joined (big_bytes 2 t.tlv_type ++ big_bytes 2 (length t.value)) t.value
     (joined (big_bytes 2 t.tlv_type) (big_bytes 2 (length t.value)) (number_octets 2 t.tlv_type)
     (number_octets 2 (length t.value))) value
 
-path_octets_are : (path : List ℕ) → AreOctets (path_octets path)
+path_octets_are : (path : List ℕ) → AllAreOctets (path_octets path)
 path_octets_are [] = tt
 path_octets_are (c ∷ path) = joined (big_bytes 8 c) (path_octets path) (number_octets 8 c) (path_octets_are path)
 
@@ -106,7 +106,7 @@ message_from first h behind =
     ++ behind
 
 message_octets : (first : ℕ) (h : Head) (behind : List ℕ) → first < 256 → FitsSigned w8 h.log_interval
-    → AreOctets behind → AreOctets (message_from first h behind)
+    → AllAreOctets behind → AllAreOctets (message_from first h behind)
 message_octets first h behind first_octet fits are =
     let front : List ℕ = first ∷ 0x12 ∷ big_bytes 2 (34 + length behind) in
     let second : List ℕ =
@@ -117,20 +117,20 @@ message_octets first h behind first_octet fits are =
     let zero_octet : 0 < 256 = omega arith in
     let version_octet : 0x12 < 256 = omega arith in
     let scale_octet : 8 < 256 = omega arith in
-    let front_are : AreOctets front = (first_octet, (version_octet, number_octets 2 (34 + length behind))) in
-    let second_are : AreOctets second = (
+    let front_are : AllAreOctets front = (first_octet, (version_octet, number_octets 2 (34 + length behind))) in
+    let second_are : AllAreOctets second = (
       zero_octet,
       (zero_octet, (flag_octet h.two_step, (scale_octet, number_octets 8 (cast_unsigned w64 h.correction)))),
     ) in
-    let third_are : AreOctets third =
+    let third_are : AllAreOctets third =
     (zero_octet, (zero_octet, (zero_octet, (zero_octet, port_octets h.source)))) in
-    let fifth_are : AreOctets fifth = (zero_octet, (interval_octet h.log_interval fits, tt)) in
+    let fifth_are : AllAreOctets fifth = (zero_octet, (interval_octet h.log_interval fits, tt)) in
     joined front (second ++ (third ++ (fourth ++ (fifth ++ behind)))) front_are
     (joined second (third ++ (fourth ++ (fifth ++ behind))) second_are
     (joined third (fourth ++ (fifth ++ behind)) third_are
     (joined fourth (fifth ++ behind) (number_octets 2 h.sequence) (joined fifth behind fifth_are are))))
 
-body_octets : (b : AnnounceBody) → b.time_source < 256 → AreOctets (written_body b)
+body_octets : (b : AnnounceBody) → b.time_source < 256 → AllAreOctets (written_body b)
 body_octets b source =
     let first : List ℕ = 0 ∷ 0 ∷ 0 ∷ 0 ∷ 0 ∷ 0 ∷ 0 ∷ 0 ∷ 0 ∷ 0 ∷ [] in
     let offset : List ℕ = big_bytes 2 (cast_unsigned w16 b.utc_offset) in
@@ -138,13 +138,13 @@ body_octets b source =
     let steps : List ℕ = big_bytes 2 b.steps in
     let last : List ℕ = b.time_source ∷ [] in
     let zero_octet : 0 < 256 = omega arith in
-    let root_are : AreOctets root = (zero_octet, number_octets 14 b.root) in
-    let last_are : AreOctets last = (source, tt) in
+    let root_are : AllAreOctets root = (zero_octet, number_octets 14 b.root) in
+    let last_are : AllAreOctets last = (source, tt) in
     joined first (offset ++ (root ++ (steps ++ last))) (small_octets first refl)
     (joined offset (root ++ (steps ++ last)) (number_octets 2 (cast_unsigned w16 b.utc_offset))
     (joined root (steps ++ last) root_are (joined steps last (number_octets 2 b.steps) last_are)))
 
-rate_octets : (rate : ℤ) → AreOctets (information rate).value
+rate_octets : (rate : ℤ) → AllAreOctets (information_tlv rate).value
 rate_octets rate =
     let first : List ℕ = 0x00 ∷ 0x80 ∷ 0xC2 ∷ 0x00 ∷ 0x00 ∷ 0x01 ∷ [] in
     let middle : List ℕ = big_bytes 4 (cast_unsigned w32 rate) in
@@ -167,7 +167,7 @@ pub record IsWritable (x : Sending) : Type 0 where
 
 -- a message with such fields is octets
 spelled_octets : (path : List ℕ) (head : Head) (body : Body) → FitsSigned w8 head.log_interval → IsSourced body
-    → AreOctets (Written (message_of path head body))
+    → AllAreOctets (Written (sent_message path head body))
 spelled_octets path head (bodies.Announce body) fits source =
     message_octets 0x1B head (written_announce body path) (omega arith) fits
     (joined (written_body body) (spelled (path_trace path)) (body_octets body source)
@@ -176,8 +176,8 @@ spelled_octets path head bodies.Sync fits source =
     message_octets 0x10 head written_sync (omega arith) fits (small_octets written_sync refl)
 spelled_octets path head (bodies.FollowUp origin rate) fits source =
     message_octets 0x18 head (written_follow_up origin rate) (omega arith) fits
-    (joined (written_stamp origin) (spelled (information rate)) (stamp_octets origin)
-    (tlv_octets (information rate) (rate_octets rate)))
+    (joined (written_stamp origin) (spelled (information_tlv rate)) (stamp_octets origin)
+    (tlv_octets (information_tlv rate) (rate_octets rate)))
 spelled_octets path head bodies.PdelayReq fits source =
     message_octets 0x12 head written_request (omega arith) fits (small_octets written_request refl)
 spelled_octets path head (bodies.PdelayResp stamp requester) fits source =
@@ -189,7 +189,7 @@ spelled_octets path head (bodies.PdelayRespFollowUp stamp requester) fits source
 
 -- and is short, where its path is
 spelled_short : (path : List ℕ) (head : Head) (body : Body) → length path ≤ 256
-    → length (Written (message_of path head body)) ≤ 2116
+    → length (Written (sent_message path head body)) ≤ 2116
 spelled_short path head (bodies.Announce body) few =
     let size = length-written_announce head body path in omega arith
 spelled_short path head bodies.Sync few = omega arith
@@ -229,7 +229,7 @@ own_writable s x is k =
     let within : k.place < length s.ports = omega arith in
     let (q, there) = member_there s.ports k.place within in
     let log : IsLog k.port.log_interval =
-    subst IsLog (k.log q there) (each_there IsPort s.ports is.ready.ports k.place q there).log_interval in
+    subst IsLog (k.log q there) (each_there IsReadyPort s.ports is.ready.ports k.place q there).log_interval in
     subst IsWritable (sym k.is) (own_fits s k.place k.port log)
   where
     own_fits : (t : SystemState) (place : ℕ) (port : Port) → IsLog port.log_interval

@@ -4,7 +4,7 @@ use Rattle.std.specs.List.{AllByRecursion}
 use Rattle.gptp_links.specs.declared.bounds.Bounds.{Bounds}
 use Rattle.gptp_messages.specs.declared.message.Message.{Message}
 use Rattle.gptp_messages.specs.declared.refused.Refused.{Refused}
-use Rattle.gptp_messages.specs.Grammar.{Reads, Refuses}
+use Rattle.gptp_messages.specs.Grammar.{Reads, RefusesFrame}
 use Rattle.gptp_plan.specs.Calm.{IsCalm}
 use Rattle.gptp_plan.specs.declared.change.Timed.{Timed}
 use Rattle.gptp_acts.specs.declared.done.Done.{Done}
@@ -20,7 +20,7 @@ use Rattle.gptp_time_error.proofs.CalmLemmas.{calm_dec}
 use Rattle.gptp_world.proofs.FollowLemmas.{all_told, passes_advances}
 use Rattle.gptp_report.specs.declared.frame_line.FrameType.{FrameType}
 use Rattle.gptp_report.specs.declared.frame_line.FrameType.TheVariants.{Unread}
-use Rattle.gptp_report.specs.FrameLine.{frame_line, type_of, IsOfType}
+use Rattle.gptp_report.specs.FrameLine.{frame_line, frame_type_of, IsOfType}
 use Rattle.gptp_report.specs.Report.{calm_line, restless_line, time_line, IsChangeLine, Reports, ShowsSystems}
 use Rattle.gptp_report.specs.Run.{Goes, ShowsDone, ShowsFrames, ShowsIf}
 use Rattle.gptp_report.specs.SystemLines.{system_lines}
@@ -100,9 +100,9 @@ module _ {F : Type 0} (answers : Bounds → ℕ → F → Option ℕ → F → T
 
 -- octets are of a type
 type_exists : (octets : List ℕ)
-    → ((message : Message) × Reads octets message) ⊎ ((refused : Refused) × Refuses octets refused)
+    → ((message : Message) × Reads octets message) ⊎ ((refused : Refused) × RefusesFrame octets refused)
     → (kind : FrameType) × IsOfType octets kind
-type_exists octets (inl (message, reads)) = (type_of message, inl (message, reads, refl))
+type_exists octets (inl (message, reads)) = (frame_type_of message, inl (message, reads, refl))
 type_exists octets (inr (refused, refuses)) = (Unread, inr (refused, refuses, refl))
 
 done_shown : (at : ℕ) (done : Done) → TellsOctets done → (lines : List (List ℕ)) × ShowsDone at done lines

@@ -15,12 +15,12 @@ use Rattle.gptp_graph.specs.Marking.{AreFarSteps, IsLowestRoot, Statement}
 use Rattle.gptp_graph.specs.Parent.{ParentLink}
 use Rattle.gptp_graph.specs.Snapshot.{Snapshot}
 use Rattle.gptp_graph.proofs.RisingLemmas.{same_rising}
-use Rattle.gptp_certificate.specs.Stated.{IsFarLine, IsLineOf, States}
+use Rattle.gptp_certificate.specs.Stated.{IsFarLine, IsStatedLine, States}
 use Rattle.gptp_kept.specs.Bounded.{statement_of, statements_of}
 use Rattle.gptp_kept.specs.Standing.{snapshot_of}
 use Rattle.gptp_lists.specs.Members.{In}
 use Rattle.gptp_report.specs.declared.frame_line.FrameType.{FrameType}
-use Rattle.gptp_report.specs.FrameLine.{frame_line, type_of, IsOfType}
+use Rattle.gptp_report.specs.FrameLine.{frame_line, frame_type_of, IsOfType}
 use Rattle.gptp_report.specs.Report.{time_line, IsChangeLine, Reports, ShowsSystems}
 use Rattle.gptp_report.specs.Run.{ShowsDone, ShowsFrames, ShowsIf}
 use Rattle.gptp_report.specs.SystemLines.{system_lines}
@@ -35,7 +35,7 @@ use Rattle.gptp_outcome.proofs.NameLemmas.{system_too}
 -- octets are of one type
 type_once : (octets : List ℕ) (kind other : FrameType) → IsOfType octets kind → IsOfType octets other → kind ≡ other
 type_once octets kind other (inl (m, m-reads, k)) (inl (n, n-reads, l)) =
-    k ∙ ap type_of (one_reading octets m n m-reads n-reads) ∙ sym l
+    k ∙ ap frame_type_of (one_reading octets m n m-reads n-reads) ∙ sym l
 type_once octets kind other (inl (m, reads, k)) (inr (e, refuses, l)) = absurd (never_both octets m e reads refuses)
 type_once octets kind other (inr (e, refuses, k)) (inl (m, reads, l)) = absurd (never_both octets m e reads refuses)
 type_once octets kind other (inr (d, d-refuses, k)) (inr (e, e-refuses, l)) = k ∙ sym l
@@ -145,7 +145,7 @@ far_line_once g all one x y k l =
     ∙ ap (λ (ps : List PortLine). line y.clock y.root y.steps y.far y.parent ps) (k.bare.ports ∙ sym l.bare.ports)
 
 -- so has every other
-line_once : (w : WorldState) (station : Station) (x y : SystemLine) → IsLineOf w station x → IsLineOf w station y
+line_once : (w : WorldState) (station : Station) (x y : SystemLine) → IsStatedLine w station x → IsStatedLine w station y
     → x ≡ y
 line_once w station x y (inl k) (inl l) = k.is ∙ sym l.is
 line_once w station x y (inl k) (inr l) = absurd (k.is_near l.is_far)

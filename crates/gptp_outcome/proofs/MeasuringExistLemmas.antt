@@ -6,7 +6,7 @@ use Rattle.std.proofs.lemmas.Int.{ints}
 use Rattle.std.proofs.lemmas.Nat.{div-add-mod', mod_below}
 use Rattle.std.proofs.lemmas.Option.{none-some}
 use Rattle.gptp_vector.specs.declared.vector.Vector.{Vector}
-use Rattle.gptp_vector.specs.Vector.{system_of}
+use Rattle.gptp_vector.specs.Vector.{system_vector}
 use Rattle.gptp_scaled.specs.Stamp.{IsSplit, IsTimestamp, Timestamp}
 use Rattle.gptp_receipt.specs.declared.held.Held.{Held}
 use Rattle.gptp_roles.specs.Choice.{path_vectors, with_held, IsLeast}
@@ -18,10 +18,10 @@ use Rattle.gptp_pdelay.proofs.ClockLemmas.{clock_shows_time}
 use Rattle.gptp_setup.specs.Intervals.{IsMoment}
 use Rattle.gptp_system.specs.declared.port.Port.{Port}
 use Rattle.gptp_system.specs.declared.sending.Sending.{Sending}
-use Rattle.gptp_system.specs.Measuring.{asks, is_turned, owed_at, request_of, turned, RespondsIf, Turns, TurnsAndAsks, TurnsIf}
-use Rattle.gptp_system.specs.Ready.{IsPort, IsReady}
+use Rattle.gptp_system.specs.Measuring.{port_asks, is_turned, owed_at, request_of, turned, RespondsIf, Turns, TurnsAndAsks, TurnsIf}
+use Rattle.gptp_system.specs.Ready.{IsReadyPort, IsReady}
 use Rattle.gptp_system.specs.Selection.{announcements, choosing, fresh_ports, Becomes, Selects, SelectsIf}
-use Rattle.gptp_system.specs.Sends.{response, response_follow_up, with_send}
+use Rattle.gptp_system.specs.Sends.{pdelay_response, response_follow_up, with_send}
 use Rattle.gptp_system.specs.State.{SystemState, clock, local_time, number, own, with_peer}
 use Rattle.gptp_reached.proofs.ClaimedLemmas.{each_there}
 
@@ -36,7 +36,7 @@ least_exists best (h ∷ hs) =
 -- a system selects
 pub selects_exists : (now : ℕ) (s : SystemState) → (t : SystemState) × (sends : List Sending) × Selects now s t sends
 selects_exists now s =
-    let chosen = least_exists (system_of s.identity) s.held in (
+    let chosen = least_exists (system_vector s.identity) s.held in (
       choosing chosen.0 now s,
       announcements (clock s) chosen.0.root chosen.0.steps 1 (fresh_ports chosen.0 s) s.ports,
       record { vector = chosen.0; is_chosen = chosen.1; state = refl; sends_are = refl },
@@ -64,12 +64,12 @@ pub turns_exists : (p : ℕ) (step : PeerState → PeerState) (now : ℕ) (s : S
     → (t : SystemState) × (sends : List Sending) × Turns p step now s t sends
 turns_exists p step now s = turns_if_exists (is_turned step (number s.ports p)) p step now s
 
--- and the port asks then
+-- and the port port_asks then
 pub asks_exists : (p : ℕ) (step : PeerState → PeerState) (now : ℕ) (s : SystemState)
     → (t : SystemState) × (sends : List Sending) × TurnsAndAsks p step now s t sends
 asks_exists p step now s =
     let turn = turns_exists p step now s in (
-      asks p now turn.0,
+      port_asks p now turn.0,
       with_send (request_of p turn.0) turn.1,
       record { between = turn.0; first = turn.1; turns = turn.2; state = refl; sends_are = refl },
     )
@@ -127,7 +127,7 @@ owed_is_time s p ready = go (number s.ports p) refl
     go : (here : Option Port) → number s.ports p ≡ here → (one : Owed)
         → option_map_or (λ (q : Port). q.peer.waiting) here None ≡ Some one → IsTime one.t2
     go None none one is = absurd (none-some one is)
-    go (Some q) here one is = (at_number IsPort s.ports p q ready.ports here).waiting one is
+    go (Some q) here one is = (at_number IsReadyPort s.ports p q ready.ports here).waiting one is
 
 responds_if_exists : (owed : Option Owed) (p now : ℕ) (s : SystemState) → IsTime (local_time s now)
     → ((one : Owed) → owed ≡ Some one → IsTime one.t2) → (sends : List Sending) × RespondsIf owed p now s sends
@@ -135,7 +135,7 @@ responds_if_exists None p now s time came = ([], refl)
 responds_if_exists (Some one) p now s time came =
     let arrival = split_exists one.t2 (came one refl) in
     let departure = split_exists (local_time s now) time in (
-      response (own s p) one arrival.0 arrival.1 ∷ response_follow_up (own s p) one departure.0 departure.1 ∷ [],
+      pdelay_response (own s p) one arrival.0 arrival.1 ∷ response_follow_up (own s p) one departure.0 departure.1 ∷ [],
       record {
         came = arrival.0;
         came-rest = arrival.1;

@@ -11,7 +11,7 @@ use Rattle.gptp_messages.specs.declared.refused.Refused.TheVariants as refusals
 use Rattle.gptp_messages.specs.Announce.{ReadsPath, announce_tlvs}
 use Rattle.gptp_messages.specs.FollowUp.{ReadsRate, follow_up_tlvs}
 use Rattle.gptp_messages.specs.Frame.{field}
-use Rattle.gptp_messages.specs.Grammar.{PassesHeader, Reads, Refuses, StampIsRead, TlvsAreRead, first_failed, header_fault, header_tests, message_of}
+use Rattle.gptp_messages.specs.Grammar.{PassesHeader, Reads, RefusesFrame, StampIsRead, TlvsAreRead, first_failed, header_fault, header_tests, message_of}
 use Rattle.gptp_messages.specs.Head.{message_length, message_type}
 use Rattle.gptp_messages.specs.MessageType.{least_length, type_of}
 use Rattle.gptp_messages.specs.Path.{clocks}
@@ -20,32 +20,32 @@ use Rattle.gptp_messages.specs.Tlv.{FirstTlv, HasFront, HasTlvs, IsFront, either
 use Rattle.gptp_messages.proofs.GrammarLemmas.{no_rate, odd_path, odd_rate}
 use Rattle.gptp_messages.proofs.TlvLemmas.{Walked, front_is_long, is_front, walk_goes_on, walk_is_stuck}
 use Rattle.gptp_outcome.specs.ExistenceLaws.{FramesAreJudged}
-use Rattle.gptp_outcome.specs.GoingOn.{AreOctets}
+use Rattle.gptp_outcome.specs.GoingOn.{AllAreOctets}
 
 -- ---- octets
 
 -- what stands at a place is below 256
-octets_at : (f : List ℕ) → AreOctets f → (i : ℕ) → get_or f i 0 < 256
+octets_at : (f : List ℕ) → AllAreOctets f → (i : ℕ) → get_or f i 0 < 256
 octets_at [] octets i = omega arith
 octets_at (x ∷ xs) octets zero = octets.0
 octets_at (x ∷ xs) octets (suc i) = octets_at xs octets.1 i
 
 -- a rest and a front of octets are octets, and so is what stands between two places
-octets_drop : (n : ℕ) (f : List ℕ) → AreOctets f → AreOctets (drop n f)
+octets_drop : (n : ℕ) (f : List ℕ) → AllAreOctets f → AllAreOctets (drop n f)
 octets_drop zero f octets = octets
 octets_drop (suc n) [] octets = tt
 octets_drop (suc n) (x ∷ xs) octets = octets_drop n xs octets.1
 
-octets_take : (n : ℕ) (f : List ℕ) → AreOctets f → AreOctets (take n f)
+octets_take : (n : ℕ) (f : List ℕ) → AllAreOctets f → AllAreOctets (take n f)
 octets_take zero f octets = tt
 octets_take (suc n) [] octets = tt
 octets_take (suc n) (x ∷ xs) octets = (octets.0, octets_take n xs octets.1)
 
-octets_between : (from to : ℕ) (f : List ℕ) → AreOctets f → AreOctets (slice_range f from to)
+octets_between : (from to : ℕ) (f : List ℕ) → AllAreOctets f → AllAreOctets (slice_range f from to)
 octets_between from to f octets = octets_take (to - from) (drop from f) (octets_drop from f octets)
 
 -- the number in two octets fits them
-two_fit : (i : ℕ) (f : List ℕ) → AreOctets f → field 2 i f < 2 ^ 16
+two_fit : (i : ℕ) (f : List ℕ) → AllAreOctets f → field 2 i f < 2 ^ 16
 unfolding field
 two_fit i f octets =
     let behind = octets_drop i f octets in
@@ -62,10 +62,10 @@ record CutFront (f : List ℕ) : Type 0 where
   rest : List ℕ
   is : IsFront f tlv_type value rest
   shorter : length rest < length f
-  octets : AreOctets rest
+  octets : AllAreOctets rest
 
 -- octets that are long enough can be cut so
-cut_front : (f : List ℕ) → AreOctets f → 4 ≤ length f → field 2 2 f ≤ length (drop 4 f) → CutFront f
+cut_front : (f : List ℕ) → AllAreOctets f → 4 ≤ length f → field 2 2 f ≤ length (drop 4 f) → CutFront f
 cut_front f octets long whole =
     let behind = length-drop 4 f in
     let left = length-drop (field 2 2 f) (drop 4 f) in
@@ -79,7 +79,7 @@ cut_front f octets long whole =
     }
 
 -- any others begin with no TLV
-front_or_none : (f : List ℕ) → AreOctets f → CutFront f ⊎ (HasFront f → ⊥)
+front_or_none : (f : List ℕ) → AllAreOctets f → CutFront f ⊎ (HasFront f → ⊥)
 front_or_none f octets = by (dec_le 4 (length f)) (dec_le (field 2 2 f) (length (drop 4 f)))
   where
     by : Dec (4 ≤ length f) → Dec (field 2 2 f ≤ length (drop 4 f)) → CutFront f ⊎ (HasFront f → ⊥)
@@ -103,7 +103,7 @@ all_walked kind f found walked = (
 )
 
 -- a walk over TLVs comes to the end of the octets, or is stuck
-walk : (kind : _) (f : List ℕ) (fuel : ℕ) (rest : List ℕ) (found : Option (List ℕ)) → AreOctets rest
+walk : (kind : _) (f : List ℕ) (fuel : ℕ) (rest : List ℕ) (found : Option (List ℕ)) → AllAreOctets rest
     → length rest ≤ fuel → Walked kind f rest found
     → ((value : Option (List ℕ)) × FirstTlv kind f value) ⊎ (HasTlvs f → ⊥)
 walk kind f zero [] found octets few walked = inl (all_walked kind f found walked)
@@ -121,7 +121,7 @@ walk kind f (suc fuel) (x ∷ xs) found octets few walked = elim (front_or_none 
 ]
 
 -- octets are TLVs, of which there is a first of a kind or none, or they aren't TLVs
-first_or_none : (kind : _) (f : List ℕ) → AreOctets f
+first_or_none : (kind : _) (f : List ℕ) → AllAreOctets f
     → ((value : Option (List ℕ)) × FirstTlv kind f value) ⊎ (HasTlvs f → ⊥)
 first_or_none kind f octets =
     walk kind f (length f) f None octets (omega arith)
@@ -148,7 +148,7 @@ by_first kind f P (inr stuck) none some tlvs = inr (λ is. stuck (tlvs is))
 abbrev HasPath : List ℕ → Type 0
 HasPath f = (path : List ℕ) × ReadsPath f path
 
-path_or_none : (f : List ℕ) → AreOctets f → IsEither (HasPath f)
+path_or_none : (f : List ℕ) → AllAreOctets f → IsEither (HasPath f)
 path_or_none f octets =
     by_first _ f (HasPath f) (first_or_none _ f octets)
     (λ first. inl ([], record { value = None; first = first; is = refl }))
@@ -160,7 +160,7 @@ path_or_none f octets =
 abbrev HasRate : List ℕ → Type 0
 HasRate f = (rate : ℤ) × ReadsRate f rate
 
-rate_or_none : (f : List ℕ) → AreOctets f → IsEither (HasRate f)
+rate_or_none : (f : List ℕ) → AllAreOctets f → IsEither (HasRate f)
 rate_or_none f octets =
     by_first _ f (HasRate f) (first_or_none _ f octets) (λ first. inr (λ has. no_rate f has.0 first has.1))
     (λ value first. by_test (HasRate f) (ℕ_discrete (length value) 28)
@@ -199,7 +199,7 @@ follow_up_by_rate f (inl has) = inl ([], has.0, has.1)
 follow_up_by_rate f (inr none) = inr (λ tlvs. none (tlvs.1, tlvs.2))
 
 -- TLVs are read or not
-tlvs_or_none : (n : ℕ) (kind : _) (f : List ℕ) → type_of n ≡ Some kind → AreOctets f
+tlvs_or_none : (n : ℕ) (kind : _) (f : List ℕ) → type_of n ≡ Some kind → AllAreOctets f
     → IsEither (TlvsAreRead kind f)
 tlvs_or_none n kind f is octets =
     by_number (λ k. IsEither (TlvsAreRead k f)) n kind is (inl ([], pos 0, tt)) (inl ([], pos 0, tt))
@@ -262,7 +262,7 @@ header_passes f none =
 
 -- a frame reads as some message, or is refused somehow
 abbrev IsJudged : List ℕ → Type 0
-IsJudged f = ((message : Message) × Reads f message) ⊎ ((refused : Refused) × Refuses f refused)
+IsJudged f = ((message : Message) × Reads f message) ⊎ ((refused : Refused) × RefusesFrame f refused)
 
 -- a frame whose header passes is judged by its TLVs, and then by its timestamp
 judged_by_parts : (f : List ℕ) (kind : _) → PassesHeader f kind → IsEither (TlvsAreRead kind f)
@@ -289,7 +289,7 @@ judged_by_parts f kind header (inl tlvs) (inl stamp) =
     )
 
 -- and any other by the first test that it fails
-judged_by_fault : (f : List ℕ) → AreOctets f → (fault : Option Refused) → header_fault f ≡ fault → IsJudged f
+judged_by_fault : (f : List ℕ) → AllAreOctets f → (fault : Option Refused) → header_fault f ≡ fault → IsJudged f
 judged_by_fault f octets (Some refused) is = inr (refused, inl is)
 judged_by_fault f octets None is =
     let passes = header_passes f is in

@@ -8,7 +8,7 @@ use Rattle.gptp_acts.specs.Advancing.{Told}
 use Rattle.gptp_acts.specs.Course.{WasDone}
 use Rattle.gptp_acts.specs.Initial.{initial}
 use Rattle.gptp_acts.specs.World.{WorldState}
-use Rattle.gptp_report.specs.Run.{Changed, Goes, LeadsTo, Plays}
+use Rattle.gptp_report.specs.Run.{Changed, Goes, LeadsTo, PlaysRun}
 use Rattle.gptp_outcome.specs.CourseLaws.{IsSameCourse, SameTold}
 use Rattle.gptp_outcome.specs.Named.{AnswersOnce, IsNamed}
 use Rattle.gptp_outcome.proofs.CourseLemmas.{advances_once, begins_once, done_once, same_told-append}
@@ -31,7 +31,7 @@ module _ {F : Type 0} (answers : Bounds → ℕ → F → Option ℕ → F → T
       goes_named until events rest a v x f (changed_named event first w a fate x is k) ks
 
   pub played_named : (d : DocumentState) (until : ℕ) (fate : F) (told : List Told) (w : WorldState)
-      → IsNamed (initial d.network) → Plays answers d until fate told w → IsNamed w
+      → IsNamed (initial d.network) → PlaysRun answers d until fate told w → IsNamed w
   played_named d until fate told w is k =
       goes_named until (events_by until d.events) told k.start w k.started k.drawn
       (begun_named answers d.network fate k.started k.start is k.begun) k.goes
@@ -72,7 +72,7 @@ module _ {F : Type 0} (answers : Bounds → ℕ → F → Option ℕ → F → T
       }
 
   pub plays_once : (d : DocumentState) (until : ℕ) (fate : F) (told more : List Told) (w v : WorldState)
-      → IsNamed (initial d.network) → Plays answers d until fate told w → Plays answers d until fate more v
+      → IsNamed (initial d.network) → PlaysRun answers d until fate told w → PlaysRun answers d until fate more v
       → SameTold told more × (w ≡ v)
   plays_once d until fate told more w v is k l =
       let events = events_by until d.events in

@@ -15,7 +15,7 @@ use Rattle.gptp_system.specs.declared.sending.Sending.{Sending}
 use Rattle.gptp_system.specs.State.{own, SystemState}
 use Rattle.gptp_acts.specs.Ahead.{AreFit}
 use Rattle.gptp_acts.specs.Sends.{entered, written, SendsAll, SendsOne}
-use Rattle.gptp_acts.specs.World.{port_id, queue, sender, with_queue, Channel, Net}
+use Rattle.gptp_acts.specs.World.{port_id, world_queue, sender, with_queue, Channel, Net}
 use Rattle.gptp_acts.proofs.AheadLemmas.{sent_later}
 use Rattle.gptp_outcome.specs.GoingOn.{AnswersAll, AreOfFrame, IsOfOctets}
 
@@ -176,7 +176,7 @@ module _ {F : Type 0} (answers : Bounds → ℕ → F → Option ℕ → F → T
 
 -- frames are in flight on a link, in both directions
 abbrev pub HasFrames : Channel → Type 0
-HasFrames channel = (direction : Direction) → AllByRecursion IsOfOctets (queue direction channel)
+HasFrames channel = (direction : Direction) → AllByRecursion IsOfOctets (world_queue direction channel)
 
 -- all that is in flight is of octets, on every link
 abbrev pub HaveFrames : List Channel → Type 0
@@ -196,7 +196,7 @@ entered_frames : (place : ℕ) (direction : Direction) (channel : Channel) (now 
     → HaveFrames net.channels → HaveFrames (entered place direction channel now octets answer net).channels
 entered_frames place direction channel now octets None net here are have = have
 entered_frames place direction channel now octets (Some delay) net here are have =
-    let old : List Frame = queue direction channel in
+    let old : List Frame = world_queue direction channel in
     let new : Frame = frame (due_after old now delay) octets in
     get-set_all HasFrames net.channels place channel (with_queue direction (old ++ new ∷ []) channel) here
     (queue_frames direction (old ++ new ∷ []) channel

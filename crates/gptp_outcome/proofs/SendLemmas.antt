@@ -7,7 +7,7 @@ use Rattle.gptp_links.specs.declared.link.Direction.{Direction}
 use Rattle.gptp_links.specs.Fate.{Draw, Draws}
 use Rattle.gptp_system.specs.declared.sending.Sending.{Sending}
 use Rattle.gptp_system.specs.State.{SystemState, own as port_of}
-use Rattle.gptp_acts.specs.Sends.{entered, written, IsUnlinked, SendsAll, SendsOne}
+use Rattle.gptp_acts.specs.Sends.{entered, written, IsUnlinkedPort, SendsAll, SendsOne}
 use Rattle.gptp_acts.specs.World.{Channel, Net}
 use Rattle.gptp_acts.proofs.StayLemmas.{carry_join, sends_one_carry}
 use Rattle.gptp_outcome.specs.Named.{AnswersOnce, HaveOwnPorts}
@@ -109,7 +109,7 @@ module _ {F : Type 0} (answers : Bounds → ℕ → F → Option ℕ → F → T
 
   -- what is sent from a port at which a link is up isn't without a link
   not_unlinked : (now : ℕ) (from : PortId) (octets : List ℕ) (d : Draw) (net n : Net) → SendsOne now from octets d net n
-      → IsUnlinked net from → ⊥
+      → IsUnlinkedPort net from → ⊥
   not_unlinked now from octets d net n k none =
       let down = none k.place k.direction k.channel k.here k.begins in
       let up = k.up in let e : true ≡ false = sym up ∙ down in cc

@@ -27,7 +27,7 @@ use Rattle.gptp_kept.specs.Standing.{snapshot_of}
 use Rattle.gptp_kept.proofs.BoundedLemmas.{statement_there, stated_lives}
 use Rattle.gptp_kept.proofs.NameLemmas.{clock_of_station, clocks_rise, In-rising}
 use Rattle.gptp_kept.proofs.StandsLemmas.{stands_well}
-use Rattle.gptp_certificate.specs.Stated.{IsLineOf, IsStated, States, stated_line}
+use Rattle.gptp_certificate.specs.Stated.{IsStatedLine, IsStated, States, stated_line}
 
 -- ---- far systems
 
@@ -149,7 +149,7 @@ module _ (w : WorldState) (wf : IsWellFormed (snapshot_of w)) where
   -- a system has a line, with its clock
   record HasLine (station : Station) : Type 0 where
     line : SystemLine
-    is : IsLineOf w station line
+    is : IsStatedLine w station line
     named : line.clock ≡ clock station.system
 
   line_exists : (station : Station) → In (statement_of station) (statements_of w) → HasLine station
@@ -197,7 +197,7 @@ module _ (w : WorldState) (wf : IsWellFormed (snapshot_of w)) where
       among : (line : SystemLine) → In line lines → In line.clock names
       stated : (line : SystemLine) → In line lines → IsStated w line
       all : (station : Station) → In station w.stations → In (clock station.system) names → station.live ≡ true
-          → (line : SystemLine) × In line lines × IsLineOf w station line
+          → (line : SystemLine) × In line lines × IsStatedLine w station line
 
     -- the system with the clock of another is that
     one_system : (place : ℕ) (one other : Station) → slice_get w.stations place ≡ Some one → In other w.stations
@@ -219,7 +219,7 @@ module _ (w : WorldState) (wf : IsWellFormed (snapshot_of w)) where
     }
       where
         all : (station : Station) → In station w.stations → In (clock station.system) (name ∷ names)
-            → station.live ≡ true → (line : SystemLine) × In line rest.lines × IsLineOf w station line
+            → station.live ≡ true → (line : SystemLine) × In line rest.lines × IsStatedLine w station line
         all station there (inl first) live =
             let same = one_system at.place at.station station at.is.here there (first ∙ sym at.is.named) in
             let lives : at.station.live ≡ true = ap (λ (s : Station). s.live) (sym same) ∙ live in absurd cc
@@ -257,16 +257,16 @@ module _ (w : WorldState) (wf : IsWellFormed (snapshot_of w)) where
           station = at.station;
           there = In-slice_get at.station w.stations at.place at.is.here;
           live = live;
-          is = subst (IsLineOf w at.station) (sym same) first.is;
+          is = subst (IsStatedLine w at.station) (sym same) first.is;
         }
         stated line (inr more) = rest.stated line more
 
         all : (station : Station) → In station w.stations → In (clock station.system) (name ∷ names)
             → station.live ≡ true
-            → (line : SystemLine) × In line (first.line ∷ rest.lines) × IsLineOf w station line
+            → (line : SystemLine) × In line (first.line ∷ rest.lines) × IsStatedLine w station line
         all station there (inl is) lives =
             let same = one_system at.place at.station station at.is.here there (is ∙ sym at.is.named) in
-            (first.line, inl refl, subst (λ (s : Station). IsLineOf w s first.line) (sym same) first.is)
+            (first.line, inl refl, subst (λ (s : Station). IsStatedLine w s first.line) (sym same) first.is)
         all station there (inr more) lives =
             let (line, member, is) = rest.all station there more lives in (line, inr member, is)
 

@@ -4,7 +4,7 @@ use Rattle.gptp_messages.specs.declared.announce.AnnounceView.{AnnounceView}
 use Rattle.gptp_messages.specs.declared.message.Message.{Message}
 use Rattle.gptp_messages.specs.declared.message.Message.TheVariants as messages
 use Rattle.gptp_messages.specs.declared.refused.Refused.{Refused}
-use Rattle.gptp_messages.specs.Grammar.{Reads, Refuses}
+use Rattle.gptp_messages.specs.Grammar.{Reads, RefusesFrame}
 use Rattle.gptp_receipt.specs.Held.{comparison}
 use Rattle.gptp_pdelay.specs.Peer.{after_follow_up, after_interval, after_response, follow_up_step, reset_peer, response_step}
 use Rattle.gptp_setup.specs.declared.timer.Timer.{Timer}
@@ -13,15 +13,15 @@ use Rattle.gptp_setup.specs.Intervals.{IsMoment}
 use Rattle.gptp_system.specs.declared.answer.Answer.{Answer}
 use Rattle.gptp_system.specs.declared.answer.Answer.TheVariants as answers
 use Rattle.gptp_system.specs.declared.sending.Sending.{Sending}
-use Rattle.gptp_system.specs.Announcing.{aged_at, announced_at, announcement_at, answer_to_heard, answer_to_why, compared, is_taken, with_priority}
+use Rattle.gptp_system.specs.Announcing.{aged_at, announced_at, announcement_at, answer_to_heard, answer_to_why, compared, replaces_held, with_priority}
 use Rattle.gptp_system.specs.Input.{Input, PortUp, PortDown, Frame, Priority, Steps}
 use Rattle.gptp_system.specs.Input.{Expires as TimerExpires}
 use Rattle.gptp_system.specs.Lapse.{lapsed}
-use Rattle.gptp_system.specs.Measuring.{answer_of, down, owes, responded, step_at}
+use Rattle.gptp_system.specs.Measuring.{measuring_answer, down, owes, responded, step_at}
 use Rattle.gptp_system.specs.Ready.{IsReady}
 use Rattle.gptp_system.specs.State.{SystemState, clock, held_at, is_capable_at, local_time, number, own, with_peer}
 use Rattle.gptp_system.specs.Steps.{Expires, HearsFrame, HearsMessage}
-use Rattle.gptp_system.specs.Syncing.{leads}
+use Rattle.gptp_system.specs.Syncing.{is_leading}
 use Rattle.gptp_system.proofs.SystemLemmas.{stays_system}
 use Rattle.gptp_outcome.specs.ExistenceLaws.{StepsExist}
 use Rattle.gptp_outcome.specs.GoingOn.{HearsOctets}
@@ -41,7 +41,7 @@ hears_announce_by : (on : Bool) (p : ℕ) (a : AnnounceView) (now : ℕ) (s : Sy
 hears_announce_by false p a now s off judged =
     (s, [], answers.Disabled, inl (record { off = off; becomes = becomes_itself s; answer_is = refl }))
 hears_announce_by true p a now s on (inl qualified) =
-    let taken = selects_if_exists (is_taken (comparison (held_at s p) (own s p) a)) now (compared p a now s) in (
+    let taken = selects_if_exists (replaces_held (comparison (held_at s p) (own s p) a)) now (compared p a now s) in (
       taken.0,
       taken.1,
       answer_to_heard (comparison (held_at s p) (own s p) a),
@@ -66,7 +66,7 @@ hears_exists p (messages.PdelayReq head) now s = (
 hears_exists p (messages.PdelayResp m) now s = (
   with_peer p (after_response m (local_time s now)) s,
   [],
-  answer_of (step_at (response_step m (local_time s now)) (number s.ports p)),
+  measuring_answer (step_at (response_step m (local_time s now)) (number s.ports p)),
   record { becomes = becomes_itself (with_peer p (after_response m (local_time s now)) s); answer_is = refl },
 )
 hears_exists p (messages.FollowUp m) now s = hears_follow_up_exists (is_capable_at s p) p m now s
@@ -74,7 +74,7 @@ hears_exists p (messages.PdelayRespFollowUp m) now s =
     let turn = turns_exists p (after_follow_up m) now s in (
       turn.0,
       turn.1,
-      answer_of (step_at (follow_up_step m) (number s.ports p)),
+      measuring_answer (step_at (follow_up_step m) (number s.ports p)),
       record { turns = turn.2; answer_is = refl },
     )
 hears_exists p (messages.Announce a) now s =
@@ -92,14 +92,14 @@ expires_exists (timers.Pdelay p) now s ready moment = asks_exists p after_interv
 expires_exists (timers.Respond p) now s ready moment =
     let answered = responds_exists p now s ready moment in
     (responded p s, answered.0, record { state = refl; responds = answered.1 })
-expires_exists timers.Sync now s ready moment = syncs_exists (leads s) now s (local_is_time s now ready moment)
+expires_exists timers.Sync now s ready moment = syncs_exists (is_leading s) now s (local_is_time s now ready moment)
 expires_exists timers.Relay now s ready moment = relays_exists s.known now s
 expires_exists timers.Lapse now s ready moment = selects_exists now (lapsed s)
 
 -- ---- frames, which read as messages or are refused
 
 frame_by : (p : ℕ) (octets : List ℕ) (now : ℕ) (s : SystemState)
-    → ((message : Message) × Reads octets message) ⊎ ((refused : Refused) × Refuses octets refused)
+    → ((message : Message) × Reads octets message) ⊎ ((refused : Refused) × RefusesFrame octets refused)
     → (t : SystemState) × (sends : List Sending) × (answer : Answer) × HearsFrame p octets now s t sends answer
 frame_by p octets now s (inl (message, reads)) =
     let heard = hears_exists p message now s in

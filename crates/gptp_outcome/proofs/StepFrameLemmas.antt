@@ -17,11 +17,11 @@ use Rattle.gptp_system.specs.declared.sending.Sending.{Sending}
 use Rattle.gptp_system.specs.Facts.{IsSystem}
 use Rattle.gptp_system.specs.Input.{Input, IsTimely, Steps, PortUp, PortDown, Frame, Expires, Priority}
 use Rattle.gptp_system.specs.Measuring.{owed_at, request_of, RespondsIf}
-use Rattle.gptp_system.specs.Messages.{kind_of, AllAre, Announcing, AsksOnce}
+use Rattle.gptp_system.specs.Messages.{message_kind, AllAre, Announcing, AsksOnce}
 use Rattle.gptp_system.specs.Reacts.{IsAnnounce}
-use Rattle.gptp_system.specs.Sends.{response, response_follow_up}
+use Rattle.gptp_system.specs.Sends.{pdelay_response, response_follow_up}
 use Rattle.gptp_system.specs.State.{clock, is_mine, own, SystemState}
-use Rattle.gptp_system.specs.Syncing.{follow_up_of, hop_of, leads, own_time, sync_of, syncs, told_by, RelaysBy, RelaysIf, SyncsIf}
+use Rattle.gptp_system.specs.Syncing.{follow_up_of, hop_of, is_leading, own_time, sync_of, syncs, told_by, RelaysBy, RelaysIf, SyncsIf}
 use Rattle.gptp_system.proofs.AnswerLemmas.{steps_react}
 use Rattle.gptp_system.proofs.SendLemmas.{with_send-from}
 use Rattle.gptp_system.proofs.SentLemmas.{steps_send}
@@ -32,7 +32,7 @@ use Rattle.gptp_outcome.proofs.FrameLemmas.{log_fits, own_writable, writable_fra
 -- ---- intervals
 
 -- a message that announces is an Announce
-announces : (body : Body) → kind_of body ≡ Announcing → IsAnnounce body
+announces : (body : Body) → message_kind body ≡ Announcing → IsAnnounce body
 announces (bodies.Announce body) is = (body, refl)
 announces bodies.Sync is = absurd cc
 announces (bodies.FollowUp origin rate) is = absurd cc
@@ -72,7 +72,7 @@ responding_fine None p now s sends none x member = silent_fine sends none x memb
 responding_fine (Some owed) p now s sends k x member = by (subst (In x) k.sends_are member)
   where
     first : Sending
-    first = response (own s p) owed k.came k.came-rest
+    first = pdelay_response (own s p) owed k.came k.came-rest
 
     second : Sending
     second = response_follow_up (own s p) owed k.went k.went-rest
@@ -148,7 +148,7 @@ steps_fine (Expires (timers.Pdelay p)) now s t sends answer is timely k =
 steps_fine (Expires (timers.Respond p)) now s t sends answer is timely k =
     responding_fine (owed_at s p) p now s sends
     (steps_send (Expires (timers.Respond p)) now s t sends answer timely k)
-steps_fine (Expires timers.Sync) now s t sends answer is timely k = syncing_fine (leads s) now s t sends is k
+steps_fine (Expires timers.Sync) now s t sends answer is timely k = syncing_fine (is_leading s) now s t sends is k
 steps_fine (Expires timers.Relay) now s t sends answer is timely k = relaying_fine s.known now s t sends is k
 steps_fine (Expires timers.Lapse) now s t sends answer is timely k =
     announcing_fine sends (steps_send (Expires timers.Lapse) now s t sends answer timely k)

@@ -9,9 +9,9 @@ use Rattle.gptp_messages.specs.declared.message.Message.{Message}
 use Rattle.gptp_messages.specs.declared.message.Message.TheVariants as messages
 use Rattle.gptp_messages.proofs.GrammarLemmas.{never_both, one_reading, one_refusal}
 use Rattle.gptp_vector.specs.declared.vector.Vector.{Vector}
-use Rattle.gptp_vector.specs.Vector.{system_of}
+use Rattle.gptp_vector.specs.Vector.{system_vector}
 use Rattle.gptp_receipt.specs.Held.{comparison}
-use Rattle.gptp_receipt.specs.Qualification.{place_of, FirstFailure, Qualified}
+use Rattle.gptp_receipt.specs.Qualification.{test_number, FirstFailure, Qualified}
 use Rattle.gptp_receipt.specs.declared.qualification.Why.{Why}
 use Rattle.gptp_receipt.specs.declared.qualification.Why.TheVariants as whys
 use Rattle.gptp_roles.specs.Choice.{path_vectors}
@@ -24,10 +24,10 @@ use Rattle.gptp_setup.specs.declared.timer.Timer.TheVariants as timers
 use Rattle.gptp_system.specs.declared.answer.Answer.{Answer}
 use Rattle.gptp_system.specs.declared.answer.Answer.TheVariants as answers
 use Rattle.gptp_system.specs.declared.sending.Sending.{Sending}
-use Rattle.gptp_system.specs.Announcing.{answer_to_why, compared, is_taken, with_priority, aged_at, AnnounceExpires}
+use Rattle.gptp_system.specs.Announcing.{answer_to_why, compared, replaces_held, with_priority, aged_at, AnnounceExpires}
 use Rattle.gptp_system.specs.Input.{Input, PortUp, PortDown, Frame, Priority, Steps}
 use Rattle.gptp_system.specs.Input.{Expires as TimerExpires}
-use Rattle.gptp_system.specs.Measuring.{asks, down, is_turned, owed_at, request_of, turned, RespondsIf, Turns, TurnsAndAsks, TurnsIf}
+use Rattle.gptp_system.specs.Measuring.{port_asks, down, is_turned, owed_at, request_of, turned, RespondsIf, Turns, TurnsAndAsks, TurnsIf}
 use Rattle.gptp_system.specs.Selection.{announcements, choosing, fresh_ports, Becomes, Selects, SelectsIf}
 use Rattle.gptp_system.specs.Sends.{with_send}
 use Rattle.gptp_system.specs.State.{SystemState, clock, held_at, is_capable_at, local_time, number, own}
@@ -36,7 +36,7 @@ use Rattle.gptp_correction.specs.declared.correction.Relayed.{Relayed}
 use Rattle.gptp_correction.specs.Correction.{held_sum}
 use Rattle.gptp_setup.specs.Pace.{has_sync_timeout}
 use Rattle.gptp_system.specs.Lapse.{lapsed}
-use Rattle.gptp_system.specs.Syncing.{delay_at, is_followed, leads, rate_at, refreshing, said_on, told_by, HearsFollowUpIf, HearsSyncIf, IsOffset, IsTold, KeepsIf, KnowsBy, KnowsIf, LeadsTime, RelaysBy, RelaysIf, SyncsIf}
+use Rattle.gptp_system.specs.Syncing.{delay_at, is_followed, is_leading, root_rate_at, refreshing, said_on, told_by, HearsFollowUpIf, HearsSyncIf, IsOffset, IsToldAtLimits, KeepsIf, KnowsBy, KnowsIf, LeadsTime, RelaysBy, RelaysIf, SyncsIf}
 use Rattle.gptp_outcome.specs.StepLaws.{IsSameStep, SameAnswer}
 
 -- the same state, and the same sends
@@ -55,7 +55,7 @@ module _ (t u : SystemState) (xs ys : List Sending) where
 
   selects_once : (now : ℕ) (s : SystemState) → Selects now s t xs → Selects now s u ys → Same t u xs ys
   selects_once now s k l =
-      let same = one_least (system_of s.identity ∷ path_vectors s.held) k.vector l.vector k.is_chosen l.is_chosen in (
+      let same = one_least (system_vector s.identity ∷ path_vectors s.held) k.vector l.vector k.is_chosen l.is_chosen in (
         k.state ∙ ap (λ (v : Vector). choosing v now s) same ∙ sym l.state,
         k.sends_are
             ∙ ap (λ (v : Vector). announcements (clock s) v.root v.steps 1 (fresh_ports v s) s.ports) same
@@ -83,7 +83,7 @@ module _ (t u : SystemState) (xs ys : List Sending) where
       → TurnsAndAsks p step now s t xs → TurnsAndAsks p step now s u ys → Same t u xs ys
   asks_once p step now s k l =
       let same = turns_once k.between l.between k.first l.first p step now s k.turns l.turns in (
-        k.state ∙ ap (asks p now) same.0 ∙ sym l.state,
+        k.state ∙ ap (port_asks p now) same.0 ∙ sym l.state,
         k.sends_are
             ∙ ap (λ (v : SystemState). with_send (request_of p v) k.first) same.0
             ∙ ap (λ (sent : List Sending). with_send (request_of p l.between) sent) same.1
@@ -109,13 +109,13 @@ module _ (t u : SystemState) (xs ys : List Sending) where
         k.sends_are ∙ rw (split.0, split.1) refl ∙ sym l.sends_are,
       )
 
-  syncs_once : (leads : Bool) (now : ℕ) (s : SystemState) → SyncsIf leads now s t xs → SyncsIf leads now s u ys
+  syncs_once : (is_leading : Bool) (now : ℕ) (s : SystemState) → SyncsIf is_leading now s t xs → SyncsIf is_leading now s u ys
       → Same t u xs ys
   syncs_once true now s k l = leads_once now s k l
   syncs_once false now s k l = becomes_once t u xs ys _ k l
 
   -- what is told by a sum of rates held at its limits
-  told_once : (info : SyncInfo) (now : ℕ) (s : SystemState) (a b : Relayed) → IsTold info now s a → IsTold info now s b
+  told_once : (info : SyncInfo) (now : ℕ) (s : SystemState) (a b : Relayed) → IsToldAtLimits info now s a → IsToldAtLimits info now s b
       → a ≡ b
   told_once info now s a b (inl k) (inl l) = k.1 ∙ sym l.1
   told_once info now s a b (inl k) (inr l) = absurd (l.0 k.0)
@@ -146,7 +146,7 @@ module _ (t u : SystemState) (xs ys : List Sending) where
   expires_once (timers.Pdelay p) now s k l = asks_once p after_interval now s k l
   expires_once (timers.Respond p) now s k l =
       (k.state ∙ sym l.state, responds_once (owed_at s p) p now s k.responds l.responds)
-  expires_once timers.Sync now s k l = syncs_once (leads s) now s k l
+  expires_once timers.Sync now s k l = syncs_once (is_leading s) now s k l
   expires_once timers.Relay now s k l = relays_once s.known now s k l
   expires_once timers.Lapse now s k l = selects_once t u xs ys now (lapsed s) k l
 
@@ -159,7 +159,7 @@ why_at (suc (suc zero)) = whys.TooManySteps
 why_at (suc (suc (suc zero))) = whys.Loop
 why_at (suc (suc (suc (suc n)))) = whys.TraceTooLong
 
-why_back : (why : Why) → why_at (place_of why) ≡ why
+why_back : (why : Why) → why_at (test_number why) ≡ why
 unfolding why_at
 why_back whys.OwnMessage = refl
 why_back whys.TooManySteps = refl
@@ -169,7 +169,7 @@ why_back whys.TraceTooLong = refl
 -- one test is the first that fails
 first_once : (a : AnnounceView) (c : ℕ) (v w : Why) → FirstFailure a c v → FirstFailure a c w → v ≡ w
 first_once a c v w k l =
-    elim (cases_order (place_of v) (place_of w)) [
+    elim (cases_order (test_number v) (test_number w)) [
       | inl same ↦ sym (why_back v) ∙ ap why_at same ∙ why_back w
       | inr apart ↦ elim apart [
         | inl less ↦ absurd (l.first v less k.fails)
@@ -228,7 +228,7 @@ module _ (t u : SystemState) (xs ys : List Sending) (a b : Answer) where
 
   hears_follow_up_once : (on : Bool) (p : ℕ) (m : FollowUp) (now : ℕ) (s : SystemState)
       → HearsFollowUpIf on p m now s t xs a → HearsFollowUpIf on p m now s u ys b → SameHeard t u xs ys a b
-  hears_follow_up_once true p m now s k l = knows_once (said_on p m s) (delay_at s p) (rate_at s p) now s k l
+  hears_follow_up_once true p m now s k l = knows_once (said_on p m s) (delay_at s p) (root_rate_at s p) now s k l
   hears_follow_up_once false p m now s k l = heard_so _ _ k.becomes l.becomes k.answer_is l.answer_is
 
   both_ways : (s : SystemState) (p : ℕ) → is_capable_at s p ≡ false → is_capable_at s p ≡ true → ⊥
@@ -248,7 +248,7 @@ module _ (t u : SystemState) (xs ys : List Sending) (a b : Answer) where
   hears_announce_once p m now s (inr (inl k)) (inr (inr l)) = absurd (fails_not m (clock s) k.why k.fails l.qualified)
   hears_announce_once p m now s (inr (inr k)) (inr (inl l)) = absurd (fails_not m (clock s) l.why l.fails k.qualified)
   hears_announce_once p m now s (inr (inr k)) (inr (inr l)) = (
-    selects_if_once t u xs ys (is_taken (comparison (held_at s p) (own s p) m)) now (compared p m now s) k.selects
+    selects_if_once t u xs ys (replaces_held (comparison (held_at s p) (own s p) m)) now (compared p m now s) k.selects
         l.selects,
     k.answer_is ∙ sym l.answer_is,
   )

@@ -18,17 +18,17 @@ use Rattle.gptp_setup.specs.Intervals.{IsMoment, interval_of}
 use Rattle.gptp_system.specs.declared.answer.Answer.{Answer}
 use Rattle.gptp_system.specs.declared.port.Port.{Port}
 use Rattle.gptp_system.specs.declared.sending.Sending.{Sending}
-use Rattle.gptp_system.specs.Announcing.{aged_at, aged_by, compared, is_taken, with_priority}
+use Rattle.gptp_system.specs.Announcing.{aged_at, aged_by, compared, replaces_held, with_priority}
 use Rattle.gptp_system.specs.Facts.{IsSystem}
 use Rattle.gptp_system.specs.Input.{Input, PortUp, PortDown, Frame, Priority, Steps}
 use Rattle.gptp_system.specs.Input.{Expires as TimerExpires}
 use Rattle.gptp_system.specs.Lapse.{lapsed}
 use Rattle.gptp_system.specs.Measuring.{answering_done, asking, down, held_if, held_turned, is_turned, owes, owing, turned, Turns, TurnsAndAsks, TurnsIf}
 use Rattle.gptp_system.specs.Ready.{IsReady}
-use Rattle.gptp_system.specs.Selection.{announced, SelectsIf}
+use Rattle.gptp_system.specs.Selection.{announced_again, SelectsIf}
 use Rattle.gptp_system.specs.State.{SystemState, change, held_at, is_capable_at, local_time, number, own, with_peer}
 use Rattle.gptp_system.specs.Steps.{Expires, HearsFrame, HearsMessage}
-use Rattle.gptp_system.specs.Syncing.{leads}
+use Rattle.gptp_system.specs.Syncing.{is_leading}
 use Rattle.gptp_system.proofs.FactLemmas.{are_placed}
 use Rattle.gptp_system.proofs.MeasuringLemmas.{down_ready, follow_up_keeps, interval_keeps, response_keeps, step_ready}
 use Rattle.gptp_system.proofs.ReadyLemmas.{KeepsHeld, ageing_keeps, hearing_keeps, held_ready, lapsed_ready, selects_ready}
@@ -148,7 +148,7 @@ hears_announce_ready p a now s s' sends answer ready moment placed (inl k) = bec
 hears_announce_ready p a now s s' sends answer ready moment placed (inr (inl k)) =
     becomes_ready s s' sends ready k.becomes
 hears_announce_ready p a now s s' sends answer ready moment placed (inr (inr k)) =
-    selects_if_ready (is_taken (comparison (held_at s p) (own s p) a)) now (compared p a now s) s' sends
+    selects_if_ready (replaces_held (comparison (held_at s p) (own s p) a)) now (compared p a now s) s' sends
     (compared_ready p a now s ready moment k.qualified) placed k.selects
 
 -- ---- all steps
@@ -180,7 +180,7 @@ expires_ready : (timer : Timer) (now : ℕ) (s s' : SystemState) (sends : List S
     → ArePlaced 1 s'.held → Expires timer now s s' sends → IsReady s'
 expires_ready (timers.Announce p) now s s' sends ready placed k =
     subst IsReady (sym k.state)
-    (port_ready p (announced now) s (λ q is. record { log_interval = is.log_interval; waiting = is.waiting }) ready)
+    (port_ready p (announced_again now) s (λ q is. record { log_interval = is.log_interval; waiting = is.waiting }) ready)
 expires_ready (timers.Age p) now s s' sends ready placed k =
     selects_ready now (aged_at p now s) s' sends (aged_ready p now s ready) placed k
 expires_ready (timers.Pdelay p) now s s' sends ready placed k =
@@ -189,7 +189,7 @@ expires_ready (timers.Respond p) now s s' sends ready placed k =
     subst IsReady (sym k.state)
     (port_ready p answering_done s
     (λ q is. record { log_interval = is.log_interval; waiting = λ one none. absurd (none-some one none) }) ready)
-expires_ready timers.Sync now s s' sends ready placed k = syncs_ready (leads s) now s s' sends ready k
+expires_ready timers.Sync now s s' sends ready placed k = syncs_ready (is_leading s) now s s' sends ready k
 expires_ready timers.Relay now s s' sends ready placed k = relays_ready s.known now s s' sends ready k
 expires_ready timers.Lapse now s s' sends ready placed k =
     selects_ready now (lapsed s) s' sends (lapsed_ready s ready) placed k

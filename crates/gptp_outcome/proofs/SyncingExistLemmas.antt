@@ -11,8 +11,8 @@ use Rattle.gptp_system.specs.declared.answer.Answer.{Answer}
 use Rattle.gptp_system.specs.declared.answer.Answer.TheVariants as answers
 use Rattle.gptp_system.specs.declared.sending.Sending.{Sending}
 use Rattle.gptp_system.specs.State.{SystemState, local_time}
-use Rattle.gptp_system.specs.Syncing.{as_received, delay_at, forgetting, hop_of, is_followed, keeping, knowing, offset_of, own_time, rate_at, refreshing, restarted, said_on, slave_rate, stopped, telling, told_by}
-use Rattle.gptp_system.specs.Syncing.{HearsFollowUpIf, HearsSyncIf, HopFits, IsOffset, IsTold, KeepsIf, KnowsBy, KnowsIf, OffsetFits, RelaysBy, RelaysIf, SyncsIf}
+use Rattle.gptp_system.specs.Syncing.{as_received, delay_at, forgetting, hop_of, is_followed, keeping, knowing, offset_of, own_time, root_rate_at, refreshing, restarted, said_on, slave_rate, timer_stopped, telling, told_by}
+use Rattle.gptp_system.specs.Syncing.{HearsFollowUpIf, HearsSyncIf, HopFits, IsOffset, IsToldAtLimits, KeepsIf, KnowsBy, KnowsIf, OffsetFits, RelaysBy, RelaysIf, SyncsIf}
 use Rattle.gptp_outcome.proofs.DecisionLemmas.{bridge_or_not, offset_or_not, Decided}
 use Rattle.gptp_outcome.proofs.MeasuringExistLemmas.{becomes_itself, split_exists}
 
@@ -35,7 +35,7 @@ hop_or_not info now s = bridge_or_not info (hop_of info now s)
 
 -- what is told by a sum of rates held at its limits
 told_if : (info : SyncInfo) (now : ℕ) (s : SystemState) → Decided (HopFits (held_sum info (slave_rate s)) now s)
-    → (told : Relayed) × IsTold info now s told
+    → (told : Relayed) × IsToldAtLimits info now s told
 told_if info now s (inl fits) =
     let held = held_sum info (slave_rate s) in (relayed held (hop_of held now s), inl (fits, refl))
 told_if info now s (inr unfit) = (as_received info, inr (unfit, refl))
@@ -44,18 +44,18 @@ told_if info now s (inr unfit) = (as_received info, inr (unfit, refl))
 relayed_if : (info : SyncInfo) (now : ℕ) (s : SystemState) → Decided (HopFits info now s)
     → (t : SystemState) × (sends : List Sending) × RelaysBy false info now s t sends
 relayed_if info now s (inl fits) = (
-  telling (stopped s),
+  telling (timer_stopped s),
   told_by (relayed info (hop_of info now s)) s,
   inl (record { fits = fits; state = refl; sends_are = refl }),
 )
 relayed_if info now s (inr unfit) =
-    (stopped s, [], inr (record { unfit = unfit; becomes = becomes_itself (stopped s) }))
+    (timer_stopped s, [], inr (record { unfit = unfit; becomes = becomes_itself (timer_stopped s) }))
 
 relays_by_exists : (on : Bool) (info : SyncInfo) (now : ℕ) (s : SystemState)
     → (t : SystemState) × (sends : List Sending) × RelaysBy on info now s t sends
 relays_by_exists true info now s =
     let told = told_if info now s (hop_or_not (held_sum info (slave_rate s)) now s) in (
-      telling (stopped s),
+      telling (timer_stopped s),
       told_by told.0 s,
       record { told = told.0; told_is = told.1; state = refl; sends_are = refl },
     )
@@ -64,7 +64,7 @@ relays_by_exists false info now s = relayed_if info now s (hop_or_not info now s
 -- the Relay timer expires
 pub relays_exists : (known : Option SyncInfo) (now : ℕ) (s : SystemState)
     → (t : SystemState) × (sends : List Sending) × RelaysIf known now s t sends
-relays_exists None now s = (stopped s, [], becomes_itself (stopped s))
+relays_exists None now s = (timer_stopped s, [], becomes_itself (timer_stopped s))
 relays_exists (Some info) now s = relays_by_exists (has_sync_timeout s.params) info now s
 
 -- ---- a Sync
@@ -129,6 +129,6 @@ knows_exists (Some info) delay rate now s = knows_by_exists (has_sync_timeout s.
 
 pub hears_follow_up_exists : (on : Bool) (p : ℕ) (m : FollowUp) (now : ℕ) (s : SystemState)
     → (t : SystemState) × (sends : List Sending) × (answer : Answer) × HearsFollowUpIf on p m now s t sends answer
-hears_follow_up_exists true p m now s = knows_exists (said_on p m s) (delay_at s p) (rate_at s p) now s
+hears_follow_up_exists true p m now s = knows_exists (said_on p m s) (delay_at s p) (root_rate_at s p) now s
 hears_follow_up_exists false p m now s =
     (s, [], answers.Disabled, record { becomes = becomes_itself s; answer_is = refl })

@@ -12,7 +12,7 @@ use Rattle.gptp_system.specs.declared.sending.Sending.{Sending}
 use Rattle.gptp_system.specs.Ready.{IsReady}
 use Rattle.gptp_system.specs.Selection.{Becomes}
 use Rattle.gptp_system.specs.State.{SystemState, lapse_of, local_time}
-use Rattle.gptp_system.specs.Syncing.{delay_at, forgetting, is_followed, keeping, knowing, offset_of, rate_at, refreshing, restarted, said_on, stopped, telling}
+use Rattle.gptp_system.specs.Syncing.{delay_at, forgetting, is_followed, keeping, knowing, offset_of, root_rate_at, refreshing, restarted, said_on, timer_stopped, telling}
 use Rattle.gptp_system.specs.Syncing.{HearsFollowUpIf, HearsSyncIf, KeepsIf, KnowsBy, KnowsIf, RelaysBy, RelaysIf, SyncsIf}
 use Rattle.gptp_system.proofs.LapseLemmas.{lapse_off}
 use Rattle.gptp_system.proofs.SyncLemmas.{telling_ready}
@@ -89,7 +89,7 @@ knows_ready (Some info) delay rate now s s' sends answer ready k =
 pub hears_follow_up_ready : (on : Bool) (p : ℕ) (m : FollowUp) (now : ℕ) (s s' : SystemState) (sends : List Sending)
     (answer : Answer) → IsReady s → HearsFollowUpIf on p m now s s' sends answer → IsReady s'
 hears_follow_up_ready true p m now s s' sends answer ready k =
-    knows_ready (said_on p m s) (delay_at s p) (rate_at s p) now s s' sends answer ready k
+    knows_ready (said_on p m s) (delay_at s p) (root_rate_at s p) now s s' sends answer ready k
 hears_follow_up_ready false p m now s s' sends answer ready k = becomes_ready s s' sends ready k.becomes
 
 -- ---- timers
@@ -105,21 +105,21 @@ syncs_ready true now s s' sends ready k =
 syncs_ready false now s s' sends ready k =
     becomes_ready (restarted now s) s' sends (restarted_ready now s ready) k
 
-stopped_ready : (s : SystemState) → IsReady s → IsReady (stopped s)
+stopped_ready : (s : SystemState) → IsReady s → IsReady (timer_stopped s)
 stopped_ready s ready = apart_ready s s.sync_in s.known s.offset s.sync None s.lapse ready ready.lapses
 
-relayed_ready : (s s' : SystemState) → IsReady s → s' ≡ telling (stopped s) → IsReady s'
-relayed_ready s s' ready is = subst IsReady (sym is) (telling_ready (stopped s) (stopped_ready s ready))
+relayed_ready : (s s' : SystemState) → IsReady s → s' ≡ telling (timer_stopped s) → IsReady s'
+relayed_ready s s' ready is = subst IsReady (sym is) (telling_ready (timer_stopped s) (stopped_ready s ready))
 
 relays_by_ready : (on : Bool) (info : SyncInfo) (now : ℕ) (s s' : SystemState) (sends : List Sending) → IsReady s
     → RelaysBy on info now s s' sends → IsReady s'
 relays_by_ready true info now s s' sends ready k = relayed_ready s s' ready k.state
 relays_by_ready false info now s s' sends ready (inl k) = relayed_ready s s' ready k.state
 relays_by_ready false info now s s' sends ready (inr k) =
-    becomes_ready (stopped s) s' sends (stopped_ready s ready) k.becomes
+    becomes_ready (timer_stopped s) s' sends (stopped_ready s ready) k.becomes
 
 pub relays_ready : (known : Option SyncInfo) (now : ℕ) (s s' : SystemState) (sends : List Sending) → IsReady s
     → RelaysIf known now s s' sends → IsReady s'
-relays_ready None now s s' sends ready k = becomes_ready (stopped s) s' sends (stopped_ready s ready) k
+relays_ready None now s s' sends ready k = becomes_ready (timer_stopped s) s' sends (stopped_ready s ready) k
 relays_ready (Some info) now s s' sends ready k =
     relays_by_ready (has_sync_timeout s.params) info now s s' sends ready k

@@ -18,7 +18,7 @@ use Rattle.gptp_acts.specs.declared.done.Done.{Done}
 use Rattle.gptp_acts.specs.declared.done.Done.TheVariants.{Quiet, Heard}
 use Rattle.gptp_acts.specs.declared.item.Item.{Item}
 use Rattle.gptp_acts.specs.declared.item.Item.TheVariants.{Arrival, Expiry}
-use Rattle.gptp_acts.specs.Acts.{at, Acts, Tells}
+use Rattle.gptp_acts.specs.Acts.{at, Acts, TellsHearing}
 use Rattle.gptp_acts.specs.Ahead.{due_by}
 use Rattle.gptp_acts.specs.Pending.{Entry, IsNext, NothingBefore}
 use Rattle.gptp_acts.specs.Sound.{IsSound}
@@ -30,7 +30,7 @@ use Rattle.gptp_acts.proofs.NextDueLemmas.{next_runs_out}
 use Rattle.gptp_acts.proofs.SoundLemmas.{later_sound}
 use Rattle.gptp_report.specs.Transitions.{Passes, PassesTo, Transition, transition}
 use Rattle.gptp_outcome.specs.ExistenceLaws.{ActsExist, WaysExist}
-use Rattle.gptp_outcome.specs.GoingOn.{AnswersAll, AreOctets, CanGoOn, InjectsOctets, IsOfOctets}
+use Rattle.gptp_outcome.specs.GoingOn.{AnswersAll, AllAreOctets, CanGoOn, InjectsOctets, IsOfOctets}
 use Rattle.gptp_outcome.proofs.BeginExistLemmas.{acts_exist}
 
 -- ---- what is next
@@ -122,7 +122,7 @@ can_later w time first can = record {
 -- a frame that was heard is of octets
 abbrev pub TellsOctets : Done → Type 0
 TellsOctets Quiet = ⊤
-TellsOctets (Heard clock port answer frame) = AreOctets frame.items
+TellsOctets (Heard clock port answer frame) = AllAreOctets frame.items
 
 abbrev pub AllTellOctets : List Transition → Type 0
 AllTellOctets = AllByRecursion (λ (t : Transition). TellsOctets t.told.done)
@@ -132,9 +132,9 @@ octets-append [] us all more = more
 octets-append (t ∷ ts) us all more = (all.0, octets-append ts us all.1 more)
 
 heard_octets : (reached : PortId) (answer : Option Answer) (octets : List ℕ) (done : Done)
-    → Tells reached answer octets done → AreOctets octets → TellsOctets done
+    → TellsHearing reached answer octets done → AllAreOctets octets → TellsOctets done
 heard_octets reached answer octets Quiet told are = absurd told
-heard_octets reached answer octets (Heard clock port said frame) told are = subst AreOctets (sym told.3) are
+heard_octets reached answer octets (Heard clock port said frame) told are = subst AllAreOctets (sym told.3) are
 
 -- so is what is told of an act of a world in which octets are in flight
 pub done_octets : (act : Act) (time : ℕ) (w v : WorldState) (draws : List Draw) (done : Done) → CanGoOn w

@@ -4,7 +4,7 @@ use Rattle.std.specs.List.{AllByRecursion}
 use Rattle.gptp_links.specs.declared.bounds.Bounds.{Bounds}
 use Rattle.gptp_messages.specs.declared.message.Message.{Message}
 use Rattle.gptp_messages.specs.declared.refused.Refused.{Refused}
-use Rattle.gptp_messages.specs.Grammar.{Reads, Refuses}
+use Rattle.gptp_messages.specs.Grammar.{Reads, RefusesFrame}
 use Rattle.gptp_network.specs.Document.{DocumentState}
 use Rattle.gptp_plan.specs.Allowed.{IsAllowed}
 use Rattle.gptp_plan.specs.Network.{IsNetwork, NetworkState}
@@ -23,12 +23,12 @@ use Rattle.gptp_reached.specs.PlayedLaws.{IsPlayable}
 use Rattle.gptp_report.specs.Report.{Reports}
 use Rattle.gptp_report.specs.Run.{LeadsTo}
 use Rattle.gptp_report.specs.Transitions.{PassesTo, Transition, Unfolds}
-use Rattle.gptp_outcome.specs.GoingOn.{AnswersAll, AreOctets, CanGoOn, HearsOctets, InjectsOctets}
+use Rattle.gptp_outcome.specs.GoingOn.{AnswersAll, AllAreOctets, CanGoOn, HearsOctets, InjectsOctets}
 
 -- Every frame reads as a message, or is refused.
 abbrev pub FramesAreJudged : Type 0
-FramesAreJudged = (frame : List ℕ) → AreOctets frame
-    → ((message : Message) × Reads frame message) ⊎ ((refused : Refused) × Refuses frame refused)
+FramesAreJudged = (frame : List ℕ) → AllAreOctets frame
+    → ((message : Message) × Reads frame message) ⊎ ((refused : Refused) × RefusesFrame frame refused)
 
 -- A system that is given an input in time takes a step, and is a system then.
 abbrev pub StepsExist : Type 0

@@ -13,7 +13,7 @@ use Rattle.gptp_system.specs.Input.{Input, Frame as FrameHeard}
 use Rattle.gptp_acts.specs.declared.station.Station.{Station}
 use Rattle.gptp_acts.specs.Changing.{IsStation}
 use Rattle.gptp_acts.specs.Sound.{IsSound}
-use Rattle.gptp_acts.specs.World.{Channel, WorldState, queue, sender}
+use Rattle.gptp_acts.specs.World.{Channel, WorldState, world_queue, sender}
 
 -- A fate that is asked anything answers, within the bounds.
 abbrev pub AnswersAll : {F : Type 0} → (Bounds → ℕ → F → Option ℕ → F → Type 0) → Type 0
@@ -21,16 +21,16 @@ AnswersAll {F} answers = (bounds : Bounds) (sent : ℕ) (fate : F) → Fit bound
     → (answer : Option ℕ) × (after : F) × answers bounds sent fate answer after × IsLawful bounds answer
 
 -- each number is an octet
-abbrev pub AreOctets : List ℕ → Type 0
-AreOctets = AllByRecursion (λ n. n < 256)
+abbrev pub AllAreOctets : List ℕ → Type 0
+AllAreOctets = AllByRecursion (λ n. n < 256)
 
 -- octets that a frame can have: no more than the longest of this profile has
 abbrev pub AreOfFrame : List ℕ → Type 0
-AreOfFrame octets = AreOctets octets × (length octets ≤ 2116)
+AreOfFrame octets = AllAreOctets octets × (length octets ≤ 2116)
 
 -- what a system hears is octets
 abbrev pub HearsOctets : Input → Type 0
-HearsOctets (FrameHeard port octets) = AreOctets octets
+HearsOctets (FrameHeard port octets) = AllAreOctets octets
 HearsOctets input = ⊤
 
 -- what is injected is octets that a frame can have
@@ -49,4 +49,4 @@ pub record CanGoOn (w : WorldState) : Type 0 where
   pub ends : (link : ℕ) (direction : Direction) (channel : Channel) → slice_get w.net.channels link ≡ Some channel
       → (place : ℕ) × (station : Station) × IsStation (sender direction channel).clock place w station
   pub octets : (link : ℕ) (direction : Direction) (channel : Channel) → slice_get w.net.channels link ≡ Some channel
-      → AllByRecursion IsOfOctets (queue direction channel)
+      → AllByRecursion IsOfOctets (world_queue direction channel)

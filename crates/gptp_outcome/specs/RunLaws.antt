@@ -8,7 +8,7 @@ use Rattle.gptp_acts.specs.World.{WorldState}
 use Rattle.gptp_graph.specs.Labelling.{SystemLine}
 use Rattle.gptp_certificate.specs.Stated.{States}
 use Rattle.gptp_report.specs.Report.{Reports}
-use Rattle.gptp_report.specs.Run.{LeadsTo, Plays}
+use Rattle.gptp_report.specs.Run.{LeadsTo, PlaysRun}
 use Rattle.gptp_outcome.specs.CourseLaws.{SameTold}
 use Rattle.gptp_outcome.specs.Named.{AnswersOnce, IsNamed}
 
@@ -20,13 +20,13 @@ MeantIsNamed = (text : List ℕ) (d : DocumentState) → Means text d → IsName
 abbrev pub PlaysOnce : {F : Type 0} → (Bounds → ℕ → F → Option ℕ → F → Type 0) → Type 0
 PlaysOnce {F} answers = AnswersOnce answers →
     (d : DocumentState) (until : ℕ) (fate : F) (told more : List Told) (w v : WorldState)
-    → IsNamed (initial d.network) → Plays answers d until fate told w → Plays answers d until fate more v
+    → IsNamed (initial d.network) → PlaysRun answers d until fate told w → PlaysRun answers d until fate more v
     → SameTold told more × (w ≡ v)
 
 -- in which names mean one thing
 abbrev pub PlayedIsNamed : {F : Type 0} → (Bounds → ℕ → F → Option ℕ → F → Type 0) → Type 0
 PlayedIsNamed {F} answers = (d : DocumentState) (until : ℕ) (fate : F) (told : List Told) (w : WorldState)
-    → IsNamed (initial d.network) → Plays answers d until fate told w
+    → IsNamed (initial d.network) → PlaysRun answers d until fate told w
     → IsNamed w
 
 -- the lines of its frames are the same

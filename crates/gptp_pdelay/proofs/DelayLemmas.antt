@@ -9,7 +9,7 @@ use Rattle.gptp_scaled.specs.Counts.{IsClockRate, IsCounted}
 use Rattle.gptp_scaled.proofs.FloorLemmas.{floor_is}
 use Rattle.gptp_scaled.proofs.LawProofs.{rate_rounds_down}
 use Rattle.gptp_scaled.proofs.CountLemmas.{IsQuotient, quotient_is, rate_of_counts}
-use Rattle.gptp_pdelay.specs.Measured.{IsSpan, DelayIsWithin}
+use Rattle.gptp_pdelay.specs.Measured.{AreExchangeSpans, DelayIsWithin}
 use Rattle.gptp_pdelay.proofs.MeanLemmas.{mean_low, mean_high, mean_is_below, mean_is_above}
 
 -- r is the number within the limit that is nearest to f, where both stand for a ratio
@@ -63,11 +63,11 @@ whole_counts : (rate n : ℕ) → IsCounted rate (n * 33554432) (n * rate)
 whole_counts rate n = record { low = omega arith; high = omega arith }
 
 -- the spans of an exchange are within twice the delays of the turnaround
-whole_low : (least most turnaround whole arrivals sendings : ℕ) → IsSpan least most turnaround whole arrivals sendings →
+whole_low : (least most turnaround whole arrivals sendings : ℕ) → AreExchangeSpans least most turnaround whole arrivals sendings →
     turnaround + 2 * least ≤ whole
 whole_low least most turnaround whole arrivals sendings s = omega (arith, s.whole_is, s.there_long, s.home_long)
 
-whole_high : (least most turnaround whole arrivals sendings : ℕ) → IsSpan least most turnaround whole arrivals
+whole_high : (least most turnaround whole arrivals sendings : ℕ) → AreExchangeSpans least most turnaround whole arrivals
     sendings →
     whole ≤ turnaround + 2 * most
 whole_high least most turnaround whole arrivals sendings s = omega (arith, s.whole_is, s.there_short, s.home_short)
@@ -75,7 +75,7 @@ whole_high least most turnaround whole arrivals sendings s = omega (arith, s.who
 -- by the kept ratio the mean lies below, where it is that of the measured rate or above it, since then it is that of
 -- the true rate at most
 kept_below : (least most turnaround whole arrivals sendings up own e3 e4 y f r : ℕ) → IsClockRate up → IsClockRate own →
-    1 ≤ turnaround → IsSpan least most turnaround whole arrivals sendings → IsCounted up sendings e3 →
+    1 ≤ turnaround → AreExchangeSpans least most turnaround whole arrivals sendings → IsCounted up sendings e3 →
     IsCounted own arrivals e4 → IsCounted own whole y → IsQuotient (e3 * 2199023255552) e4 f →
     (r ≤ f) ⊎ (r ≡ 2198583450901) → r * y ≤ 65536 * (turnaround + 2 * most) * up + 2199023255552 + 2 * r
 kept_below least most turnaround whole arrivals sendings up own e3 e4 y f r theirs mine some s far near counted q
@@ -97,7 +97,7 @@ kept_below least most turnaround whole arrivals sendings up own e3 e4 y f r thei
 
 -- it lies above where it is that of the measured rate or below it, but for what the limit cuts off the true rate
 kept_above : (least most turnaround whole arrivals sendings up own e3 e4 y f r : ℕ) → IsClockRate up → IsClockRate own →
-    1 ≤ turnaround → IsSpan least most turnaround whole arrivals sendings → IsCounted up sendings e3 →
+    1 ≤ turnaround → AreExchangeSpans least most turnaround whole arrivals sendings → IsCounted up sendings e3 →
     IsCounted own arrivals e4 → IsCounted own whole y → IsQuotient (e3 * 2199023255552) e4 f →
     (f ≤ r) ⊎ (r ≡ 2199463060203) →
     65536 * (turnaround + 2 * least) * up ≤ (r + 43986) * (y + 2) + 2199023255552

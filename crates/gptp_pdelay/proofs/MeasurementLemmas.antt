@@ -4,7 +4,7 @@ use Rattle.gptp_scaled.specs.Rate.{unit, rate_of}
 use Rattle.gptp_scaled.specs.Counts.{DifferBy, IsClockRate}
 use Rattle.gptp_scaled.proofs.FloorLemmas.{floor_is}
 use Rattle.gptp_pdelay.specs.Clock.{IsDrift, local_clock}
-use Rattle.gptp_pdelay.specs.Measured.{ClockCounts, Counts, clock_rate, IsSpan, MeasurementIsWithin}
+use Rattle.gptp_pdelay.specs.Measured.{ClockCounts, Counts, clock_rate, AreExchangeSpans, MeasurementIsWithin}
 use Rattle.gptp_pdelay.specs.Exchange.{mean_delay}
 use Rattle.gptp_scaled.proofs.ProductLemmas.{distribute}
 use Rattle.gptp_scaled.proofs.CountLemmas.{measured_within}
@@ -71,7 +71,7 @@ measurement_is_within least most turnaround interval m phase phase' drift drift'
     let arrivals = a.later.came - a.earlier.came in
     let sendings = a.later.heard + turnaround - (a.earlier.heard + turnaround) in
     let answer = a.later.heard + turnaround - a.later.heard in
-    let s : IsSpan least most turnaround whole arrivals sendings =
+    let s : AreExchangeSpans least most turnaround whole arrivals sendings =
     record {
       there = a.later.heard - a.later.asked;
       home = a.later.came - (a.later.heard + turnaround);

@@ -31,7 +31,7 @@ GoodLinkByElapsed = (most turnaround threshold span : ℕ) (rate requester respo
 -- The times of an exchange over a link whose largest delay is `most`, by the clock of the requester, `mine`, and
 -- that of the responder, `yours`: the request was sent at x, and the response received at z; t2 was kept at y, and
 -- the response sent exactly one turnaround later.
-pub record IsTimely (most turnaround : ℕ) (mine yours : ℕ → ℤ) (t1 t2 t3 t4 : ℤ) : Type 0 where
+pub record ExchangeIsTimely (most turnaround : ℕ) (mine yours : ℕ → ℤ) (t1 t2 t3 t4 : ℤ) : Type 0 where
   pub x : ℕ
   pub y : ℕ
   pub z : ℕ
@@ -48,7 +48,7 @@ pub record IsTimely (most turnaround : ℕ) (mine yours : ℕ → ℤ) (t1 t2 t3
 abbrev pub GoodLink : Type 0
 GoodLink = (most turnaround threshold : ℕ) (phase phase' : ℕ) (drift drift' rate t1 t2 t3 t4 : ℤ)
     → IsGoodLink most turnaround threshold → IsNeighborRate rate → IsDrift drift → IsDrift drift'
-    → IsTimely most turnaround (local_clock phase drift) (local_clock phase' drift') t1 t2 t3 t4
+    → ExchangeIsTimely most turnaround (local_clock phase drift) (local_clock phase' drift') t1 t2 t3 t4
     → IsWithinThreshold threshold (mean_delay rate (t4 -ℤ t1) (t3 -ℤ t2))
 
 -- So on such a link each full exchange but the first since the reset shows the neighbour.
@@ -56,6 +56,6 @@ abbrev pub GoodLinkShowsNeighbor : Type 0
 GoodLinkShowsNeighbor = (most turnaround threshold : ℕ) (phase phase' : ℕ) (drift drift' : ℤ)
     (before : Option Measurement) (request : Request) (response : Response) (t3 : ℤ)
     → IsGoodLink most turnaround threshold → IsDrift drift → IsDrift drift'
-    → IsTimely most turnaround (local_clock phase drift) (local_clock phase' drift')
+    → ExchangeIsTimely most turnaround (local_clock phase drift) (local_clock phase' drift')
     request.t1 response.t2 t3 response.t4
     → shows_neighbor threshold (measurement_of before request response t3) ≡ is_some before

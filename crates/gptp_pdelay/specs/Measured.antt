@@ -25,7 +25,7 @@ pub record ClockCounts : Type 0 where
 -- The spans of an exchange, in ns, and of its answer since that of the exchange before: the request and the response
 -- took `there` and `home`, the response before took `before`, and the response before came `gap` before the request was
 -- sent. So much passed between the two responses at the requester, `arrivals`, and at the responder, `sendings`.
-pub record IsSpan (least most turnaround : ℕ) (whole arrivals sendings : ℕ) : Type 0 where
+pub record AreExchangeSpans (least most turnaround : ℕ) (whole arrivals sendings : ℕ) : Type 0 where
   pub there : ℕ
   pub home : ℕ
   pub before : ℕ
@@ -44,9 +44,9 @@ pub record IsSpan (least most turnaround : ℕ) (whole arrivals sendings : ℕ) 
 -- twice the least and twice the greatest delay, whatever the turnaround and the gap are.
 pub record WeightedMean : Type 0 where
   pub low : (least most turnaround whole arrivals sendings : ℕ) →
-      IsSpan least most turnaround whole arrivals sendings → arrivals * (turnaround + 2 * least) ≤ sendings * whole
+      AreExchangeSpans least most turnaround whole arrivals sendings → arrivals * (turnaround + 2 * least) ≤ sendings * whole
   pub high : (least most turnaround whole arrivals sendings : ℕ) →
-      IsSpan least most turnaround whole arrivals sendings → sendings * whole ≤ arrivals * (turnaround + 2 * most)
+      AreExchangeSpans least most turnaround whole arrivals sendings → sendings * whole ≤ arrivals * (turnaround + 2 * most)
 
 -- What the requester's clock counts from request to response, y, brought to the responder's rate by a ratio r, in units
 -- of 2^-41, that isn't above the measured one, e3 / e4: it isn't above what the responder's clock counts in the
@@ -88,7 +88,7 @@ pub record IsDelayWithin (least most turnaround up : ℕ) (delay : ℤ) : Type 0
 -- part is for two clocks whose true rates differ by more than the 200 parts in a million of a neighbour rate.
 abbrev pub DelayIsWithin : Type 0
 DelayIsWithin = (least most turnaround whole arrivals sendings up own e3 e4 y z : ℕ) → IsClockRate up →
-    IsClockRate own → 1 ≤ turnaround → IsSpan least most turnaround whole arrivals sendings →
+    IsClockRate own → 1 ≤ turnaround → AreExchangeSpans least most turnaround whole arrivals sendings →
     IsCounted up sendings e3 → IsCounted own arrivals e4 → IsCounted own whole y → IsCounted up turnaround z →
     IsDelayWithin least most turnaround up (mean_delay (rate_of (pos e3) (pos e4)) (pos y) (pos z))
 

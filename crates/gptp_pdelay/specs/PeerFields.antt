@@ -3,8 +3,8 @@ use Rattle.gptp_pdelay.specs.declared.peer.Peer.TheInside.{Inside}
 use Rattle.gptp_pdelay.specs.Peer.{PeerState}
 
 -- the state that the fields are
-abbrev pub state_of : Inside → PeerState
-state_of p = record {
+abbrev pub peer_state : Inside → PeerState
+peer_state p = record {
   own = p.own;
   threshold = p.threshold;
   allowed = p.allowed;

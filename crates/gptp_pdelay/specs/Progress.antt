@@ -11,13 +11,13 @@ use Rattle.gptp_pdelay.specs.Clock.{IsTime}
 use Rattle.gptp_pdelay.specs.Exchange.{IsCarriedTime, carried_time}
 
 -- two ports are the same
-abbrev pub same_port : PortId → PortId → Bool
-same_port a b = a.clock == b.clock && a.port == b.port
+abbrev pub same_identity : PortId → PortId → Bool
+same_identity a b = a.clock == b.clock && a.port == b.port
 
 -- a response is for this request of the port: it names the port and the request, and comes from another clock
 abbrev pub is_response_to : PortId → Request → PdelayResp → Bool
 is_response_to own request r =
-    same_port r.requester own && r.head.sequence == request.sequence && not (r.head.source.clock == own.clock)
+    same_identity r.requester own && r.head.sequence == request.sequence && not (r.head.source.clock == own.clock)
 
 -- what is kept of a response that was received at t4
 abbrev pub response_of : PdelayResp → ℤ → Response
@@ -27,7 +27,7 @@ response_of r t4 = record { source = r.head.source; t2 = carried_time r.stamp r.
 -- the port that responded
 abbrev pub is_follow_up_to : PortId → Request → Response → PdelayRespFollowUp → Bool
 is_follow_up_to own request response f =
-    same_port f.requester own && f.head.sequence == request.sequence && same_port f.head.source response.source
+    same_identity f.requester own && f.head.sequence == request.sequence && same_identity f.head.source response.source
 
 -- what the times of a request that is open can be
 abbrev pub HasTimes : Progress → Type 0

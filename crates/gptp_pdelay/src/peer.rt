@@ -38,11 +38,11 @@ impl Model for Peer {
 
     ghost Value = { PeerState };
 
-    ghost use Rattle.gptp_pdelay.specs.PeerFields.{state_of, fields_of};
+    ghost use Rattle.gptp_pdelay.specs.PeerFields.{peer_state, fields_of};
 
-    ghost view = { state_of };
+    ghost view = { peer_state };
 
-    ghost invariant = { λ p. IsPeerState (state_of p) };
+    ghost invariant = { λ p. IsPeerState (peer_state p) };
 
     ghost inverse = { fields_of };
 }

@@ -2,7 +2,7 @@
 use Rattle.std.proofs.Common.{◌≡◌, ℕ, zero, suc, Bool, true, false, cond, List, [], ◌∷◌, refl, ◌∙◌}
 use Rattle.gptp_links.specs.Bounds.{Fit}
 use Rattle.gptp_plan.specs.Allowed.{AreAllowed, IsFitAct}
-use Rattle.gptp_plan.specs.Change.{is_at, link_acted, link_after, link_changed, with_bounds, with_up}
+use Rattle.gptp_plan.specs.Change.{is_at, link_acted, link_after, link_changed, member_with_bounds, with_up}
 use Rattle.gptp_plan.specs.declared.change.Act.{Act}
 use Rattle.gptp_plan.specs.declared.change.Act.TheVariants as acts
 use Rattle.gptp_plan.specs.declared.change.Change.{Change}
@@ -21,7 +21,7 @@ up_keeps true up w = record { a = refl; b = refl }
 up_keeps false up w = record { a = refl; b = refl }
 
 set_keeps : (test : Bool) (least greatest loss : ℕ) (w : Wire)
-    → KeepsEnds (cond test (with_bounds least greatest loss w) w) w
+    → KeepsEnds (cond test (member_with_bounds least greatest loss w) w) w
 set_keeps true least greatest loss w = record { a = refl; b = refl }
 set_keeps false least greatest loss w = record { a = refl; b = refl }
 
@@ -52,8 +52,8 @@ up_fits : (test up : Bool) (w : Wire) → Fit w.bounds → Fit (cond test (with_
 up_fits true up w fit = fit
 up_fits false up w fit = fit
 
-set_fits : (test : Bool) (least greatest loss : ℕ) (w : Wire) → Fit (with_bounds least greatest loss w).bounds
-    → Fit w.bounds → Fit (cond test (with_bounds least greatest loss w) w).bounds
+set_fits : (test : Bool) (least greatest loss : ℕ) (w : Wire) → Fit (member_with_bounds least greatest loss w).bounds
+    → Fit w.bounds → Fit (cond test (member_with_bounds least greatest loss w) w).bounds
 set_fits true least greatest loss w set fit = set
 set_fits false least greatest loss w set fit = fit
 

@@ -5,7 +5,7 @@ use Rattle.std.specs.Option.{option_map_or}
 use Rattle.std.proofs.lemmas.Bool.{eq-eqb}
 use Rattle.gptp_plan.specs.Allowed.{AreAllowed}
 use Rattle.gptp_plan.specs.Change.{link_after}
-use Rattle.gptp_plan.specs.InUse.{are_several, greatest_delay, is_used, leads_elsewhere, neighbour, neighbours, with_delay}
+use Rattle.gptp_plan.specs.InUse.{any_differ, greatest_delay, is_used, leads_elsewhere, neighbour, neighbours, with_delay}
 use Rattle.gptp_plan.specs.Network.{IsNetwork, NetworkState}
 use Rattle.gptp_plan.specs.declared.change.Timed.{Timed}
 use Rattle.gptp_plan.specs.declared.network.Member.{Member}
@@ -63,11 +63,11 @@ module _ (systems : List Member) (events : List Timed) where
   pub several_by : (clock first : ℕ) (links : List Wire)
       → slice_get (neighbours systems links events clock) 0 ≡ Some first
       → list_any (leads_elsewhere systems events clock first) links
-      ≡ are_several (neighbours systems links events clock)
+      ≡ any_differ (neighbours systems links events clock)
   several_by clock first links is =
       any_neighbour (λ far. not (far == first)) clock links ∙ by (neighbours systems links events clock) is
     where
-      by : (xs : List ℕ) → slice_get xs 0 ≡ Some first → list_any (λ y. not (y == first)) xs ≡ are_several xs
+      by : (xs : List ℕ) → slice_get xs 0 ≡ Some first → list_any (λ y. not (y == first)) xs ≡ any_differ xs
       by [] is = absurd cc
       by (x ∷ xs) is =
           let same : x ≡ first = cc in
@@ -75,10 +75,10 @@ module _ (systems : List Member) (events : List Timed) where
 
   pub several_of_none : (clock : ℕ) (links : List Wire)
       → slice_get (neighbours systems links events clock) 0 ≡ None
-      → are_several (neighbours systems links events clock) ≡ false
+      → any_differ (neighbours systems links events clock) ≡ false
   several_of_none clock links is = by (neighbours systems links events clock) is
     where
-      by : (xs : List ℕ) → slice_get xs 0 ≡ None → are_several xs ≡ false
+      by : (xs : List ℕ) → slice_get xs 0 ≡ None → any_differ xs ≡ false
       by [] is = refl
       by (x ∷ xs) is = absurd cc
 

@@ -14,7 +14,7 @@ use Rattle.gptp_lists.proofs.MemberLemmas.{In-left, In-parts, In-right, In-slice
 use Rattle.gptp_lists.proofs.PlaceLemmas.{read}
 use Rattle.gptp_setup.specs.Intervals.{interval_of, IsLog, IsLogUpTo}
 use Rattle.gptp_setup.proofs.IntervalLemmas.{interval_rises}
-use Rattle.gptp_plan.specs.Network.{NetworkState, ArePrompt, IsKept, IsNetwork, is_any_slower, largest_of, logs_of, pace_of, smallest_of, with_system}
+use Rattle.gptp_plan.specs.Network.{NetworkState, ArePrompt, IsKeptNetwork, IsNetwork, is_any_slower, largest_of, logs_of, pace_of, smallest_of, with_system}
 use Rattle.gptp_plan.specs.Params.{KeepPace}
 use Rattle.gptp_plan.specs.declared.network.Member.{Member}
 use Rattle.gptp_plan.specs.declared.network.Wire.{Wire}
@@ -109,12 +109,12 @@ largest_chosen n =
     is_chosen int_max (λ r x. x ≤ℤ r) fold-int_max_reached fold-int_max_bounds n.params.announce (logs_of n)
 
 -- what is kept of a network
-pub kept_smallest : (n : NetworkState) (least greatest : Option ℤ) → IsKept n least greatest
+pub kept_smallest : (n : NetworkState) (least greatest : Option ℤ) → IsKeptNetwork n least greatest
     → unwrap_or least n.params.announce ≡ smallest_of n
 unfolding smallest_of
 kept_smallest n least greatest h = ap (λ found. unwrap_or found n.params.announce) h.smallest
 
-pub kept_largest : (n : NetworkState) (least greatest : Option ℤ) → IsKept n least greatest
+pub kept_largest : (n : NetworkState) (least greatest : Option ℤ) → IsKeptNetwork n least greatest
     → unwrap_or greatest n.params.announce ≡ largest_of n
 unfolding largest_of
 kept_largest n least greatest h = ap (λ found. unwrap_or found n.params.announce) h.largest

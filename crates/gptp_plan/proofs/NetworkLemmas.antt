@@ -8,7 +8,7 @@ use Rattle.gptp_vector.specs.declared.port.PortId.{PortId}
 use Rattle.gptp_roles.specs.Selection.{clock_of}
 use Rattle.gptp_setup.specs.declared.setup.Params.{Params}
 use Rattle.gptp_setup.specs.Intervals.{interval_of}
-use Rattle.gptp_plan.specs.Network.{NetworkState, without_members, with_system, with_link, logs_of, ArePrompt, IsKept, IsMember, IsMemberTimed, IsPort, IsWire, IsEnd, IsNetwork, CanAddSystem, CanAddLink}
+use Rattle.gptp_plan.specs.Network.{NetworkState, without_members, with_system, with_link, logs_of, ArePrompt, IsKeptNetwork, IsMember, IsMemberTimed, IsPort, IsWire, IsEnd, IsNetwork, CanAddSystem, CanAddLink}
 use Rattle.gptp_plan.specs.Params.{KeepParams}
 use Rattle.gptp_plan.specs.declared.network.Member.{Member}
 use Rattle.gptp_plan.specs.declared.network.Wire.{Wire}
@@ -17,7 +17,7 @@ use Rattle.gptp_lists.proofs.MemberLemmas.{In-parts}
 use Rattle.gptp_lists.proofs.PlaceLemmas.{behind, before}
 use Rattle.gptp_plan.proofs.LogLemmas.{logs_added, of_member, reduce_added}
 
-pub none_yet : (p : Params) → KeepParams p → IsKept (without_members p) None None
+pub none_yet : (p : Params) → KeepParams p → IsKeptNetwork (without_members p) None None
 none_yet p h = record {
   network = record {
     params = h;
@@ -96,9 +96,9 @@ network_with_system n m h c octets = record {
   one_link = h.one_link;
 }
 
-pub system_added : (n : NetworkState) (m : Member) (smallest largest : Option ℤ) → IsKept n smallest largest
+pub system_added : (n : NetworkState) (m : Member) (smallest largest : Option ℤ) → IsKeptNetwork n smallest largest
     → CanAddSystem n m → m.identity < 2 ^ 112
-    → IsKept (with_system m n) (reduce int_min (cons_option smallest m.intervals.items))
+    → IsKeptNetwork (with_system m n) (reduce int_min (cons_option smallest m.intervals.items))
     (reduce int_max (cons_option largest m.intervals.items))
 system_added n m smallest largest h c octets = record {
   network = network_with_system n m h.network c octets;
@@ -151,7 +151,7 @@ network_with_link n w h c = record {
   ];
 }
 
-pub link_added : (n : NetworkState) (w : Wire) (smallest largest : Option ℤ) → IsKept n smallest largest
-    → CanAddLink n w → IsKept (with_link w n) smallest largest
+pub link_added : (n : NetworkState) (w : Wire) (smallest largest : Option ℤ) → IsKeptNetwork n smallest largest
+    → CanAddLink n w → IsKeptNetwork (with_link w n) smallest largest
 link_added n w smallest largest h c =
     record { network = network_with_link n w h.network c; smallest = h.smallest; largest = h.largest }

@@ -36,8 +36,8 @@ system_changed (changes.Inject clock port octets) own s = s
 abbrev pub with_up : Bool → Wire → Wire
 with_up up w = record { a = w.a; b = w.b; bounds = w.bounds; up = up }
 
-abbrev pub with_bounds : ℕ → ℕ → ℕ → Wire → Wire
-with_bounds least greatest loss w = record {
+abbrev pub member_with_bounds : ℕ → ℕ → ℕ → Wire → Wire
+member_with_bounds least greatest loss w = record {
   a = w.a;
   b = w.b;
   bounds = record { link = w.bounds.link; min = least; max = greatest; loss = loss };
@@ -54,7 +54,7 @@ abbrev pub link_changed : Change → Wire → Wire
 link_changed (changes.LinkDown clock port) w = if is_at clock port w then with_up false w else w
 link_changed (changes.LinkUp clock port) w = if is_at clock port w then with_up true w else w
 link_changed (changes.LinkSet clock port least greatest loss) w =
-    if is_at clock port w then with_bounds least greatest loss w else w
+    if is_at clock port w then member_with_bounds least greatest loss w else w
 link_changed (changes.Fail clock) w = w
 link_changed (changes.Recover clock) w = w
 link_changed (changes.Priority1 clock value) w = w

@@ -13,13 +13,13 @@ abbrev pub IsRefusal : Option NetworkFault → NetworkFault → Type 0
 IsRefusal found e = (found ≡ Some e) ⊎ ((found ≡ None) × (e ≡ OutOfMemory))
 
 -- a fault as its number and its name
-abbrev pub fault_text : NetworkFault → List ℕ
-fault_text OutOfRange = codes "4 OutOfRange"
-fault_text DuplicateClock = codes "5 DuplicateClock"
-fault_text SelfLink = codes "6 SelfLink"
-fault_text PortTaken = codes "7 PortTaken"
-fault_text NoSuchPort = codes "8 NoSuchPort"
-fault_text DelayTooLong = codes "9 DelayTooLong"
-fault_text TooMany = codes "11 TooMany"
-fault_text Timing = codes "12 Timing"
-fault_text OutOfMemory = codes "13 OutOfMemory"
+abbrev pub network_fault_text : NetworkFault → List ℕ
+network_fault_text OutOfRange = codes "4 OutOfRange"
+network_fault_text DuplicateClock = codes "5 DuplicateClock"
+network_fault_text SelfLink = codes "6 SelfLink"
+network_fault_text PortTaken = codes "7 PortTaken"
+network_fault_text NoSuchPort = codes "8 NoSuchPort"
+network_fault_text DelayTooLong = codes "9 DelayTooLong"
+network_fault_text TooMany = codes "11 TooMany"
+network_fault_text Timing = codes "12 Timing"
+network_fault_text OutOfMemory = codes "13 OutOfMemory"

@@ -9,8 +9,8 @@ use Rattle.gptp_plan.specs.declared.network.Member.{Member}
 use Rattle.gptp_plan.specs.declared.network.Wire.{Wire}
 
 -- how many systems live after the events
-abbrev pub live_systems : List Member → List Timed → ℕ
-live_systems systems events = count_by (λ m. (system_after events m).live) systems
+abbrev pub count_live : List Member → List Timed → ℕ
+count_live systems events = count_by (λ m. (system_after events m).live) systems
 
 -- a system with this clock lives after the events
 abbrev pub lives : List Member → List Timed → ℕ → Bool
@@ -44,9 +44,9 @@ abbrev pub neighbours : List Member → List Wire → List Timed → ℕ → Lis
 neighbours systems links events clock = filter_map (neighbour systems events clock) links
 
 -- two of these differ: one is another than the first
-abbrev pub are_several : List ℕ → Bool
-are_several [] = false
-are_several (x ∷ xs) = list_any (λ y. not (y == x)) xs
+abbrev pub any_differ : List ℕ → Bool
+any_differ [] = false
+any_differ (x ∷ xs) = list_any (λ y. not (y == x)) xs
 
 -- a link in use joins the system with this clock to another than the first
 abbrev pub leads_elsewhere : List Member → List Timed → ℕ → ℕ → Wire → Bool
@@ -56,10 +56,10 @@ leads_elsewhere systems events clock first w =
 -- the system lives, and links in use join it to two different systems
 abbrev pub lives_between : List Member → List Wire → List Timed → Member → Bool
 lives_between systems links events m =
-    (system_after events m).live && are_several (neighbours systems links events (clock_of m.identity))
+    (system_after events m).live && any_differ (neighbours systems links events (clock_of m.identity))
 
 -- How many systems a path over the live systems and the links in use has at most: all systems of a path but its first
 -- and its last are joined to two different systems, and it has no more systems than live.
 unfoldable pub path_systems : List Member → List Wire → List Timed → ℕ
 path_systems systems links events =
-    min (count_by (lives_between systems links events) systems + 2) (live_systems systems events)
+    min (count_by (lives_between systems links events) systems + 2) (count_live systems events)

@@ -84,8 +84,8 @@ abbrev pub is_any_slower : List Wire → ℤ → Bool
 is_any_slower links log = list_any (λ w. nat_lt (interval_of log) w.bounds.max) links
 
 -- a system has this clock
-abbrev pub has_clock : List Member → ℕ → Bool
-has_clock systems clock = list_any (λ m. clock_of m.identity == clock) systems
+abbrev pub members_have_clock : List Member → ℕ → Bool
+members_have_clock systems clock = list_any (λ m. clock_of m.identity == clock) systems
 
 -- the first test that one more system fails
 abbrev pub system_fault : NetworkState → Member → Option NetworkFault
@@ -93,7 +93,7 @@ system_fault n m = first_fault (
     (nat_le 512 (length n.systems), TooMany)
     ∷ (not (is_member_in_range m), OutOfRange)
     ∷ (not (is_member_timed n.params m), Timing)
-    ∷ (has_clock n.systems (clock_of m.identity), DuplicateClock)
+    ∷ (members_have_clock n.systems (clock_of m.identity), DuplicateClock)
     ∷ (list_any (is_any_slower n.links) m.intervals.items, DelayTooLong)
     ∷ [])
 
@@ -167,8 +167,8 @@ abbrev pub IsEnd : PortId → Wire → Type 0
 IsEnd p w = (w.a ≡ p) ⊎ (w.b ≡ p)
 
 -- no system has this clock
-abbrev pub IsFresh : List Member → ℕ → Type 0
-IsFresh systems clock = (i : ℕ) (m : Member) → slice_get systems i ≡ Some m → clock_of m.identity ≢ clock
+abbrev pub IsNewClock : List Member → ℕ → Type 0
+IsNewClock systems clock = (i : ℕ) (m : Member) → slice_get systems i ≡ Some m → clock_of m.identity ≢ clock
 
 -- no link is at this port
 abbrev pub IsFree : List Wire → PortId → Type 0
@@ -180,7 +180,7 @@ pub record CanAddSystem (n : NetworkState) (m : Member) : Type 0 where
   pub room : length n.systems < 512
   pub limits : IsMember m
   pub timed : IsMemberTimed n.params m
-  pub fresh : IsFresh n.systems (clock_of m.identity)
+  pub fresh : IsNewClock n.systems (clock_of m.identity)
   pub prompt : All (ArePrompt n.links) m.intervals.items
 
 -- such a link can be added: there is room, it is a link of the network, and no other link is at its ports
@@ -207,7 +207,7 @@ pub record IsNetwork (n : NetworkState) : Type 0 where
       → IsEnd p v → IsEnd p w → i ≡ j
 
 -- what is kept of a network: beside its members the smallest and the largest of the intervals, where it has a port
-pub record IsKept (n : NetworkState) (least greatest : Option ℤ) : Type 0 where
+pub record IsKeptNetwork (n : NetworkState) (least greatest : Option ℤ) : Type 0 where
   pub network : IsNetwork n
   pub smallest : least ≡ reduce int_min (logs_of n)
   pub largest : greatest ≡ reduce int_max (logs_of n)

@@ -2,7 +2,7 @@
 use Rattle.std.specs.Prelude.{ℕ, ◌+◌, ◌*◌, List}
 use Rattle.gptp_setup.specs.Pace.{largest_interval, Pace}
 use Rattle.gptp_plan.specs.Calm.{last_change}
-use Rattle.gptp_plan.specs.InUse.{live_systems}
+use Rattle.gptp_plan.specs.InUse.{count_live}
 use Rattle.gptp_plan.specs.Network.{NetworkState, pace_of}
 use Rattle.gptp_plan.specs.SyncWait.{step_more, sync_paths}
 use Rattle.gptp_plan.specs.declared.change.Timed.{Timed}
@@ -26,4 +26,4 @@ settling_span_with p paths n = settling_span p n + n * step_more p paths
 abbrev pub settles : NetworkState → List Timed → ℕ
 settles n events =
     last_change events
-    + settling_span_with (pace_of n) (sync_paths n events) (live_systems n.systems events)
+    + settling_span_with (pace_of n) (sync_paths n events) (count_live n.systems events)

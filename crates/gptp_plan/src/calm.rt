@@ -4,7 +4,7 @@ ghost use Rattle.std.specs.Prelude.{◌≡◌, ◌↔◌, ◌≤◌, ◌+◌, �
 ghost use Rattle.gptp_plan.specs.Calm.{IsLive, IsUsed, IsQuiet, Rests, AllRest, SyncsComeInTime, IsCalm};
 ghost use Rattle.gptp_plan.specs.Change.{standing, is_at, system_changed, link_changed, system_acted, link_acted, system_after, link_after, live_after, joined_after};
 ghost use Rattle.gptp_plan.specs.Params.{KeepParams};
-ghost use Rattle.gptp_plan.specs.InUse.{is_used, live_systems, lives};
+ghost use Rattle.gptp_plan.specs.InUse.{is_used, count_live, lives};
 ghost use Rattle.gptp_plan.specs.SyncWait.{sync_paths};
 
 use crate::change::{Act, Change, Timed};
@@ -251,7 +251,7 @@ pub(crate) fn is_calm(params: &Params, systems: &[Member], links: &[Wire], event
 
 /// How many systems live after these events.
 pub(crate) fn live_systems(systems: &[Member], events: &[Timed]) -> u64
-    ensures count { result ≡ live_systems systems.now events.now }
+    ensures count { result ≡ count_live systems.now events.now }
     ensures bound { result ≤ length systems.now }
 {
     let mut count = 0;

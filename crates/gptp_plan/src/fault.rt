@@ -29,9 +29,9 @@ pub enum NetworkFault {
 
 impl fmt::Display for NetworkFault {
     ghost use Rattle.std.specs.Prelude.{Some};
-    ghost use Rattle.gptp_plan.specs.Faults.{fault_text};
+    ghost use Rattle.gptp_plan.specs.Faults.{network_fault_text};
 
-    ghost output = { λ fault. Some (fault_text fault) };
+    ghost output = { λ fault. Some (network_fault_text fault) };
 
     fn fmt<W: fmt::Write>(&self, f: &mut fmt::Formatter<W>) -> fmt::Result {
         f.write_str(match self {

@@ -6,12 +6,12 @@ ghost use Rattle.std.specs.Option.{option_and_then, option_map};
 ghost use Rattle.gptp_lists.specs.Members.{In};
 ghost use Rattle.gptp_plan.specs.Faults.{IsRefusal};
 ghost use Rattle.gptp_plan.specs.Params.{is_log, params_fault};
-ghost use Rattle.gptp_plan.specs.Network.{member, wire, without_members, with_system, with_link, logs_of, smallest_of, largest_of, is_member_in_range, is_member_timed, is_any_slower, is_wire_in_range, are_bounds_in_range, has_clock, has_port, is_taken, same_port, system_fault, link_fault, IsNetwork, IsMember, IsMemberTimed, IsPort, IsFree, IsFresh, CanAddSystem, CanAddLink};
+ghost use Rattle.gptp_plan.specs.Network.{member, wire, without_members, with_system, with_link, logs_of, smallest_of, largest_of, is_member_in_range, is_member_timed, is_any_slower, is_wire_in_range, are_bounds_in_range, members_have_clock, has_port, is_taken, same_port, system_fault, link_fault, IsNetwork, IsMember, IsMemberTimed, IsPort, IsFree, IsNewClock, CanAddSystem, CanAddLink};
 ghost use Rattle.gptp_links.specs.Bounds.{Fit};
 ghost use Rattle.gptp_plan.specs.Calm.{IsCalm};
 ghost use Rattle.gptp_plan.specs.Change.{joined_after, live_after};
 ghost use Rattle.gptp_plan.specs.Allowed.{AreAllowed};
-ghost use Rattle.gptp_plan.specs.InUse.{greatest_delay, live_systems};
+ghost use Rattle.gptp_plan.specs.InUse.{greatest_delay, count_live};
 ghost use Rattle.gptp_plan.specs.SyncWait.{sync_paths};
 ghost use Rattle.gptp_setup.specs.Intervals.{interval_of, IsLog};
 
@@ -64,11 +64,11 @@ impl Model for Network {
 
     ghost Value = { NetworkState };
 
-    ghost use Rattle.gptp_plan.specs.Network.{IsKept};
+    ghost use Rattle.gptp_plan.specs.Network.{IsKeptNetwork};
 
     ghost view = { λ n. record { params = n.params; systems = n.systems.items; links = n.links.items } };
 
-    ghost invariant = { λ n. IsKept (record { params = n.params; systems = n.systems.items; links = n.links.items }) n.smallest n.largest };
+    ghost invariant = { λ n. IsKeptNetwork (record { params = n.params; systems = n.systems.items; links = n.links.items }) n.smallest n.largest };
 }
 
 impl Network {
@@ -224,7 +224,7 @@ impl Network {
 
     /// Whether a system has this clock.
     pub fn has_clock(&self, clock: ClockId) -> bool
-        ensures { result ≡ has_clock self.now.systems clock }
+        ensures { result ≡ members_have_clock self.now.systems clock }
     {
         has_clock(&self.systems, clock)
     }
@@ -303,7 +303,7 @@ impl Network {
 
     /// How many systems live after these events.
     pub(crate) fn live_systems(&self, events: &[Timed]) -> u64
-        ensures count { result ≡ live_systems self.now.systems events.now }
+        ensures count { result ≡ count_live self.now.systems events.now }
         ensures few { result ≤ 512 }
     {
         self.well_formed();
@@ -478,8 +478,8 @@ fn are_bounds_in_range(bounds: &Bounds) -> bool
 
 /// Whether a system has this clock.
 fn has_clock(systems: &[Member], clock: ClockId) -> bool
-    ensures is { result ≡ has_clock systems.now clock }
-    ensures fresh { result ≡ false → IsFresh systems.now clock }
+    ensures is { result ≡ members_have_clock systems.now clock }
+    ensures fresh { result ≡ false → IsNewClock systems.now clock }
 {
     systems
         .iter()

@@ -70,7 +70,7 @@ fn settling_span_at_once(params: &Params, largest: i8, paths: SyncPaths) -> u64
 impl Network {
     ghost use Rattle.std.specs.Prelude.{◌≡◌, ◌≤◌};
     ghost use Rattle.gptp_plan.specs.Allowed.{AreAllowed};
-    ghost use Rattle.gptp_plan.specs.InUse.{greatest_delay, live_systems};
+    ghost use Rattle.gptp_plan.specs.InUse.{greatest_delay, count_live};
     ghost use Rattle.gptp_plan.specs.Network.{pace_of};
     ghost use Rattle.gptp_plan.specs.SettlingAtOnce.{settling_span_at_once};
     ghost use Rattle.gptp_plan.specs.SettlingTime.{settling_span_with};
@@ -92,7 +92,7 @@ impl Network {
     pub fn settling_span(&self, events: &[Timed]) -> u64
         requires { AreAllowed events.now }
         ensures span { result ≡ settling_span_with (pace_of self.now) (sync_paths self.now events.now)
-            (live_systems self.now.systems events.now) }
+            (count_live self.now.systems events.now) }
         ensures bound { result ≤ 195000000000000 }
     {
         self.well_formed();

@@ -2,7 +2,7 @@
 
 ghost use Rattle.std.specs.Prelude.{◌≡◌, ◌<◌, ◌≤◌, ◌↔◌, ℕ, IsTrue, length, slice_get};
 ghost use Rattle.std.specs.List.{count_by, list_any};
-ghost use Rattle.gptp_plan.specs.InUse.{are_several, far_clock, greatest_delay, leads_elsewhere, lives_between, neighbour, neighbours, path_systems, with_delay};
+ghost use Rattle.gptp_plan.specs.InUse.{any_differ, far_clock, greatest_delay, leads_elsewhere, lives_between, neighbour, neighbours, path_systems, with_delay};
 ghost use Rattle.gptp_plan.specs.Params.{KeepParams};
 ghost use Rattle.gptp_plan.specs.SyncWait.{step_more, sync_wait};
 ghost use Rattle.gptp_setup.specs.Intervals.{IsLog};
@@ -122,7 +122,7 @@ fn any_leads_elsewhere(
 /// Whether links in use join the system with this clock to two different systems.
 #[tactic(auto, using(crate::proofs::InUseLemmas::several_by, crate::proofs::InUseLemmas::several_of_none))]
 fn has_two_neighbours(systems: &[Member], links: &[Wire], events: &[Timed], clock: ClockId) -> bool
-    ensures { result ≡ are_several (neighbours systems.now links.now events.now clock) }
+    ensures { result ≡ any_differ (neighbours systems.now links.now events.now clock) }
 {
     match first_neighbour(systems, links, events, clock) {
         Some(first) => any_leads_elsewhere(systems, links, events, clock, first),

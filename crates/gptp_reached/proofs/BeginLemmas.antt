@@ -15,7 +15,7 @@ use Rattle.gptp_plan.specs.Network.{NetworkState, pace_of}
 use Rattle.gptp_acts.specs.World.{WorldState}
 use Rattle.gptp_lists.proofs.MappedLemmas.{mapped_there, same_there}
 use Rattle.gptp_lists.proofs.PlaceLemmas.{map-set}
-use Rattle.gptp_reached.specs.Reached.{Shape, StandsAs, shape, wire_of}
+use Rattle.gptp_reached.specs.Reached.{Shape, StandsAs, shape, channel_wire}
 use Rattle.gptp_reached.proofs.KeptLemmas.{KeepLinks, Keeps, calls_keep, keeps_on, same_keeps}
 
 -- ---- one system
@@ -129,6 +129,6 @@ begun_stands answers n fate fate_after w begun =
     record {
       systems = k.systems ∙ map_map shape awake (stations_of n)
           ∙ map_map (station_of (pace_of n)) (λ (s : Station). awake (shape s)) n.systems;
-      links = k.links ∙ map_map channel_from wire_of n.links;
+      links = k.links ∙ map_map channel_from channel_wire n.links;
       last = k.last;
     }

@@ -26,19 +26,19 @@ use Rattle.gptp_kept.specs.Calm.{IsQuietLink, IsQuietWorld, sync_paths_of}
 use Rattle.gptp_kept.specs.CalmFor.{IsCalmFor}
 use Rattle.gptp_kept.specs.Claimed.{Claimed}
 use Rattle.gptp_kept.specs.Known.{AreSet, IsSetTo}
-use Rattle.gptp_kept.specs.Standing.{is_used, has_clock, live_systems, snapshot_of}
+use Rattle.gptp_kept.specs.Standing.{channel_is_used, stations_have_clock, live_stations, snapshot_of}
 use Rattle.gptp_kept.proofs.StandsLemmas.{sender_lives, used_up}
 use Rattle.gptp_kept.proofs.SystemLemmas.{clock_in, clock_lives, live_from}
 use Rattle.gptp_links.specs.declared.link.Direction.TheVariants.{FromA, FromB}
-use Rattle.gptp_reached.specs.Reached.{Shape, StandsAs, shape, shape_after, wire_of}
-use Rattle.gptp_reached.specs.PlayedLaws.{IsAtRest, IsReached}
+use Rattle.gptp_reached.specs.Reached.{Shape, StandsAs, shape, shape_after, channel_wire}
+use Rattle.gptp_reached.specs.PlayedLaws.{DocumentIsAtRest, IsReached}
 use Rattle.gptp_reached.proofs.SnapshotLemmas.{systems_stand}
 use Rattle.gptp_reached.proofs.SyncPathLemmas.{paths_stand}
 
 -- ---- how many systems live
 
 network_count : (events : List Timed) (members : List Member)
-    → length (network.live_systems members events) ≡ acts.live_systems members events
+    → length (network.live_systems members events) ≡ acts.count_live members events
 network_count events =
     is_count_by (λ members. length (network.live_systems members events)) (λ m. (system_after events m).live) refl one
   where
@@ -58,7 +58,7 @@ network_count events =
         by false = refl
 
 pub count_stands : (n : NetworkState) (events : List Timed) (w : WorldState) → StandsAs n events w → IsSound w
-    → length (snapshot_of w).systems ≡ acts.live_systems n.systems events
+    → length (snapshot_of w).systems ≡ acts.count_live n.systems events
 count_stands n events w so sound = ap length (systems_stand n events w so sound) ∙ network_count events n.systems
 
 -- ---- one of the network
@@ -79,7 +79,7 @@ member_at n events w so place station here =
 -- ---- links
 
 lives_so : (n : NetworkState) (events : List Timed) (w : WorldState) → StandsAs n events w → (number : ℕ)
-    → has_clock (live_systems w.stations) number ≡ true → IsLive n.systems events number
+    → stations_have_clock (live_stations w.stations) number ≡ true → IsLive n.systems events number
 lives_so n events w so number has =
     let (s, among, same) = clock_lives w.stations number has in
     let at = live_from w.stations s among in
@@ -101,10 +101,10 @@ each_at P xs each place x there =
 
 quiet_link : (n : NetworkState) (events : List Timed) (w : WorldState) → StandsAs n events w → IsCalm n events
     → (link : ℕ) (channel : Channel) → slice_get w.net.channels link ≡ Some channel
-    → is_used (live_systems w.stations) channel ≡ true → IsQuietLink n.params channel
+    → channel_is_used (live_stations w.stations) channel ≡ true → IsQuietLink n.params channel
 quiet_link n events w so calm link channel here used =
-    let systems = live_systems w.stations in
-    let (v, there, is) = alike (link_after events) wire_of n.links w.net.channels (sym so.links) link channel here in
+    let systems = live_stations w.stations in
+    let (v, there, is) = alike (link_after events) channel_wire n.links w.net.channels (sym so.links) link channel here in
     let rests = each_at (Rests n.params n.systems events) n.links calm.links link v there in
     let a = lives_so n events w so channel.a.clock (sender_lives systems FromA channel used) in
     let b = lives_so n events w so channel.b.clock (sender_lives systems FromB channel used) in
@@ -147,7 +147,7 @@ set_stands n events w so claimed place station here =
 -- ---- a document
 
 pub document_calm : (d : DocumentState) (until : ℕ) (w : WorldState) → IsNetwork d.network → IsReached d until w
-    → Claimed w → IsAtRest d until → IsCalmFor settling_span_with w
+    → Claimed w → DocumentIsAtRest d until → IsCalmFor settling_span_with w
 document_calm d until w is reached claimed rest = record {
   pace = pace_of n;
   set = pace_stands n events w so;

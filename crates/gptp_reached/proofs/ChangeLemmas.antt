@@ -18,7 +18,7 @@ use Rattle.gptp_plan.specs.declared.network.Member.{Member}
 use Rattle.gptp_plan.specs.declared.network.Wire.{Wire}
 use Rattle.gptp_acts.specs.declared.station.Station.{Station}
 use Rattle.gptp_acts.specs.Acts.{Acts, Changes, at, set_to}
-use Rattle.gptp_plan.specs.Change.{is_at, link_acted, link_after, link_changed, system_acted, system_after, system_changed, standing, with_bounds, with_up}
+use Rattle.gptp_plan.specs.Change.{is_at, link_acted, link_after, link_changed, system_acted, system_after, system_changed, standing, member_with_bounds, with_up}
 use Rattle.gptp_acts.specs.Changing.{ComesUpIf, GoesDownIf, IsChannel, IsStation, brought_up, lost, taken_down, with_setup}
 use Rattle.gptp_acts.specs.Initial.{setup_of}
 use Rattle.gptp_plan.specs.Network.{NetworkState, pace_of, same_port}
@@ -27,7 +27,7 @@ use Rattle.gptp_acts.specs.World.{Channel, WorldState, port_id, sender}
 use Rattle.gptp_lists.proofs.MappedLemmas.{alike}
 use Rattle.gptp_lists.proofs.PlaceLemmas.{map-set, map-set_same}
 use Rattle.gptp_network.proofs.SnapshotLemmas.{clock_after}
-use Rattle.gptp_reached.specs.Reached.{Shape, StandsAs, shape, shape_after, wire_of}
+use Rattle.gptp_reached.specs.Reached.{Shape, StandsAs, shape, shape_after, channel_wire}
 use Rattle.gptp_reached.proofs.KeptLemmas.{Keeps, injects_keep, tells_keep}
 use Rattle.gptp_reached.proofs.BeginLemmas.{SystemBecomes, of_setup}
 use Rattle.gptp_reached.proofs.EventLemmas.{last_behind, link_behind, map_each, set_one, system_behind}
@@ -72,46 +72,46 @@ at_port number port v is =
 -- one link stands otherwise, and all else as it stood
 record LinkBecomes (place : ℕ) (new : Wire) (w w' : WorldState) : Type 0 where
   pub systems : map shape w'.stations ≡ map shape w.stations
-  pub links : map wire_of w'.net.channels ≡ slice_set (map wire_of w.net.channels) place new
+  pub links : map channel_wire w'.net.channels ≡ slice_set (map channel_wire w.net.channels) place new
   pub last : w'.last_change ≡ w.last_change
 
 -- a link that is up, or down, as it is to become
 stays_so : (up : Bool) (place : ℕ) (channel : Channel) (w : WorldState) → slice_get w.net.channels place ≡ Some channel
-    → channel.up ≡ up → LinkBecomes place (with_up up (wire_of channel)) w w
+    → channel.up ≡ up → LinkBecomes place (with_up up (channel_wire channel)) w w
 stays_so up place channel w here is = record {
   systems = refl;
-  links = sym (map-set_same wire_of w.net.channels place channel (record channel { up = up }) here (rw is refl))
-      ∙ map-set wire_of w.net.channels place (record channel { up = up });
+  links = sym (map-set_same channel_wire w.net.channels place channel (record channel { up = up }) here (rw is refl))
+      ∙ map-set channel_wire w.net.channels place (record channel { up = up });
   last = refl;
 }
 
 goes_down_becomes : (up : Bool) (place : ℕ) (channel : Channel) (w : WorldState) (draws : List Draw) (w' : WorldState)
     → slice_get w.net.channels place ≡ Some channel → channel.up ≡ up → GoesDownIf up place channel w draws w'
-    → LinkBecomes place (with_up false (wire_of channel)) w w'
+    → LinkBecomes place (with_up false (channel_wire channel)) w w'
 goes_down_becomes true place channel w draws w' here is k =
     let down : WorldState = record w { net = taken_down place channel w.net } in
     let kept = tells_keep PortDown channel down draws w' (λ port value e. cc) k in
     record {
       systems = kept.systems;
-      links = kept.links ∙ map-set wire_of w.net.channels place (lost channel);
+      links = kept.links ∙ map-set channel_wire w.net.channels place (lost channel);
       last = kept.last;
     }
 goes_down_becomes false place channel w draws w' here is k =
-    subst (LinkBecomes place (with_up false (wire_of channel)) w) (sym k.1) (stays_so false place channel w here is)
+    subst (LinkBecomes place (with_up false (channel_wire channel)) w) (sym k.1) (stays_so false place channel w here is)
 
 comes_up_becomes : (up : Bool) (place : ℕ) (channel : Channel) (w : WorldState) (draws : List Draw) (w' : WorldState)
     → slice_get w.net.channels place ≡ Some channel → channel.up ≡ up → ComesUpIf up place channel w draws w'
-    → LinkBecomes place (with_up true (wire_of channel)) w w'
+    → LinkBecomes place (with_up true (channel_wire channel)) w w'
 comes_up_becomes false place channel w draws w' here is k =
     let risen : WorldState = record w { net = brought_up place channel w.net } in
     let kept = tells_keep PortUp channel risen draws w' (λ port value e. cc) k in
     record {
       systems = kept.systems;
-      links = kept.links ∙ map-set wire_of w.net.channels place (record channel { up = true });
+      links = kept.links ∙ map-set channel_wire w.net.channels place (record channel { up = true });
       last = kept.last;
     }
 comes_up_becomes true place channel w draws w' here is k =
-    subst (LinkBecomes place (with_up true (wire_of channel)) w) (sym k.1) (stays_so true place channel w here is)
+    subst (LinkBecomes place (with_up true (channel_wire channel)) w) (sym k.1) (stays_so true place channel w here is)
 
 -- ---- one event more
 
@@ -161,7 +161,7 @@ module _ (n : NetworkState) (events : List Timed) (timed : Timed) (change : Chan
       → IsChannel (port_id number port) place w.net channel
       → ((v : Wire) → link_changed change v ≡ (if is_at number port v then step v else v))
       → ((m : Member) → shape_after (pace_of n) more m ≡ shape_after (pace_of n) events m)
-      → LinkBecomes place (step (wire_of channel)) (marked timed w) w' → StandsAs n more w'
+      → LinkBecomes place (step (channel_wire channel)) (marked timed w) w' → StandsAs n more w'
   link_stands number port place channel step is does still k = record {
     systems = k.systems ∙ so.systems
         ∙ sym (map_each (shape_after (pace_of n) events) (shape_after (pace_of n) more) n.systems
@@ -171,34 +171,34 @@ module _ (n : NetworkState) (events : List Timed) (timed : Timed) (change : Chan
   }
     where
       -- the link of the network that stands there
-      own : (v : Wire) × (slice_get n.links place ≡ Some v) × (link_after events v ≡ wire_of channel)
-      own = alike (link_after events) wire_of n.links w.net.channels (sym so.links) place channel is.here
+      own : (v : Wire) × (slice_get n.links place ≡ Some v) × (link_after events v ≡ channel_wire channel)
+      own = alike (link_after events) channel_wire n.links w.net.channels (sym so.links) place channel is.here
 
-      hit : link_after more own.0 ≡ step (wire_of channel)
+      hit : link_after more own.0 ≡ step (channel_wire channel)
       hit =
-          wire_more own.0 ∙ ap (link_changed change) own.2 ∙ does (wire_of channel)
-          ∙ ap (λ b. if b then step (wire_of channel) else wire_of channel)
-          (is_at_port number port (wire_of channel) is.joined)
+          wire_more own.0 ∙ ap (link_changed change) own.2 ∙ does (channel_wire channel)
+          ∙ ap (λ b. if b then step (channel_wire channel) else channel_wire channel)
+          (is_at_port number port (channel_wire channel) is.joined)
 
       -- no other is at the port
       missed : (i : ℕ) (v : Wire) (other : Channel) → i ≢ place → slice_get w.net.channels i ≡ Some other
-          → wire_of other ≡ v → (b : Bool) → is_at number port v ≡ b → (if b then step v else v) ≡ v
+          → channel_wire other ≡ v → (b : Bool) → is_at number port v ≡ b → (if b then step v else v) ≡ v
       missed i v other apart here same false off = refl
       missed i v other apart here same true on =
           let one = ending other (port_id number port)
-          (at_port number port (wire_of other) (ap (is_at number port) same ∙ on)) in
+          (at_port number port (channel_wire other) (ap (is_at number port) same ∙ on)) in
           let two = ending channel (port_id number port) is.joined in
           absurd (apart (sound.wired.apart i place one.0 two.0 other channel here is.here (one.1 ∙ sym two.1)))
 
       miss : (i : ℕ) (v : Wire) → i ≢ place → slice_get n.links i ≡ Some v → link_after more v ≡ link_after events v
       miss i v apart there =
-          let (other, here, same) = alike wire_of (link_after events) w.net.channels n.links so.links i v there in
+          let (other, here, same) = alike channel_wire (link_after events) w.net.channels n.links so.links i v there in
           let now = link_after events v in
           wire_more v ∙ does now ∙ missed i now other apart here same (is_at number port now) refl
 
-      links : map wire_of w'.net.channels ≡ map (link_after more) n.links
+      links : map channel_wire w'.net.channels ≡ map (link_after more) n.links
       links =
-          k.links ∙ ap (λ vs. slice_set vs place (step (wire_of channel))) so.links
+          k.links ∙ ap (λ vs. slice_set vs place (step (channel_wire channel))) so.links
           ∙ ap (slice_set (map (link_after events) n.links) place) (sym hit)
           ∙ set_one (link_after events) (link_after more) n.links place own.0 own.1 miss
 
@@ -278,10 +278,10 @@ changed_stands (LinkUp number port) n events timed w draws w' act sound so k =
 changed_stands (LinkSet number port min max loss) n events timed w draws w' act sound so k =
     let change = LinkSet number port min max loss in
     let new : Channel = record k.channel { bounds = set_to min max loss k.channel } in
-    link_stands n events timed change w w' act sound so number port k.place k.channel (with_bounds min max loss) k.is
+    link_stands n events timed change w w' act sound so number port k.place k.channel (member_with_bounds min max loss) k.is
     (λ v. refl) (shape_more n events timed change w w' act sound so)
-    (subst (LinkBecomes k.place (with_bounds min max loss (wire_of k.channel)) (marked timed w)) (sym k.so.1)
-    (record { systems = refl; links = map-set wire_of w.net.channels k.place new; last = refl }))
+    (subst (LinkBecomes k.place (member_with_bounds min max loss (channel_wire k.channel)) (marked timed w)) (sym k.so.1)
+    (record { systems = refl; links = map-set channel_wire w.net.channels k.place new; last = refl }))
 changed_stands (Fail number) n events timed w draws w' act sound so k =
     let change = Fail number in
     let is : IsStation number k.place w k.station = record { here = k.is.here; named = k.is.named } in

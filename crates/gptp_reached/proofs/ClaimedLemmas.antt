@@ -22,7 +22,7 @@ use Rattle.gptp_network.specs.Document.{DocumentState}
 use Rattle.gptp_network.specs.Events.{AreEvents, IsEvent}
 use Rattle.gptp_network.specs.Snapshot.{events_by}
 use Rattle.gptp_network.proofs.EventLemmas.{events_allowed, events_prompt}
-use Rattle.gptp_report.specs.Run.{Goes, Plays}
+use Rattle.gptp_report.specs.Run.{Goes, PlaysRun}
 use Rattle.gptp_kept.specs.Claimed.{Claimed, IsClaimed}
 use Rattle.gptp_kept.specs.LegibleLaws.{SetsAnOctet}
 use Rattle.gptp_kept.proofs.ClaimLemmas.{claim_begins, claim_kept, claim_later}
@@ -130,7 +130,7 @@ module _ {F : Type 0} (answers : Bounds → ℕ → F → Option ℕ → F → T
       (prompt_within least event.act k.between none_on event_fit.prompt) event_fit.octet k.changed on)
 
 pub played_claimed : {F : Type 0} (answers : Bounds → ℕ → F → Option ℕ → F → Type 0) (d : DocumentState) (until : ℕ)
-    (fate : F) (told : List Told) (w : WorldState) → IsPlayable d → Plays answers d until fate told w → Claimed w
+    (fate : F) (told : List Told) (w : WorldState) → IsPlayable d → PlaysRun answers d until fate told w → Claimed w
 played_claimed answers d until fate told w is k =
     let sound = initial_sound d.network is.network in
     let begins = claim_begins answers d.network fate k.started k.start is.network sound k.begun in

@@ -19,7 +19,7 @@ use Rattle.gptp_acts.specs.Advancing.{Told}
 use Rattle.gptp_acts.specs.World.{WorldState}
 use Rattle.gptp_network.specs.Document.{DocumentState}
 use Rattle.gptp_network.specs.Snapshot.{events_by}
-use Rattle.gptp_report.specs.Run.{Plays}
+use Rattle.gptp_report.specs.Run.{PlaysRun}
 use Rattle.gptp_kept.specs.Bounded.{IsBoundedWorld}
 use Rattle.gptp_kept.specs.Calm.{IsQuietWorld}
 use Rattle.gptp_kept.specs.CalmFor.{IsCalmFor, at_once_span, span_over}
@@ -37,9 +37,9 @@ use Rattle.gptp_kept.proofs.StandsLemmas.{stands_well}
 use Rattle.gptp_kept.proofs.TreeLemmas.{settled_is_tree}
 use Rattle.gptp_certificate.specs.Stated.{States}
 use Rattle.gptp_certificate.proofs.SettledLemmas.{settled_choice}
-use Rattle.gptp_reached.specs.Headline.{HasComeDown, HasPassed, Headline, HeadlineAtOnce, HeadlineByNeighbours, HeadlineBySystems, IsCalm, IsCertified, IsSettled, UsesFollowUp}
+use Rattle.gptp_reached.specs.Headline.{HasComeDown, HasPassed, Headline, HeadlineAtOnce, HeadlineByNeighbours, HeadlineBySystems, WorldIsCalm, IsCertified, IsSettled, UsesFollowUp}
 use Rattle.gptp_reached.specs.HeadlineLaws.{HasSnapshotOf, IsAtRestAtOnce, WorldsAreExact}
-use Rattle.gptp_reached.specs.PlayedLaws.{IsAtRest, IsPlayable}
+use Rattle.gptp_reached.specs.PlayedLaws.{DocumentIsAtRest, IsPlayable}
 use Rattle.gptp_reached.proofs.CalmLemmas.{document_calm, pace_stands, quiet_stands}
 use Rattle.gptp_reached.proofs.ClaimedLemmas.{events_made, played_claimed}
 use Rattle.gptp_reached.proofs.PlayedLemmas.{played_stands}
@@ -49,7 +49,7 @@ use Rattle.gptp_reached.proofs.SyncPathLemmas.{paths_stand}
 -- ---- of a world
 
 -- what is asked on the page is what the laws of gptp_kept ask
-pub quiet_as : (p : Pace) (w : WorldState) → IsCalm p w → IsQuietWorld p.params w
+pub quiet_as : (p : Pace) (w : WorldState) → WorldIsCalm p w → IsQuietWorld p.params w
 quiet_as p w calm = record {
   links = λ link channel here used.
       (let (lossless, good) = calm.links channel (In-slice_get channel w.net.channels link here) used in
@@ -57,10 +57,10 @@ quiet_as p w calm = record {
   lapses = calm.lapses;
 }
 
-calm_for : (p : Pace) (m : ℕ) (w : WorldState) → IsCalm p w → HasPassed p m w → IsCalmFor (span_over m) w
+calm_for : (p : Pace) (m : ℕ) (w : WorldState) → WorldIsCalm p w → HasPassed p m w → IsCalmFor (span_over m) w
 calm_for p m w calm passed = record { pace = p; set = calm.of; quiet = quiet_as p w calm; late = passed }
 
-abbrev exact_for : (p : Pace) (m steps time : ℕ) (w : WorldState) → IsCalm p w → HasComeDown p m steps time w
+abbrev exact_for : (p : Pace) (m steps time : ℕ) (w : WorldState) → WorldIsCalm p w → HasComeDown p m steps time w
     → IsCalmFor (exact_span m steps) (at time w)
 exact_for p m steps time w calm come = record {
   pace = p;
@@ -133,8 +133,8 @@ of_a_network w claimed =
 -- ---- of a document
 
 pub documents_lead : {F : Type 0} (answers : Bounds → ℕ → F → Option ℕ → F → Type 0) (d : DocumentState) (until : ℕ)
-    (fate : F) (told : List Told) (w : WorldState) → IsPlayable d → Plays answers d until fate told w
-    → IsAtRest d until → IsSettled w × HasSnapshotOf d until w
+    (fate : F) (told : List Told) (w : WorldState) → IsPlayable d → PlaysRun answers d until fate told w
+    → DocumentIsAtRest d until → IsSettled w × HasSnapshotOf d until w
 documents_lead answers d until fate told w is plays rest =
     let reached = played_stands answers d until fate told w is.network (events_made d until is.network is.events) plays
     in
@@ -149,7 +149,7 @@ documents_lead answers d until fate told w is plays rest =
     )
 
 pub documents_at_once : {F : Type 0} (answers : Bounds → ℕ → F → Option ℕ → F → Type 0) (d : DocumentState)
-    (until : ℕ) (fate : F) (told : List Told) (w : WorldState) → IsPlayable d → Plays answers d until fate told w
+    (until : ℕ) (fate : F) (told : List Told) (w : WorldState) → IsPlayable d → PlaysRun answers d until fate told w
     → IsAtRestAtOnce d until → IsSettled w × HasSnapshotOf d until w
 documents_at_once answers d until fate told w is plays rest =
     let reached = played_stands answers d until fate told w is.network (events_made d until is.network is.events) plays

@@ -5,14 +5,14 @@ use Rattle.gptp_links.specs.declared.link.Direction.{Direction}
 use Rattle.gptp_links.specs.Fate.{Draw}
 use Rattle.gptp_system.specs.declared.answer.Answer.{Answer}
 use Rattle.gptp_setup.specs.declared.timer.Timer.{Timer}
-use Rattle.gptp_system.specs.Input.{Input, Frame as FrameHeard, Priority, Expires as TimerExpires}
+use Rattle.gptp_system.specs.Input.{Input, Frame as FrameHeard, Priority, TimerRunsOut as TimerExpires}
 use Rattle.gptp_system.proofs.StepLemmas.{steps_steady}
 use Rattle.gptp_plan.specs.declared.change.Act.{Act}
 use Rattle.gptp_plan.specs.declared.change.Act.TheVariants.{Deliver, Expire, Change as Changing}
 use Rattle.gptp_plan.specs.declared.change.Timed.{Timed}
 use Rattle.gptp_acts.specs.declared.done.Done.{Done}
 use Rattle.gptp_acts.specs.declared.station.Station.{Station}
-use Rattle.gptp_acts.specs.Act.{Calls, Delivers, Expires, Hears, in_state}
+use Rattle.gptp_acts.specs.Act.{Calls, Delivers, TimerRunsOut, Hears, in_state}
 use Rattle.gptp_acts.specs.Acts.{Acts, at}
 use Rattle.gptp_acts.specs.Agrees.{stopped}
 use Rattle.gptp_acts.specs.Changing.{CallsIfLive, InjectsIf, TellsEnds}
@@ -21,17 +21,17 @@ use Rattle.gptp_acts.specs.World.{Channel, WorldState, receiver}
 use Rattle.gptp_acts.proofs.BareLemmas.{DifferInFlight, calls_bare, same_but_flight, sends_one_bare, takes_bare}
 use Rattle.gptp_lists.proofs.PlaceLemmas.{map-set_same}
 use Rattle.gptp_kept.specs.SeenLaws.{IsNoChange}
-use Rattle.gptp_reached.specs.Reached.{StandsAs, shape, wire_of}
+use Rattle.gptp_reached.specs.Reached.{StandsAs, shape, channel_wire}
 
 -- ---- links
 
 -- links join the same ports, have the same bounds, and are up where they were
 abbrev pub KeepLinks : List Channel → List Channel → Type 0
-KeepLinks before after = map wire_of after ≡ map wire_of before
+KeepLinks before after = map channel_wire after ≡ map channel_wire before
 
 -- channels that differ in what is in flight alone have the same links
 bare_kept : (before after : List Channel) → DifferInFlight before after → KeepLinks before after
-bare_kept = same_but_flight wire_of (λ channel. refl)
+bare_kept = same_but_flight channel_wire (λ channel. refl)
 
 pub calls_kept : (place : ℕ) (input : Input) (w : WorldState) (draws : List Draw) (answer : Answer) (w' : WorldState)
     → (calls : Calls place input w draws answer w') → KeepLinks w.net.channels calls.net.channels
@@ -122,7 +122,7 @@ delivers_keep link direction octets w draws answer w' k =
     (hears_keep k.place (receiver direction k.channel).port octets taken draws answer w' k.hears)
 
 expires_keep : (place : ℕ) (timer : Timer) (w : WorldState) (draws : List Draw) (w' : WorldState)
-    → Expires place timer w draws w' → Keeps w w'
+    → TimerRunsOut place timer w draws w' → Keeps w w'
 expires_keep place timer w draws w' k =
     let at : WorldState = stopped place timer w in
     keeps_on w at w' (record { systems = refl; links = refl; last = refl })

@@ -23,7 +23,7 @@ use Rattle.std.proofs.Common.{length}
 use Rattle.gptp_world.proofs.InitialLemmas.{initial_sound}
 use Rattle.gptp_network.specs.Document.{DocumentState}
 use Rattle.gptp_network.specs.Snapshot.{events_by}
-use Rattle.gptp_report.specs.Run.{Goes, Plays}
+use Rattle.gptp_report.specs.Run.{Goes, PlaysRun}
 use Rattle.gptp_kept.specs.SeenLaws.{IsNoChange}
 use Rattle.gptp_reached.specs.Reached.{StandsAs}
 use Rattle.gptp_reached.specs.PlayedLaws.{IsMade, IsReached}
@@ -103,7 +103,7 @@ module _ {F : Type 0} (answers : Bounds → ℕ → F → Option ℕ → F → T
 
 pub played_stands : {F : Type 0} (answers : Bounds → ℕ → F → Option ℕ → F → Type 0) (d : DocumentState) (until : ℕ)
     (fate : F) (told : List Told) (w : WorldState) → IsNetwork d.network
-    → AllByRecursion IsMade (events_by until d.events) → Plays answers d until fate told w → IsReached d until w
+    → AllByRecursion IsMade (events_by until d.events) → PlaysRun answers d until fate told w → IsReached d until w
 played_stands answers d until fate told w is made k =
     let begun = k.begun in
     let (so, now) = goes_so answers d.network [] (events_by until d.events) until told k.started k.drawn k.start w made

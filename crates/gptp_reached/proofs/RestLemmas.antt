@@ -7,7 +7,7 @@ use Rattle.gptp_plan.specs.declared.change.Timed.{Timed}
 use Rattle.gptp_network.specs.Document.{DocumentState}
 use Rattle.gptp_network.specs.Events.{AreEvents, AreInOrder}
 use Rattle.gptp_network.specs.Snapshot.{events_by}
-use Rattle.gptp_reached.specs.PlayedLaws.{IsAtRest}
+use Rattle.gptp_reached.specs.PlayedLaws.{DocumentIsAtRest}
 
 -- no event is later than the last
 first_early : (t : Timed) (ts : List Timed) → AreInOrder (t ∷ ts) → t.at ≤ last_change (t ∷ ts)
@@ -26,7 +26,7 @@ all_by until (t ∷ (u ∷ us)) ordered early =
     rw (le-leb t.at until first) (ap (λ ts. t ∷ ts) (all_by until (u ∷ us) ordered.1 early))
 
 pub calm_rests : (d : DocumentState) (until : ℕ) → AreEvents d.network d.events → IsCalm d.network d.events
-    → settles d.network d.events ≤ until → IsAtRest d until
+    → settles d.network d.events ≤ until → DocumentIsAtRest d until
 calm_rests d until are calm settled =
     let early : last_change d.events ≤ until = omega (arith, settled) in
     let all = sym (all_by until d.events are.in_order early) in

@@ -9,13 +9,13 @@ use Rattle.gptp_acts.specs.World.{WorldState}
 use Rattle.gptp_plan.specs.Network.{IsNetwork}
 use Rattle.gptp_network.specs.Document.{DocumentState}
 use Rattle.gptp_network.specs.Snapshot.{IsSnapshot, events_by}
-use Rattle.gptp_report.specs.Run.{Plays}
+use Rattle.gptp_report.specs.Run.{PlaysRun}
 use Rattle.gptp_kept.specs.Claimed.{Claimed}
 use Rattle.gptp_kept.specs.Standing.{snapshot_of}
 use Rattle.gptp_certificate.specs.Stated.{States}
 use Rattle.gptp_certificate.proofs.SettledLemmas.{right_in_time}
 use Rattle.gptp_reached.specs.AlikeLaws.{AreAlike}
-use Rattle.gptp_reached.specs.PlayedLaws.{IsAtRest, IsPlayable, IsReached}
+use Rattle.gptp_reached.specs.PlayedLaws.{DocumentIsAtRest, IsPlayable, IsReached}
 use Rattle.gptp_reached.proofs.AlikeLemmas.{same_choice}
 use Rattle.gptp_reached.proofs.CalmLemmas.{document_calm}
 use Rattle.gptp_reached.proofs.ClaimedLemmas.{events_made, played_claimed}
@@ -23,7 +23,7 @@ use Rattle.gptp_reached.proofs.PlayedLemmas.{played_stands}
 use Rattle.gptp_reached.proofs.SnapshotLemmas.{snapshots_stand}
 
 pub documents_settle : (d : DocumentState) (until : ℕ) (w : WorldState) (lines : List SystemLine) (g : Snapshot)
-    → IsNetwork d.network → IsReached d until w → Claimed w → IsAtRest d until → States w lines
+    → IsNetwork d.network → IsReached d until w → Claimed w → DocumentIsAtRest d until → States w lines
     → IsSnapshot d until g
     → IsSettledChoice g lines
 documents_settle d until w lines g is reached claimed rest states stands =
@@ -35,7 +35,7 @@ documents_settle d until w lines g is reached claimed rest states stands =
 
 pub played_settle : {F : Type 0} (answers : Bounds → ℕ → F → Option ℕ → F → Type 0) (d : DocumentState) (until : ℕ)
     (fate : F) (told : List Told) (w : WorldState) (lines : List SystemLine) (g : Snapshot) → IsPlayable d
-    → Plays answers d until fate told w → IsAtRest d until → States w lines → IsSnapshot d until g
+    → PlaysRun answers d until fate told w → DocumentIsAtRest d until → States w lines → IsSnapshot d until g
     → IsSettledChoice g lines
 played_settle answers d until fate told w lines g is k =
     documents_settle d until w lines g is.network

@@ -16,14 +16,14 @@ use Rattle.gptp_plan.specs.declared.change.Timed.{Timed}
 use Rattle.gptp_plan.specs.declared.network.Member.{Member}
 use Rattle.gptp_plan.specs.declared.network.Wire.{Wire}
 use Rattle.gptp_acts.specs.declared.station.Station.{Station}
-use Rattle.gptp_plan.specs.Change.{is_at, joined_after, link_acted, link_after, link_changed, live_after, system_after, with_bounds, with_up}
+use Rattle.gptp_plan.specs.Change.{is_at, joined_after, link_acted, link_after, link_changed, live_after, system_after, member_with_bounds, with_up}
 use Rattle.gptp_plan.specs.Network.{NetworkState, pace_of}
 use Rattle.gptp_acts.specs.Sound.{IsSound}
 use Rattle.gptp_acts.specs.World.{Channel, WorldState}
 use Rattle.gptp_network.specs.Snapshot as network
 use Rattle.gptp_network.specs.Snapshot.{StandsAfter, joins_two, link_of}
-use Rattle.gptp_kept.specs.Standing.{has_clock, live_systems, snapshot_of, standing, used_links}
-use Rattle.gptp_reached.specs.Reached.{Shape, StandsAs, shape, shape_after, wire_of}
+use Rattle.gptp_kept.specs.Standing.{stations_have_clock, live_stations, snapshot_of, standing_system, used_channels}
+use Rattle.gptp_reached.specs.Reached.{Shape, StandsAs, shape, shape_after, channel_wire}
 
 -- ---- systems
 
@@ -41,14 +41,14 @@ abbrev HaveTheirPorts : List Station → Type 0
 HaveTheirPorts stations = (place : ℕ) (station : Station) → slice_get stations place ≡ Some station
     → length station.system.ports ≡ station.setup.ports
 
-world_living : (stations : List Station) → HaveTheirPorts stations → live_systems stations ≡ living (map shape stations)
+world_living : (stations : List Station) → HaveTheirPorts stations → live_stations stations ≡ living (map shape stations)
 world_living [] have = refl
 world_living (first ∷ stations) have =
     by first.live (have zero first refl) (world_living stations (λ place. have (suc place)))
   where
     by : (live : Bool) → length first.system.ports ≡ first.setup.ports
-        → live_systems stations ≡ living (map shape stations)
-        → (if live then standing first ∷ live_systems stations else live_systems stations)
+        → live_stations stations ≡ living (map shape stations)
+        → (if live then standing_system first ∷ live_stations stations else live_stations stations)
         ≡ (if live
         then system_of (record {
           setup = first.setup;
@@ -61,7 +61,7 @@ world_living (first ∷ stations) have =
           clock = clock_of first.system.identity;
           identity = first.system.identity;
           ports = count;
-        } ∷ live_systems stations) ports
+        } ∷ live_stations stations) ports
         ∙ ap (λ ss. record {
           clock = clock_of first.system.identity;
           identity = first.system.identity;
@@ -85,7 +85,7 @@ network_living p events (m ∷ members) = by (system_after events m).live (netwo
     by false rest = rest
 
 pub systems_stand : (n : NetworkState) (events : List Timed) (w : WorldState) → StandsAs n events w → IsSound w
-    → live_systems w.stations ≡ network.live_systems n.systems events
+    → live_stations w.stations ≡ network.live_systems n.systems events
 systems_stand n events w so sound =
     world_living w.stations (λ place station here. (sound.wired.setups place station here).ports)
     ∙ ap living so.systems ∙ sym (network_living (pace_of n) events n.systems)
@@ -104,7 +104,7 @@ changed_ends : (change : Change) (v : Wire) → ends (link_changed change v) ≡
 changed_ends (LinkDown number port) v = either (is_at number port v) (with_up false v) v refl
 changed_ends (LinkUp number port) v = either (is_at number port v) (with_up true v) v refl
 changed_ends (LinkSet number port least greatest loss) v =
-    either (is_at number port v) (with_bounds least greatest loss v) v refl
+    either (is_at number port v) (member_with_bounds least greatest loss v) v refl
 changed_ends (Fail number) v = refl
 changed_ends (Recover number) v = refl
 changed_ends (Priority1 number value) v = refl
@@ -129,10 +129,10 @@ used has [] = []
 used has (v ∷ wires) = used_before has v.up (v.a, v.b) (used has wires)
 
 world_used : (systems : List System) (channels : List Channel)
-    → used_links systems channels ≡ used (has_clock systems) (map wire_of channels)
+    → used_channels systems channels ≡ used (stations_have_clock systems) (map channel_wire channels)
 world_used systems [] = refl
 world_used systems (channel ∷ channels) =
-    ap (used_before (has_clock systems) channel.up (channel.a, channel.b)) (world_used systems channels)
+    ap (used_before (stations_have_clock systems) channel.up (channel.a, channel.b)) (world_used systems channels)
 
 network_used : (events : List Timed) (systems : List System) (wires : List Wire)
     → network.used_links wires events systems ≡ used (network.has_clock systems) (map (link_after events) wires)
@@ -154,7 +154,7 @@ network_used events systems (v ∷ wires) =
     by true rest = ap (used_before has true (v.a, v.b)) rest
     by false rest = rest
 
-any_clock : (systems : List System) (number : ℕ) → has_clock systems number ≡ network.has_clock systems number
+any_clock : (systems : List System) (number : ℕ) → stations_have_clock systems number ≡ network.has_clock systems number
 any_clock [] number = refl
 any_clock (s ∷ systems) number = ap (λ more. (s.clock == number) || more) (any_clock systems number)
 
@@ -162,17 +162,17 @@ any_clock (s ∷ systems) number = ap (λ more. (s.clock == number) || more) (an
 
 systems_move : (n : NetworkState) (events : List Timed) (w : WorldState) (g : Snapshot) → StandsAs n events w
     → IsSound w → StandsAfter n events g
-    → IsPermutation (live_systems w.stations) g.systems
+    → IsPermutation (live_stations w.stations) g.systems
 systems_move n events w g so sound stands =
     subst (λ ss. IsPermutation ss g.systems) (sym (systems_stand n events w so sound)) stands.systems
 
 -- the same systems have clocks
 pub clocks_stand : (n : NetworkState) (events : List Timed) (w : WorldState) (g : Snapshot) → StandsAs n events w
     → IsSound w → StandsAfter n events g
-    → (number : ℕ) → has_clock (live_systems w.stations) number ≡ network.has_clock g.systems number
+    → (number : ℕ) → stations_have_clock (live_stations w.stations) number ≡ network.has_clock g.systems number
 clocks_stand n events w g so sound stands number =
-    any_clock (live_systems w.stations) number
-    ∙ list_any-IsPermutation (λ (s : System). s.clock == number) (live_systems w.stations) g.systems
+    any_clock (live_stations w.stations) number
+    ∙ list_any-IsPermutation (λ (s : System). s.clock == number) (live_stations w.stations) g.systems
     (systems_move n events w g so sound stands)
 
 pub snapshots_stand : (n : NetworkState) (events : List Timed) (w : WorldState) (g : Snapshot)
@@ -181,13 +181,13 @@ pub snapshots_stand : (n : NetworkState) (events : List Timed) (w : WorldState) 
 snapshots_stand n events w g so sound stands = (systems_move n events w g so sound stands, links)
   where
     systems : List System
-    systems = live_systems w.stations
+    systems = live_stations w.stations
 
-    same_clocks : has_clock systems ≡ network.has_clock g.systems
+    same_clocks : stations_have_clock systems ≡ network.has_clock g.systems
     same_clocks = λ i number. clocks_stand n events w g so sound stands number i
 
-    links : used_links systems w.net.channels ≡ g.links
+    links : used_channels systems w.net.channels ≡ g.links
     links =
-        world_used systems w.net.channels ∙ ap (used (has_clock systems)) so.links
+        world_used systems w.net.channels ∙ ap (used (stations_have_clock systems)) so.links
         ∙ ap (λ has. used has (map (link_after events) n.links)) same_clocks
         ∙ sym (network_used events g.systems n.links) ∙ sym stands.links

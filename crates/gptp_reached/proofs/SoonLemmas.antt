@@ -24,13 +24,13 @@ use Rattle.gptp_kept.proofs.HoldsLemmas.{paths_bound}
 use Rattle.gptp_kept.proofs.NewsCourseLemmas.{begun_settles, gain_settles, link_up_settles}
 use Rattle.gptp_kept.proofs.RestSoundLemmas.{rest_sound}
 use Rattle.gptp_kept.proofs.SoundWorldLemmas.{sound_acts, sound_begins, sound_gains, sound_later}
-use Rattle.gptp_reached.specs.Headline.{IsCalm, IsSettled}
+use Rattle.gptp_reached.specs.Headline.{WorldIsCalm, IsSettled}
 use Rattle.gptp_reached.specs.Soon.{GainsAreSound, GainsSettle, LinksUpSettle, RestsAreSound, SoundGoesOn, StartsAreSound, StartsSettle}
 use Rattle.gptp_reached.proofs.ClaimedLemmas.{advanced_claimed}
 use Rattle.gptp_reached.proofs.HeadlineLemmas.{is_settled, quiet_as}
 use Rattle.gptp_reached.proofs.PlayedLemmas.{no_change}
 
-quiet_links : (p : Pace) (w : WorldState) → IsCalm p w → HaveQuietLinks p.params w
+quiet_links : (p : Pace) (w : WorldState) → WorldIsCalm p w → HaveQuietLinks p.params w
 quiet_links p w calm = (quiet_as p w calm).links
 
 -- what has settled, and states what is bounded, is settled as on the page

@@ -21,9 +21,9 @@ use Rattle.gptp_network.specs.Snapshot.{StandsAfter}
 use Rattle.gptp_network.proofs.ExistenceLemmas.{stands_after}
 use Rattle.gptp_network.proofs.InUseLemmas.{live_there, paths_are, there_live}
 use Rattle.gptp_network.proofs.PassLemmas.{same_tests}
-use Rattle.gptp_kept.specs.Calm.{delay_in, greatest_delay, sync_paths_of}
-use Rattle.gptp_kept.specs.Standing.{has_clock, live_systems, snapshot_of}
-use Rattle.gptp_reached.specs.Reached.{StandsAs, wire_of}
+use Rattle.gptp_kept.specs.Calm.{delay_in, greatest_channel_delay, sync_paths_of}
+use Rattle.gptp_kept.specs.Standing.{stations_have_clock, live_stations, snapshot_of}
+use Rattle.gptp_reached.specs.Reached.{StandsAs, channel_wire}
 use Rattle.gptp_reached.proofs.SnapshotLemmas.{clocks_stand, snapshots_stand}
 
 -- ---- the greatest delay
@@ -38,10 +38,10 @@ delay_by has [] = 0
 delay_by has (v ∷ vs) = if is_between has v then max v.bounds.max (delay_by has vs) else delay_by has vs
 
 world_delay : (systems : List System) (channels : List Channel)
-    → greatest_delay systems channels ≡ delay_by (has_clock systems) (map wire_of channels)
+    → greatest_channel_delay systems channels ≡ delay_by (stations_have_clock systems) (map channel_wire channels)
 world_delay systems [] = refl
 world_delay systems (first ∷ channels) =
-    ap (λ rest. if is_between (has_clock systems) (wire_of first) then max first.bounds.max rest else rest)
+    ap (λ rest. if is_between (stations_have_clock systems) (channel_wire first) then max first.bounds.max rest else rest)
     (world_delay systems channels)
 
 and_both : (a b c : Bool) → ((a && b) && c) ≡ (a && (b && c))
@@ -60,11 +60,11 @@ network_delay members events (v ∷ links) =
     (network_delay members events links)
 
 pub delay_stands : (systems : List System) (members : List Member) (events : List Timed) (channels : List Channel)
-    (links : List Wire) → ((number : ℕ) → has_clock systems number ≡ lives members events number)
-    → map wire_of channels ≡ map (link_after events) links
-    → greatest_delay systems channels ≡ plans.greatest_delay members events links
+    (links : List Wire) → ((number : ℕ) → stations_have_clock systems number ≡ lives members events number)
+    → map channel_wire channels ≡ map (link_after events) links
+    → greatest_channel_delay systems channels ≡ plans.greatest_delay members events links
 delay_stands systems members events channels links same stands =
-    world_delay systems channels ∙ ap (delay_by (has_clock systems)) stands
+    world_delay systems channels ∙ ap (delay_by (stations_have_clock systems)) stands
     ∙ ap (λ has. delay_by has (map (link_after events) links)) (λ i number. same number i)
     ∙ sym (network_delay members events links)
 
@@ -117,7 +117,7 @@ paths_stand n events w is so sound = λ i. record { systems = paths i; delay = d
         let (systems, links) = snapshots_stand n events w g so sound stands in
         paths_are n is events g stands ∙ sym (bound_alike (snapshot_of w) g systems links)
 
-    alike_clocks : (number : ℕ) → has_clock (live_systems w.stations) number ≡ lives n.systems events number
+    alike_clocks : (number : ℕ) → stations_have_clock (live_stations w.stations) number ≡ lives n.systems events number
     alike_clocks number =
         let (g, stands) = there in
         clocks_stand n events w g so sound stands number
@@ -126,4 +126,4 @@ paths_stand n events w is so sound = λ i. record { systems = paths i; delay = d
 
     delay : plans.greatest_delay n.systems events n.links ≡ delay_in w
     delay =
-        sym (delay_stands (live_systems w.stations) n.systems events w.net.channels n.links alike_clocks so.links)
+        sym (delay_stands (live_stations w.stations) n.systems events w.net.channels n.links alike_clocks so.links)

@@ -28,8 +28,8 @@ use Rattle.gptp_acts.specs.Prompt.{HavePace}
 use Rattle.gptp_acts.specs.Views.{ShowsLive}
 use Rattle.gptp_acts.specs.World.{Channel, WorldState}
 use Rattle.gptp_kept.specs.Calm.{delay_in, sync_paths_of}
-use Rattle.gptp_kept.specs.Exact.{IsAhead, IsErrorOf}
-use Rattle.gptp_kept.specs.Standing.{is_used, live_systems, snapshot_of}
+use Rattle.gptp_kept.specs.Exact.{IsAhead, IsWayError}
+use Rattle.gptp_kept.specs.Standing.{channel_is_used, live_stations, snapshot_of}
 use Rattle.gptp_kept.specs.Tree.{IsTree}
 use Rattle.gptp_certificate.specs.Stated.{States}
 
@@ -40,9 +40,9 @@ use Rattle.gptp_certificate.specs.Stated.{States}
 -- network and with the largest announce interval of any of its ports, as those of every world do. And what a Slave port
 -- holds doesn't lapse for want of Sync: syncReceiptTimeout is 0, or the paths of the snapshot are so short, and its
 -- links so prompt, that a settled system always hears the next Sync sooner.
-pub record IsCalm (p : Pace) (w : WorldState) : Type 0 where
+pub record WorldIsCalm (p : Pace) (w : WorldState) : Type 0 where
   pub of : HavePace p w
-  pub links : (link : Channel) → In link w.net.channels → is_used (live_systems w.stations) link ≡ true
+  pub links : (link : Channel) → In link w.net.channels → channel_is_used (live_stations w.stations) link ≡ true
       → (link.bounds.loss ≡ 0)
       × (link.bounds.max + ceil_div link.bounds.max 1000 + ceil_div p.params.turnaround 2000 + 2 ≤ p.params.threshold)
   pub lapses : SyncsComeInTime p.params (sync_paths_of w)
@@ -88,24 +88,24 @@ pub record IsSettled (w : WorldState) : Type 0 where
 -- more than m systems.
 abbrev pub Headline : WorldState → Type 0
 Headline w = (p : Pace) (m : ℕ)
-    → IsCalm p w → BoundsPaths (snapshot_of w) m → HasPassed p m w
+    → WorldIsCalm p w → BoundsPaths (snapshot_of w) m → HasPassed p m w
     → IsSettled w
 
 -- where nothing lapses for want of Sync, so it is sooner
 abbrev pub HeadlineAtOnce : WorldState → Type 0
 HeadlineAtOnce w = (p : Pace) (m : ℕ)
-    → IsCalm p w → p.params.sync_timeout ≡ 0 → BoundsPaths (snapshot_of w) m → HasPassedAtOnce p m w
+    → WorldIsCalm p w → p.params.sync_timeout ≡ 0 → BoundsPaths (snapshot_of w) m → HasPassedAtOnce p m w
     → IsSettled w
 
 -- such an m is the number of live systems, and such is 2 more than there are systems with two neighbours or more
 abbrev pub HeadlineBySystems : WorldState → Type 0
 HeadlineBySystems w = (p : Pace)
-    → IsCalm p w → HasPassed p (length (snapshot_of w).systems) w
+    → WorldIsCalm p w → HasPassed p (length (snapshot_of w).systems) w
     → IsSettled w
 
 abbrev pub HeadlineByNeighbours : WorldState → Type 0
 HeadlineByNeighbours w = (p : Pace)
-    → IsCalm p w → HasPassed p (path_bound (snapshot_of w)) w
+    → WorldIsCalm p w → HasPassed p (path_bound (snapshot_of w)) w
     → IsSettled w
 
 -- ---- how exactly
@@ -139,7 +139,7 @@ pub record LeavesOffset (number : ℕ) (offset : ℤ) (w' : WorldState) (done : 
 -- which each link above adds its jitter over the interval of peer delay requests.
 abbrev pub HeadlineOnTime : WorldState → ℕ → WorldState → Done → Type 0
 HeadlineOnTime w time w' done = (p : Pace) (m steps number error : ℕ) (offset ahead : ℤ)
-    → IsCalm p w → BoundsPaths (snapshot_of w) m → HasComeDown p m (suc steps) time w
+    → WorldIsCalm p w → BoundsPaths (snapshot_of w) m → HasComeDown p m (suc steps) time w
     → LeavesOffset number offset w' done
-    → IsNear (snapshot_of w) number → IsErrorOf p.params w number (suc steps) error → IsAhead w number time ahead
+    → IsNear (snapshot_of w) number → IsWayError p.params w number (suc steps) error → IsAhead w number time ahead
     → AreWithin error offset ahead

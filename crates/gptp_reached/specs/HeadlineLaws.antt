@@ -16,7 +16,7 @@ use Rattle.gptp_acts.specs.Prompt.{HavePace}
 use Rattle.gptp_acts.specs.World.{WorldState}
 use Rattle.gptp_network.specs.Document.{DocumentState}
 use Rattle.gptp_network.specs.Snapshot.{IsSnapshot, events_by}
-use Rattle.gptp_report.specs.Run.{Plays}
+use Rattle.gptp_report.specs.Run.{PlaysRun}
 use Rattle.gptp_report.specs.Transitions.{Transition, Unfolds}
 use Rattle.gptp_kept.specs.Claimed.{Claimed}
 use Rattle.gptp_kept.specs.Known.{AreSet}
@@ -24,7 +24,7 @@ use Rattle.gptp_kept.specs.Standing.{snapshot_of}
 use Rattle.gptp_kept.specs.TimedClaim.{AllClaimed}
 use Rattle.gptp_reached.specs.AlikeLaws.{AreAlike}
 use Rattle.gptp_reached.specs.Headline.{Headline, HeadlineAtOnce, HeadlineByNeighbours, HeadlineBySystems, HeadlineOnTime, IsSettled}
-use Rattle.gptp_reached.specs.PlayedLaws.{IsAtRest, IsPlayable}
+use Rattle.gptp_reached.specs.PlayedLaws.{DocumentIsAtRest, IsPlayable}
 
 -- what `World::well_formed` shows of every world is all that the theorem asks beside calm and the time
 abbrev pub WorldsSettle : Type 0
@@ -64,7 +64,7 @@ HasSnapshotOf d until w = (g : Snapshot) → IsSnapshot d until g → AreAlike (
 -- drawn for the frames meanwhile, and its snapshot is the document's.
 abbrev pub DocumentsLeadToSettled : {F : Type 0} → (Bounds → ℕ → F → Option ℕ → F → Type 0) → Type 0
 DocumentsLeadToSettled {F} answers = (d : DocumentState) (until : ℕ) (fate : F) (told : List Told) (w : WorldState)
-    → IsPlayable d → Plays answers d until fate told w → IsAtRest d until
+    → IsPlayable d → PlaysRun answers d until fate told w → DocumentIsAtRest d until
     → IsSettled w × HasSnapshotOf d until w
 
 -- A document is at rest sooner where nothing lapses in it: its network is calm after the events up to a time, and the
@@ -78,5 +78,5 @@ pub record IsAtRestAtOnce (d : DocumentState) (until : ℕ) : Type 0 where
 
 abbrev pub DocumentsSettleAtOnce : {F : Type 0} → (Bounds → ℕ → F → Option ℕ → F → Type 0) → Type 0
 DocumentsSettleAtOnce {F} answers = (d : DocumentState) (until : ℕ) (fate : F) (told : List Told) (w : WorldState)
-    → IsPlayable d → Plays answers d until fate told w → IsAtRestAtOnce d until
+    → IsPlayable d → PlaysRun answers d until fate told w → IsAtRestAtOnce d until
     → IsSettled w × HasSnapshotOf d until w

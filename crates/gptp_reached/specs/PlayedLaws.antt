@@ -15,7 +15,7 @@ use Rattle.gptp_acts.specs.World.{WorldState}
 use Rattle.gptp_network.specs.Document.{DocumentState, Means}
 use Rattle.gptp_network.specs.Events.{AreEvents}
 use Rattle.gptp_network.specs.Snapshot.{events_by}
-use Rattle.gptp_report.specs.Run.{Plays}
+use Rattle.gptp_report.specs.Run.{PlaysRun}
 use Rattle.gptp_kept.specs.CalmFor.{IsCalmFor}
 use Rattle.gptp_kept.specs.Claimed.{Claimed}
 use Rattle.gptp_kept.specs.LegibleLaws.{SetsAnOctet}
@@ -54,17 +54,17 @@ EventsAreMade = (d : DocumentState) (until : ℕ)
 -- the world that it leads to by a time stands as its network does after the events up to then
 abbrev pub PlayedStands : {F : Type 0} → (Bounds → ℕ → F → Option ℕ → F → Type 0) → Type 0
 PlayedStands {F} answers = (d : DocumentState) (until : ℕ) (fate : F) (told : List Told) (w : WorldState)
-    → IsNetwork d.network → AllByRecursion IsMade (events_by until d.events) → Plays answers d until fate told w
+    → IsNetwork d.network → AllByRecursion IsMade (events_by until d.events) → PlaysRun answers d until fate told w
     → IsReached d until w
 
 -- and keeps what every world keeps
 abbrev pub PlayedClaimed : {F : Type 0} → (Bounds → ℕ → F → Option ℕ → F → Type 0) → Type 0
 PlayedClaimed {F} answers = (d : DocumentState) (until : ℕ) (fate : F) (told : List Told) (w : WorldState)
-    → IsPlayable d → Plays answers d until fate told w
+    → IsPlayable d → PlaysRun answers d until fate told w
     → Claimed w
 
 -- A document is at rest at a time: its network is calm after the events up to then, and has settled by then.
-pub record IsAtRest (d : DocumentState) (until : ℕ) : Type 0 where
+pub record DocumentIsAtRest (d : DocumentState) (until : ℕ) : Type 0 where
   pub calm : IsCalm d.network (events_by until d.events)
   pub settled : settles d.network (events_by until d.events) ≤ until
 
@@ -72,11 +72,11 @@ pub record IsAtRest (d : DocumentState) (until : ℕ) : Type 0 where
 abbrev pub CalmRests : Type 0
 CalmRests = (d : DocumentState) (until : ℕ)
     → AreEvents d.network d.events → IsCalm d.network d.events → settles d.network d.events ≤ until
-    → IsAtRest d until
+    → DocumentIsAtRest d until
 
 -- The world that a document leads to by a time at which it is at rest has been calm for the settling span of its live
 -- systems.
 abbrev pub DocumentIsCalm : Type 0
 DocumentIsCalm = (d : DocumentState) (until : ℕ) (w : WorldState)
-    → IsNetwork d.network → IsReached d until w → Claimed w → IsAtRest d until
+    → IsNetwork d.network → IsReached d until w → Claimed w → DocumentIsAtRest d until
     → IsCalmFor settling_span_with w

@@ -39,13 +39,13 @@ shape_after p events m = record {
 -- ---- links
 
 -- a link without what is in flight on it
-abbrev pub wire_of : Channel → Wire
-wire_of channel = record { a = channel.a; b = channel.b; bounds = channel.bounds; up = channel.up }
+abbrev pub channel_wire : Channel → Wire
+channel_wire channel = record { a = channel.a; b = channel.b; bounds = channel.bounds; up = channel.up }
 
 -- ---- the whole world
 
 -- The world has the systems and links of the network after these events, and the last of them was the last change.
 pub record StandsAs (n : NetworkState) (events : List Timed) (w : WorldState) : Type 0 where
   pub systems : map shape w.stations ≡ map (shape_after (pace_of n) events) n.systems
-  pub links : map wire_of w.net.channels ≡ map (link_after events) n.links
+  pub links : map channel_wire w.net.channels ≡ map (link_after events) n.links
   pub last : w.last_change ≡ last_change events

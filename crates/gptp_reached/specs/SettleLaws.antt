@@ -9,16 +9,16 @@ use Rattle.gptp_acts.specs.World.{WorldState}
 use Rattle.gptp_plan.specs.Network.{IsNetwork}
 use Rattle.gptp_network.specs.Document.{DocumentState}
 use Rattle.gptp_network.specs.Snapshot.{IsSnapshot}
-use Rattle.gptp_report.specs.Run.{Plays}
+use Rattle.gptp_report.specs.Run.{PlaysRun}
 use Rattle.gptp_kept.specs.Claimed.{Claimed}
 use Rattle.gptp_certificate.specs.Stated.{States}
-use Rattle.gptp_reached.specs.PlayedLaws.{IsAtRest, IsPlayable, IsReached}
+use Rattle.gptp_reached.specs.PlayedLaws.{DocumentIsAtRest, IsPlayable, IsReached}
 
 -- Where a document is at rest at a time, what is stated of the live systems of the world that it leads to is the
 -- settled choice of its snapshot.
 abbrev pub DocumentsSettle : Type 0
 DocumentsSettle = (d : DocumentState) (until : ℕ) (w : WorldState) (lines : List SystemLine) (g : Snapshot)
-    → IsNetwork d.network → IsReached d until w → Claimed w → IsAtRest d until → States w lines
+    → IsNetwork d.network → IsReached d until w → Claimed w → DocumentIsAtRest d until → States w lines
     → IsSnapshot d until g
     → IsSettledChoice g lines
 
@@ -26,5 +26,5 @@ DocumentsSettle = (d : DocumentState) (until : ℕ) (w : WorldState) (lines : Li
 abbrev pub PlayedSettle : {F : Type 0} → (Bounds → ℕ → F → Option ℕ → F → Type 0) → Type 0
 PlayedSettle {F} answers = (d : DocumentState) (until : ℕ) (fate : F) (told : List Told) (w : WorldState)
     (lines : List SystemLine) (g : Snapshot)
-    → IsPlayable d → Plays answers d until fate told w → IsAtRest d until → States w lines → IsSnapshot d until g
+    → IsPlayable d → PlaysRun answers d until fate told w → DocumentIsAtRest d until → States w lines → IsSnapshot d until g
     → IsSettledChoice g lines

@@ -37,14 +37,14 @@ use Rattle.gptp_kept.specs.SoundWorld.{IsGain, IsSoundWorld}
 use Rattle.gptp_kept.specs.Standing.{snapshot_of}
 use Rattle.gptp_kept.specs.Traces.{clean_span}
 use Rattle.gptp_kept.specs.Unanswered.{StandsUnanswered}
-use Rattle.gptp_reached.specs.Headline.{IsCalm, IsSettled}
+use Rattle.gptp_reached.specs.Headline.{WorldIsCalm, IsSettled}
 
 -- a network that starts, and goes on by itself
 abbrev pub StartsSettle : {F : Type 0} → (Bounds → ℕ → F → Option ℕ → F → Type 0) → Type 0
 StartsSettle {F} answers = (n : NetworkState) (fate begun fate_after : F) (until m : ℕ) (told : List Told)
     (w w' : WorldState)
     → IsNetwork n → Begun answers n fate begun w → Advanced answers until told begun fate_after w w'
-    → IsCalm (pace_of n) w' → BoundsPaths (snapshot_of w') m
+    → WorldIsCalm (pace_of n) w' → BoundsPaths (snapshot_of w') m
     → HasSettledBy (pace_of n) m (capable_from (pace_of n) w' 0) w'
     → IsSettled w'
 
@@ -57,7 +57,7 @@ LinksUpSettle {F} answers = (p : Pace) (number port time : ℕ) (fate drawn fate
     → WasDone answers (record { at = time; act = Changing (LinkUp number port) }) fate drawn w between done
     → ((at : LinkPlace) → StandsUnanswered at between → IsOtherLink at (port_id number port) w)
     → Advanced answers until told drawn fate_after between w'
-    → IsCalm p w' → BoundsPaths (snapshot_of w') m → HasSettledBy p m (capable_from p w' time) w'
+    → WorldIsCalm p w' → BoundsPaths (snapshot_of w') m → HasSettledBy p m (capable_from p w' time) w'
     → IsSettled w'
 
 -- A network in which all that is held is sound, whenever it gains something, and which then goes on by itself: counted
@@ -70,7 +70,7 @@ GainsSettle {F} answers = (p : Pace) (change : Change) (time start : ℕ) (fate 
     → IsFitAct (Changing change) → IsPromptIn w (Changing change) → SetsAnOctet (Changing change)
     → WasDone answers (record { at = time; act = Changing change }) fate drawn w between done
     → Advanced answers until told drawn fate_after between w'
-    → IsCalm p w' → BoundsPaths (snapshot_of w') m
+    → WorldIsCalm p w' → BoundsPaths (snapshot_of w') m
     → SettlesFrom p time start between → HasSettledBy p m start w'
     → IsSettled w'
 
@@ -102,7 +102,7 @@ GainsAreSound {F} answers = (p : Pace) (change : Change) (time : ℕ) (fate fate
 -- once more.
 abbrev pub RestsAreSound : Type 0
 RestsAreSound = (p : Pace) (w : WorldState)
-    → IsClaimed p w → AllLive w → IsCalm p w
+    → IsClaimed p w → AllLive w → WorldIsCalm p w
     → w.last_change + clean_span (path_bound (snapshot_of w)) p (sync_paths_of w) (length (snapshot_of w).systems)
     + delay_in w
     ≤ w.time

@@ -4,7 +4,7 @@ use Rattle.std.specs.List.Sorted.{IsPermutation}
 use Rattle.gptp_graph.specs.Snapshot.{Snapshot}
 use Rattle.gptp_plan.specs.declared.change.Timed.{Timed}
 use Rattle.gptp_plan.specs.Calm.{IsCalm}
-use Rattle.gptp_plan.specs.InUse.{live_systems}
+use Rattle.gptp_plan.specs.InUse.{count_live}
 use Rattle.gptp_plan.specs.Network.{IsNetwork, NetworkState, pace_of}
 use Rattle.gptp_plan.specs.SyncWait.{sync_paths}
 use Rattle.gptp_acts.specs.Sound.{IsSound}
@@ -26,7 +26,7 @@ StandsSnapshot = (n : NetworkState) (events : List Timed) (w : WorldState) (g : 
 abbrev pub StandsCount : Type 0
 StandsCount = (n : NetworkState) (events : List Timed) (w : WorldState)
     → StandsAs n events w → IsSound w
-    → length (snapshot_of w).systems ≡ live_systems n.systems events
+    → length (snapshot_of w).systems ≡ count_live n.systems events
 
 -- Sync has the same to cross
 abbrev pub StandsPaths : Type 0

@@ -18,11 +18,11 @@ use Rattle.gptp_acts.specs.declared.station.Station.{Station}
 use Rattle.gptp_acts.specs.World.{WorldState}
 use Rattle.gptp_settling.specs.Calm.{Calm}
 use Rattle.gptp_settling.specs.Frame.{SaysSync}
-use Rattle.gptp_settling.specs.Lapsing.{FollowsNearer}
-use Rattle.gptp_settling.specs.Network.{IsNetwork, Network, settled_from, since}
+use Rattle.gptp_settling.specs.Lapsing.{FollowsFarther}
+use Rattle.gptp_settling.specs.Network.{IsSettlingNetwork, Network, settled_from, since}
 use Rattle.gptp_settling.specs.Settled.{IsSlaveOf}
-use Rattle.gptp_settling.specs.Sound.{IsSound}
-use Rattle.gptp_settling.specs.Station.{State}
+use Rattle.gptp_settling.specs.Sound.{RunIsSound}
+use Rattle.gptp_settling.specs.Station.{MachineState}
 use Rattle.gptp_settling.specs.Station as seen
 use Rattle.gptp_settling.specs.Syncs.{HaveSyncTimers, HearsBy, IsPrompt, SyncsAreExpected, TellsBy, wait}
 use Rattle.gptp_settling.proofs.SyncLemmas.{flight_left, known_station, parent_there}
@@ -43,13 +43,13 @@ use Rattle.gptp_kept.proofs.SettledLemmas.{span_ends}
 use Rattle.gptp_kept.proofs.StandsLemmas.{stands_well}
 use Rattle.gptp_kept.proofs.SyncActLemmas.{timers_seen}
 use Rattle.gptp_kept.proofs.WaitLemmas.{step_long, wait_is}
-use Rattle.gptp_reached.specs.Headline.{IsCalm}
+use Rattle.gptp_reached.specs.Headline.{WorldIsCalm}
 use Rattle.gptp_reached.proofs.HeadlineLemmas.{quiet_as}
 use Rattle.gptp_reading.specs.Age.{WorldsAreRecent}
 
 -- ---- Syncs that are expected
 
-module _ (tells : SaysSync) (n : Network) (net : IsNetwork n) (w : State) (calm : Calm n w) (sound : IsSound n w)
+module _ (tells : SaysSync) (n : Network) (net : IsSettlingNetwork n) (w : MachineState) (calm : Calm n w) (sound : RunIsSound n w)
     (facts : HaveSyncTimers n w) where
   -- when a system tells time by some time, that hasn't passed
   tells_later : (d v by : ℕ) → IsDistance n.graph v d → TellsBy tells n w.stations w.lanes d v by → w.time ≤ by
@@ -80,7 +80,7 @@ module _ (tells : SaysSync) (n : Network) (net : IsNetwork n) (w : State) (calm 
 
   -- so a Lapse timer that runs was started within the wait, once the system before has settled and that wait is over
   pub started_within : IsPrompt n → SyncsAreExpected tells n w → (i : ℕ) (s : seen.Station) (d due : ℕ)
-      → slice_get w.stations i ≡ Some s → s.live ≡ true → d < 255 → FollowsNearer n.graph s d
+      → slice_get w.stations i ≡ Some s → s.live ≡ true → d < 255 → FollowsFarther n.graph s d
       → since n d + n.sync_wait ≤ w.time → s.lapse ≡ Some due → w.time + n.syncs.span ≤ due + n.sync_wait
   started_within timely expected i s d due at live near nearer late lapse =
       let e = expected i s d due at live near nearer (omega (arith, late)) lapse in
@@ -153,7 +153,7 @@ module _ (p : Pace) (w : WorldState) (claimed : IsClaimed p w) (quiet : IsQuietW
     abbrev d : ℕ
     d = parent.1.nearer.distance
 
-    nearer : FollowsNearer g (station_view station) d
+    nearer : FollowsFarther g (station_view station) d
     nearer =
         let l = parent.0 in
         record {
@@ -201,7 +201,7 @@ module _ (p : Pace) (w : WorldState) (claimed : IsClaimed p w) (quiet : IsQuietW
         by (inr short) = started_lately short
 
 -- a world with a system has the parameters and the largest interval that its systems start with
-pub claimed_alike : (w : WorldState) (claimed : Claimed w) (p : Pace) → IsCalm p w → (place : ℕ) (station : Station)
+pub claimed_alike : (w : WorldState) (claimed : Claimed w) (p : Pace) → WorldIsCalm p w → (place : ℕ) (station : Station)
     → slice_get w.stations place ≡ Some station → IsClaimed p w
 claimed_alike w claimed p calm place station here =
     let known = (claimed.is.world.known.set place station here).starts in

@@ -40,20 +40,20 @@ use Rattle.gptp_acts.specs.declared.station.Station.{Station}
 use Rattle.gptp_acts.specs.Prompt.{HavePace}
 use Rattle.gptp_acts.specs.Sound.{IsSound}
 use Rattle.gptp_acts.specs.Views.{ShowsLive}
-use Rattle.gptp_acts.specs.World.{Channel, WorldState, queue, receiver}
+use Rattle.gptp_acts.specs.World.{Channel, WorldState, world_queue, receiver}
 use Rattle.gptp_timing.specs.Follower.{from}
 use Rattle.gptp_timing.specs.Tree.{IsWayTo}
 use Rattle.gptp_timing.proofs.TreeLemmas.{way_ends_at_parent}
-use Rattle.gptp_kept.specs.Calm.{place_of, sync_paths_of}
+use Rattle.gptp_kept.specs.Calm.{clock_place, sync_paths_of}
 use Rattle.gptp_kept.specs.CalmFor.{IsCalmFor, span_over}
 use Rattle.gptp_kept.specs.Claimed.{IsClaimed}
-use Rattle.gptp_kept.specs.Followers.{HasWay, IsFollower, follower_clock, follower_setting, parts_of, state_of}
-use Rattle.gptp_kept.specs.LinkView.{LinkPlace, opposite}
+use Rattle.gptp_kept.specs.Followers.{HasWay, IsFollower, follower_clock, follower_setting, follower_parts, follower_state}
+use Rattle.gptp_kept.specs.LinkView.{LinkPlace, other_direction}
 use Rattle.gptp_kept.specs.Standing.{snapshot_of}
 use Rattle.gptp_kept.specs.Timed.{AllMeasureRight, IsSettledFrom}
 use Rattle.gptp_kept.specs.TimedClaim.{AllClaimed, CarriesWhereCalm, IsCalmBy}
 use Rattle.gptp_kept.specs.TimedLaws.{IsRootOf}
-use Rattle.gptp_kept.specs.View.{identity_of}
+use Rattle.gptp_kept.specs.View.{port_identity_number}
 use Rattle.gptp_kept.proofs.CalmKeptLemmas.{acts_keep}
 use Rattle.gptp_kept.proofs.ClaimedLemmas.{over_capable}
 use Rattle.gptp_kept.proofs.ExactLemmas.{all_later}
@@ -67,7 +67,7 @@ use Rattle.gptp_kept.proofs.LinkLemmas.{sender_opposite}
 use Rattle.gptp_kept.proofs.MeasuredLinkLemmas.{claimed_measured}
 use Rattle.gptp_kept.proofs.TimeStepLemmas.{knows_on}
 use Rattle.gptp_kept.proofs.WayLemmas.{one_way}
-use Rattle.gptp_reached.specs.Headline.{HasComeDown, IsCalm, UsesFollowUp}
+use Rattle.gptp_reached.specs.Headline.{HasComeDown, WorldIsCalm, UsesFollowUp}
 use Rattle.gptp_reached.proofs.HeadlineLemmas.{quiet_as}
 use Rattle.gptp_reading.specs.Reading.{IsBestsTime, reading, reading_error_at}
 use Rattle.gptp_reading.specs.Readings.{LeavesTime, WorldsHaveReadings, WorldsLeaveTime, WorldsReadExactly}
@@ -82,7 +82,7 @@ record HasUser (direction : Direction) (link : ℕ) (w w' : WorldState) (number 
   here : slice_get w.net.channels link ≡ Some channel
   octets : List ℕ
   rest : List Frame
-  front : queue direction channel ≡ frame w.time octets ∷ rest
+  front : world_queue direction channel ≡ frame w.time octets ∷ rest
   message : FollowUp
   reads : Reads octets (messages.FollowUp message)
   place : ℕ
@@ -149,7 +149,7 @@ stood link direction w draws done w' sound k place place' station station' here 
     let act = Deliver link direction in
     let keeps = acts_keep act w draws done w' tt k in
     place_is w' (acts_sound act w draws done w' sound tt k).wired.clocks place' station' there
-    ∙ ap (place_of w'.stations) same ∙ keeps.places (clock station.system)
+    ∙ ap (clock_place w'.stations) same ∙ keeps.places (clock station.system)
     ∙ sym (place_is w sound.wired.clocks place station here)
 
 -- so what the system shows after the act is what the Follow_Up made of it
@@ -170,8 +170,8 @@ left_is link direction w w' draws number done sound k u s shows =
 record IsUsedHere (w : WorldState) (place : LinkPlace) (f : IsFollower place w) (octets : List ℕ) (m : FollowUp)
     (after : SystemState) : Type 0 where
   rest : List Frame
-  front : queue place.direction f.channel ≡ frame w.time octets ∷ rest
-  used : IsUsedBy (receiver place.direction f.channel).port m w.time (state_of place w f) after
+  front : world_queue place.direction f.channel ≡ frame w.time octets ∷ rest
+  used : IsUsedBy (receiver place.direction f.channel).port m w.time (follower_state place w f) after
 
 module _ (p : Pace) (settled longest : ℕ) (w : WorldState) (is : IsSettledFrom p settled longest w) (place : LinkPlace)
     (f : IsFollower place w) (link : ℕ) (direction : Direction) (w' : WorldState) (number : ℕ)
@@ -180,7 +180,7 @@ module _ (p : Pace) (settled longest : ℕ) (w : WorldState) (is : IsSettledFrom
   abbrev port : ℕ
   port = (receiver direction u.channel).port
 
-  used : IsUsedBy port u.message w.time (state_of place w f) u.after
+  used : IsUsedBy port u.message w.time (follower_state place w f) u.after
   used =
       subst (λ (y : Station). IsUsedBy port u.message w.time y.system u.after) (sym own)
       (used_by port u.message u.octets w.time u.station.system u.after u.sends u.reads u.steps)
@@ -196,16 +196,16 @@ module _ (p : Pace) (settled longest : ℕ) (w : WorldState) (is : IsSettledFrom
       let same = ports in
       let ends : receiver direction u.channel ≡ receiver place.direction f.channel =
       λ i. record { clock = clocks i; port = sym same i } in
-      let lane = one_way w is.world.sound is.world.legible link place.link (opposite direction)
-      (opposite place.direction) u.channel f.channel u.here f.here
-      (ap identity_of (sender_opposite direction u.channel ∙ ends ∙ sym (sender_opposite place.direction f.channel)))
+      let lane = one_way w is.world.sound is.world.legible link place.link (other_direction direction)
+      (other_direction place.direction) u.channel f.channel u.here f.here
+      (ap port_identity_number (sender_opposite direction u.channel ∙ ends ∙ sym (sender_opposite place.direction f.channel)))
       in
       record {
         rest = u.rest;
-        front = ap (queue place.direction) (sym lane.same_channel)
-            ∙ ap (λ way. queue way u.channel) (sym (opposite_same direction place.direction lane.same_way))
+        front = ap (world_queue place.direction) (sym lane.same_channel)
+            ∙ ap (λ way. world_queue way u.channel) (sym (opposite_same direction place.direction lane.same_way))
             ∙ u.front;
-        used = subst (λ q. IsUsedBy q u.message w.time (state_of place w f) u.after) (sym ports) used;
+        used = subst (λ q. IsUsedBy q u.message w.time (follower_state place w f) u.after) (sym ports) used;
       }
 
 -- ---- in a calm world
@@ -213,10 +213,10 @@ module _ (p : Pace) (settled longest : ℕ) (w : WorldState) (is : IsSettledFrom
 module _ (link : ℕ) (direction : Direction) (w w' : WorldState) (draws : List Draw) (number : ℕ) (done : Done)
     (p : Pace) (m steps : ℕ) (system : SystemState) (way : Way) (phase : ℕ → ℕ)
     (k : Acts (Deliver link direction) w draws done w') (uses : UsesFollowUp number done)
-    (shows : ShowsLive number w' system) (claimed : IsClaimed p w) (carries : CarriesWhereCalm p w) (calm : IsCalm p w)
+    (shows : ShowsLive number w' system) (claimed : IsClaimed p w) (carries : CarriesWhereCalm p w) (calm : WorldIsCalm p w)
     (bounded : BoundsPaths (snapshot_of w) m) (come : HasComeDown p m (suc steps) w.time w)
     (early : w.time ≤ 10 ^ 18) (near : IsNear (snapshot_of w) number)
-    (leads : IsWayTo (parts_of p.params w) (snapshot_of w) (suc steps) number way phase) where
+    (leads : IsWayTo (follower_parts p.params w) (snapshot_of w) (suc steps) number way phase) where
   abbrev settled : ℕ
   settled = w.last_change + settling_span_with p (sync_paths_of w) m
 
@@ -265,13 +265,13 @@ module _ (link : ℕ) (direction : Direction) (w w' : WorldState) (draws : List 
   has_way = record {
     way = way;
     phase = phase;
-    is = subst (λ n. IsWayTo (parts_of p.params w) (snapshot_of w) (suc steps) n way phase) (sym named_so) leads;
+    is = subst (λ n. IsWayTo (follower_parts p.params w) (snapshot_of w) (suc steps) n way phase) (sym named_so) leads;
   }
 
   from_then : from (follower_setting p.params settled p.params.threshold followed.at w followed.follower steps has_way)
       ≤ w.time
   from_then =
-      let residence = (way_ends_at_parent.common (parts_of p.params w) (snapshot_of w) (suc steps) number way
+      let residence = (way_ends_at_parent.common (follower_parts p.params w) (snapshot_of w) (suc steps) number way
       phase leads).2 in
       subst (λ r. settled + suc steps * (p.params.threshold + r) ≤ w.time) (sym residence) late
 
@@ -351,7 +351,7 @@ best_then w time number moment shown is = record {
   is = is.is;
 }
 
-calm_then : (p : Pace) (w : WorldState) (time : ℕ) → IsCalm p w → IsCalm p (at time w)
+calm_then : (p : Pace) (w : WorldState) (time : ℕ) → WorldIsCalm p w → WorldIsCalm p (at time w)
 calm_then p w time calm = record { of = calm.of; links = calm.links; lapses = calm.lapses }
 
 pub worlds_leave_time : {F : Type 0} (answers : Bounds → ℕ → F → Option ℕ → F → Type 0) → WorldsLeaveTime answers

@@ -36,7 +36,7 @@ use Rattle.gptp_system.specs.State.{SystemState, can_lead, clock}
 use Rattle.gptp_system.proofs.LapseLemmas.{lapse_begins}
 use Rattle.gptp_acts.proofs.SteadyLemmas.{same_clock}
 use Rattle.gptp_acts.specs.Act.{Calls, Hears, in_state}
-use Rattle.gptp_acts.specs.Acts.{Acts, Tells, at}
+use Rattle.gptp_acts.specs.Acts.{Acts, TellsHearing, at}
 use Rattle.gptp_acts.specs.Agrees.{stopped}
 use Rattle.gptp_acts.specs.Course.{Begun}
 use Rattle.gptp_acts.specs.declared.done.Done.{Done}
@@ -63,7 +63,7 @@ use Rattle.gptp_kept.proofs.FollowClaimLemmas.{acts_time}
 use Rattle.gptp_kept.proofs.HoldsLemmas.{paths_bound}
 use Rattle.gptp_kept.proofs.OutlineLemmas.{change_is_last, starts_are_last}
 use Rattle.gptp_kept.proofs.StandsLemmas.{stands_well}
-use Rattle.gptp_reached.specs.Headline.{HasPassed, IsCalm, UsesFollowUp}
+use Rattle.gptp_reached.specs.Headline.{HasPassed, WorldIsCalm, UsesFollowUp}
 use Rattle.gptp_reached.proofs.HeadlineLemmas.{quiet_as}
 use Rattle.gptp_reading.specs.Age.{HeardWithin, RunsHearInTime}
 use Rattle.gptp_reading.proofs.AgeLemmas.{lapse_lately}
@@ -166,7 +166,7 @@ module _ (g : Snapshot) (wf : IsWellFormed g) (acts : List Transition) (settled 
 
 -- it is told of what is used
 uses_it : (number : ℕ) (reached : PortId) (answer : Answer) (octets : List ℕ) (m : FollowUp) (done : Done)
-    → Tells reached (Some answer) octets done → reached.clock ≡ number → answer ≡ answers.Used
+    → TellsHearing reached (Some answer) octets done → reached.clock ≡ number → answer ≡ answers.Used
     → Reads octets (messages.FollowUp m) → UsesFollowUp number done
 uses_it number reached answer octets m Quiet told named used reads = absurd told
 uses_it number reached answer octets m (Heard name port said frame) told named used reads = (
@@ -332,7 +332,7 @@ module _ {F : Type 0} (answers' : Bounds → ℕ → F → Option ℕ → F → 
             → slice_get w'.stations place ≡ Some station → IsTimedBy g more settled span station
         by (Deliver link direction) d none place station there = hears d.answer d.told d.delivers.hears
           where
-            hears : (o : Option Answer) → Tells (receiver direction d.channel) o d.octets done
+            hears : (o : Option Answer) → TellsHearing (receiver direction d.channel) o d.octets done
                 → Hears d.delivers.place (receiver direction d.delivers.channel).port d.octets
                 (record then { net = d.delivers.net }) k.was.draws o w'
                 → IsTimedBy g more settled span station
@@ -415,7 +415,7 @@ timed_begins answers' n fate fate_after w network k =
           late);
     }
 
-module _ (p : Pace) (acts : List Transition) (w : WorldState) (are : AreTimed p acts w) (calm : IsCalm p w)
+module _ (p : Pace) (acts : List Transition) (w : WorldState) (are : AreTimed p acts w) (calm : WorldIsCalm p w)
     (earlier number port : ℕ) (s : SystemState) (above : 0 < p.params.sync_timeout)
     (passed : HasPassed p (path_bound (snapshot_of w)) (at earlier w))
     (waited : earlier + sync_wait p.params (sync_paths_of w) < w.time) (near : IsNear (snapshot_of w) number)

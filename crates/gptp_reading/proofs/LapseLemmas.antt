@@ -15,7 +15,7 @@ use Rattle.gptp_receipt.specs.declared.held.Held.{Held}
 use Rattle.gptp_receipt.specs.declared.held.Held.TheVariants as helds
 use Rattle.gptp_receipt.specs.Held.{comparison, received}
 use Rattle.gptp_roles.specs.Choice.{slave_port}
-use Rattle.gptp_roles.specs.Role.{each_port, held_after, is_master, role_of}
+use Rattle.gptp_roles.specs.Role.{each_port, held_after_selection, is_master, chosen_role}
 use Rattle.gptp_correction.specs.declared.sync_in.SyncInfo.{SyncInfo}
 use Rattle.gptp_pdelay.specs.Peer.{PeerState, after_follow_up, after_interval, reset_peer}
 use Rattle.gptp_setup.specs.declared.setup.Params.{Params}
@@ -26,16 +26,16 @@ use Rattle.gptp_setup.specs.Pace.{has_sync_timeout}
 use Rattle.gptp_system.specs.declared.answer.Answer.{Answer}
 use Rattle.gptp_system.specs.declared.answer.Answer.TheVariants as answers
 use Rattle.gptp_system.specs.declared.sending.Sending.{Sending}
-use Rattle.gptp_system.specs.Announcing.{aged_at, compared, is_taken, with_priority}
+use Rattle.gptp_system.specs.Announcing.{aged_at, compared, replaces_held, with_priority}
 use Rattle.gptp_system.specs.Input.{Input, Steps, PortUp, PortDown, Frame, Expires, Priority}
-use Rattle.gptp_system.specs.Follows.{FollowsItself, FollowsPort}
+use Rattle.gptp_system.specs.Follows.{SystemIsRoot, SystemFollowsPort}
 use Rattle.gptp_system.specs.Lapse.{dropped, lapsed}
 use Rattle.gptp_system.specs.Measuring.{Turns, TurnsAndAsks, TurnsIf, down, is_turned, turned}
 use Rattle.gptp_system.specs.Start.{started}
-use Rattle.gptp_system.specs.Selection.{Becomes, Selects, SelectsIf, choosing, follows_on, lapse_after, same_port}
+use Rattle.gptp_system.specs.Selection.{Becomes, Selects, SelectsIf, choosing, follows_on, lapse_after, same_number}
 use Rattle.gptp_system.specs.State.{SystemState, can_lead, change, clock, held_at, is_capable_at, lapse_of, number, own, with_peer}
 use Rattle.gptp_system.specs.Steps.{Expires as TimerExpires, HearsFrame, HearsMessage}
-use Rattle.gptp_system.specs.Syncing.{HearsFollowUpIf, HearsSyncIf, KeepsIf, KnowsBy, KnowsIf, RelaysBy, RelaysIf, SyncsIf, delay_at, is_followed, leads, rate_at, restarted, said_on, stopped}
+use Rattle.gptp_system.specs.Syncing.{HearsFollowUpIf, HearsSyncIf, KeepsIf, KnowsBy, KnowsIf, RelaysBy, RelaysIf, SyncsIf, delay_at, is_followed, is_leading, root_rate_at, restarted, said_on, timer_stopped}
 use Rattle.gptp_system.proofs.ChangedLemmas.{Changed, change-get, each_port-get}
 use Rattle.gptp_system.proofs.FollowLemmas.{follows}
 use Rattle.gptp_system.proofs.LapseLemmas.{followed}
@@ -102,7 +102,7 @@ follows_same v t root slave =
     let first : (v.root == t.root) ≡ true = eq-eqb v.root t.root root in
     rw (first, slave) (same_itself t.slave)
   where
-    same_itself : (o : Option ℕ) → same_port o o ≡ true
+    same_itself : (o : Option ℕ) → same_number o o ≡ true
     same_itself None = refl
     same_itself (Some p) = eq-eqb p p refl
 
@@ -191,18 +191,18 @@ relays_by : (b : Bool) (info : SyncInfo) (now : ℕ) (s s' : SystemState) (sends
 relays_by true info now s s' sends k = subst (Mild now s) (sym k.state) (still now s _ refl refl refl)
 relays_by false info now s s' sends (inl k) = subst (Mild now s) (sym k.state) (still now s _ refl refl refl)
 relays_by false info now s s' sends (inr k) =
-    becomes now s (stopped s) s' sends (still now s _ refl refl refl) k.becomes
+    becomes now s (timer_stopped s) s' sends (still now s _ refl refl refl) k.becomes
 
 relays_if : (known : Option SyncInfo) (now : ℕ) (s s' : SystemState) (sends : List Sending)
     → RelaysIf known now s s' sends → Mild now s s'
-relays_if None now s s' sends k = becomes now s (stopped s) s' sends (still now s _ refl refl refl) k
+relays_if None now s s' sends k = becomes now s (timer_stopped s) s' sends (still now s _ refl refl refl) k
 relays_if (Some info) now s s' sends k = relays_by (has_sync_timeout s.params) info now s s' sends k
 
 hears_announce : (p : ℕ) (a : AnnounceView) (now : ℕ) (s s' : SystemState) (sends : List Sending) (answer : Answer)
     → HearsMessage p (messages.Announce a) now s s' sends answer → Mild now s s'
 hears_announce p a now s s' sends answer (inl k) = rests now s s' sends k.becomes
 hears_announce p a now s s' sends answer (inr (inl k)) = rests now s s' sends k.becomes
-hears_announce p a now s s' sends answer (inr (inr k)) = go (is_taken (comparison (held_at s p) (own s p) a)) k.selects
+hears_announce p a now s s' sends answer (inr (inr k)) = go (replaces_held (comparison (held_at s p) (own s p) a)) k.selects
   where
     go : (b : Bool) → SelectsIf b now (compared p a now s) s' sends → Mild now s s'
     go true h = selects now s (compared p a now s) s' sends refl refl refl h refl
@@ -246,7 +246,7 @@ module _ (p : ℕ) (octets : List ℕ) (now : ℕ) (s s' : SystemState) (sends :
 
     hears_follow_up : (b : Bool) → HearsFollowUpIf b p m now s s' sends answer → Heard
     hears_follow_up false k = mild (Frame p octets) answer now s s' (rests now s s' sends k.becomes)
-    hears_follow_up true k = knows_if (said_on p m s) (delay_at s p) (rate_at s p) k
+    hears_follow_up true k = knows_if (said_on p m s) (delay_at s p) (root_rate_at s p) k
 
   hears_message : (m : Message) → Reads octets m → HearsMessage p m now s s' sends answer → Heard
   hears_message (messages.Sync head) reads k =
@@ -296,7 +296,7 @@ expires (timers.Respond p) answer now s s' sends k =
     mild (Expires (timers.Respond p)) answer now s s'
     (subst (Mild now s) (sym k.state) (still now s _ refl refl refl))
 expires timers.Sync answer now s s' sends k =
-    mild (Expires timers.Sync) answer now s s' (syncs_if (leads s) now s s' sends k)
+    mild (Expires timers.Sync) answer now s s' (syncs_if (is_leading s) now s s' sends k)
 expires timers.Relay answer now s s' sends k =
     mild (Expires timers.Relay) answer now s s' (relays_if s.known now s s' sends k)
 expires timers.Lapse answer now s s' sends k = runs_out answer now s s' sends k
@@ -331,8 +331,8 @@ dropped_none (helds.Mine root steps) = refl
 dropped_none (helds.Received r) = refl
 
 after_none : (v : Vector) (number port : ℕ) (h : Held) → received h ≡ None
-    → received (held_after v number port h) ≡ None
-after_none v number port h none = by (is_master (role_of v number port h))
+    → received (held_after_selection v number port h) ≡ None
+after_none v number port h none = by (is_master (chosen_role v number port h))
   where
     by : (b : Bool) → received (if b then helds.Mine v.root v.steps else h) ≡ None
     by true = refl
@@ -343,25 +343,25 @@ no_run_out : (input : Input) (now : ℕ) (s s' : SystemState) → IsSteady s' �
     → RunsOut input now s s' → ⊥
 no_run_out input now s s' steady n slave k = by (follows s' steady.held steady.rest)
   where
-    aged : (f : FollowsPort s') (mid : Held)
-        → f.held ≡ held_after k.vector (clock (lapsed s)) (suc f.place) mid
+    aged : (f : SystemFollowsPort s') (mid : Held)
+        → f.held ≡ held_after_selection k.vector (clock (lapsed s)) (suc f.place) mid
         → Changed dropped (suc f.place ≡ suc f.place) s.held f.place mid → ⊥
     aged f mid made (z, was, inl (here, new)) =
         none-some f.reception
-        (sym (ap received (made ∙ ap (λ h. held_after k.vector (clock (lapsed s)) (suc f.place) h) new)
+        (sym (ap received (made ∙ ap (λ h. held_after_selection k.vector (clock (lapsed s)) (suc f.place) h) new)
         ∙ after_none k.vector (clock (lapsed s)) (suc f.place) (dropped z) (dropped_none z))
         ∙ f.holds)
     aged f mid made (z, was, inr (elsewhere, old)) = elsewhere refl
 
-    by : FollowsItself s' ⊎ FollowsPort s' → ⊥
+    by : SystemIsRoot s' ⊎ SystemFollowsPort s' → ⊥
     by (inl f) = none-some n (sym f.slave ∙ slave)
     by (inr f) =
         let was : s.slave ≡ Some (suc f.place) = sym k.slave ∙ f.slave in
-        let there : slice_get (each_port (held_after k.vector (clock (lapsed s))) (lapsed s).held) f.place
+        let there : slice_get (each_port (held_after_selection k.vector (clock (lapsed s))) (lapsed s).held) f.place
         ≡ Some f.held =
         sym (ap (λ (x : SystemState). slice_get x.held f.place) k.state) ∙ f.there in
         let (mid, stands, made) =
-        each_port-get (held_after k.vector (clock (lapsed s))) (lapsed s).held f.place f.held there in
+        each_port-get (held_after_selection k.vector (clock (lapsed s))) (lapsed s).held f.place f.held there in
         let before : slice_get (change dropped (suc f.place) s.held) f.place ≡ Some mid =
         sym (ap (λ o. slice_get (option_map_or (λ p. change dropped p s.held) o s.held) f.place) was) ∙ stands in
         aged f mid made (change-get dropped (suc f.place) s.held f.place mid before)

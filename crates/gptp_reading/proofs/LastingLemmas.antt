@@ -34,7 +34,7 @@ use Rattle.gptp_report.specs.Transitions.{Transition, Unfolds, transition}
 use Rattle.gptp_timing.specs.Tree.{IsWayTo}
 use Rattle.gptp_kept.specs.Calm.{IsQuietWorld, sync_paths_of}
 use Rattle.gptp_kept.specs.Claimed.{IsClaimed}
-use Rattle.gptp_kept.specs.Followers.{parts_of}
+use Rattle.gptp_kept.specs.Followers.{follower_parts}
 use Rattle.gptp_kept.specs.Standing.{snapshot_of}
 use Rattle.gptp_kept.specs.TimedClaim.{AllClaimed}
 use Rattle.gptp_kept.proofs.CalmKeptLemmas.{KeepsNetwork, acts_keep, keeps_on, same_paths, same_snapshot, stays_quiet}
@@ -43,7 +43,7 @@ use Rattle.gptp_kept.proofs.FollowClaimLemmas.{acts_time}
 use Rattle.gptp_kept.proofs.FollowPartLemmas.{clock_shown, same_parts}
 use Rattle.gptp_kept.proofs.OutlineLemmas.{change_is_last, change_time}
 use Rattle.gptp_kept.proofs.SystemLemmas.{live_from}
-use Rattle.gptp_reached.specs.Headline.{HasComeDown, IsCalm, UsesFollowUp}
+use Rattle.gptp_reached.specs.Headline.{HasComeDown, WorldIsCalm, UsesFollowUp}
 use Rattle.gptp_reached.specs.PlayedLaws.{IsPlayable}
 use Rattle.gptp_reached.proofs.HeadlineLemmas.{quiet_as}
 use Rattle.gptp_reading.specs.Reading.{IsBestsTime, held_rates_error_at, reading, reading_error_at}
@@ -169,7 +169,7 @@ grows way steps soon late less =
     adds : (a x y : ℕ) → x ≤ y → a + x ≤ a + y
     adds a x y h = omega (arith, h)
 
-module _ (p : Pace) (v w : WorldState) (keeps : KeepsNetwork v w) (calm : IsCalm p w) where
+module _ (p : Pace) (v w : WorldState) (keeps : KeepsNetwork v w) (calm : WorldIsCalm p w) where
   -- it was calm
   pace_before : HavePace p v
   pace_before place station here =
@@ -184,7 +184,7 @@ module _ (p : Pace) (v w : WorldState) (keeps : KeepsNetwork v w) (calm : IsCalm
   quiet_before : IsQuietWorld p.params v
   quiet_before = stays_quiet w v (keeps_back v w keeps) p.params (quiet_as p w calm)
 
-  calm_before : IsCalm p v
+  calm_before : WorldIsCalm p v
   calm_before = record {
     of = pace_before;
     links = λ link member used.
@@ -202,10 +202,10 @@ module _ (p : Pace) (v w : WorldState) (keeps : KeepsNetwork v w) (calm : IsCalm
       omega (arith, come, late, same, more)
 
   leads_before : (steps number : ℕ) (way : Way) (phase : ℕ → ℕ)
-      → IsWayTo (parts_of p.params w) (snapshot_of w) steps number way phase
-      → IsWayTo (parts_of p.params v) (snapshot_of v) steps number way phase
+      → IsWayTo (follower_parts p.params w) (snapshot_of w) steps number way phase
+      → IsWayTo (follower_parts p.params v) (snapshot_of v) steps number way phase
   leads_before steps number way phase leads =
-      subst (λ g. IsWayTo (parts_of p.params v) g steps number way phase) (same_snapshot v w keeps)
+      subst (λ g. IsWayTo (follower_parts p.params v) g steps number way phase) (same_snapshot v w keeps)
       (subst (λ x. IsWayTo x (snapshot_of w) steps number way phase) (same_parts p.params v w keeps) leads)
 
   -- and the clock of the best showed the same
@@ -253,7 +253,7 @@ runs_read_in_time answers d until fate start w acts act p m steps number earlier
     let keeps : KeepsNetwork v w = lasts.kept act member (omega (arith, come, since, some)) in
     let (x, there, same) = alike (λ (s : Station). s.setup) (λ (s : Station). s.setup) v.stations w.stations
     (sym keeps.setups) best.shows.place best.shows.station best.shows.is.here in
-    let calm_v : IsCalm p v = calm_before p v w keeps calm in
+    let calm_v : WorldIsCalm p v = calm_before p v w keeps calm in
     let claimed_v = claimed_alike v (claimed_of v (kept act member).all) p calm_v best.shows.place x there in
     let early = lasts.early act member in
     let age : ℕ = w.time - act.told.timed.at in
@@ -286,10 +286,10 @@ pub record IsLikeEnd {F : Type 0} (answers : Bounds → ℕ → F → Option ℕ
 
 pub runs_have_readings : {F : Type 0} (answers : Bounds → ℕ → F → Option ℕ → F → Type 0) (p : Pace)
     (m steps earlier number time : ℕ) (w : WorldState) (act : Transition) (s : SystemState) (way : Way)
-    (phase : ℕ → ℕ) → IsLikeEnd answers w act → IsCalm p w → BoundsPaths (snapshot_of w) m
+    (phase : ℕ → ℕ) → IsLikeEnd answers w act → WorldIsCalm p w → BoundsPaths (snapshot_of w) m
     → HasComeDown p m (suc steps) earlier w → earlier ≤ act.told.timed.at
     → UsesFollowUp number act.told.done → ShowsLive number act.after s → IsNear (snapshot_of w) number
-    → IsWayTo (parts_of p.params w) (snapshot_of w) (suc steps) number way phase → IsSome (reading s time)
+    → IsWayTo (follower_parts p.params w) (snapshot_of w) (suc steps) number way phase → IsSome (reading s time)
 runs_have_readings answers p m steps earlier number time w act s way phase is calm bounded come since uses shows near
     leads =
     let v = act.before in

@@ -12,22 +12,22 @@ use Rattle.gptp_correction.specs.declared.correction.Relayed.{Relayed}
 use Rattle.gptp_correction.specs.declared.sync_in.SyncInfo.{SyncInfo}
 use Rattle.gptp_correction.specs.Correction.{bridge, link_time, passage}
 use Rattle.gptp_system.specs.Syncing.{OffsetFits}
-use Rattle.gptp_measuring.specs.Lanes.{Frame}
+use Rattle.gptp_measuring.specs.Lanes.{LaneFrame}
 use Rattle.gptp_accuracy.specs.TimeError.{jitter_at, time_error_at}
 use Rattle.gptp_timing.specs.Messages.{Message, Sync, FollowUp, IsOneMessage}
-use Rattle.gptp_timing.specs.Right.{IsHeldAt, IsMeasuredAt, IsRight, at_rate, info_of, most_correction_at}
+use Rattle.gptp_timing.specs.Right.{IsHeldAt, IsMeasuredAt, FollowUpIsRight, at_rate, info_of, most_correction_at}
 use Rattle.gptp_timing.specs.RightLaws.{IsOnWay}
-use Rattle.gptp_timing.specs.Follower.{Follower, IsSetting, KeptSync, Setting, from, own_clock, root_clock}
-use Rattle.gptp_timing.specs.Flows.{AreCarried, Arrival, Flows}
-use Rattle.gptp_timing.specs.Acts.{kept}
-use Rattle.gptp_timing.specs.Invariant.{Inv, IsKept}
+use Rattle.gptp_timing.specs.Follower.{Follower, IsSetting, FollowerSync, FollowerSetting, from, own_clock, root_clock}
+use Rattle.gptp_timing.specs.Flows.{AreCarried, Arrival, FramesFlow}
+use Rattle.gptp_timing.specs.Acts.{kept_at_ingress}
+use Rattle.gptp_timing.specs.Invariant.{FollowerInvariant, IsKept}
 use Rattle.gptp_timing.proofs.RightLemmas.{bridge_numbers_fit}
 use Rattle.gptp_reading.specs.Reading.{held_rates_error_at, read_after}
 use Rattle.gptp_reading.proofs.WayLemmas.{later_within, reading_is_right}
 
 -- what is known was told on the way
-on_way : (k : Setting) (told : Relayed) (sent came heard : ℕ) → IsSetting k → AreCarried k sent came heard
-    → IsRight k.way k.phase k.place told sent → IsOnWay k.way k.phase k.place told sent came
+on_way : (k : FollowerSetting) (told : Relayed) (sent came heard : ℕ) → IsSetting k → AreCarried k sent came heard
+    → FollowUpIsRight k.way k.phase k.place told sent → IsOnWay k.way k.phase k.place told sent came
 on_way k told sent came heard is carried right = record {
   documented = is.documented;
   on_way = is.on_way;
@@ -40,25 +40,25 @@ on_way k told sent came heard is carried right = record {
 
 -- What a Follow_Up tells that comes then was right as it was sent, and the ingress of its Sync is the own clock as that
 -- came.
-pub record IsAsSent (k : Setting) (told : Relayed) (ingress : ℤ) (heard : ℕ) : Type 0 where
+pub record IsAsSent (k : FollowerSetting) (told : Relayed) (ingress : ℤ) (heard : ℕ) : Type 0 where
   pub sent : ℕ
   pub came : ℕ
   pub carried : AreCarried k sent came heard
-  pub right : IsRight k.way k.phase k.place told sent
+  pub right : FollowUpIsRight k.way k.phase k.place told sent
   pub ingress_is : ingress ≡ own_clock k came
 
-module _ (k : Setting) (says : List ℕ → Message → Type 0) where
-  pub told_as_sent : (s : Follower) (front : Frame) (rest : List Frame) (source : PortIdentity)
+module _ (k : FollowerSetting) (says : List ℕ → Message → Type 0) where
+  pub told_as_sent : (s : Follower) (front : LaneFrame) (rest : List LaneFrame) (source : PortIdentity)
       (sequence : ℕ) (told : Relayed) (ingress : ℤ)
-      → Inv k says s
+      → FollowerInvariant k says s
       → s.lane ≡ front ∷ rest → front.due ≡ s.time → from k ≤ s.time
       → IsOneMessage says front.octets (FollowUp source sequence told)
-      → s.kept ≡ Some (kept source sequence ingress)
+      → s.kept ≡ Some (kept_at_ingress source sequence ingress)
       → IsAsSent k told ingress s.time
   told_as_sent s front rest source sequence told ingress inv was now late one keeps =
-      by_frame inv.arrival inv.is_kept (subst (λ fs. Flows k says inv.arrival fs) was inv.flows)
+      by_frame inv.arrival inv.is_kept (subst (λ fs. FramesFlow k says inv.arrival fs) was inv.flows)
     where
-      by_frame : (a : Option Arrival) → IsKept k a s.kept → Flows k says a (front ∷ rest)
+      by_frame : (a : Option Arrival) → IsKept k a s.kept → FramesFlow k says a (front ∷ rest)
           → IsAsSent k told ingress s.time
       by_frame a at (inl (old, behind)) = absurd (omega (arith, old, now, late))
       by_frame a at (inr (inl (mute, behind))) = absurd (mute (FollowUp source sequence told) one.said)
@@ -76,7 +76,7 @@ module _ (k : Setting) (says : List ℕ → Message → Type 0) where
             sent = is_told.sent;
             came = is_told.came;
             carried = subst (λ t. AreCarried k is_told.sent is_told.came t) now is_told.carried;
-            right = subst (λ (m : Relayed). IsRight k.way k.phase k.place m is_told.sent)
+            right = subst (λ (m : Relayed). FollowUpIsRight k.way k.phase k.place m is_told.sent)
                 (told_is (one.only (FollowUp k.parent sequence' told') said)) is_told.right;
             ingress_is = ingress_is (sym keeps ∙ at) ∙ ap (λ c. own_clock k c) (came_is is_told.kept_is);
           }
@@ -87,18 +87,18 @@ module _ (k : Setting) (says : List ℕ → Message → Type 0) where
           came_is : {c : Arrival} → Some a ≡ Some c → a.came ≡ c.came
           came_is e = cc
 
-          ingress_is : Some (kept source sequence ingress) ≡ Some (kept k.parent a.sequence (own_clock k a.came))
+          ingress_is : Some (kept_at_ingress source sequence ingress) ≡ Some (kept_at_ingress k.parent a.sequence (own_clock k a.came))
               → ingress ≡ own_clock k a.came
           ingress_is e =
-              let same : kept source sequence ingress ≡ kept k.parent a.sequence (own_clock k a.came) = cc in
-              ap (λ (sync : KeptSync). sync.ingress) same
+              let same : kept_at_ingress source sequence ingress ≡ kept_at_ingress k.parent a.sequence (own_clock k a.came) = cc in
+              ap (λ (sync : FollowerSync). sync.ingress) same
 
-  pub reading_is_exact : (s : Follower) (front : Frame) (rest : List Frame) (source : PortIdentity)
+  pub reading_is_exact : (s : Follower) (front : LaneFrame) (rest : List LaneFrame) (source : PortIdentity)
       (sequence : ℕ) (told : Relayed) (ingress rate delay held : ℤ) (later : ℕ)
-      → IsSetting k → Inv k says s
+      → IsSetting k → FollowerInvariant k says s
       → s.lane ≡ front ∷ rest → front.due ≡ s.time → from k ≤ s.time
       → IsOneMessage says front.octets (FollowUp source sequence told)
-      → s.kept ≡ Some (kept source sequence ingress) → IsMeasuredAt k.way k.place rate delay
+      → s.kept ≡ Some (kept_at_ingress source sequence ingress) → IsMeasuredAt k.way k.place rate delay
       → IsHeldAt k.way k.place told.rate rate held
       → AreWithin (33550000 * time_error_at k.way (suc k.place)
       + held_rates_error_at k.way k.place * (later + jitter_at k.way k.place))
@@ -148,7 +148,7 @@ sums_fit info delay rate link fits scaled carries seconds nanos shown = record {
   };
 }
 
-pub offset_fits : (k : Setting) (told : Relayed) (ingress rate delay held : ℤ) (heard : ℕ) → IsSetting k
+pub offset_fits : (k : FollowerSetting) (told : Relayed) (ingress rate delay held : ℤ) (heard : ℕ) → IsSetting k
     → (t : IsAsSent k told ingress heard) → IsMeasuredAt k.way k.place rate delay
     → IsHeldAt k.way k.place told.rate rate held → most_correction_at k.way (suc k.place) < 2 ^ 63
     → IsTime (own_clock k t.came) → IsTimestamp told.origin

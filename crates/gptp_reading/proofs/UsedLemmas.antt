@@ -14,7 +14,7 @@ use Rattle.gptp_messages.specs.declared.message.Message.TheVariants as messages
 use Rattle.gptp_messages.specs.Grammar.{Reads}
 use Rattle.gptp_links.specs.Queue.{Frame, frame}
 use Rattle.gptp_correction.specs.declared.sync_in.SyncInfo.{SyncInfo}
-use Rattle.gptp_correction.specs.Correction.{held_sum, link_time, nearest_rate, received}
+use Rattle.gptp_correction.specs.Correction.{held_sum, link_time, nearest_rate, sync_received}
 use Rattle.gptp_correction.specs.SyncIn.{KeptSync, belongs, information, together}
 use Rattle.gptp_setup.specs.declared.setup.Params.{Params}
 use Rattle.gptp_setup.specs.Pace.{Pace, has_sync_timeout}
@@ -23,22 +23,22 @@ use Rattle.gptp_system.specs.declared.answer.Answer.TheVariants as answers
 use Rattle.gptp_system.specs.declared.sending.Sending.{Sending}
 use Rattle.gptp_system.specs.Input.{Frame as FrameHeard, Steps}
 use Rattle.gptp_system.specs.State.{SystemState, is_capable_at, lapse_of, local_time}
-use Rattle.gptp_system.specs.Syncing.{HearsFollowUpIf, IsOffset, OffsetFits, KnowsBy, KnowsIf, delay_at, is_slave_at, offset_of, rate_at, said_on, slave_delay, slave_rate}
+use Rattle.gptp_system.specs.Syncing.{HearsFollowUpIf, IsOffset, OffsetFits, KnowsBy, KnowsIf, delay_at, is_slave_at, offset_of, root_rate_at, said_on, slave_delay, slave_rate}
 use Rattle.gptp_accuracy.specs.TimeError.{jitter_at, time_error_at}
 use Rattle.gptp_acts.specs.declared.station.Station.{Station}
-use Rattle.gptp_acts.specs.World.{WorldState, queue, receiver}
-use Rattle.gptp_timing.specs.Follower.{Setting, from, own_clock, root_clock}
+use Rattle.gptp_acts.specs.World.{WorldState, world_queue, receiver}
+use Rattle.gptp_timing.specs.Follower.{FollowerSetting, from, own_clock, root_clock}
 use Rattle.gptp_timing.specs.Messages.{FollowUp, IsOneMessage}
 use Rattle.gptp_timing.specs.Right.{IsHeldAt, IsMeasuredAt, at_rate, info_of}
 use Rattle.gptp_timing.proofs.ModestLemmas.{rates_are_held, ways_are_modest}
 use Rattle.gptp_timing.proofs.TreeLemmas.{way_leads_to}
 use Rattle.gptp_kept.specs.FollowView.{kept_sync, tells, told_in}
-use Rattle.gptp_kept.specs.Followers.{HasWay, IsFollower, follower, follower_clock, follower_setting, parts_of, state_of}
-use Rattle.gptp_kept.specs.LinkView.{LinkPlace, frame_view}
+use Rattle.gptp_kept.specs.Followers.{HasWay, IsFollower, follower, follower_clock, follower_setting, follower_parts, follower_state}
+use Rattle.gptp_kept.specs.LinkView.{LinkPlace, link_frame_view}
 use Rattle.gptp_kept.specs.Standing.{snapshot_of}
 use Rattle.gptp_kept.specs.Timed.{AllMeasureRight, CarriesTime, IsSettledFrom}
 use Rattle.gptp_kept.specs.TimedLaws.{IsRootOf}
-use Rattle.gptp_kept.specs.View.{identity_of}
+use Rattle.gptp_kept.specs.View.{port_identity_number}
 use Rattle.gptp_kept.proofs.FollowOctetLemmas.{told_alone}
 use Rattle.gptp_kept.proofs.FollowOffsetLemmas.{IsUsed, is_used}
 use Rattle.gptp_kept.proofs.FollowPartLemmas.{clock_shown}
@@ -90,7 +90,7 @@ pub record IsUsedBy (p : ℕ) (m : FollowUpFields) (now : ℕ) (s s' : SystemSta
   pub keeps : s.sync_in ≡ Some kept
   pub belongs_to : belongs m kept ≡ true
   pub slave : is_slave_at s p ≡ true
-  pub left : IsLeft (has_sync_timeout s.params) (together m kept) (delay_at s p) (rate_at s p) now s s'
+  pub left : IsLeft (has_sync_timeout s.params) (together m kept) (delay_at s p) (root_rate_at s p) now s s'
 
 module _ (p : ℕ) (m : FollowUpFields) (octets : List ℕ) (now : ℕ) (s s' : SystemState) (sends : List Sending)
     (reads : Reads octets (messages.FollowUp m)) where
@@ -98,7 +98,7 @@ module _ (p : ℕ) (m : FollowUpFields) (octets : List ℕ) (now : ℕ) (s s' : 
   delay = delay_at s p
 
   abbrev rate : ℤ
-  rate = rate_at s p
+  rate = root_rate_at s p
 
   not_used : (other : Answer) → other ≢ answers.Used → answers.Used ≡ other → ⊥
   not_used other differs is = differs (sym is)
@@ -209,14 +209,14 @@ back_again x y = omega (arith, ints)
 module _ (p : Pace) (settled longest : ℕ) (w : WorldState) (is : IsSettledFrom p settled longest w)
     (right : AllMeasureRight p.params w) (carries : CarriesTime p.params settled longest w) (place : LinkPlace)
     (f : IsFollower place w) (steps : ℕ) (h : HasWay p.params place w f steps) (octets : List ℕ) (rest : List Frame)
-    (front : queue place.direction f.channel ≡ frame w.time octets ∷ rest) (m : FollowUpFields)
+    (front : world_queue place.direction f.channel ≡ frame w.time octets ∷ rest) (m : FollowUpFields)
     (reads : Reads octets (messages.FollowUp m)) (s' : SystemState)
-    (used : IsUsedBy (receiver place.direction f.channel).port m w.time (state_of place w f) s')
+    (used : IsUsedBy (receiver place.direction f.channel).port m w.time (follower_state place w f) s')
     (late : from (follower_setting p.params settled longest place w f steps h) ≤ w.time) where
   abbrev x : SystemState
-  x = state_of place w f
+  x = follower_state place w f
 
-  abbrev k : Setting
+  abbrev k : FollowerSetting
   k = follower_setting p.params settled longest place w f steps h
 
   abbrev n : ℕ
@@ -229,35 +229,35 @@ module _ (p : Pace) (settled longest : ℕ) (w : WorldState) (is : IsSettledFrom
   said = together m sync
 
   abbrev held : ℤ
-  held = nearest_rate (m.rate +ℤ rate_at x n) -ℤ rate_at x n
+  held = nearest_rate (m.rate +ℤ root_rate_at x n) -ℤ root_rate_at x n
 
   slave : x.slave ≡ Some n
   slave = slave_is p settled longest w is place f
 
-  same_rate : slave_rate x ≡ rate_at x n
-  same_rate = ap (λ o. option_map_or (rate_at x) o (pos 0)) slave
+  same_rate : slave_rate x ≡ root_rate_at x n
+  same_rate = ap (λ o. option_map_or (root_rate_at x) o (pos 0)) slave
 
   same_delay : slave_delay x ≡ delay_at x n
   same_delay = ap (λ o. option_map_or (delay_at x) o (pos 0)) slave
 
-  measured : IsMeasuredAt h.way steps (rate_at x n) (delay_at x n)
+  measured : IsMeasuredAt h.way steps (root_rate_at x n) (delay_at x n)
   measured =
-      subst (IsMeasuredAt h.way steps (rate_at x n)) same_delay
+      subst (IsMeasuredAt h.way steps (root_rate_at x n)) same_delay
       (subst (λ r. IsMeasuredAt h.way steps r (slave_delay x)) same_rate (right place f steps h))
 
-  one : IsOneMessage tells octets (FollowUp (identity_of sync.source) sync.sequence (told_in m))
+  one : IsOneMessage tells octets (FollowUp (port_identity_number sync.source) sync.sequence (told_in m))
   one =
       let own = used.belongs_to in
       let clock_same : sync.source.clock ≡ m.head.source.clock = grind (arith, nat_tests) in
       let port_same : sync.source.port ≡ m.head.source.port = grind (arith, nat_tests) in
       let number_same : sync.sequence ≡ m.head.sequence = grind (arith, nat_tests) in
-      let it : tells octets (FollowUp (identity_of sync.source) sync.sequence (told_in m)) =
+      let it : tells octets (FollowUp (port_identity_number sync.source) sync.sequence (told_in m)) =
       (m, reads, (λ i. record { clock = clock_same i; port = port_same i }), number_same, refl) in
-      record { said = it; only = told_alone octets (identity_of sync.source) sync.sequence (told_in m) it }
+      record { said = it; only = told_alone octets (port_identity_number sync.source) sync.sequence (told_in m) it }
 
-  allowed : IsHeldAt h.way steps m.rate (rate_at x n) held
+  allowed : IsHeldAt h.way steps m.rate (root_rate_at x n) held
   allowed =
-      rates_are_held.by_limits h.way steps m.rate (rate_at x n)
+      rates_are_held.by_limits h.way steps m.rate (root_rate_at x n)
       (ways_are_modest h.way steps (documented p settled longest w is place f steps h)
       (let same_length = long p settled longest w is place f steps h in omega (arith, same_length))
       (let less = few p settled longest w is place f steps h in omega (arith, less)))
@@ -266,11 +266,11 @@ module _ (p : Pace) (settled longest : ℕ) (w : WorldState) (is : IsSettledFrom
 
   sent_as : IsAsSent k (told_in m) sync.ingress w.time
   sent_as =
-      told_as_sent k tells (follower place w f) (frame_view (frame w.time octets)) (map frame_view rest)
-      (identity_of sync.source) sync.sequence (told_in m) sync.ingress (carries.follow place f steps h)
-      (ap (map frame_view) front) refl late one (ap (option_map kept_sync) used.keeps)
+      told_as_sent k tells (follower place w f) (link_frame_view (frame w.time octets)) (map link_frame_view rest)
+      (port_identity_number sync.source) sync.sequence (told_in m) sync.ingress (carries.follow place f steps h)
+      (ap (map link_frame_view) front) refl late one (ap (option_map kept_sync) used.keeps)
 
-  numbers_fit : m.origin.nanos < 1000000000 → OffsetFits (held_sum said (rate_at x n)) (delay_at x n) (rate_at x n)
+  numbers_fit : m.origin.nanos < 1000000000 → OffsetFits (held_sum said (root_rate_at x n)) (delay_at x n) (root_rate_at x n)
   numbers_fit small =
       let carried = sent_as.carried in
       let before = carried.behind in
@@ -281,7 +281,7 @@ module _ (p : Pace) (settled longest : ℕ) (w : WorldState) (is : IsSettledFrom
       (omega (arith, before, span, shown)) in
       let stamp = origin_fits h.way (short_way p settled longest w is place f steps h) h.phase steps (told_in m)
       sent_as.sent (omega (arith, length_is)) root_time small sent_as.right in
-      offset_fits k (told_in m) sync.ingress (rate_at x n) (delay_at x n) held w.time
+      offset_fits k (told_in m) sync.ingress (root_rate_at x n) (delay_at x n) held w.time
       (is_setting p settled longest w is place f steps h) sent_as measured allowed
       (correction_small p settled longest w is place f steps h)
       (own_time_fits p settled longest w is place f steps h sent_as.came before) stamp
@@ -298,7 +298,7 @@ module _ (p : Pace) (settled longest : ℕ) (w : WorldState) (is : IsSettledFrom
 
   abbrev read_then : ℕ → ℤ
   read_then t =
-      read_after (info_of (at_rate (told_in m) held) sync.ingress) (delay_at x n) (rate_at x n)
+      read_after (info_of (at_rate (told_in m) held) sync.ingress) (delay_at x n) (root_rate_at x n)
       (own_clock k t -ℤ sync.ingress)
 
   exact : (later : ℕ)
@@ -306,20 +306,20 @@ module _ (p : Pace) (settled longest : ℕ) (w : WorldState) (is : IsSettledFrom
       + held_rates_error_at h.way steps * (later + jitter_at h.way steps))
       (pos 33550000 *ℤ read_then (w.time + later)) (pos 33550000 *ℤ root_clock k (w.time + later))
   exact later =
-      reading_is_exact k tells (follower place w f) (frame_view (frame w.time octets)) (map frame_view rest)
-      (identity_of sync.source) sync.sequence (told_in m) sync.ingress (rate_at x n) (delay_at x n) held later
+      reading_is_exact k tells (follower place w f) (link_frame_view (frame w.time octets)) (map link_frame_view rest)
+      (port_identity_number sync.source) sync.sequence (told_in m) sync.ingress (root_rate_at x n) (delay_at x n) held later
       (is_setting p settled longest w is place f steps h) (carries.follow place f steps h)
-      (ap (map frame_view) front) refl late one (ap (option_map kept_sync) used.keeps) measured allowed
+      (ap (map link_frame_view) front) refl late one (ap (option_map kept_sync) used.keeps) measured allowed
 
   -- by the state that is left
   read_is : (offset : ℤ) (t : ℕ) → s'.offset ≡ Some offset
       → read_then t ≡ read_from said offset (slave_rate s') (local_time s' t)
   read_is offset t is_offset =
-      let received_is : received (held_sum said (rate_at x n)) (delay_at x n) (rate_at x n) ≡ sync.ingress -ℤ offset =
-      less_by sync.ingress (received (held_sum said (rate_at x n)) (delay_at x n) (rate_at x n)) offset
+      let received_is : sync_received (held_sum said (root_rate_at x n)) (delay_at x n) (root_rate_at x n) ≡ sync.ingress -ℤ offset =
+      less_by sync.ingress (sync_received (held_sum said (root_rate_at x n)) (delay_at x n) (root_rate_at x n)) offset
       (used.left.offset offset is_offset) in
-      let rate_is : held +ℤ rate_at x n ≡ nearest_rate (m.rate +ℤ slave_rate s') =
-      back_again (nearest_rate (m.rate +ℤ rate_at x n)) (rate_at x n)
+      let rate_is : held +ℤ root_rate_at x n ≡ nearest_rate (m.rate +ℤ slave_rate s') =
+      back_again (nearest_rate (m.rate +ℤ root_rate_at x n)) (root_rate_at x n)
       ∙ ap (λ r. nearest_rate (m.rate +ℤ r)) (sym (used.left.measured ∙ same_rate)) in
       let shown_is : own_clock k t ≡ local_time s' t =
       sym (used.left.clock t ∙ own_shown p settled longest w is place f steps h t) in
@@ -329,7 +329,7 @@ module _ (p : Pace) (settled longest : ℕ) (w : WorldState) (is : IsSettledFrom
   root_is : (t : ℕ) (root : Station) → IsRootOf w (follower_clock place w f) root
       → root_clock k t ≡ local_time root.system t
   root_is t root r =
-      let parts = parts_of p.params w in
+      let parts = follower_parts p.params w in
       way_leads_to.root parts (snapshot_of w) (suc steps) (follower_clock place w f) t r.best h.way h.phase
       (well_formed p settled longest w is) r.is_best h.is
       ∙ ap (λ c. local_clock (parts.phase c) (parts.drift c) t) (sym r.named)

@@ -20,7 +20,7 @@ use Rattle.gptp_report.specs.Transitions.{Transition, Unfolds}
 use Rattle.gptp_kept.specs.Calm.{sync_paths_of}
 use Rattle.gptp_kept.specs.Claimed.{Claimed}
 use Rattle.gptp_kept.specs.Standing.{snapshot_of}
-use Rattle.gptp_reached.specs.Headline.{HasComeDown, HasPassed, IsCalm, UsesFollowUp}
+use Rattle.gptp_reached.specs.Headline.{HasComeDown, HasPassed, WorldIsCalm, UsesFollowUp}
 use Rattle.gptp_reached.specs.PlayedLaws.{IsPlayable}
 use Rattle.gptp_reading.specs.Reading.{IsBestsTime, IsReadingErrorOf}
 use Rattle.gptp_reading.specs.Readings.{LeavesReading}
@@ -30,7 +30,7 @@ use Rattle.gptp_reading.specs.Readings.{LeavesReading}
 -- residence and the greatest delay.
 abbrev pub HeadlineOnAge : WorldState → Type 0
 HeadlineOnAge w = (p : Pace) (number port due : ℕ) (s : SystemState)
-    → IsCalm p w → HasPassed p (path_bound (snapshot_of w)) w
+    → WorldIsCalm p w → HasPassed p (path_bound (snapshot_of w)) w
     → IsNear (snapshot_of w) number → ShowsLive number w s → s.slave ≡ Some port → s.lapse ≡ Some due
     → w.time + lapse_span p.params ≤ due + sync_wait p.params (sync_paths_of w)
 
@@ -52,7 +52,7 @@ abbrev pub RunsHearInTime : {F : Type 0} → (Bounds → ℕ → F → Option �
 RunsHearInTime {F} answers = (d : DocumentState) (until : ℕ) (fate : F) (start w : WorldState) (acts : List Transition)
     (p : Pace) (earlier number port : ℕ) (s : SystemState)
     → IsPlayable d → until ≤ 10 ^ 18 → Unfolds answers d until fate start acts w
-    → IsCalm p w → 0 < p.params.sync_timeout → HasPassed p (path_bound (snapshot_of w)) (at earlier w)
+    → WorldIsCalm p w → 0 < p.params.sync_timeout → HasPassed p (path_bound (snapshot_of w)) (at earlier w)
     → earlier + sync_wait p.params (sync_paths_of w) < w.time
     → IsNear (snapshot_of w) number → ShowsLive number w s → s.slave ≡ Some port → can_lead s.root ≡ true
     → HeardWithin acts number (sync_wait p.params (sync_paths_of w)) w.time
@@ -74,7 +74,7 @@ abbrev pub RunsReadLately : {F : Type 0} → (Bounds → ℕ → F → Option �
 RunsReadLately {F} answers = (d : DocumentState) (until : ℕ) (fate : F) (start w : WorldState) (acts : List Transition)
     (p : Pace) (earlier steps number port error : ℕ) (s : SystemState) (shown : ℤ)
     → IsPlayable d → until ≤ 10 ^ 18 → Unfolds answers d until fate start acts w
-    → IsCalm p w → 0 < p.params.sync_timeout → HasComeDown p (path_bound (snapshot_of w)) (suc steps) earlier w
+    → WorldIsCalm p w → 0 < p.params.sync_timeout → HasComeDown p (path_bound (snapshot_of w)) (suc steps) earlier w
     → earlier + sync_wait p.params (sync_paths_of w) < w.time
     → IsNear (snapshot_of w) number → ShowsLive number w s → s.slave ≡ Some port → can_lead s.root ≡ true
     → IsReadingErrorOf p.params w number steps (sync_wait p.params (sync_paths_of w)) error

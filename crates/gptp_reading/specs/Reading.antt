@@ -7,7 +7,7 @@ use Rattle.gptp_graph.specs.Snapshot.{System}
 use Rattle.gptp_scaled.specs.Rate.{scaled_by}
 use Rattle.gptp_pdelay.specs.GoodLink.{ceil_div}
 use Rattle.gptp_correction.specs.declared.sync_in.SyncInfo.{SyncInfo}
-use Rattle.gptp_correction.specs.Correction.{nearest_rate, received}
+use Rattle.gptp_correction.specs.Correction.{nearest_rate, sync_received}
 use Rattle.gptp_setup.specs.declared.setup.Params.{Params}
 use Rattle.gptp_system.specs.State.{SystemState, local_time}
 use Rattle.gptp_system.specs.Syncing.{slave_rate}
@@ -15,7 +15,7 @@ use Rattle.gptp_accuracy.specs.TimeError.{Way, jitter_at, rates_error_at, time_e
 use Rattle.gptp_acts.specs.Views.{ShowsLive}
 use Rattle.gptp_acts.specs.World.{WorldState}
 use Rattle.gptp_timing.specs.Tree.{IsWayTo}
-use Rattle.gptp_kept.specs.Followers.{parts_of}
+use Rattle.gptp_kept.specs.Followers.{follower_parts}
 use Rattle.gptp_kept.specs.Standing.{snapshot_of}
 
 -- ---- what is read
@@ -24,10 +24,10 @@ use Rattle.gptp_kept.specs.Standing.{snapshot_of}
 -- passed since, at the rate of the root's clock against the own one (IEEE 802.1AS-2020, 10.2.13, clockSlaveTime).
 abbrev pub read_after : SyncInfo → ℤ → ℤ → ℤ → ℤ
 read_after s link_delay neighbour passed =
-    received s link_delay neighbour +ℤ scaled_by (s.rate +ℤ neighbour) passed
+    sync_received s link_delay neighbour +ℤ scaled_by (s.rate +ℤ neighbour) passed
 
 -- The same by what a Follow_Up leaves, where the own clock shows this: the root's time as the Sync came is its ingress
--- less the offset, and the rate is the sum of the one received and the neighbour's, held at the limits of Integer32.
+-- less the offset, and the rate is the sum of the one sync_received and the neighbour's, held at the limits of Integer32.
 abbrev pub read_from : SyncInfo → ℤ → ℤ → ℤ → ℤ
 read_from known offset neighbour shown =
     (known.ingress -ℤ offset) +ℤ scaled_by (nearest_rate (known.rate +ℤ neighbour)) (shown -ℤ known.ingress)
@@ -63,5 +63,5 @@ reading_error_at w i later =
 pub record IsReadingErrorOf (p : Params) (w : WorldState) (number steps later error : ℕ) : Type 0 where
   pub way : Way
   pub phase : ℕ → ℕ
-  pub leads : IsWayTo (parts_of p w) (snapshot_of w) (suc steps) number way phase
+  pub leads : IsWayTo (follower_parts p w) (snapshot_of w) (suc steps) number way phase
   pub is : error ≡ reading_error_at way steps later

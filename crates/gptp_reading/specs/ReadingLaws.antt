@@ -5,13 +5,13 @@ use Rattle.gptp_scaled.specs.Counts.{AreWithin, IsClockRate, IsCounted}
 use Rattle.gptp_scaled.specs.Stamp.{scaled_of}
 use Rattle.gptp_correction.specs.declared.correction.Relayed.{Relayed}
 use Rattle.gptp_correction.specs.declared.sync_in.SyncInfo.{SyncInfo}
-use Rattle.gptp_measuring.specs.Lanes.{Frame}
+use Rattle.gptp_measuring.specs.Lanes.{LaneFrame}
 use Rattle.gptp_accuracy.specs.HopLaws.{IsOverLink, IsRateBehind}
 use Rattle.gptp_accuracy.specs.TimeError.{Way, hop_error, jitter_at, time_error_at}
 use Rattle.gptp_accuracy.specs.WayLaws.{shown_at}
-use Rattle.gptp_timing.specs.Acts.{kept}
-use Rattle.gptp_timing.specs.Follower.{Follower, IsSetting, Setting, from, own_clock, root_clock}
-use Rattle.gptp_timing.specs.Invariant.{Inv}
+use Rattle.gptp_timing.specs.Acts.{kept_at_ingress}
+use Rattle.gptp_timing.specs.Follower.{Follower, IsSetting, FollowerSetting, from, own_clock, root_clock}
+use Rattle.gptp_timing.specs.Invariant.{FollowerInvariant}
 use Rattle.gptp_timing.specs.Messages.{Message, FollowUp, IsOneMessage}
 use Rattle.gptp_timing.specs.Right.{IsHeldAt, IsMeasuredAt, at_rate, info_of}
 use Rattle.gptp_timing.specs.RightLaws.{IsOnWay}
@@ -41,16 +41,16 @@ ReadingIsRight = (w : Way) (phase : ℕ → ℕ) (i : ℕ) (told : Relayed) (sen
     *ℤ read_after (info_of (at_rate told held) ingress) delay rate (shown_at w phase (suc i) now -ℤ ingress))
     (pos 33550000 *ℤ shown_at w phase 0 now)
 
--- At each Follow_Up that belongs to the Sync that is kept, from when on what comes is right: what is read from it at
+-- At each Follow_Up that belongs to the Sync that is kept_at_ingress, from when on what comes is right: what is read from it at
 -- any later time is within the time error, and within the error of the rate so far times the span since, to which the
 -- jitter of the link is added.
 abbrev pub ReadingIsExact : (List ℕ → Message → Type 0) → Type 0
-ReadingIsExact says = (k : Setting) (s : Follower) (front : Frame) (rest : List Frame) (source : PortIdentity)
+ReadingIsExact says = (k : FollowerSetting) (s : Follower) (front : LaneFrame) (rest : List LaneFrame) (source : PortIdentity)
     (sequence : ℕ) (told : Relayed) (ingress rate delay held : ℤ) (later : ℕ)
-    → IsSetting k → Inv k says s
+    → IsSetting k → FollowerInvariant k says s
     → s.lane ≡ front ∷ rest → front.due ≡ s.time → from k ≤ s.time
     → IsOneMessage says front.octets (FollowUp source sequence told)
-    → s.kept ≡ Some (kept source sequence ingress) → IsMeasuredAt k.way k.place rate delay
+    → s.kept ≡ Some (kept_at_ingress source sequence ingress) → IsMeasuredAt k.way k.place rate delay
     → IsHeldAt k.way k.place told.rate rate held
     → AreWithin (33550000 * time_error_at k.way (suc k.place)
     + held_rates_error_at k.way k.place * (later + jitter_at k.way k.place))

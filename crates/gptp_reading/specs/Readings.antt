@@ -14,7 +14,7 @@ use Rattle.gptp_scaled.specs.Counts.{AreWithin}
 use Rattle.gptp_setup.specs.Pace.{Pace}
 use Rattle.gptp_accuracy.specs.TimeError.{Way}
 use Rattle.gptp_timing.specs.Tree.{IsWayTo}
-use Rattle.gptp_kept.specs.Followers.{parts_of}
+use Rattle.gptp_kept.specs.Followers.{follower_parts}
 use Rattle.gptp_plan.specs.declared.change.Timed.{Timed}
 use Rattle.gptp_system.specs.State.{SystemState, lapse_of}
 use Rattle.gptp_acts.specs.Course.{WasDone}
@@ -25,7 +25,7 @@ use Rattle.gptp_network.specs.Document.{DocumentState}
 use Rattle.gptp_report.specs.Transitions.{Transition, Unfolds}
 use Rattle.gptp_kept.specs.Standing.{snapshot_of}
 use Rattle.gptp_kept.specs.TimedClaim.{AllClaimed}
-use Rattle.gptp_reached.specs.Headline.{HasComeDown, IsCalm, UsesFollowUp}
+use Rattle.gptp_reached.specs.Headline.{HasComeDown, WorldIsCalm, UsesFollowUp}
 use Rattle.gptp_reached.specs.PlayedLaws.{IsPlayable}
 use Rattle.gptp_reading.specs.Reading.{IsBestsTime, IsReadingErrorOf, reading}
 
@@ -52,7 +52,7 @@ pub record LeavesTime (time : ℕ) (s : SystemState) : Type 0 where
 -- last link. It may be long after: then the best may have failed, and the network may have become another.
 abbrev pub HeadlineOnReadings : WorldState → ℕ → WorldState → Done → Type 0
 HeadlineOnReadings w time w' done = (p : Pace) (m steps number later error : ℕ) (read shown : ℤ)
-    → IsCalm p w → BoundsPaths (snapshot_of w) m → HasComeDown p m (suc steps) time w
+    → WorldIsCalm p w → BoundsPaths (snapshot_of w) m → HasComeDown p m (suc steps) time w
     → LeavesReading number w' done (time + later) read
     → IsNear (snapshot_of w) number → IsReadingErrorOf p.params w number steps later error
     → IsBestsTime w number (time + later) shown
@@ -77,9 +77,9 @@ abbrev pub WorldsHaveReadings : {F : Type 0} → (Bounds → ℕ → F → Optio
 WorldsHaveReadings {F} answers = (timed : Timed) (fate fate_after : F) (w w' : WorldState) (done : Done)
     → AllClaimed w → WasDone answers timed fate fate_after w w' done → timed.at ≤ 10 ^ 18
     → (p : Pace) (m steps number : ℕ) (s : SystemState) (way : Way) (phase : ℕ → ℕ)
-    → IsCalm p w → BoundsPaths (snapshot_of w) m → HasComeDown p m (suc steps) timed.at w
+    → WorldIsCalm p w → BoundsPaths (snapshot_of w) m → HasComeDown p m (suc steps) timed.at w
     → UsesFollowUp number done → ShowsLive number w' s
-    → IsNear (snapshot_of w) number → IsWayTo (parts_of p.params w) (snapshot_of w) (suc steps) number way phase
+    → IsNear (snapshot_of w) number → IsWayTo (follower_parts p.params w) (snapshot_of w) (suc steps) number way phase
     → (moment : ℕ) → IsSome (reading s moment)
 
 -- each act of a run of a document leaves exact readings too, whatever is drawn for the frames meanwhile
@@ -95,7 +95,7 @@ abbrev pub RunsReadInTime : {F : Type 0} → (Bounds → ℕ → F → Option �
 RunsReadInTime {F} answers = (d : DocumentState) (until : ℕ) (fate : F) (start w : WorldState) (acts : List Transition)
     (act : Transition) (p : Pace) (m steps number earlier later error : ℕ) (read shown : ℤ)
     → IsPlayable d → until ≤ 10 ^ 18 → Unfolds answers d until fate start acts w → In act acts
-    → IsCalm p w → BoundsPaths (snapshot_of w) m → HasComeDown p m (suc steps) earlier w
+    → WorldIsCalm p w → BoundsPaths (snapshot_of w) m → HasComeDown p m (suc steps) earlier w
     → earlier ≤ act.told.timed.at → w.time ≤ act.told.timed.at + later
     → LeavesReading number act.after act.told.done w.time read
     → IsNear (snapshot_of w) number → IsReadingErrorOf p.params w number steps later error

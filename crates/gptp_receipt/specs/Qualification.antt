@@ -12,20 +12,20 @@ pub record Qualified (a : AnnounceView) (clock : ℕ) : Type 0 where
   pub short : length a.path ≤ 255
 
 -- the four tests that an Announce can fail; the last is this project's (profile)
-abbrev pub Fails : AnnounceView → ℕ → Why → Type 0
-Fails a clock OwnMessage = a.head.source.clock ≡ clock
-Fails a clock TooManySteps = 255 ≤ a.body.steps
-Fails a clock Loop = Contains a.path clock
-Fails a clock TraceTooLong = 255 < length a.path
+abbrev pub FailsTest : AnnounceView → ℕ → Why → Type 0
+FailsTest a clock OwnMessage = a.head.source.clock ≡ clock
+FailsTest a clock TooManySteps = 255 ≤ a.body.steps
+FailsTest a clock Loop = Contains a.path clock
+FailsTest a clock TraceTooLong = 255 < length a.path
 
 -- the place of a test in their order
-abbrev pub place_of : Why → ℕ
-place_of OwnMessage = 1
-place_of TooManySteps = 2
-place_of Loop = 3
-place_of TraceTooLong = 4
+abbrev pub test_number : Why → ℕ
+test_number OwnMessage = 1
+test_number TooManySteps = 2
+test_number Loop = 3
+test_number TraceTooLong = 4
 
 -- the first test that fails
 pub record FirstFailure (a : AnnounceView) (clock : ℕ) (why : Why) : Type 0 where
-  pub fails : Fails a clock why
-  pub first : (earlier : Why) → place_of earlier < place_of why → Fails a clock earlier → ⊥
+  pub fails : FailsTest a clock why
+  pub first : (earlier : Why) → test_number earlier < test_number why → FailsTest a clock earlier → ⊥

@@ -6,7 +6,7 @@ use Rattle.gptp_messages.specs.declared.message.Message.{Message}
 use Rattle.gptp_messages.specs.declared.message.Message.TheVariants as messages
 use Rattle.gptp_messages.specs.declared.refused.Refused.{Refused}
 use Rattle.gptp_messages.specs.declared.refused.Refused.TheVariants as refusals
-use Rattle.gptp_messages.specs.Grammar.{Reads, Refuses}
+use Rattle.gptp_messages.specs.Grammar.{Reads, RefusesFrame}
 use Rattle.gptp_system.specs.declared.answer.Answer.{Answer}
 use Rattle.gptp_system.specs.declared.answer.Answer.TheVariants as answers
 use Rattle.gptp_report.specs.declared.frame_line.FrameType.{FrameType}
@@ -14,19 +14,19 @@ use Rattle.gptp_report.specs.declared.frame_line.FrameType.TheVariants as types
 use Rattle.gptp_spelling.specs.Digits.{clock_text}
 
 -- the type of a message (IEEE 802.1AS-2020, 10.6.2.2.1 and 11.4.2.1)
-abbrev pub type_of : Message → FrameType
-type_of (messages.Announce announce) = types.Announce
-type_of (messages.Sync head) = types.Sync
-type_of (messages.FollowUp message) = types.FollowUp
-type_of (messages.PdelayReq head) = types.PdelayReq
-type_of (messages.PdelayResp message) = types.PdelayResp
-type_of (messages.PdelayRespFollowUp message) = types.PdelayRespFollowUp
+abbrev pub frame_type_of : Message → FrameType
+frame_type_of (messages.Announce announce) = types.Announce
+frame_type_of (messages.Sync head) = types.Sync
+frame_type_of (messages.FollowUp message) = types.FollowUp
+frame_type_of (messages.PdelayReq head) = types.PdelayReq
+frame_type_of (messages.PdelayResp message) = types.PdelayResp
+frame_type_of (messages.PdelayRespFollowUp message) = types.PdelayRespFollowUp
 
 -- the octets read as a message of this type, or as none
 abbrev pub IsOfType : List ℕ → FrameType → Type 0
 IsOfType octets kind =
-    ((message : Message) × Reads octets message × (kind ≡ type_of message))
-    ⊎ ((refused : Refused) × Refuses octets refused × (kind ≡ types.Unread))
+    ((message : Message) × Reads octets message × (kind ≡ frame_type_of message))
+    ⊎ ((refused : Refused) × RefusesFrame octets refused × (kind ≡ types.Unread))
 
 abbrev pub type_text : FrameType → List ℕ
 type_text types.Announce = codes "announce"
@@ -49,19 +49,19 @@ refusal_number refusals.Tlv = 7
 refusal_number refusals.StampRange = 8
 
 -- what became of it; a system that has failed is silent
-abbrev pub answer_text : Option Answer → List ℕ
-answer_text None = codes "silent"
-answer_text (Some (answers.Refused refused)) = codes "refused-" ++ decimal (refusal_number refused)
-answer_text (Some answers.Disabled) = codes "disabled"
-answer_text (Some answers.Used) = codes "used"
-answer_text (Some answers.Ignored) = codes "ignored"
-answer_text (Some answers.Superior) = codes "superior"
-answer_text (Some answers.Repeated) = codes "repeated"
-answer_text (Some answers.Inferior) = codes "inferior"
-answer_text (Some answers.Own) = codes "own"
-answer_text (Some answers.Steps) = codes "steps"
-answer_text (Some answers.Loop) = codes "loop"
-answer_text (Some answers.Long) = codes "long"
+abbrev pub frame_answer_text : Option Answer → List ℕ
+frame_answer_text None = codes "silent"
+frame_answer_text (Some (answers.Refused refused)) = codes "refused-" ++ decimal (refusal_number refused)
+frame_answer_text (Some answers.Disabled) = codes "disabled"
+frame_answer_text (Some answers.Used) = codes "used"
+frame_answer_text (Some answers.Ignored) = codes "ignored"
+frame_answer_text (Some answers.Superior) = codes "superior"
+frame_answer_text (Some answers.Repeated) = codes "repeated"
+frame_answer_text (Some answers.Inferior) = codes "inferior"
+frame_answer_text (Some answers.Own) = codes "own"
+frame_answer_text (Some answers.Steps) = codes "steps"
+frame_answer_text (Some answers.Loop) = codes "loop"
+frame_answer_text (Some answers.Long) = codes "long"
 
 -- when a frame reached which port of which system, its type, what became of it, and its octets
 abbrev pub frame_line : ℕ → ℕ → ℕ → FrameType → Option Answer → List ℕ → List ℕ
@@ -70,5 +70,5 @@ frame_line at clock port kind answer octets =
     ++ codes " " ++ clock_text clock
     ++ codes " " ++ decimal port
     ++ codes " " ++ type_text kind
-    ++ codes " " ++ answer_text answer
+    ++ codes " " ++ frame_answer_text answer
     ++ codes " " ++ encode_lower octets

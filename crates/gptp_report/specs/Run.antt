@@ -31,7 +31,7 @@ Goes {F} answers until (event ∷ events) told fate fate_after w w' =
     × (told ≡ first ++ rest)
 
 -- The world of a document begins, and goes on with its events up to a time.
-pub record Plays {F : Type 0} (answers : Bounds → ℕ → F → Option ℕ → F → Type 0) (d : DocumentState) (until : ℕ)
+pub record PlaysRun {F : Type 0} (answers : Bounds → ℕ → F → Option ℕ → F → Type 0) (d : DocumentState) (until : ℕ)
     (fate : F) (told : List Told) (w : WorldState) : Type 0 where
   pub started : F
   pub start : WorldState
@@ -60,7 +60,7 @@ ShowsIf false told lines = lines ≡ []
 pub record LeadsTo {F : Type 0} (answers : Bounds → ℕ → F → Option ℕ → F → Type 0) (d : DocumentState) (until : ℕ)
     (frames : Bool) (fate : F) (w : WorldState) (lines : List (List ℕ)) : Type 0 where
   pub told : List Told
-  pub plays : Plays answers d until fate told w
+  pub plays : PlaysRun answers d until fate told w
   pub shows : ShowsIf frames told lines
 
 -- ---- as far as it gets

@@ -3,7 +3,7 @@
 ghost use Rattle.std.specs.Prelude.{◌≡◌, ◌≢◌, [], ◌∷◌, ◌++◌, OnOk, string_bytes};
 ghost use Rattle.std.specs.Io.KnownBytes.{Appends};
 ghost use Rattle.gptp_spelling.specs.Lines.{text_of};
-ghost use Rattle.gptp_report.specs.FrameLine.{IsOfType, frame_line, refusal_number, type_of};
+ghost use Rattle.gptp_report.specs.FrameLine.{IsOfType, frame_line, refusal_number, frame_type_of};
 ghost use Rattle.gptp_sink.specs.Sink.{AppendsSome};
 
 use gptp_messages::{Message, Refused, decode};
@@ -55,7 +55,7 @@ impl fmt::Display for FrameType {
 
 /// The type of a message.
 fn type_of_message(message: &Message<'_>) -> FrameType
-    ensures { result ≡ type_of message.now }
+    ensures { result ≡ frame_type_of message.now }
 {
     match message {
         Message::Announce(_) => FrameType::Announce,
@@ -90,9 +90,9 @@ pub struct AnswerWord(pub Option<Answer>);
 
 impl fmt::Display for AnswerWord {
     ghost use Rattle.std.specs.Prelude.{Some};
-    ghost use Rattle.gptp_report.specs.FrameLine.{answer_text};
+    ghost use Rattle.gptp_report.specs.FrameLine.{frame_answer_text};
 
-    ghost output = { λ answer. Some (answer_text answer.0) };
+    ghost output = { λ answer. Some (frame_answer_text answer.0) };
 
     fn fmt<W: fmt::Write>(&self, f: &mut fmt::Formatter<W>) -> fmt::Result {
         match self.0 {

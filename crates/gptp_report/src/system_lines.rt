@@ -2,7 +2,7 @@
 
 ghost use Rattle.std.specs.Prelude.{◌≡◌, List, ℕ, [], ◌∷◌, ◌++◌, length, map, OnOk, string_bytes};
 ghost use Rattle.std.specs.List.{range_with_len};
-ghost use Rattle.gptp_system.specs.Steps.{IsPortOf};
+ghost use Rattle.gptp_system.specs.Steps.{HasPortNumber};
 ghost use Rattle.gptp_spelling.specs.Lines.{text_of};
 ghost use Rattle.gptp_report.specs.SystemLines.{failed_line, is_grandmaster, live_line, live_lines, port_line};
 
@@ -42,7 +42,7 @@ fn write_port(
     system: &System,
     port: u8,
 ) -> Result<(), AllocError>
-    requires { IsPortOf system.now port }
+    requires { HasPortNumber system.now port }
     ensures { OnOk result (string_bytes text.new
         ≡ string_bytes text.old ++ (port_line clock system.now port ++ 10 ∷ [])) }
 {

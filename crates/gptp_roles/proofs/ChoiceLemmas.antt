@@ -4,7 +4,7 @@ use Rattle.std.specs.Prelude.{if◌then◌else◌}
 use Rattle.std.specs.List.{AllByRecursion}
 use Rattle.std.specs.Option.{ForSome, option_map_or}
 use Rattle.gptp_vector.specs.declared.vector.Vector.{Vector}
-use Rattle.gptp_vector.specs.Vector.{lower, path_of, system_of}
+use Rattle.gptp_vector.specs.Vector.{lower, path_of, system_vector}
 use Rattle.gptp_vector.proofs.VectorLemmas.{lower-same, lower_chain, lower_one_way, neither_lower}
 use Rattle.gptp_receipt.specs.declared.held.Held.{Held}
 use Rattle.gptp_receipt.specs.declared.held.Reception.{Reception}
@@ -103,6 +103,6 @@ pub receiver_of_chosen : (identity : ℕ) (held : List Held) (v : Vector) → Ar
     → v.receiver ≤ length held
 receiver_of_chosen identity held v placed chosen = go chosen.member
   where
-    go : IsIn v (system_of identity ∷ path_vectors held) → v.receiver ≤ length held
+    go : IsIn v (system_vector identity ∷ path_vectors held) → v.receiver ≤ length held
     go (inl own) = let none : v.receiver ≡ 0 = ap (λ (x : Vector). x.receiver) own in omega arith
     go (inr path) = let within = port_of_path 1 held v placed path in omega arith

@@ -11,20 +11,20 @@ use Rattle.gptp_receipt.specs.declared.held.Reception.{Reception}
 use Rattle.gptp_receipt.specs.Held.{received}
 use Rattle.gptp_roles.specs.declared.role.Role.{Role}
 use Rattle.gptp_roles.specs.declared.role.Role.TheVariants.{Disabled, Master, Slave, Passive}
-use Rattle.gptp_roles.specs.Role.{held_after, is_fresh, is_master, is_slave, role_of, role_of_received}
+use Rattle.gptp_roles.specs.Role.{held_after_selection, is_fresh, is_master, is_slave, chosen_role, role_of_received}
 
 -- a number equals itself
 equal_itself : (n : ℕ) → (n == n) ≡ true
 equal_itself n = eq-eqb n n refl
 
 -- a port that isn't Master keeps what it holds
-pub held_after-kept : (v : Vector) (clock port : ℕ) (h : Held) → is_master (role_of v clock port h) ≡ false
-    → held_after v clock port h ≡ h
+pub held_after-kept : (v : Vector) (clock port : ℕ) (h : Held) → is_master (chosen_role v clock port h) ≡ false
+    → held_after_selection v clock port h ≡ h
 held_after-kept v clock port h other = rw other refl
 
 -- a Master port holds the chosen root and steps
-pub held_after-master : (v : Vector) (clock port : ℕ) (h : Held) → is_master (role_of v clock port h) ≡ true
-    → held_after v clock port h ≡ helds.Mine v.root v.steps
+pub held_after-master : (v : Vector) (clock port : ℕ) (h : Held) → is_master (chosen_role v clock port h) ≡ true
+    → held_after_selection v clock port h ≡ helds.Mine v.root v.steps
 held_after-master v clock port h master = rw master refl
 
 -- a role that is Master
@@ -35,30 +35,30 @@ master_is Slave e = absurd cc
 master_is Passive e = absurd cc
 
 -- a port keeps its role
-pub role_of-held_after : (v : Vector) (clock port : ℕ) (h : Held) → role_of v clock port (held_after v clock port h)
-    ≡ role_of v clock port h
+pub role_of-held_after : (v : Vector) (clock port : ℕ) (h : Held) → chosen_role v clock port (held_after_selection v clock port h)
+    ≡ chosen_role v clock port h
 role_of-held_after v clock port h =
-    elim (cases_Bool (is_master (role_of v clock port h))) [
-      | inl master ↦ ap (role_of v clock port) (held_after-master v clock port h master)
-          ∙ sym (master_is (role_of v clock port h) master)
-      | inr other ↦ ap (role_of v clock port) (held_after-kept v clock port h other)
+    elim (cases_Bool (is_master (chosen_role v clock port h))) [
+      | inl master ↦ ap (chosen_role v clock port) (held_after-master v clock port h master)
+          ∙ sym (master_is (chosen_role v clock port h) master)
+      | inr other ↦ ap (chosen_role v clock port) (held_after-kept v clock port h other)
     ]
 
 -- what a port holds after a selection it holds after the next
-pub held_after-twice : (v : Vector) (clock port : ℕ) (h : Held) → held_after v clock port (held_after v clock port h)
-    ≡ held_after v clock port h
+pub held_after-twice : (v : Vector) (clock port : ℕ) (h : Held) → held_after_selection v clock port (held_after_selection v clock port h)
+    ≡ held_after_selection v clock port h
 held_after-twice v clock port h =
-    elim (cases_Bool (is_master (role_of v clock port h))) [
-      | inl master ↦ ap (held_after v clock port) (held_after-master v clock port h master)
+    elim (cases_Bool (is_master (chosen_role v clock port h))) [
+      | inl master ↦ ap (held_after_selection v clock port) (held_after-master v clock port h master)
           ∙ sym (held_after-master v clock port h master)
-      | inr other ↦ ap (held_after v clock port) (held_after-kept v clock port h other)
+      | inr other ↦ ap (held_after_selection v clock port) (held_after-kept v clock port h other)
     ]
 
 -- and it isn't fresh again
-pub is_fresh-held_after : (v : Vector) (clock port : ℕ) (h : Held) → is_fresh v clock port (held_after v clock port h)
+pub is_fresh-held_after : (v : Vector) (clock port : ℕ) (h : Held) → is_fresh v clock port (held_after_selection v clock port h)
     ≡ false
 is_fresh-held_after v clock port h =
-    elim (cases_Bool (is_master (role_of v clock port h))) [
+    elim (cases_Bool (is_master (chosen_role v clock port h))) [
       | inl master ↦ ap (is_fresh v clock port) (held_after-master v clock port h master)
           ∙ rw (equal_itself v.root, equal_itself v.steps) refl
       | inr other ↦ ap (is_fresh v clock port) (held_after-kept v clock port h other) ∙ rw other refl
@@ -66,21 +66,21 @@ is_fresh-held_after v clock port h =
 
 -- a port then holds as received what it received before, or nothing
 pub received-held_after : (v : Vector) (clock port : ℕ) (h : Held)
-    → (received (held_after v clock port h) ≡ received h) ⊎ (received (held_after v clock port h) ≡ None)
+    → (received (held_after_selection v clock port h) ≡ received h) ⊎ (received (held_after_selection v clock port h) ≡ None)
 received-held_after v clock port h =
-    elim (cases_Bool (is_master (role_of v clock port h))) [
+    elim (cases_Bool (is_master (chosen_role v clock port h))) [
       | inl master ↦ inr (ap received (held_after-master v clock port h master))
       | inr other ↦ inl (ap received (held_after-kept v clock port h other))
     ]
 
 -- the port that a vector came from is the Slave
 pub role_of-slave : (v : Vector) (clock port : ℕ) (h : Held) (r : Reception) → received h ≡ Some r → v.receiver ≡ port
-    → role_of v clock port h ≡ Slave
+    → chosen_role v clock port h ≡ Slave
 role_of-slave v clock port h r is here = rw (is, here, equal_itself port) refl
 
 -- no other port is
 pub is_slave-other : (v : Vector) (clock port : ℕ) (h : Held) → (v.receiver ≢ port)
-    → is_slave (role_of v clock port h) ≡ false
+    → is_slave (chosen_role v clock port h) ≡ false
 is_slave-other v clock port helds.Disabled elsewhere = refl
 is_slave-other v clock port helds.Aged elsewhere = refl
 is_slave-other v clock port (helds.Mine root steps) elsewhere = refl
@@ -113,12 +113,12 @@ of_received v clock port known =
     by_port (inr elsewhere) (inr not_lower) = rw (elsewhere, not_lower) not_lower
 
 role_is_of_received : (v : Vector) (clock port : ℕ) (h : Held) (r : Reception) → received h ≡ Some r
-    → OfReceived v clock port r.vector (role_of v clock port h)
+    → OfReceived v clock port r.vector (chosen_role v clock port h)
 role_is_of_received v clock port h r is = rw is (of_received v clock port r.vector)
 
 -- what a Master port drops its master vector was lower than
 pub master_is_lower : (v : Vector) (clock port : ℕ) (h : Held) (r : Reception) → received h ≡ Some r
-    → role_of v clock port h ≡ Master
+    → chosen_role v clock port h ≡ Master
     → lower (master_of v.root v.steps clock port) r.vector ≡ true
 master_is_lower v clock port h r is master =
     subst (OfReceived v clock port r.vector) master (role_is_of_received v clock port h r is)

@@ -9,14 +9,14 @@ use Rattle.std.proofs.lemmas.Bool.Decides.{nat_tests}
 use Rattle.std.proofs.lemmas.List.Sums.{sum_by-cons}
 use Rattle.std.proofs.lemmas.Cmp.{nat_cmp_total, tied_itself}
 use Rattle.gptp_vector.specs.declared.vector.Vector.{Vector}
-use Rattle.gptp_vector.specs.Vector.{lower, path_of, system_of}
+use Rattle.gptp_vector.specs.Vector.{lower, path_of, system_vector}
 use Rattle.gptp_receipt.specs.declared.held.Held.{Held}
 use Rattle.gptp_receipt.specs.declared.held.Reception.{Reception}
 use Rattle.gptp_receipt.specs.Held.{received}
 use Rattle.gptp_roles.specs.declared.role.Role.{Role}
 use Rattle.gptp_roles.specs.declared.role.Role.TheVariants.{Disabled, Master, Slave, Passive}
 use Rattle.gptp_roles.specs.Choice.{ArePlaced, IsChosen, IsIn, path_vectors, slave_port}
-use Rattle.gptp_roles.specs.Role.{each_from, each_port, is_slave, role_of}
+use Rattle.gptp_roles.specs.Role.{each_from, each_port, is_slave, chosen_role}
 use Rattle.gptp_roles.specs.Selection.{HasOneSlave, clock_of, slaves}
 use Rattle.gptp_roles.specs.SystemTrace.{SlaveReceived}
 use Rattle.gptp_roles.proofs.ChoiceLemmas.{from_port, port_of_path}
@@ -34,31 +34,31 @@ slaves-slave r rs is = sum_by-cons (λ (x : Role). if is_slave x then 1 else 0) 
 
 -- no port is the Slave where all are numbered above the one that the vector came from
 no_slave : (v : Vector) (clock port : ℕ) (hs : List Held) → v.receiver < port
-    → slaves (each_from (role_of v clock) port hs) ≡ 0
+    → slaves (each_from (chosen_role v clock) port hs) ≡ 0
 no_slave v clock port [] above = refl
 no_slave v clock port (h ∷ hs) above =
-    slaves-other (role_of v clock port h) (each_from (role_of v clock) (port + 1) hs)
+    slaves-other (chosen_role v clock port h) (each_from (chosen_role v clock) (port + 1) hs)
     (is_slave-other v clock port h (λ e. omega arith))
     ∙ no_slave v clock (port + 1) hs (omega arith)
 
 one_slave-step : (v : Vector) (clock port : ℕ) (h : Held) (hs : List Held) → ArePlaced port (h ∷ hs)
     → ((r : Reception) × (received h ≡ Some r) × (v ≡ path_of r.vector)) ⊎ IsIn v (path_vectors hs)
-    → (IsIn v (path_vectors hs) → slaves (each_from (role_of v clock) (port + 1) hs) ≡ 1)
-    → slaves (each_from (role_of v clock) port (h ∷ hs)) ≡ 1
+    → (IsIn v (path_vectors hs) → slaves (each_from (chosen_role v clock) (port + 1) hs) ≡ 1)
+    → slaves (each_from (chosen_role v clock) port (h ∷ hs)) ≡ 1
 one_slave-step v clock port h hs placed (inl (r, is, path)) others =
     let here : v.receiver ≡ port = ap (λ (x : Vector). x.receiver) path ∙ (placed.0 r is).receiver in
-    slaves-slave (role_of v clock port h) (each_from (role_of v clock) (port + 1) hs)
+    slaves-slave (chosen_role v clock port h) (each_from (chosen_role v clock) (port + 1) hs)
     (role_of-slave v clock port h r is here)
     ∙ ap (λ (n : ℕ). 1 + n) (no_slave v clock (port + 1) hs (omega arith))
 one_slave-step v clock port h hs placed (inr there) others =
     let above = port_of_path (port + 1) hs v placed.1 there in
-    slaves-other (role_of v clock port h) (each_from (role_of v clock) (port + 1) hs)
+    slaves-other (chosen_role v clock port h) (each_from (chosen_role v clock) (port + 1) hs)
     (is_slave-other v clock port h (λ e. omega arith))
     ∙ others there
 
 -- one port is the Slave where the vector came from one of them
 one_slave : (v : Vector) (clock port : ℕ) (hs : List Held) → ArePlaced port hs → IsIn v (path_vectors hs)
-    → slaves (each_from (role_of v clock) port hs) ≡ 1
+    → slaves (each_from (chosen_role v clock) port hs) ≡ 1
 one_slave v clock port [] placed member = absurd member
 one_slave v clock port (h ∷ hs) placed member =
     one_slave-step v clock port h hs placed (from_port v h hs member) (one_slave v clock (port + 1) hs placed.1)
@@ -75,7 +75,7 @@ steps_of_path v [] member = absurd member
 steps_of_path v (h ∷ hs) member = steps_of_path-step v h hs (from_port v h hs member) (steps_of_path v hs)
 
 -- a system is nearer to itself than any way round
-own_is_lower : (identity : ℕ) (v : Vector) → v.root ≡ identity → 0 < v.steps → lower (system_of identity) v ≡ true
+own_is_lower : (identity : ℕ) (v : Vector) → v.root ≡ identity → 0 < v.steps → lower (system_vector identity) v ≡ true
 own_is_lower identity v root steps =
     let roots : nat_cmp identity v.root ≡ Equal = ap (nat_cmp identity) root ∙ tied_itself nat_cmp_total identity in
     let nearer : nat_cmp 0 v.steps ≡ Less = sym (nat_cmp_is 0 v.steps Less steps) in
@@ -89,8 +89,8 @@ has_one_slave identity held v placed chosen = record {
   other_root = λ other. other_root other chosen.member;
 }
   where
-    own_root : v.root ≡ identity → IsIn v (system_of identity ∷ path_vectors held)
-        → (slave_port v ≡ None) × (slaves (each_port (role_of v (clock_of identity)) held) ≡ 0)
+    own_root : v.root ≡ identity → IsIn v (system_vector identity ∷ path_vectors held)
+        → (slave_port v ≡ None) × (slaves (each_port (chosen_role v (clock_of identity)) held) ≡ 0)
     own_root own (inl system) =
         let none : v.receiver ≡ 0 = ap (λ (x : Vector). x.receiver) system in
         (rw none refl, no_slave v (clock_of identity) 1 held (omega arith))
@@ -98,8 +98,8 @@ has_one_slave identity held v placed chosen = record {
         absurd (let nearer = own_is_lower identity v own (steps_of_path v held path) in let behind = chosen.least.0 in
         cc)
 
-    other_root : (v.root ≢ identity) → IsIn v (system_of identity ∷ path_vectors held)
-        → IsSome (slave_port v) × (slaves (each_port (role_of v (clock_of identity)) held) ≡ 1)
+    other_root : (v.root ≢ identity) → IsIn v (system_vector identity ∷ path_vectors held)
+        → IsSome (slave_port v) × (slaves (each_port (chosen_role v (clock_of identity)) held) ≡ 1)
     other_root other (inl system) = absurd (other (ap (λ (x : Vector). x.root) system))
     other_root other (inr path) =
         let within = port_of_path 1 held v placed path in
@@ -134,7 +134,7 @@ pub slave_received : (identity : ℕ) (held : List Held) (v : Vector) → ArePla
     → SlaveReceived held (slave_port v)
 slave_received identity held v placed chosen = go chosen.member
   where
-    go : IsIn v (system_of identity ∷ path_vectors held) → SlaveReceived held (slave_port v)
+    go : IsIn v (system_vector identity ∷ path_vectors held) → SlaveReceived held (slave_port v)
     go (inl system) = let none : v.receiver ≡ 0 = ap (λ (x : Vector). x.receiver) system in rw none tt
     go (inr path) =
         let within = port_of_path 1 held v placed path in

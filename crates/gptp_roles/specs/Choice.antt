@@ -3,7 +3,7 @@ use Rattle.std.specs.Prelude.{◌≡◌, ◌⊎◌, ℕ, ◌+◌, ◌<◌, ◌�
 use Rattle.std.specs.List.{AllByRecursion}
 use Rattle.std.specs.Option.{ForSome, option_map_or}
 use Rattle.gptp_vector.specs.declared.vector.Vector.{Vector}
-use Rattle.gptp_vector.specs.Vector.{lower, path_of, system_of}
+use Rattle.gptp_vector.specs.Vector.{lower, path_of, system_vector}
 use Rattle.gptp_receipt.specs.declared.held.Held.{Held}
 use Rattle.gptp_receipt.specs.declared.held.Reception.{Reception}
 use Rattle.gptp_receipt.specs.Held.{received}
@@ -26,7 +26,7 @@ pub record IsLeast (vs : List Vector) (v : Vector) : Type 0 where
 
 -- The chosen vector: the least of the system vector and the path vectors.
 abbrev pub IsChosen : ℕ → List Held → Vector → Type 0
-IsChosen identity held v = IsLeast (system_of identity ∷ path_vectors held) v
+IsChosen identity held v = IsLeast (system_vector identity ∷ path_vectors held) v
 
 -- what a port with this number can have received
 pub record IsPlaced (port : ℕ) (r : Reception) : Type 0 where

@@ -26,8 +26,8 @@ abbrev pub role_of_rest : Held → Role
 role_of_rest helds.Disabled = Disabled
 role_of_rest _ = Master
 
-abbrev pub role_of : Vector → ℕ → ℕ → Held → Role
-role_of chosen clock port held =
+abbrev pub chosen_role : Vector → ℕ → ℕ → Held → Role
+chosen_role chosen clock port held =
     option_map_or (λ (r : Reception). role_of_received chosen clock port r.vector) (received held) (role_of_rest held)
 
 abbrev pub is_master : Role → Bool
@@ -39,9 +39,9 @@ is_slave Slave = true
 is_slave _ = false
 
 -- a Master port then holds the chosen root and the own steps, and every other port what it held
-abbrev pub held_after : Vector → ℕ → ℕ → Held → Held
-held_after chosen clock port held =
-    if is_master (role_of chosen clock port held) then helds.Mine chosen.root chosen.steps else held
+abbrev pub held_after_selection : Vector → ℕ → ℕ → Held → Held
+held_after_selection chosen clock port held =
+    if is_master (chosen_role chosen clock port held) then helds.Mine chosen.root chosen.steps else held
 
 -- the port was Master before, with this root and these steps
 abbrev pub announces_already : Vector → Held → Bool
@@ -50,7 +50,7 @@ announces_already chosen _ = false
 
 -- a Master port is fresh that wasn't Mine before, or whose root or steps changed
 abbrev pub is_fresh : Vector → ℕ → ℕ → Held → Bool
-is_fresh chosen clock port held = is_master (role_of chosen clock port held) && not (announces_already chosen held)
+is_fresh chosen clock port held = is_master (chosen_role chosen clock port held) && not (announces_already chosen held)
 
 -- a function of the number and the state of each port, for ports the first of which has this number
 abbrev pub each_from : {X : Type 0} → (ℕ → Held → X) → ℕ → List Held → List X

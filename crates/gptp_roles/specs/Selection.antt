@@ -6,7 +6,7 @@ use Rattle.gptp_receipt.specs.declared.held.Held.{Held}
 use Rattle.gptp_roles.specs.declared.role.Role.{Role}
 use Rattle.gptp_roles.specs.declared.selection.Selected.{Selected}
 use Rattle.gptp_roles.specs.Choice.{ArePlaced, IsChosen, slave_port}
-use Rattle.gptp_roles.specs.Role.{each_port, held_after, is_fresh, is_slave, role_of}
+use Rattle.gptp_roles.specs.Role.{each_port, held_after_selection, is_fresh, is_slave, chosen_role}
 
 -- the clock of an identity: its low eight octets
 abbrev pub clock_of : ℕ → ℕ
@@ -19,22 +19,22 @@ pub record IsSelection (identity : ℕ) (before : List Held) (s : Selected) (aft
   pub root : s.root ≡ chosen.root
   pub steps : s.steps ≡ chosen.steps
   pub slave : s.slave ≡ slave_port chosen
-  pub roles : s.roles.items ≡ each_port (role_of chosen (clock_of identity)) before
+  pub roles : s.roles.items ≡ each_port (chosen_role chosen (clock_of identity)) before
   pub fresh : s.fresh.items ≡ each_port (is_fresh chosen (clock_of identity)) before
-  pub held : after ≡ each_port (held_after chosen (clock_of identity)) before
+  pub held : after ≡ each_port (held_after_selection chosen (clock_of identity)) before
 
 -- Selecting again from what the ports hold after a selection by this vector changes nothing: the vector is
 -- chosen again, each port keeps its role and what it holds, and none is fresh.
-pub record IsAtRest (identity : ℕ) (before : List Held) (chosen : Vector) : Type 0 where
-  pub placed : ArePlaced 1 (each_port (held_after chosen (clock_of identity)) before)
-  pub is_chosen : IsChosen identity (each_port (held_after chosen (clock_of identity)) before) chosen
-  pub roles : each_port (role_of chosen (clock_of identity)) (each_port (held_after chosen (clock_of identity)) before)
-      ≡ each_port (role_of chosen (clock_of identity)) before
-  pub held : each_port (held_after chosen (clock_of identity))
-      (each_port (held_after chosen (clock_of identity)) before)
-      ≡ each_port (held_after chosen (clock_of identity)) before
+pub record SelectionIsAtRest (identity : ℕ) (before : List Held) (chosen : Vector) : Type 0 where
+  pub placed : ArePlaced 1 (each_port (held_after_selection chosen (clock_of identity)) before)
+  pub is_chosen : IsChosen identity (each_port (held_after_selection chosen (clock_of identity)) before) chosen
+  pub roles : each_port (chosen_role chosen (clock_of identity)) (each_port (held_after_selection chosen (clock_of identity)) before)
+      ≡ each_port (chosen_role chosen (clock_of identity)) before
+  pub held : each_port (held_after_selection chosen (clock_of identity))
+      (each_port (held_after_selection chosen (clock_of identity)) before)
+      ≡ each_port (held_after_selection chosen (clock_of identity)) before
   pub fresh : AllByRecursion (λ b. b ≡ false)
-      (each_port (is_fresh chosen (clock_of identity)) (each_port (held_after chosen (clock_of identity)) before))
+      (each_port (is_fresh chosen (clock_of identity)) (each_port (held_after_selection chosen (clock_of identity)) before))
 
 -- how many ports are Slave
 abbrev pub slaves : List Role → ℕ
@@ -44,6 +44,6 @@ slaves roles = count_by is_slave roles
 -- vector names that port.
 pub record HasOneSlave (identity : ℕ) (before : List Held) (chosen : Vector) : Type 0 where
   pub own_root : chosen.root ≡ identity → (slave_port chosen ≡ None)
-      × (slaves (each_port (role_of chosen (clock_of identity)) before) ≡ 0)
+      × (slaves (each_port (chosen_role chosen (clock_of identity)) before) ≡ 0)
   pub other_root : (chosen.root ≢ identity) → IsSome (slave_port chosen)
-      × (slaves (each_port (role_of chosen (clock_of identity)) before) ≡ 1)
+      × (slaves (each_port (chosen_role chosen (clock_of identity)) before) ≡ 1)

@@ -1,7 +1,7 @@
 //! The role of one port.
 
 ghost use Rattle.std.specs.Prelude.{◌≡◌};
-ghost use Rattle.gptp_roles.specs.Role.{announces_already, held_after, is_fresh, role_of};
+ghost use Rattle.gptp_roles.specs.Role.{announces_already, held_after_selection, is_fresh, chosen_role};
 
 use gptp_receipt::Held;
 use gptp_vector::{ClockId, Vector};
@@ -23,9 +23,9 @@ pub enum Role {
 /// Gives a port its role and leaves it what it holds in that role. Answers the role, and whether the
 /// port has to announce at once.
 pub(crate) fn assign(held: &mut Held, port: u16, chosen: &Vector, clock: ClockId) -> (Role, bool)
-    ensures role { result.0 ≡ role_of chosen.now clock port held.old }
+    ensures role { result.0 ≡ chosen_role chosen.now clock port held.old }
     ensures fresh { result.1 ≡ is_fresh chosen.now clock port held.old }
-    ensures held { held.new ≡ held_after chosen.now clock port held.old }
+    ensures held { held.new ≡ held_after_selection chosen.now clock port held.old }
 {
     let role = role_at(held, port, chosen, clock);
     if role != Role::Master || announces(held, chosen) {
@@ -40,7 +40,7 @@ pub(crate) fn assign(held: &mut Held, port: u16, chosen: &Vector, clock: ClockId
 
 /// The role of a port.
 fn role_at(held: &Held, port: u16, chosen: &Vector, clock: ClockId) -> Role
-    ensures { result ≡ role_of chosen.now clock port held.now }
+    ensures { result ≡ chosen_role chosen.now clock port held.now }
 {
     match held {
         Held::Disabled => Role::Disabled,

@@ -3,7 +3,7 @@
 ghost use Rattle.std.specs.Prelude.{◌≡◌, ◌≤◌, [], length, pos, true};
 ghost use Rattle.std.specs.List.{AllByRecursion};
 ghost use Rattle.gptp_setup.specs.Intervals.{IsLogUpTo};
-ghost use Rattle.gptp_system.specs.Steps.{IsPortOf, IsTimerOf};
+ghost use Rattle.gptp_system.specs.Steps.{HasPortNumber, IsTimerOf};
 
 use crate::same::same_at;
 use arrayvec::ArrayVec;
@@ -102,7 +102,7 @@ pub fn started(clock: u64, ports: u8, phase: u64, lost: u8) -> Result<System, Fa
 
 /// Whether the system has a port of this number.
 pub fn has_port(system: &System, port: u8) -> bool
-    ensures { result ≡ true → IsPortOf system.now port }
+    ensures { result ≡ true → HasPortNumber system.now port }
 {
     1 <= port && port <= system.ports()
 }

@@ -4,6 +4,6 @@ use Rattle.gptp_scaled.specs.declared.stamp.StampError.{StampError}
 use Rattle.gptp_scaled.specs.declared.stamp.StampError.TheVariants.{NanosTooLarge, SecondsTooLarge}
 
 -- what is printed of a refusal
-abbrev pub text_of : StampError → List ℕ
-text_of NanosTooLarge = codes "a second or more of nanoseconds"
-text_of SecondsTooLarge = codes "seconds of more than 48 bits"
+abbrev pub stamp_error_text : StampError → List ℕ
+stamp_error_text NanosTooLarge = codes "a second or more of nanoseconds"
+stamp_error_text SecondsTooLarge = codes "seconds of more than 48 bits"

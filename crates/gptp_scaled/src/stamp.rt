@@ -25,9 +25,9 @@ pub enum StampError {
 
 impl fmt::Display for StampError {
     ghost use Rattle.std.specs.Prelude.{Some};
-    ghost use Rattle.gptp_scaled.specs.StampError.{text_of};
+    ghost use Rattle.gptp_scaled.specs.StampError.{stamp_error_text};
 
-    ghost output = { λ e. Some (text_of e) };
+    ghost output = { λ e. Some (stamp_error_text e) };
 
     fn fmt<W: fmt::Write>(&self, f: &mut fmt::Formatter<W>) -> fmt::Result {
         f.write_str(match self {

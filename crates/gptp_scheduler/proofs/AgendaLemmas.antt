@@ -5,12 +5,12 @@ use Rattle.std.proofs.lemmas.Bool.Decides.{nat_tests}
 use Rattle.std.proofs.lemmas.Option.{none-some, same_Some}
 use Rattle.std.specs.List.{All}
 use Rattle.std.specs.Option.{option_map}
-use Rattle.gptp_scheduler.specs.Pending.{Entry, entry, entry_at, without, IsFirst, IsNoEarlier, NothingDue, RiseFrom}
+use Rattle.gptp_scheduler.specs.Pending.{AgendaEntry, entry, entry_at, without_number, IsFirst, IsNoEarlier, NothingDue, RiseFrom}
 use Rattle.gptp_scheduler.specs.Numbers.{Least, Greatest}
 use Rattle.gptp_scheduler.specs.Slots.{SameEnds}
-use Rattle.gptp_scheduler.specs.Chain.{ends_at, no_ends, numbers_in, IsHint, entry_of, leads, placed, placed_at, held, time_in, time_of, AreChained, StandsIn}
-use Rattle.gptp_scheduler.specs.Wheel.{first_of, AreBelow, Earliest, IsEarliest, IsWheel, Puts, Takes}
-use Rattle.gptp_scheduler.specs.Filed.{filed_at, listed, lives, living, IsAgenda, IsIn}
+use Rattle.gptp_scheduler.specs.Chain.{ends_at, no_ends, numbers_in, IsHint, chain_entry, leads, placed, placed_at, held, time_in, entry_time, EntriesAreChained, StandsIn}
+use Rattle.gptp_scheduler.specs.Wheel.{first_of, AreBelow, Earliest, IsEarliestEntry, IsWheel, Puts, TakesEntry}
+use Rattle.gptp_scheduler.specs.Filed.{filed_at, listed, entry_lives, living, IsAgenda, IsInSlab}
 use Rattle.gptp_scheduler.specs.declared.filed.Filed.{Filed}
 use Rattle.gptp_scheduler.specs.declared.key.Key.{Key}
 use Rattle.gptp_scheduler.specs.declared.key.Node.{Node}
@@ -22,27 +22,27 @@ use Rattle.gptp_scheduler.proofs.WheelLemmas.{held-is, held-node, held-placed, p
 use Rattle.gptp_scheduler.proofs.FiledLemmas.{below-next, entry-found, filed-put, filed-taken, listed-all, listed-put, listed-rise, listed-taken}
 
 module _ {T : Type 0} where
-  living-own : (e : Entry T) → living e.number (Some e) ≡ Some e
+  living-own : (e : AgendaEntry T) → living e.number (Some e) ≡ Some e
   living-own e = grind (arith, nat_tests)
 
-  living-is : (n : ℕ) (e : Entry T) → e.number ≡ n → living n (Some e) ≡ Some e
+  living-is : (n : ℕ) (e : AgendaEntry T) → e.number ≡ n → living n (Some e) ≡ Some e
   living-is n e same = grind (arith, nat_tests)
 
-  living-dead : (n : ℕ) (e : Entry T) → e.number ≢ n → living n (Some e) ≡ None
+  living-dead : (n : ℕ) (e : AgendaEntry T) → e.number ≢ n → living n (Some e) ≡ None
   living-dead n e differs = grind (arith, nat_tests)
 
-  lives-number : (n : ℕ) (e : Entry T) → lives n (Some e) ≡ true → e.number ≡ n
+  lives-number : (n : ℕ) (e : AgendaEntry T) → entry_lives n (Some e) ≡ true → e.number ≡ n
   lives-number n e is = grind (arith, nat_tests)
 
-  -- what stands at a key has the number, where that lives
-  pub lives-held : (n : ℕ) (o : Option (Entry T)) (e : Entry T) → o ≡ Some e → lives n o ≡ true → e.number ≡ n
-  lives-held n o e is living = lives-number n e (sym (ap (lives n) is) ∙ living)
+  -- what stands at a key has the number, where that entry_lives
+  pub lives-held : (n : ℕ) (o : Option (AgendaEntry T)) (e : AgendaEntry T) → o ≡ Some e → entry_lives n o ≡ true → e.number ≡ n
+  lives-held n o e is living = lives-number n e (sym (ap (entry_lives n) is) ∙ living)
 
-  pub lives-some : (n : ℕ) (o : Option (Entry T)) → lives n o ≡ true → (e : Entry T) × (o ≡ Some e)
+  pub lives-some : (n : ℕ) (o : Option (AgendaEntry T)) → entry_lives n o ≡ true → (e : AgendaEntry T) × (o ≡ Some e)
   lives-some n None is = absurd (cc)
   lives-some n (Some e) is = (e, refl)
 
-  pub lives-not : (n : ℕ) (o : Option (Entry T)) → lives n o ≡ false → living n o ≡ None
+  pub lives-not : (n : ℕ) (o : Option (AgendaEntry T)) → entry_lives n o ≡ false → living n o ≡ None
   lives-not n None is = refl
   lives-not n (Some e) is = grind (arith, nat_tests)
 
@@ -51,70 +51,70 @@ module _ {T : Type 0} where
   module _ (nodes : ℕ → Option (Node T)) (base next : ℕ) (ends : List Ends) (fs : List Filed) (first : Option Key)
       (agenda : IsAgenda nodes base next ends fs first) where
     -- an entry is found under its number
-    pub entry-there : (k : ℕ) (e : Entry T) → held nodes k ≡ Some e → entry_at (listed nodes fs) e.number ≡ Some e
+    pub entry-there : (k : ℕ) (e : AgendaEntry T) → held nodes k ≡ Some e → entry_at (listed nodes fs) e.number ≡ Some e
     entry-there k e is =
         entry-found nodes 0 fs next e.number k agenda.filed.rising (agenda.filed.filed k e is)
         ∙ ap (living e.number) is ∙ living-own e
 
     -- what stands at the key that a number was filed with
-    pub entry-filed : (n key : ℕ) → IsIn (filed_at n key) fs → entry_at (listed nodes fs) n ≡ living n (held nodes key)
+    pub entry-filed : (n key : ℕ) → IsInSlab (filed_at n key) fs → entry_at (listed nodes fs) n ≡ living n (held nodes key)
     entry-filed n key at = entry-found nodes 0 fs next n key agenda.filed.rising at
 
-    pub entry-filed-node : (n key : ℕ) (e : Node T) → IsIn (filed_at n key) fs → nodes key ≡ Some e → e.number ≡ n
-        → entry_at (listed nodes fs) n ≡ Some (entry_of (placed e))
+    pub entry-filed-node : (n key : ℕ) (e : Node T) → IsInSlab (filed_at n key) fs → nodes key ≡ Some e → e.number ≡ n
+        → entry_at (listed nodes fs) n ≡ Some (chain_entry (placed e))
     entry-filed-node n key e at is same =
-        entry-filed n key at ∙ ap (λ o. living n (option_map entry_of (option_map placed o))) is
-        ∙ living-is n (entry_of (placed e)) same
+        entry-filed n key at ∙ ap (λ o. living n (option_map chain_entry (option_map placed o))) is
+        ∙ living-is n (chain_entry (placed e)) same
 
-    pub entry-filed-other : (n key : ℕ) (e : Node T) → IsIn (filed_at n key) fs → nodes key ≡ Some e → e.number ≢ n
+    pub entry-filed-other : (n key : ℕ) (e : Node T) → IsInSlab (filed_at n key) fs → nodes key ≡ Some e → e.number ≢ n
         → entry_at (listed nodes fs) n ≡ None
     entry-filed-other n key e at is differs =
-        entry-filed n key at ∙ ap (λ o. living n (option_map entry_of (option_map placed o))) is
-        ∙ living-dead n (entry_of (placed e)) differs
+        entry-filed n key at ∙ ap (λ o. living n (option_map chain_entry (option_map placed o))) is
+        ∙ living-dead n (chain_entry (placed e)) differs
 
-    pub entry-filed-gone : (n key : ℕ) → IsIn (filed_at n key) fs → nodes key ≡ None
+    pub entry-filed-gone : (n key : ℕ) → IsInSlab (filed_at n key) fs → nodes key ≡ None
         → entry_at (listed nodes fs) n ≡ None
     entry-filed-gone n key at is =
-        entry-filed n key at ∙ ap (λ o. living n (option_map entry_of (option_map placed o))) is
+        entry-filed n key at ∙ ap (λ o. living n (option_map chain_entry (option_map placed o))) is
 
-    pub first-is : (key : ℕ) (e : Entry T) → IsEarliest nodes key → held nodes key ≡ Some e
+    pub first-is : (key : ℕ) (e : AgendaEntry T) → IsEarliestEntry nodes key → held nodes key ≡ Some e
         → IsFirst (listed nodes fs) e.time e.number
     first-is key e least is =
         let same : least.entry ≡ e = same_Some least.entry e (sym least.at_key ∙ is) in record {
-          member = ap (option_map (λ (x : Entry T). x.time)) (entry-there key e is);
-          least = subst (λ (x : Entry T). All (IsNoEarlier x.time x.number) (listed nodes fs)) same
+          member = ap (option_map (λ (x : AgendaEntry T). x.time)) (entry-there key e is);
+          least = subst (λ (x : AgendaEntry T). All (IsNoEarlier x.time x.number) (listed nodes fs)) same
               (listed-all nodes (IsNoEarlier least.entry.time least.entry.number) (λ k d at. least.least k d at) fs);
         }
 
-    pub first-node : (key : ℕ) (e : Node T) → IsEarliest nodes key → nodes key ≡ Some e
+    pub first-node : (key : ℕ) (e : Node T) → IsEarliestEntry nodes key → nodes key ≡ Some e
         → IsFirst (listed nodes fs) e.time e.number
-    first-node key e least is = first-is key (entry_of (placed e)) least
+    first-node key e least is = first-is key (chain_entry (placed e)) least
         (held-is nodes key (placed e) (held-node nodes key e is))
 
     pub node-there : (key : ℕ) (e : Node T) → nodes key ≡ Some e
-        → entry_at (listed nodes fs) e.number ≡ Some (entry_of (placed e))
+        → entry_at (listed nodes fs) e.number ≡ Some (chain_entry (placed e))
     node-there key e is =
-        entry-there key (entry_of (placed e)) (held-is nodes key (placed e) (held-node nodes key e is))
+        entry-there key (chain_entry (placed e)) (held-is nodes key (placed e) (held-node nodes key e is))
 
-    pub not-due : (key : ℕ) (now : ℕ) → IsEarliest nodes key → now < time_of nodes key
+    pub not-due : (key : ℕ) (now : ℕ) → IsEarliestEntry nodes key → now < entry_time nodes key
         → NothingDue (listed nodes fs) now
     not-due key now least late =
         let one = held-placed nodes key least.entry least.at_key in
-        let time : time_of nodes key ≡ least.entry.time = ap time_in one.1 ∙ sym (ap (λ x. x.time) one.2) in
-        listed-all nodes (λ (e : Entry T). now < e.time)
+        let time : entry_time nodes key ≡ least.entry.time = ap time_in one.1 ∙ sym (ap (λ x. x.time) one.2) in
+        listed-all nodes (λ (e : AgendaEntry T). now < e.time)
         (λ k d at. let first = (least.least k d at).not_before in omega arith) fs
 
-    pub time-due : (key : ℕ) (e : Entry T) → held nodes key ≡ Some e → time_of nodes key ≡ e.time
+    pub time-due : (key : ℕ) (e : AgendaEntry T) → held nodes key ≡ Some e → entry_time nodes key ≡ e.time
     time-due key e is = let one = held-placed nodes key e is in ap time_in one.1 ∙ sym (ap (λ x. x.time) one.2)
 
     pub nothing-due : (now : ℕ) → Earliest nodes None → NothingDue (listed nodes fs) now
-    nothing-due now none = listed-all nodes (λ (e : Entry T). now < e.time)
+    nothing-due now none = listed-all nodes (λ (e : AgendaEntry T). now < e.time)
         (λ k d at. absurd (none-some d (sym (none k) ∙ at))) fs
 
     pub rise : RiseFrom 0 (listed nodes fs) next
     rise = listed-rise nodes 0 fs next agenda.filed.rising
 
-    pub unique-held : (j k : ℕ) (d b : Entry T) → held nodes j ≡ Some d → held nodes k ≡ Some b → d.number ≡ b.number
+    pub unique-held : (j k : ℕ) (d b : AgendaEntry T) → held nodes j ≡ Some d → held nodes k ≡ Some b → d.number ≡ b.number
         → j ≡ k
     unique-held j k d b at there same =
         let one = held-placed nodes j d at in let other = held-placed nodes k b there in
@@ -125,9 +125,9 @@ module _ {T : Type 0} where
     pub all-below : AreBelow nodes next
     all-below k p at =
         let up = below-next 0 fs next (filed_at p.number k) agenda.filed.rising
-        (agenda.filed.filed k (entry_of p) (held-is nodes k p at)) in up.1
+        (agenda.filed.filed k (chain_entry p) (held-is nodes k p at)) in up.1
 
-    pub stands-held : (key : ℕ) (e : Entry T) → held nodes key ≡ Some e → StandsIn nodes ends key
+    pub stands-held : (key : ℕ) (e : AgendaEntry T) → held nodes key ≡ Some e → StandsIn nodes ends key
     stands-held key e is =
         let one = held-placed nodes key e is in
         let made = agenda.wheel.made key one.0 one.1 in
@@ -170,7 +170,7 @@ module _ {T : Type 0} where
       filed = agenda.filed;
       first = agenda.first;
     } where
-      chained : AreChained nodes ends
+      chained : EntriesAreChained nodes ends
       chained = agenda.wheel.chained
 
       added : (slot : ℕ) → length ends ≤ slot → ends_at now slot ≡ no_ends
@@ -183,8 +183,8 @@ module _ {T : Type 0} where
 
     -- ---- one is taken
 
-    module _ (new : ℕ → Option (Node T)) (after : ℕ) (now : List Ends) (key : ℕ) (e : Entry T)
-        (takes : Takes nodes new key e)
+    module _ (new : ℕ → Option (Node T)) (after : ℕ) (now : List Ends) (key : ℕ) (e : AgendaEntry T)
+        (takes : TakesEntry nodes new key e)
         (wheel : IsWheel new after now) (link : Option Key) (least : Earliest new link) where
       pub agenda-taken : IsAgenda new after next now fs link
       agenda-taken = record {
@@ -193,11 +193,11 @@ module _ {T : Type 0} where
         first = least;
       }
 
-      pub taken-listed : listed new fs ≡ without e.number (listed nodes fs)
+      pub taken-listed : listed new fs ≡ without_number e.number (listed nodes fs)
       taken-listed = listed-taken nodes new key e takes next unique-held 0 fs agenda.filed.rising
 
     -- where another was taken, the least stays
-    pub first-stays : (new : ℕ → Option (Node T)) (key : ℕ) (e : Entry T) → Takes nodes new key e
+    pub first-stays : (new : ℕ → Option (Node T)) (key : ℕ) (e : AgendaEntry T) → TakesEntry nodes new key e
         → leads first key ≡ false
         → Earliest new first
     first-stays new key e takes apart = by first agenda.first apart where
@@ -218,28 +218,28 @@ module _ {T : Type 0} where
 
     module _ (new : ℕ → Option (Node T)) (now : List Ends) (key : Key) (time : ℕ) (item : T)
         (puts : Puts nodes new key.place (entry time next item)) (wheel : IsWheel new base now) where
-      abbrev e : Entry T
+      abbrev e : AgendaEntry T
       e = entry time next item
 
       pub put-listed : listed new (fs ++ filed_at next key.place ∷ []) ≡ listed nodes fs ++ e ∷ []
       put-listed = listed-put nodes new key.place e puts 0 fs agenda.filed.rising
 
-      came : (k : ℕ) (d : Entry T) → held new k ≡ Some d → ((k ≡ key.place) × (d ≡ e)) ⊎ (held nodes k ≡ Some d)
+      came : (k : ℕ) (d : AgendaEntry T) → held new k ≡ Some d → ((k ≡ key.place) × (d ≡ e)) ⊎ (held nodes k ≡ Some d)
       came k d is = elim (cases_eq k key.place) [
         | inl same ↦ inl (same, same_Some d e (sym is ∙ ap (held new) same ∙ puts.put))
         | inr differs ↦ inr (sym (puts.others k differs) ∙ is)
       ]
 
-      time-new : time_of new key.place ≡ time
+      time-new : entry_time new key.place ≡ time
       time-new =
           let one = held-placed new key.place e puts.put in ap time_in one.1 ∙ sym (ap (λ x. x.time) one.2)
 
-      first-new : ((k : ℕ) (d : Entry T) → held nodes k ≡ Some d → time < d.time) → IsEarliest new key.place
+      first-new : ((k : ℕ) (d : AgendaEntry T) → held nodes k ≡ Some d → time < d.time) → IsEarliestEntry new key.place
       first-new above = record {
         entry = e;
         at_key = puts.put;
         least = λ k d is. elim (came k d is) [
-          | inl one ↦ subst (λ (x : Entry T). IsNoEarlier time next x) (sym one.1)
+          | inl one ↦ subst (λ (x : AgendaEntry T). IsNoEarlier time next x) (sym one.1)
               (record { not_before = omega arith; by_number = λ same. omega arith })
           | inr was ↦ let less = above k d was in record {
             not_before = omega arith;
@@ -248,21 +248,21 @@ module _ {T : Type 0} where
         ];
       }
 
-      pub first-put : (link : Option Key) → Earliest nodes link → IsEarliest new (first_of new link key).place
+      pub first-put : (link : Option Key) → Earliest nodes link → IsEarliestEntry new (first_of new link key).place
       first-put None none = first-new (λ k d is. absurd (none-some d (sym (none k) ∙ is)))
-      first-put (Some link) least = by (nat_lt (time_of new key.place) (time_of new link.place)) refl where
+      first-put (Some link) least = by (nat_lt (entry_time new key.place) (entry_time new link.place)) refl where
         apart : link.place ≢ key.place
         apart same = none-some least.entry (sym puts.free ∙ ap (held nodes) (sym same) ∙ least.at_key)
 
         at_link : held new link.place ≡ Some least.entry
         at_link = puts.others link.place apart ∙ least.at_key
 
-        time-link : time_of new link.place ≡ least.entry.time
+        time-link : entry_time new link.place ≡ least.entry.time
         time-link =
             let one = held-placed new link.place least.entry at_link in ap time_in one.1 ∙ sym (ap (λ x. x.time) one.2)
 
-        by : (t : Bool) → nat_lt (time_of new key.place) (time_of new link.place) ≡ t
-            → IsEarliest new (if t then key else link).place
+        by : (t : Bool) → nat_lt (entry_time new key.place) (entry_time new link.place) ≡ t
+            → IsEarliestEntry new (if t then key else link).place
         by true t = first-new (λ k d is.
             let less = less_than _ _ t in let first = (least.least k d is).not_before in
             omega (arith, less, time-new, time-link, first))
@@ -271,7 +271,7 @@ module _ {T : Type 0} where
               entry = least.entry;
               at_key = at_link;
               least = λ k d is. elim (came k d is) [
-                | inl one ↦ subst (λ (x : Entry T). IsNoEarlier least.entry.time least.entry.number x) (sym one.1)
+                | inl one ↦ subst (λ (x : AgendaEntry T). IsNoEarlier least.entry.time least.entry.number x) (sym one.1)
                     (record {
                       not_before = omega (arith, more, time-new, time-link);
                       by_number = λ same.

@@ -6,7 +6,7 @@ use Rattle.std.proofs.lemmas.Option.{none-some, same_Some}
 use Rattle.std.specs.Option.{option_map}
 use Rattle.gptp_scheduler.specs.Pending.{IsNoEarlier}
 use Rattle.gptp_scheduler.specs.Numbers.{Least, Greatest}
-use Rattle.gptp_scheduler.specs.Chain.{OUT, Placed, ends_at, leads, is_end, bypass, fill, ends_without, ends_with, least_with, number_in, placed, in_slot, entry_of, with_after, with_before, with_place, joined_after, joined_before, placed_at, numbers_in, time_in, time_of, earlier_key, IsLeastIn, IsHint, AreChained, StandsIn, IsNext, Moves}
+use Rattle.gptp_scheduler.specs.Chain.{OUT, Placed, ends_at, leads, leads_nowhere, bypass, fill, ends_without, ends_with, least_with, number_in, placed, in_slot, chain_entry, with_after, with_before, with_place, entry_joined_after, joined_before, placed_at, numbers_in, time_in, entry_time, earlier_key, IsLeastIn, IsHint, EntriesAreChained, StandsIn, IsAboveAll, Moves}
 use Rattle.gptp_scheduler.specs.declared.key.Key.{Key}
 use Rattle.gptp_scheduler.specs.declared.key.Node.{Node}
 use Rattle.gptp_scheduler.specs.declared.slots.Ends.{Ends}
@@ -19,7 +19,7 @@ not_true b never = by b never where
   by true = λ never. absurd (never refl)
   by false = λ never. refl
 
-fill-end : (link : Option Key) (key : Key) → (if is_end link then Some key else link) ≡ fill link key
+fill-end : (link : Option Key) (key : Key) → (if leads_nowhere link then Some key else link) ≡ fill link key
 fill-end None key = refl
 fill-end (Some other) key = refl
 
@@ -53,7 +53,7 @@ module _ {T : Type 0} where
   -- ---- links that were changed
 
   after-some : (before after : Option Key) (k : ℕ) (o : Option (Node T)) (d : Node T)
-      → joined_after before after k o ≡ Some d
+      → entry_joined_after before after k o ≡ Some d
       → (e : Node T) × (o ≡ Some e) × (d ≡ record e { after = if leads before k then after else e.after })
   after-some before after k o d is = by o (leads before k) is where
     by : (o : Option (Node T)) (t : Bool) → (if t then option_map (with_after after) o else o) ≡ Some d
@@ -75,7 +75,7 @@ module _ {T : Type 0} where
     by (Some e) false is = (e, refl, sym (same_Some e d is))
 
   after-placed : (before after : Option Key) (k : ℕ) (o : Option (Node T))
-      → option_map placed (joined_after before after k o) ≡ option_map placed o
+      → option_map placed (entry_joined_after before after k o) ≡ option_map placed o
   after-placed before after k o = by o (leads before k) where
     by : (o : Option (Node T)) (t : Bool)
         → option_map placed (if t then option_map (with_after after) o else o) ≡ option_map placed o
@@ -110,17 +110,17 @@ module _ {T : Type 0} where
 
     -- what stands somewhere stood there before, the same entry
     pub stood : (k : ℕ) (p : Placed T) → placed_at new k ≡ Some p
-        → (q : Placed T) × (placed_at nodes k ≡ Some q) × (entry_of p ≡ entry_of q)
+        → (q : Placed T) × (placed_at nodes k ≡ Some q) × (chain_entry p ≡ chain_entry q)
     stood k p is = elim (cases_eq k key) [
       | inr differs ↦ (p, sym (moves.others k differs) ∙ is, refl)
       | inl same ↦ by (placed_at nodes k) refl (sym (at-moved k same) ∙ is)
     ] where
       by : (o : Option (Placed T)) → placed_at nodes k ≡ o → option_map (in_slot slot) o ≡ Some p
-          → (q : Placed T) × (placed_at nodes k ≡ Some q) × (entry_of p ≡ entry_of q)
+          → (q : Placed T) × (placed_at nodes k ≡ Some q) × (chain_entry p ≡ chain_entry q)
       by None at is = absurd (none-some p is)
-      by (Some q) at is = (q, at, ap entry_of (sym (same_Some (in_slot slot q) p is)))
+      by (Some q) at is = (q, at, ap chain_entry (sym (same_Some (in_slot slot q) p is)))
 
-    number_of : (p q : Placed T) → entry_of p ≡ entry_of q → p.number ≡ q.number
+    number_of : (p q : Placed T) → chain_entry p ≡ chain_entry q → p.number ≡ q.number
     number_of p q same = ap (λ e. e.number) same
 
     pub unique-moved : ((i j : ℕ) (p q : Placed T) → placed_at nodes i ≡ Some p → placed_at nodes j ≡ Some q
@@ -165,7 +165,7 @@ module _ {T : Type 0} where
         ];
       } where
         by : (p : Placed T) (o : Option (Placed T)) → option_map (in_slot slot) o ≡ Some p → p.slot ≡ other
-            → IsNoEarlier h.entry.time h.entry.number (entry_of p)
+            → IsNoEarlier h.entry.time h.entry.number (chain_entry p)
         by p None is in_it = absurd (none-some p is)
         by p (Some q) is in_it =
             absurd (came (ap (λ x. x.slot) (same_Some (in_slot slot q) p is) ∙ in_it))
@@ -189,7 +189,7 @@ module _ {T : Type 0} where
 
   -- ---- numbers of a slot
 
-  module _ (nodes : ℕ → Option (Node T)) (ends : List Ends) (chained : AreChained nodes ends) where
+  module _ (nodes : ℕ → Option (Node T)) (ends : List Ends) (chained : EntriesAreChained nodes ends) where
     unique-in : (slot j k n : ℕ) → numbers_in nodes slot j ≡ Some n → numbers_in nodes slot k ≡ Some n → j ≡ k
     unique-in slot j k n at there =
         let one = number-stands slot n (placed_at nodes j) at in
@@ -219,7 +219,7 @@ module _ {T : Type 0} where
 
     module _ (new one two : ℕ → Option (Node T)) (key : ℕ) (e : Node T) (is : nodes key ≡ Some e)
         (within : e.slot < length ends)
-        (joined : (k : ℕ) → one k ≡ joined_after e.before e.after k (nodes k))
+        (joined : (k : ℕ) → one k ≡ entry_joined_after e.before e.after k (nodes k))
         (back : (k : ℕ) → two k ≡ joined_before e.before e.after k (one k))
         (changed : new key ≡ option_map (with_place OUT None None) (two key))
         (others : (k : ℕ) → k ≢ key → new k ≡ two k) where
@@ -409,7 +409,7 @@ module _ {T : Type 0} where
                 o.number o.before old)
           ])
 
-      pub chained-unlinked : AreChained new left
+      pub chained-unlinked : EntriesAreChained new left
       chained-unlinked = record {
         few = subst (λ n. n ≤ 2049) (sym (length-set ends _ _)) chained.few;
         first = first-left;
@@ -424,8 +424,8 @@ module _ {T : Type 0} where
     -- ---- one comes to the end of a chain
 
     module _ (new one : ℕ → Option (Node T)) (slot : ℕ) (key : Key) (within : slot < length ends)
-        (next : IsNext nodes slot key.place)
-        (joined : (k : ℕ) → one k ≡ joined_after (ends_at ends slot).last (Some key) k (nodes k))
+        (next : IsAboveAll nodes slot key.place)
+        (joined : (k : ℕ) → one k ≡ entry_joined_after (ends_at ends slot).last (Some key) k (nodes k))
         (changed : new key.place ≡ option_map (with_place slot (ends_at ends slot).last None) (one key.place))
         (others : (k : ℕ) → k ≢ key.place → new k ≡ one k) where
       abbrev number : ℕ
@@ -524,7 +524,7 @@ module _ {T : Type 0} where
         at_key = at_new;
         in_it = refl;
         least = λ k p is in_it. elim (newly k p is in_it) [
-          | inl own ↦ subst (λ (x : Placed T). IsNoEarlier next.entry.time number (entry_of x)) (sym own.1)
+          | inl own ↦ subst (λ (x : Placed T). IsNoEarlier next.entry.time number (chain_entry x)) (sym own.1)
               (record { not_before = omega arith; by_number = λ same. omega arith })
           | inr was ↦ let less = below k p was in_it in record {
             not_before = omega (arith, less);
@@ -542,7 +542,7 @@ module _ {T : Type 0} where
             (sym next.at_key ∙ ap (placed_at nodes) (sym same) ∙ h.at_key)) ∙ h.in_it)) ∙ h.at_key;
         in_it = h.in_it;
         least = λ k p is in_it. elim (newly k p is in_it) [
-          | inl own ↦ subst (λ (x : Placed T). IsNoEarlier h.entry.time h.entry.number (entry_of x)) (sym own.1)
+          | inl own ↦ subst (λ (x : Placed T). IsNoEarlier h.entry.time h.entry.number (chain_entry x)) (sym own.1)
               (record {
                 not_before = below;
                 by_number = λ same. let less = next.above link.place h.entry.number
@@ -552,20 +552,20 @@ module _ {T : Type 0} where
         ];
       }
 
-      time-key : time_of nodes key.place ≡ next.entry.time
+      time-key : entry_time nodes key.place ≡ next.entry.time
       time-key = ap time_in next.at_key
 
       hint-earlier : (link : Key) → IsLeastIn nodes slot link.place
           → IsLeastIn new slot (earlier_key nodes link key).place
-      hint-earlier link h = by (nat_lt (time_of nodes key.place) (time_of nodes link.place)) refl where
-        time-link : time_of nodes link.place ≡ h.entry.time
+      hint-earlier link h = by (nat_lt (entry_time nodes key.place) (entry_time nodes link.place)) refl where
+        time-link : entry_time nodes link.place ≡ h.entry.time
         time-link = ap time_in h.at_key
 
-        by : (t : Bool) → nat_lt (time_of nodes key.place) (time_of nodes link.place) ≡ t
+        by : (t : Bool) → nat_lt (entry_time nodes key.place) (entry_time nodes link.place) ≡ t
             → IsLeastIn new slot (if t then key else link).place
         by true t = new-least (λ k p is in_it.
             let first = (h.least k p is in_it).not_before in
-            let less : time_of nodes key.place < time_of nodes link.place = less_than _ _ t in
+            let less : entry_time nodes key.place < entry_time nodes link.place = less_than _ _ t in
             omega (arith, first, less, time-key, time-link))
         by false t = kept-least link h
             (let more = no_less _ _ t in omega (arith, more, time-key, time-link))
@@ -684,7 +684,7 @@ module _ {T : Type 0} where
             ])
       ]
 
-      pub chained-pushed : AreChained new more
+      pub chained-pushed : EntriesAreChained new more
       chained-pushed = record {
         few = subst (λ n. n ≤ 2049) (sym (length-set ends _ _)) chained.few;
         first = first-more;

@@ -5,11 +5,11 @@ use Rattle.std.proofs.lemmas.Bool.Decides.{nat_tests}
 use Rattle.std.proofs.lemmas.List.{get_or_past}
 use Rattle.std.proofs.lemmas.Option.{none-some, same_Some}
 use Rattle.std.specs.Option.{is_some, option_map}
-use Rattle.gptp_scheduler.specs.Pending.{Entry, IsNoEarlier}
+use Rattle.gptp_scheduler.specs.Pending.{AgendaEntry, IsNoEarlier}
 use Rattle.gptp_scheduler.specs.Numbers.{Least, Greatest}
-use Rattle.gptp_scheduler.specs.Chain.{Placed, ends_at, no_ends, number_in, placed, entry_of, placed_at, held, numbers_in, time_in, time_of, IsLeastIn, LeastIn, IsHint, AreChained}
+use Rattle.gptp_scheduler.specs.Chain.{Placed, ends_at, no_ends, number_in, placed, chain_entry, placed_at, held, numbers_in, time_in, entry_time, IsLeastIn, LeastIn, IsHint, EntriesAreChained}
 use Rattle.gptp_scheduler.specs.Places.{IsPlace}
-use Rattle.gptp_scheduler.specs.Wheel.{first_of, link_behind, rank, Earliest, IsEarliest, IsLeastBelow, IsWheel, LeastBelow, Searched}
+use Rattle.gptp_scheduler.specs.Wheel.{first_of, link_behind, rank, Earliest, IsEarliestEntry, IsLeastBelow, IsWheel, LeastBelow, Searched}
 use Rattle.gptp_scheduler.specs.declared.key.Key.{Key}
 use Rattle.gptp_scheduler.specs.declared.key.Node.{Node}
 use Rattle.gptp_scheduler.specs.declared.slots.Ends.{Ends}
@@ -32,7 +32,7 @@ module _ {T : Type 0} where
     by None at is = absurd (none-some p is)
     by (Some e) at is = (e, at, same_Some (placed e) p is)
 
-  no-earlier-itself : (p : Placed T) → IsNoEarlier p.time p.number (entry_of p)
+  no-earlier-itself : (p : Placed T) → IsNoEarlier p.time p.number (chain_entry p)
   no-earlier-itself p = record { not_before = omega arith; by_number = λ same. omega arith }
 
   pub hint-least : (nodes : ℕ → Option (Node T)) (slot : ℕ) (link : Option Key) → IsSome link → IsHint nodes slot link
@@ -47,7 +47,7 @@ module _ {T : Type 0} where
 
   -- ---- a chain is gone through
 
-  module _ (nodes : ℕ → Option (Node T)) (ends : List Ends) (chained : AreChained nodes ends) (slot : ℕ)
+  module _ (nodes : ℕ → Option (Node T)) (ends : List Ends) (chained : EntriesAreChained nodes ends) (slot : ℕ)
       (within : slot < length ends) where
     abbrev numbers : ℕ → Option ℕ
     numbers = numbers_in nodes slot
@@ -100,18 +100,18 @@ module _ {T : Type 0} where
         in_it = here.2;
         below = omega arith;
         least = λ k q at in_it below.
-            subst (λ (x : Placed T). IsNoEarlier p.time p.number (entry_of x))
+            subst (λ (x : Placed T). IsNoEarlier p.time p.number (chain_entry x))
             (sym (newly k q at in_it below (h k q at in_it)))
             (no-earlier-itself p);
       }
-      so-far (Some one) h = by (nat_lt (time_of nodes key.place) (time_of nodes one.place)) refl where
-        time-key : time_of nodes key.place ≡ p.time
+      so-far (Some one) h = by (nat_lt (entry_time nodes key.place) (entry_time nodes one.place)) refl where
+        time-key : entry_time nodes key.place ≡ p.time
         time-key = ap time_in here.1
 
-        time-one : time_of nodes one.place ≡ h.entry.time
+        time-one : entry_time nodes one.place ≡ h.entry.time
         time-one = ap time_in h.at_key
 
-        by : (t : Bool) → nat_lt (time_of nodes key.place) (time_of nodes one.place) ≡ t
+        by : (t : Bool) → nat_lt (entry_time nodes key.place) (entry_time nodes one.place) ≡ t
             → IsLeastBelow nodes slot (p.number + 1) (if t then key else one).place
         by true t =
             let less : p.time < h.entry.time = let is = less_than _ _ t in omega (arith, is, time-key, time-one) in
@@ -125,7 +125,7 @@ module _ {T : Type 0} where
                   not_before = omega arith;
                   by_number = λ same. absurd (omega arith);
                 }
-                | inr from ↦ subst (λ (x : Placed T). IsNoEarlier p.time p.number (entry_of x))
+                | inr from ↦ subst (λ (x : Placed T). IsNoEarlier p.time p.number (chain_entry x))
                     (sym (newly k q at in_it below from)) (no-earlier-itself p)
               ];
             }
@@ -138,7 +138,7 @@ module _ {T : Type 0} where
               below = omega arith;
               least = λ k q at in_it below. elim (cases_lt q.number searched.low) [
                 | inl before ↦ h.least k q at in_it before
-                | inr above ↦ subst (λ (x : Placed T). IsNoEarlier h.entry.time h.entry.number (entry_of x))
+                | inr above ↦ subst (λ (x : Placed T). IsNoEarlier h.entry.time h.entry.number (chain_entry x))
                     (sym (newly k q at in_it below above))
                     (record { not_before = more; by_number = λ same. omega arith })
               ];
@@ -176,7 +176,7 @@ module _ {T : Type 0} where
 
     -- a chain whose least is known
     pub chained-known : (least : Option Key) → LeastIn nodes slot least
-        → AreChained nodes (known least)
+        → EntriesAreChained nodes (known least)
     chained-known least h = record {
       few = subst (λ n. n ≤ 2049) (sym (length-set ends _ _)) chained.few;
       first = λ other w. elim (cases_eq other slot) [
@@ -227,7 +227,7 @@ module _ {T : Type 0} where
           (get_or_past ends slot no_ends past) some in cc)
     ]
 
-    pub wheel-known : (now : List Ends) → AreChained nodes now → length now ≡ length ends → IsWheel nodes base now
+    pub wheel-known : (now : List Ends) → EntriesAreChained nodes now → length now ≡ length ends → IsWheel nodes base now
     wheel-known now chained len = record {
       chained = chained;
       made = λ k p at. let made = wheel.made k p at in omega arith;
@@ -246,13 +246,13 @@ module _ {T : Type 0} where
 
     is-earliest : (slot : ℕ) (key : Key) (h : IsLeastIn nodes slot key.place)
         → ((k : ℕ) (q : Placed T) → placed_at nodes k ≡ Some q → q.slot ≢ slot → h.entry.time < q.time)
-        → IsEarliest nodes key.place
+        → IsEarliestEntry nodes key.place
     is-earliest slot key h others = record {
-      entry = entry_of h.entry;
+      entry = chain_entry h.entry;
       at_key = held-is nodes key.place h.entry h.at_key;
       least = λ k e is.
           let one = held-placed nodes k e is in
-          subst (λ (x : Entry T). IsNoEarlier h.entry.time h.entry.number x) (sym one.2)
+          subst (λ (x : AgendaEntry T). IsNoEarlier h.entry.time h.entry.number x) (sym one.2)
           (elim (cases_eq one.0.slot slot) [
             | inl same ↦ h.least k one.0 one.1 same
             | inr differs ↦ let less = others k one.0 one.1 differs in record {
@@ -297,7 +297,7 @@ module _ {T : Type 0} where
       pub earliest-none : ((slot : ℕ) → slot < 2048 → (ends_at ends slot).first ≡ None) → Earliest nodes None
       earliest-none empty k = by (placed_at nodes k) refl where
         by : (o : Option (Placed T)) → placed_at nodes k ≡ o → held nodes k ≡ None
-        by None at = ap (option_map entry_of) at
+        by None at = ap (option_map chain_entry) at
         by (Some q) at = absurd (
             let made = wheel.made k q at in
             let few = place-within base q.time q.slot (wheel.places k q at) in

@@ -6,10 +6,10 @@ use Rattle.std.proofs.lemmas.Bool.Decides.{nat_tests}
 use Rattle.std.proofs.lemmas.List.Elements.{All-cons, All-nil}
 use Rattle.std.proofs.lemmas.Option.{none-some, same_Some}
 use Rattle.std.specs.List.{All}
-use Rattle.gptp_scheduler.specs.Pending.{Entry, entry_at, without, RiseFrom}
+use Rattle.gptp_scheduler.specs.Pending.{AgendaEntry, entry_at, without_number, RiseFrom}
 use Rattle.gptp_scheduler.specs.Chain.{held}
-use Rattle.gptp_scheduler.specs.Wheel.{Puts, Takes}
-use Rattle.gptp_scheduler.specs.Filed.{filed_at, listed, live, lives, living, AreFiled, IsIn, Rises}
+use Rattle.gptp_scheduler.specs.Wheel.{Puts, TakesEntry}
+use Rattle.gptp_scheduler.specs.Filed.{filed_at, listed, live, entry_lives, living, AreFiled, IsInSlab, Rises}
 use Rattle.gptp_scheduler.specs.declared.filed.Filed.{Filed}
 use Rattle.gptp_scheduler.specs.declared.key.Node.{Node}
 use Rattle.gptp_scheduler.proofs.EntryLemmas.{without-other_head}
@@ -43,7 +43,7 @@ pub rises-push : (low : ℕ) (fs : List Filed) (f : Filed) (next : ℕ) → f.nu
 rises-push low [] f next is rises = (omega arith, omega arith)
 rises-push low (x ∷ fs) f next is rises = (rises.0, rises-push (x.number + 1) fs f next is rises.1)
 
-pub below-next : (low : ℕ) (fs : List Filed) (next : ℕ) (f : Filed) → Rises low fs next → IsIn f fs
+pub below-next : (low : ℕ) (fs : List Filed) (next : ℕ) (f : Filed) → Rises low fs next → IsInSlab f fs
     → (low ≤ f.number) × (f.number < next)
 below-next low [] next f rises at = absurd at
 below-next low (x ∷ fs) next f rises (inl same) =
@@ -64,12 +64,12 @@ pub rises-parted : (fs : List Filed) (next number i j : ℕ) (d : Filed) → Ris
 rises-parted fs next number i j d rises h w below =
     let less = rises-order 0 fs next i j d rises h w in grind (arith, nat_tests)
 
-pub in-at : (fs : List Filed) (i : ℕ) (d : Filed) → i < length fs → IsIn (get_or fs i d) fs
+pub in-at : (fs : List Filed) (i : ℕ) (d : Filed) → i < length fs → IsInSlab (get_or fs i d) fs
 in-at [] i d h = absurd (omega arith)
 in-at (f ∷ fs) zero d h = inl refl
 in-at (f ∷ fs) (suc i) d h = inr (in-at fs i d (omega arith))
 
-in-index : (fs : List Filed) (f : Filed) → IsIn f fs → (i : ℕ) × (i < length fs) × (get_or fs i f ≡ f)
+in-index : (fs : List Filed) (f : Filed) → IsInSlab f fs → (i : ℕ) × (i < length fs) × (get_or fs i f ≡ f)
 in-index [] f at = absurd at
 in-index (x ∷ fs) f (inl same) = (0, omega arith, same)
 in-index (x ∷ fs) f (inr at) = let one = in-index fs f at in (suc one.0, omega (arith, one.1), one.2)
@@ -78,7 +78,7 @@ pub not-filed : (fs : List Filed) (next number place : ℕ) → Rises 0 fs next
     → ((k : ℕ) (e : Filed) → 0 ≤ k → k < place → nat_lt (get_or fs k e).number number ≡ true)
     → ((k : ℕ) (e : Filed) → place ≤ k → k < length fs → nat_lt (get_or fs k e).number number ≡ false)
     → (place < length fs → (e : Filed) → (get_or fs place e).number ≢ number)
-    → (key : ℕ) → IsIn (filed_at number key) fs → ⊥
+    → (key : ℕ) → IsInSlab (filed_at number key) fs → ⊥
 not-filed fs next number place rises below from differs key at =
     let one = in-index fs (filed_at number key) at in
     let i = one.0 in
@@ -98,14 +98,14 @@ not-filed fs next number place rises below from differs key at =
       at-least : (a b : ℕ) → nat_lt a b ≡ false → b ≤ a
       at-least a b more = grind (arith, nat_tests)
 
-pub is-filed : (number : ℕ) (f : Filed) (fs : List Filed) → f.number ≡ number → IsIn f fs
-    → IsIn (filed_at number f.key.place) fs
-is-filed number f fs same at = subst (λ n. IsIn (filed_at n f.key.place) fs) same at
+pub is-filed : (number : ℕ) (f : Filed) (fs : List Filed) → f.number ≡ number → IsInSlab f fs
+    → IsInSlab (filed_at number f.key.place) fs
+is-filed number f fs same at = subst (λ n. IsInSlab (filed_at n f.key.place) fs) same at
 
 -- ---- what is listed
 
 module _ {T : Type 0} where
-  entry-live : (number n : ℕ) (o : Option (Entry T)) (es : List (Entry T)) → number ≢ n
+  entry-live : (number n : ℕ) (o : Option (AgendaEntry T)) (es : List (AgendaEntry T)) → number ≢ n
       → entry_at (live number o ++ es) n ≡ entry_at es n
   entry-live number n None es differs = refl
   entry-live number n (Some e) es differs = by (e.number == number) refl where
@@ -113,7 +113,7 @@ module _ {T : Type 0} where
     by true t = grind (arith, nat_tests)
     by false t = refl
 
-  entry-living : (n : ℕ) (o : Option (Entry T)) (es : List (Entry T)) → entry_at es n ≡ None
+  entry-living : (n : ℕ) (o : Option (AgendaEntry T)) (es : List (AgendaEntry T)) → entry_at es n ≡ None
       → entry_at (live n o ++ es) n ≡ living n o
   entry-living n None es none = none
   entry-living n (Some e) es none = by (e.number == n) refl where
@@ -122,36 +122,36 @@ module _ {T : Type 0} where
     by true t = grind (arith, nat_tests)
     by false t = none
 
-  without-live : (number n : ℕ) (o : Option (Entry T)) (es : List (Entry T)) → number ≢ n
-      → without n (live number o ++ es) ≡ live number o ++ without n es
+  without-live : (number n : ℕ) (o : Option (AgendaEntry T)) (es : List (AgendaEntry T)) → number ≢ n
+      → without_number n (live number o ++ es) ≡ live number o ++ without_number n es
   without-live number n None es differs = refl
   without-live number n (Some e) es differs = by (e.number == number) refl where
     by : (t : Bool) → (e.number == number) ≡ t
-        → without n ((if t then e ∷ [] else []) ++ es) ≡ (if t then e ∷ [] else []) ++ without n es
+        → without_number n ((if t then e ∷ [] else []) ++ es) ≡ (if t then e ∷ [] else []) ++ without_number n es
     by true t = without-other_head e es n (λ same. grind (arith, nat_tests, same))
     by false t = refl
 
-  without-living : (n : ℕ) (o : Option (Entry T)) (es : List (Entry T)) → entry_at es n ≡ None
-      → without n (live n o ++ es) ≡ without n es
+  without-living : (n : ℕ) (o : Option (AgendaEntry T)) (es : List (AgendaEntry T)) → entry_at es n ≡ None
+      → without_number n (live n o ++ es) ≡ without_number n es
   without-living n None es none = refl
   without-living n (Some e) es none = by (e.number == n) refl where
-    by : (t : Bool) → (e.number == n) ≡ t → without n ((if t then e ∷ [] else []) ++ es) ≡ without n es
+    by : (t : Bool) → (e.number == n) ≡ t → without_number n ((if t then e ∷ [] else []) ++ es) ≡ without_number n es
     by true t = grind (arith, nat_tests)
     by false t = refl
 
-  live-one : (n : ℕ) (e : Entry T) → e.number ≡ n → live n (Some e) ≡ e ∷ []
+  live-one : (n : ℕ) (e : AgendaEntry T) → e.number ≡ n → live n (Some e) ≡ e ∷ []
   live-one n e same = grind (arith, nat_tests)
 
-  live-dead : (n : ℕ) (e : Entry T) → e.number ≢ n → live n (Some e) ≡ []
+  live-dead : (n : ℕ) (e : AgendaEntry T) → e.number ≢ n → live n (Some e) ≡ []
   live-dead n e differs = grind (arith, nat_tests)
 
-  append-assoc : (a b c : List (Entry T)) → (a ++ b) ++ c ≡ a ++ (b ++ c)
+  append-assoc : (a b c : List (AgendaEntry T)) → (a ++ b) ++ c ≡ a ++ (b ++ c)
   append-assoc [] b c = refl
   append-assoc (x ∷ a) b c = ap (λ xs. x ∷ xs) (append-assoc a b c)
 
   module _ (nodes : ℕ → Option (Node T)) where
     -- no entry has a number that isn't filed
-    pub entry-nowhere : (fs : List Filed) (n : ℕ) → ((key : ℕ) → IsIn (filed_at n key) fs → ⊥)
+    pub entry-nowhere : (fs : List Filed) (n : ℕ) → ((key : ℕ) → IsInSlab (filed_at n key) fs → ⊥)
         → entry_at (listed nodes fs) n ≡ None
     entry-nowhere [] n never = refl
     entry-nowhere (f ∷ fs) n never =
@@ -160,12 +160,12 @@ module _ {T : Type 0} where
         ∙ entry-nowhere fs n (λ key at. never key (inr at))
 
     above-low : (low : ℕ) (fs : List Filed) (next n : ℕ) → Rises low fs next → n < low → (key : ℕ)
-        → IsIn (filed_at n key) fs → ⊥
+        → IsInSlab (filed_at n key) fs → ⊥
     above-low low fs next n rises less key at =
         let up = below-next low fs next (filed_at n key) rises at in omega (arith, up.0)
 
     -- the entry of a number that is filed
-    pub entry-found : (low : ℕ) (fs : List Filed) (next n key : ℕ) → Rises low fs next → IsIn (filed_at n key) fs
+    pub entry-found : (low : ℕ) (fs : List Filed) (next n key : ℕ) → Rises low fs next → IsInSlab (filed_at n key) fs
         → entry_at (listed nodes fs) n ≡ living n (held nodes key)
     entry-found low [] next n key rises at = absurd at
     entry-found low (f ∷ fs) next n key rises (inl same) =
@@ -179,8 +179,8 @@ module _ {T : Type 0} where
         entry-live f.number n (held nodes f.key.place) (listed nodes fs) (λ same. omega (arith, up.0, same))
         ∙ entry-found (f.number + 1) fs next n key rises.1 at
 
-    all-step : (P : Entry T → Type 0) (n : ℕ) (o : Option (Entry T)) (es : List (Entry T))
-        → ((e : Entry T) → o ≡ Some e → P e) → All P es → All P (live n o ++ es)
+    all-step : (P : AgendaEntry T → Type 0) (n : ℕ) (o : Option (AgendaEntry T)) (es : List (AgendaEntry T))
+        → ((e : AgendaEntry T) → o ≡ Some e → P e) → All P es → All P (live n o ++ es)
     all-step P n None es each rest = rest
     all-step P n (Some e) es each rest = one (e.number == n) where
       one : (t : Bool) → All P ((if t then e ∷ [] else []) ++ es)
@@ -188,7 +188,7 @@ module _ {T : Type 0} where
       one false = rest
 
     -- what holds of each entry holds of what is listed
-    pub listed-all : (P : Entry T → Type 0) → ((k : ℕ) (e : Entry T) → held nodes k ≡ Some e → P e) → (fs : List Filed)
+    pub listed-all : (P : AgendaEntry T → Type 0) → ((k : ℕ) (e : AgendaEntry T) → held nodes k ≡ Some e → P e) → (fs : List Filed)
         → All P (listed nodes fs)
     listed-all P each [] = All-nil P
     listed-all P each (f ∷ fs) =
@@ -199,12 +199,12 @@ module _ {T : Type 0} where
     listed-none none (f ∷ fs) =
         ap (λ o. live f.number o ++ listed nodes fs) (none f.key.place) ∙ listed-none none fs
 
-    rise-weaken : (less : ℕ) (es : List (Entry T)) (low next : ℕ) → less ≤ low → RiseFrom low es next
+    rise-weaken : (less : ℕ) (es : List (AgendaEntry T)) (low next : ℕ) → less ≤ low → RiseFrom low es next
         → RiseFrom less es next
     rise-weaken less [] low next h up = omega arith
     rise-weaken less (e ∷ es) low next h up = let from : low ≤ e.number = up.0 in (omega arith, up.1)
 
-    rise-step : (low n next : ℕ) (o : Option (Entry T)) (es : List (Entry T)) → low ≤ n → RiseFrom (n + 1) es next
+    rise-step : (low n next : ℕ) (o : Option (AgendaEntry T)) (es : List (AgendaEntry T)) → low ≤ n → RiseFrom (n + 1) es next
         → RiseFrom low (live n o ++ es) next
     rise-step low n next None es from rest = rise-weaken low es (n + 1) next (omega arith) rest
     rise-step low n next (Some e) es from rest = one (e.number == n) refl where
@@ -220,14 +220,14 @@ module _ {T : Type 0} where
         rise-step low f.number next (held nodes f.key.place) (listed nodes fs) rises.0
         (listed-rise (f.number + 1) fs next rises.1)
 
-    -- ---- without what is gone
+    -- ---- without_number what is gone
 
     abbrev pub kept : Filed → Bool
-    kept f = lives f.number (held nodes f.key.place)
+    kept f = entry_lives f.number (held nodes f.key.place)
 
-    swept-step : (f : Filed) (o : Option (Entry T)) (fs left : List Filed) → held nodes f.key.place ≡ o
+    swept-step : (f : Filed) (o : Option (AgendaEntry T)) (fs left : List Filed) → held nodes f.key.place ≡ o
         → listed nodes left ≡ listed nodes fs
-        → listed nodes (if lives f.number o then f ∷ left else left) ≡ live f.number o ++ listed nodes fs
+        → listed nodes (if entry_lives f.number o then f ∷ left else left) ≡ live f.number o ++ listed nodes fs
     swept-step f None fs left is ih = ih
     swept-step f (Some e) fs left is ih = one (e.number == f.number) refl where
       one : (t : Bool) → (e.number == f.number) ≡ t
@@ -254,29 +254,29 @@ module _ {T : Type 0} where
     rises-swept low (f ∷ fs) next rises =
         rises-step low next f (filter kept fs) rises.0 (rises-swept (f.number + 1) fs next rises.1) (kept f)
 
-    in-step : (f x : Filed) (fs : List Filed) → IsIn f fs → (t : Bool) → IsIn f (if t then x ∷ fs else fs)
+    in-step : (f x : Filed) (fs : List Filed) → IsInSlab f fs → (t : Bool) → IsInSlab f (if t then x ∷ fs else fs)
     in-step f x fs at true = inr at
     in-step f x fs at false = at
 
-    in-swept : (f : Filed) (fs : List Filed) → IsIn f fs → kept f ≡ true → IsIn f (filter kept fs)
+    in-swept : (f : Filed) (fs : List Filed) → IsInSlab f fs → kept f ≡ true → IsInSlab f (filter kept fs)
     in-swept f [] at living = absurd at
     in-swept f (x ∷ fs) (inl same) living =
-        subst (λ (t : Bool). IsIn f (if t then x ∷ filter kept fs else filter kept fs))
+        subst (λ (t : Bool). IsInSlab f (if t then x ∷ filter kept fs else filter kept fs))
         (sym (ap kept same ∙ living)) (inl same)
     in-swept f (x ∷ fs) (inr at) living = in-step f x (filter kept fs) (in-swept f fs at living) (kept x)
 
     pub filed-swept : (fs : List Filed) (next : ℕ) → AreFiled nodes fs next → AreFiled nodes (filter kept fs) next
     filed-swept fs next filed = record {
       rising = rises-swept 0 fs next filed.rising;
-      filed = λ k e is. in-swept (filed_at e.number k) fs (filed.filed k e is) (ap (lives e.number) is ∙ own e);
+      filed = λ k e is. in-swept (filed_at e.number k) fs (filed.filed k e is) (ap (entry_lives e.number) is ∙ own e);
     } where
-      own : (e : Entry T) → (e.number == e.number) ≡ true
+      own : (e : AgendaEntry T) → (e.number == e.number) ≡ true
       own e = grind (arith, nat_tests)
 
   module _ (old new : ℕ → Option (Node T)) where
     -- ---- an entry more
 
-    module _ (key : ℕ) (e : Entry T) (puts : Puts old new key e) where
+    module _ (key : ℕ) (e : AgendaEntry T) (puts : Puts old new key e) where
       live-put : (f : Filed) → f.number ≢ e.number
           → live f.number (held new f.key.place) ≡ live f.number (held old f.key.place)
       live-put f differs = elim (cases_eq f.key.place key) [
@@ -297,12 +297,12 @@ module _ {T : Type 0} where
           ∙ ap (λ xs. live f.number (held old f.key.place) ++ xs) (listed-put (f.number + 1) fs rises.1)
           ∙ sym (append-assoc (live f.number (held old f.key.place)) (listed old fs) (e ∷ []))
 
-      in-append : (f : Filed) (fs gs : List Filed) → IsIn f fs → IsIn f (fs ++ gs)
+      in-append : (f : Filed) (fs gs : List Filed) → IsInSlab f fs → IsInSlab f (fs ++ gs)
       in-append f [] gs at = absurd at
       in-append f (x ∷ fs) gs (inl same) = inl same
       in-append f (x ∷ fs) gs (inr at) = inr (in-append f fs gs at)
 
-      in-last : (f : Filed) (fs : List Filed) → IsIn f (fs ++ f ∷ [])
+      in-last : (f : Filed) (fs : List Filed) → IsInSlab f (fs ++ f ∷ [])
       in-last f [] = inl refl
       in-last f (x ∷ fs) = inr (in-last f fs)
 
@@ -313,8 +313,8 @@ module _ {T : Type 0} where
         filed = λ k d is. elim (cases_eq k key) [
           | inl same ↦
               let d_is : e ≡ d = same_Some e d (sym puts.put ∙ ap (held new) (sym same) ∙ is) in
-              subst (λ (x : Filed). IsIn x (fs ++ filed_at e.number key ∷ []))
-              (ap (λ (y : Entry T). filed_at y.number key) d_is ∙ ap (filed_at d.number) (sym same))
+              subst (λ (x : Filed). IsInSlab x (fs ++ filed_at e.number key ∷ []))
+              (ap (λ (y : AgendaEntry T). filed_at y.number key) d_is ∙ ap (filed_at d.number) (sym same))
               (in-last (filed_at e.number key) fs)
           | inr apart ↦ in-append (filed_at d.number k) fs (filed_at e.number key ∷ [])
               (filed.filed k d (sym (puts.others k apart) ∙ is))
@@ -323,29 +323,29 @@ module _ {T : Type 0} where
 
     -- ---- an entry less
 
-    module _ (key : ℕ) (e : Entry T) (takes : Takes old new key e) (next : ℕ)
-        (unique : (j k : ℕ) (d b : Entry T) → held old j ≡ Some d → held old k ≡ Some b → d.number ≡ b.number → j ≡ k)
+    module _ (key : ℕ) (e : AgendaEntry T) (takes : TakesEntry old new key e) (next : ℕ)
+        (unique : (j k : ℕ) (d b : AgendaEntry T) → held old j ≡ Some d → held old k ≡ Some b → d.number ≡ b.number → j ≡ k)
       where
-        live-taken : (f : Filed) (es : List (Entry T)) → (f.number ≡ e.number → entry_at es e.number ≡ None)
-            → live f.number (held new f.key.place) ++ without e.number es
-            ≡ without e.number (live f.number (held old f.key.place) ++ es)
+        live-taken : (f : Filed) (es : List (AgendaEntry T)) → (f.number ≡ e.number → entry_at es e.number ≡ None)
+            → live f.number (held new f.key.place) ++ without_number e.number es
+            ≡ without_number e.number (live f.number (held old f.key.place) ++ es)
         live-taken f es none = elim (cases_eq f.number e.number) [
           | inr differs ↦ elim (cases_eq f.key.place key) [
             | inl same ↦
-                ap (λ k. live f.number (held new k) ++ without e.number es) same
-                ∙ ap (λ o. live f.number o ++ without e.number es) takes.gone
-                ∙ sym (ap (λ xs. without e.number (xs ++ es)) (live-dead f.number e (λ is. differs (sym is))))
-                ∙ sym (ap (λ o. without e.number (live f.number o ++ es)) takes.was)
-                ∙ ap (λ k. without e.number (live f.number (held old k) ++ es)) (sym same)
+                ap (λ k. live f.number (held new k) ++ without_number e.number es) same
+                ∙ ap (λ o. live f.number o ++ without_number e.number es) takes.gone
+                ∙ sym (ap (λ xs. without_number e.number (xs ++ es)) (live-dead f.number e (λ is. differs (sym is))))
+                ∙ sym (ap (λ o. without_number e.number (live f.number o ++ es)) takes.was)
+                ∙ ap (λ k. without_number e.number (live f.number (held old k) ++ es)) (sym same)
             | inr apart ↦
-                ap (λ o. live f.number o ++ without e.number es) (takes.others f.key.place apart)
+                ap (λ o. live f.number o ++ without_number e.number es) (takes.others f.key.place apart)
                 ∙ sym (without-live f.number e.number (held old f.key.place) es differs)
           ]
           | inl is ↦
-              gone f is ∙ sym (ap (λ n. without e.number (live n (held old f.key.place) ++ es)) is
+              gone f is ∙ sym (ap (λ n. without_number e.number (live n (held old f.key.place) ++ es)) is
               ∙ without-living e.number (held old f.key.place) es (none is))
         ] where
-          dead : (f : Filed) → f.number ≡ e.number → (o : Option (Entry T)) → held new f.key.place ≡ o
+          dead : (f : Filed) → f.number ≡ e.number → (o : Option (AgendaEntry T)) → held new f.key.place ≡ o
               → live f.number o ≡ []
           dead f is None at = refl
           dead f is (Some d) at = live-dead f.number d (λ same.
@@ -353,11 +353,11 @@ module _ {T : Type 0} where
               apart (unique f.key.place key d e (sym (takes.others f.key.place apart) ∙ at) takes.was (same ∙ is)))
 
           gone : (f : Filed) → f.number ≡ e.number
-              → live f.number (held new f.key.place) ++ without e.number es ≡ without e.number es
-          gone f is = ap (λ xs. xs ++ without e.number es) (dead f is (held new f.key.place) refl)
+              → live f.number (held new f.key.place) ++ without_number e.number es ≡ without_number e.number es
+          gone f is = ap (λ xs. xs ++ without_number e.number es) (dead f is (held new f.key.place) refl)
 
         pub listed-taken : (low : ℕ) (fs : List Filed) → Rises low fs next
-            → listed new fs ≡ without e.number (listed old fs)
+            → listed new fs ≡ without_number e.number (listed old fs)
         listed-taken low [] rises = refl
         listed-taken low (f ∷ fs) rises =
             ap (λ xs. live f.number (held new f.key.place) ++ xs) (listed-taken (f.number + 1) fs rises.1)

@@ -4,7 +4,7 @@ use Rattle.std.proofs.lemmas.Bool.{cases_eq, cases_lt}
 use Rattle.std.proofs.lemmas.Bool.Decides.{nat_tests}
 use Rattle.std.proofs.lemmas.Option.{none-some, same_Some}
 use Rattle.gptp_scheduler.specs.Numbers.{Least, Greatest}
-use Rattle.gptp_scheduler.specs.Chain.{leads, is_end, bypass, fill}
+use Rattle.gptp_scheduler.specs.Chain.{leads, leads_nowhere, bypass, fill}
 use Rattle.gptp_scheduler.specs.declared.key.Key.{Key}
 
 pub both_tests : (a b : Bool) → (a ≡ true → b ≡ true) → (b ≡ true → a ≡ true) → a ≡ b
@@ -111,7 +111,7 @@ module _ (f : ℕ → Option ℕ) (unique : (j k n : ℕ) → f j ≡ Some n →
     adjacent after before h i = both_tests _ _ (behind after before h i) (ahead after before h i)
 
   first-none : (first before : Option Key) → Least f 0 first → Greatest f number before
-      → leads first key ≡ true → is_end before ≡ true
+      → leads first key ≡ true → leads_nowhere before ≡ true
   first-none None before h i t = cc
   first-none (Some l) None h i t = refl
   first-none (Some l) (Some p) h i t =
@@ -119,7 +119,7 @@ module _ (f : ℕ → Option ℕ) (unique : (j k n : ℕ) → f j ≡ Some n →
       let least = h.least p.place i.number i.at (omega arith) in absurd (omega arith)
 
   none-first : (first before : Option Key) → Least f 0 first → Greatest f number before
-      → is_end before ≡ true → leads first key ≡ true
+      → leads_nowhere before ≡ true → leads first key ≡ true
   none-first first (Some p) h i t = cc
   none-first None None h i t = let low = h key number at in absurd (omega arith)
   none-first (Some l) None h i t =
@@ -128,12 +128,12 @@ module _ (f : ℕ → Option ℕ) (unique : (j k n : ℕ) → f j ≡ Some n →
 
   -- one is the first exactly where nothing stands before it
   pub adjacent-first : (first before : Option Key) → Least f 0 first → Greatest f number before
-      → leads first key ≡ is_end before
+      → leads first key ≡ leads_nowhere before
   adjacent-first first before h i = both_tests _ _ (first-none first before h i) (none-first first before h i)
 
   module _ (high : ℕ) (small : (k n : ℕ) → f k ≡ Some n → n < high) where
     last-none : (last after : Option Key) → Greatest f high last → Least f (number + 1) after
-        → leads last key ≡ true → is_end after ≡ true
+        → leads last key ≡ true → leads_nowhere after ≡ true
     last-none None after h i t = cc
     last-none (Some l) None h i t = refl
     last-none (Some l) (Some p) h i t =
@@ -141,7 +141,7 @@ module _ (f : ℕ → Option ℕ) (unique : (j k n : ℕ) → f j ≡ Some n →
         let greatest = h.greatest p.place i.number i.at (small p.place i.number i.at) in absurd (omega arith)
 
     none-last : (last after : Option Key) → Greatest f high last → Least f (number + 1) after
-        → is_end after ≡ true → leads last key ≡ true
+        → leads_nowhere after ≡ true → leads last key ≡ true
     none-last last (Some p) h i t = cc
     none-last None None h i t = let up = h key number at in let less = small key number at in absurd (omega arith)
     none-last (Some l) None h i t =
@@ -150,7 +150,7 @@ module _ (f : ℕ → Option ℕ) (unique : (j k n : ℕ) → f j ≡ Some n →
 
     -- one is the last exactly where nothing stands behind it
     pub adjacent-last : (last after : Option Key) → Greatest f high last → Least f (number + 1) after
-        → leads last key ≡ is_end after
+        → leads last key ≡ leads_nowhere after
     adjacent-last last after h i = both_tests _ _ (last-none last after h i) (none-last last after h i)
 
 -- ---- one goes

@@ -3,11 +3,11 @@ use Rattle.std.proofs.Common.{◌≡◌, ◌≢◌, ℕ, ◌+◌, ◌-◌, ◌/�
 use Rattle.std.proofs.lemmas.Bool.{cases_eq, cases_lt}
 use Rattle.std.proofs.lemmas.Option.{none-some, same_Some}
 use Rattle.std.specs.Option.{option_map}
-use Rattle.gptp_scheduler.specs.Pending.{Entry}
+use Rattle.gptp_scheduler.specs.Pending.{AgendaEntry}
 use Rattle.gptp_scheduler.specs.Numbers.{Least}
-use Rattle.gptp_scheduler.specs.Chain.{OUT, Placed, ends_at, number_in, placed, in_slot, entry_of, placed_at, held, numbers_in, time_in, time_of, IsHint, AreChained, StandsIn, IsNext, Moves}
+use Rattle.gptp_scheduler.specs.Chain.{OUT, Placed, ends_at, number_in, placed, in_slot, chain_entry, placed_at, held, numbers_in, time_in, entry_time, IsHint, EntriesAreChained, StandsIn, IsAboveAll, Moves}
 use Rattle.gptp_scheduler.specs.Places.{tick, IsInLevels, IsPlace}
-use Rattle.gptp_scheduler.specs.Wheel.{rank, AreBelow, IsEarliest, IsLeft, IsLowering, IsWheel, Puts, SameEntries, Takes}
+use Rattle.gptp_scheduler.specs.Wheel.{rank, AreBelow, IsEarliestEntry, IsLeft, IsLowering, IsWheel, Puts, SameEntries, TakesEntry}
 use Rattle.gptp_scheduler.specs.declared.key.Key.{Key}
 use Rattle.gptp_scheduler.specs.declared.key.Node.{Node}
 use Rattle.gptp_scheduler.specs.declared.slots.Ends.{Ends}
@@ -36,16 +36,16 @@ rank-falls numbers low (Some key) n small least bound above =
 
 module _ {T : Type 0} where
   pub held-is : (nodes : ℕ → Option (Node T)) (k : ℕ) (p : Placed T) → placed_at nodes k ≡ Some p
-      → held nodes k ≡ Some (entry_of p)
-  held-is nodes k p at = ap (option_map entry_of) at
+      → held nodes k ≡ Some (chain_entry p)
+  held-is nodes k p at = ap (option_map chain_entry) at
 
-  pub held-placed : (nodes : ℕ → Option (Node T)) (k : ℕ) (e : Entry T) → held nodes k ≡ Some e
-      → (p : Placed T) × (placed_at nodes k ≡ Some p) × (e ≡ entry_of p)
+  pub held-placed : (nodes : ℕ → Option (Node T)) (k : ℕ) (e : AgendaEntry T) → held nodes k ≡ Some e
+      → (p : Placed T) × (placed_at nodes k ≡ Some p) × (e ≡ chain_entry p)
   held-placed nodes k e is = by (placed_at nodes k) refl is where
-    by : (o : Option (Placed T)) → placed_at nodes k ≡ o → option_map entry_of o ≡ Some e
-        → (p : Placed T) × (placed_at nodes k ≡ Some p) × (e ≡ entry_of p)
+    by : (o : Option (Placed T)) → placed_at nodes k ≡ o → option_map chain_entry o ≡ Some e
+        → (p : Placed T) × (placed_at nodes k ≡ Some p) × (e ≡ chain_entry p)
     by None at is = absurd (none-some e is)
-    by (Some p) at is = (p, at, sym (same_Some (entry_of p) e is))
+    by (Some p) at is = (p, at, sym (same_Some (chain_entry p) e is))
 
   pub held-node : (nodes : ℕ → Option (Node T)) (k : ℕ) (e : Node T) → nodes k ≡ Some e
       → placed_at nodes k ≡ Some (placed e)
@@ -59,17 +59,17 @@ module _ {T : Type 0} where
   -- an entry that was moved is the same entry
   pub same-moved : (old new : ℕ → Option (Node T)) (key slot : ℕ) → Moves old new key slot → SameEntries old new
   same-moved old new key slot moves k = elim (cases_eq k key) [
-    | inl same ↦ ap (option_map entry_of) (at-moved old new key slot moves k same)
+    | inl same ↦ ap (option_map chain_entry) (at-moved old new key slot moves k same)
         ∙ by (placed_at old k)
-    | inr differs ↦ ap (option_map entry_of) (moves.others k differs)
+    | inr differs ↦ ap (option_map chain_entry) (moves.others k differs)
   ] where
-    by : (o : Option (Placed T)) → option_map entry_of (option_map (in_slot slot) o) ≡ option_map entry_of o
+    by : (o : Option (Placed T)) → option_map chain_entry (option_map (in_slot slot) o) ≡ option_map chain_entry o
     by None = refl
     by (Some p) = refl
 
   -- ---- an entry comes in, or goes, that stands in no chain
 
-  module _ (old new : ℕ → Option (Node T)) (ends : List Ends) (key : ℕ) (chained : AreChained old ends)
+  module _ (old new : ℕ → Option (Node T)) (ends : List Ends) (key : ℕ) (chained : EntriesAreChained old ends)
       (e : Node T) (free : old key ≡ None) (put : new key ≡ Some e) (others : (k : ℕ) → k ≢ key → new k ≡ old k)
       (out : e.slot ≡ OUT) (above : AreBelow old e.number) (small : e.number < 2 ^ 64) where
     came : (k : ℕ) (p : Placed T) → placed_at new k ≡ Some p
@@ -113,7 +113,7 @@ module _ {T : Type 0} where
       | inr differs ↦ sym (others k differs) ∙ at
     ]
 
-    pub chained-put : AreChained new ends
+    pub chained-put : EntriesAreChained new ends
     chained-put = record {
       few = chained.few;
       first = λ slot w. least-same (numbers_in old slot) (numbers_in new slot) (numbers-put slot (range slot w)) 0
@@ -144,7 +144,7 @@ module _ {T : Type 0} where
     }
 
     -- it can come to the end of any chain
-    pub next-put : (slot : ℕ) → slot < 2049 → IsNext new slot key
+    pub next-put : (slot : ℕ) → slot < 2049 → IsAboveAll new slot key
     next-put slot w = record {
       entry = placed e;
       at_key = held-node new key e put;
@@ -157,7 +157,7 @@ module _ {T : Type 0} where
     -- and then it is there, and all others
     module _ (base slot : ℕ) (last : ℕ → Option (Node T)) (now : List Ends) (wheel : IsWheel old base ends)
         (made : 2049 ≤ length ends) (len : length now ≡ length ends) (place : IsPlace base e.time slot)
-        (after : AreChained last now) (moves : Moves new last key slot) where
+        (after : EntriesAreChained last now) (moves : Moves new last key slot) where
       last-key : placed_at last key ≡ Some (in_slot slot (placed e))
       last-key = moves.moved ∙ ap (option_map (in_slot slot)) (held-node new key e put)
 
@@ -174,17 +174,17 @@ module _ {T : Type 0} where
         ];
       }
 
-      pub puts-put : Puts old last key (entry_of (placed e))
+      pub puts-put : Puts old last key (chain_entry (placed e))
       puts-put = record {
-        free = ap (λ o. option_map entry_of (option_map placed o)) free;
-        put = ap (option_map entry_of) last-key;
-        others = λ k differs. ap (option_map entry_of)
+        free = ap (λ o. option_map chain_entry (option_map placed o)) free;
+        put = ap (option_map chain_entry) last-key;
+        others = λ k differs. ap (option_map chain_entry)
             (moves.others k differs ∙ ap (option_map placed) (others k differs));
       }
 
   -- ---- an entry is taken out
 
-  module _ (old mid new : ℕ → Option (Node T)) (ends now : List Ends) (key : ℕ) (after : AreChained mid now)
+  module _ (old mid new : ℕ → Option (Node T)) (ends now : List Ends) (key : ℕ) (after : EntriesAreChained mid now)
       (moves : Moves old mid key OUT) (e : Node T) (is : mid key ≡ Some e) (gone : new key ≡ None)
       (others : (k : ℕ) → k ≢ key → new k ≡ mid k) (len : length now ≡ length ends) where
     left : (k : ℕ) (p : Placed T) → placed_at new k ≡ Some p → (k ≢ key) × (placed_at mid k ≡ Some p)
@@ -228,7 +228,7 @@ module _ {T : Type 0} where
     mid-node : (k : ℕ) (d : Node T) → new k ≡ Some d → mid k ≡ Some d
     mid-node k d at = sym (others k (left k (placed d) (held-node new k d at)).0) ∙ at
 
-    pub chained-taken : AreChained new now
+    pub chained-taken : EntriesAreChained new now
     chained-taken = record {
       few = after.few;
       first = λ slot w. least-same (numbers_in mid slot) (numbers_in new slot) (numbers-taken slot w) 0
@@ -251,17 +251,17 @@ module _ {T : Type 0} where
       places = λ k p at. wheel.places k p (left-before k p at).1;
     }
 
-    pub takes-taken : Takes old new key (entry_of (placed e))
+    pub takes-taken : TakesEntry old new key (chain_entry (placed e))
     takes-taken = record {
-      was = sym (same-moved old mid key OUT moves key) ∙ ap (option_map entry_of) (held-node mid key e is);
-      gone = ap (λ o. option_map entry_of (option_map placed o)) gone;
-      others = λ k differs. ap (option_map entry_of)
+      was = sym (same-moved old mid key OUT moves key) ∙ ap (option_map chain_entry) (held-node mid key e is);
+      gone = ap (λ o. option_map chain_entry (option_map placed o)) gone;
+      others = λ k differs. ap (option_map chain_entry)
           (ap (option_map placed) (others k differs) ∙ moves.others k differs);
     }
 
   -- ---- the first of a slot
 
-  module _ (nodes : ℕ → Option (Node T)) (ends : List Ends) (chained : AreChained nodes ends) (slot : ℕ)
+  module _ (nodes : ℕ → Option (Node T)) (ends : List Ends) (chained : EntriesAreChained nodes ends) (slot : ℕ)
       (within : slot < length ends) where
     -- it stands there, and none of its slot has a lower number
     pub first-stands : (key : Key) → (ends_at ends slot).first ≡ Some key
@@ -292,7 +292,7 @@ module _ {T : Type 0} where
 
   module _ (nodes mid new : ℕ → Option (Node T)) (base slot to time : ℕ) (ends now : List Ends)
       (lowering : IsLowering nodes base slot ends) (key : Key) (is : (ends_at ends slot).first ≡ Some key)
-      (time_is : time ≡ time_of nodes key.place) (place : IsPlace base time to)
+      (time_is : time ≡ entry_time nodes key.place) (place : IsPlace base time to)
       (gone : Moves nodes mid key.place OUT) where
     abbrev stands : (p : Placed T) × (placed_at nodes key.place ≡ Some p) × (p.slot ≡ slot)
         × ((k : ℕ) (q : Placed T) → placed_at nodes k ≡ Some q → q.slot ≡ slot → p.number ≤ q.number)
@@ -318,7 +318,7 @@ module _ {T : Type 0} where
     mid-key : placed_at mid key.place ≡ Some (in_slot OUT p)
     mid-key = gone.moved ∙ ap (option_map (in_slot OUT)) stands.1
 
-    pub next-lowered : IsNext mid to key.place
+    pub next-lowered : IsAboveAll mid to key.place
     next-lowered = record {
       entry = in_slot OUT p;
       at_key = mid-key;
@@ -338,7 +338,7 @@ module _ {T : Type 0} where
           ];
     }
 
-    module _ (came : Moves mid new key.place to) (last : AreChained new now) (len : length now ≡ length ends) where
+    module _ (came : Moves mid new key.place to) (last : EntriesAreChained new now) (len : length now ≡ length ends) where
       new-key : placed_at new key.place ≡ Some (in_slot to p)
       new-key = came.moved ∙ ap (option_map (in_slot to)) mid-key
 
@@ -468,7 +468,7 @@ module _ {T : Type 0} where
   -- ---- the least is taken
 
   module _ (nodes : ℕ → Option (Node T)) (base : ℕ) (ends : List Ends) (wheel : IsWheel nodes base ends) (key : ℕ)
-      (first : IsEarliest nodes key) where
+      (first : IsEarliestEntry nodes key) where
     pub earliest-stands : StandsIn nodes ends key
     earliest-stands =
         let one = held-placed nodes key first.entry first.at_key in
@@ -476,17 +476,17 @@ module _ {T : Type 0} where
         let within = place-within base one.0.time one.0.slot (wheel.places key one.0 one.1) in
         (one.0, one.1, omega arith)
 
-    pub earliest-left : (new : ℕ → Option (Node T)) (now : List Ends) (e : Node T) (gone : Entry T) → nodes key ≡ Some e
-        → Takes nodes new key gone → IsWheel new base now → length now ≡ length ends → IsLeft new base e.time e.slot now
+    pub earliest-left : (new : ℕ → Option (Node T)) (now : List Ends) (e : Node T) (gone : AgendaEntry T) → nodes key ≡ Some e
+        → TakesEntry nodes new key gone → IsWheel new base now → length now ≡ length ends → IsLeft new base e.time e.slot now
     earliest-left new now e gone is takes after len = record {
       wheel = after;
       made = let made = wheel.made key (placed e) (held-node nodes key e is) in omega arith;
       place = wheel.places key (placed e) (held-node nodes key e is);
       first = λ k p at.
-          let differs : k ≢ key = λ same. none-some (entry_of p)
+          let differs : k ≢ key = λ same. none-some (chain_entry p)
           (sym takes.gone ∙ ap (held new) (sym same) ∙ held-is new k p at) in
-          let least = first.least k (entry_of p) (sym (takes.others k differs) ∙ held-is new k p at) in
-          let time_is : e.time ≡ first.entry.time = ap (λ x. x.time) (same_Some (entry_of (placed e)) first.entry
+          let least = first.least k (chain_entry p) (sym (takes.others k differs) ∙ held-is new k p at) in
+          let time_is : e.time ≡ first.entry.time = ap (λ x. x.time) (same_Some (chain_entry (placed e)) first.entry
           (sym (held-is nodes key (placed e) (held-node nodes key e is)) ∙ first.at_key)) in
           let less = least.not_before in omega arith;
     }

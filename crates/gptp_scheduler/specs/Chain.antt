@@ -2,7 +2,7 @@
 use Rattle.std.specs.Prelude.{◌≡◌, ◌≢◌, ℕ, ◌+◌, ◌^◌, ◌<◌, ◌≤◌, ◌==◌, Bool, true, false, List, length, Option, Some, None, if◌then◌else◌, nat_lt, slice_index_or}
 use Rattle.std.specs.Option.{option_map, option_or}
 use Rattle.slab.specs.Slab.{Slab, slab_len}
-use Rattle.gptp_scheduler.specs.Pending.{Entry, entry, IsNoEarlier}
+use Rattle.gptp_scheduler.specs.Pending.{AgendaEntry, entry, IsNoEarlier}
 use Rattle.gptp_scheduler.specs.Numbers.{Least, Greatest}
 use Rattle.gptp_scheduler.specs.declared.key.Key.{Key}
 use Rattle.gptp_scheduler.specs.declared.key.Node.{Node}
@@ -32,9 +32,9 @@ leads None k = false
 leads (Some key) k = k == key.place
 
 -- a link leads nowhere
-abbrev pub is_end : Option Key → Bool
-is_end None = true
-is_end (Some key) = false
+abbrev pub leads_nowhere : Option Key → Bool
+leads_nowhere None = true
+leads_nowhere (Some key) = false
 
 -- a link, or another in its place where it leads to this key
 abbrev pub bypass : ℕ → Option Key → Option Key → Option Key
@@ -47,8 +47,8 @@ fill link key = option_or link (Some key)
 -- the ends of a chain without an entry that stood between these two
 abbrev pub ends_without : ℕ → Option Key → Option Key → Ends → Ends
 ends_without key before after ends = record {
-  first = if is_end before then after else ends.first;
-  last = if is_end after then before else ends.last;
+  first = if leads_nowhere before then after else ends.first;
+  last = if leads_nowhere after then before else ends.last;
   least = bypass key None ends.least;
 }
 
@@ -68,8 +68,8 @@ module _ {T : Type 0} where
   abbrev pub in_slot : ℕ → Placed T → Placed T
   in_slot slot p = record { number = p.number; time = p.time; slot = slot; item = p.item }
 
-  abbrev pub entry_of : Placed T → Entry T
-  entry_of p = entry p.time p.number p.item
+  abbrev pub chain_entry : Placed T → AgendaEntry T
+  chain_entry p = entry p.time p.number p.item
 
   abbrev pub with_after : Option Key → Node T → Node T
   with_after after e = record e { after = after }
@@ -81,15 +81,15 @@ module _ {T : Type 0} where
   with_place slot before after e = record e { slot = slot; before = before; after = after }
 
   -- an entry, with `after` as the link behind it where `before` leads to it
-  abbrev pub joined_after : Option Key → Option Key → ℕ → Option (Node T) → Option (Node T)
-  joined_after before after k e = if leads before k then option_map (with_after after) e else e
+  abbrev pub entry_joined_after : Option Key → Option Key → ℕ → Option (Node T) → Option (Node T)
+  entry_joined_after before after k e = if leads before k then option_map (with_after after) e else e
 
   -- an entry, with `before` as the link before it where `after` leads to it
   abbrev pub joined_before : Option Key → Option Key → ℕ → Option (Node T) → Option (Node T)
   joined_before before after k e = if leads after k then option_map (with_before before) e else e
 
   -- the same number of entries, and the same capacity
-  pub record SameRoom (old new : Slab (Node T)) : Type 0 where
+  pub record SameEntryRoom (old new : Slab (Node T)) : Type 0 where
     pub len : slab_len new ≡ slab_len old
     pub capacity : new.capacity ≡ old.capacity
 
@@ -98,8 +98,8 @@ module _ {T : Type 0} where
     placed_at k = option_map placed (nodes k)
 
     -- the entry at a key
-    abbrev pub held : ℕ → Option (Entry T)
-    held k = option_map entry_of (placed_at k)
+    abbrev pub held : ℕ → Option (AgendaEntry T)
+    held k = option_map chain_entry (placed_at k)
 
     -- the numbers of what stands in a slot
     abbrev pub numbers_in : ℕ → ℕ → Option ℕ
@@ -111,18 +111,18 @@ module _ {T : Type 0} where
       pub at_key : placed_at key ≡ Some entry
       pub in_it : entry.slot ≡ slot
       pub least : (k : ℕ) (p : Placed T) → placed_at k ≡ Some p → p.slot ≡ slot
-          → IsNoEarlier entry.time entry.number (entry_of p)
+          → IsNoEarlier entry.time entry.number (chain_entry p)
 
-    abbrev pub time_of : ℕ → ℕ
-    time_of k = time_in (placed_at k)
+    abbrev pub entry_time : ℕ → ℕ
+    entry_time k = time_in (placed_at k)
 
     -- the earlier of two entries, where the second has the higher number
     abbrev pub earlier_key : Key → Key → Key
-    earlier_key one other = if nat_lt (time_of other.place) (time_of one.place) then other else one
+    earlier_key one other = if nat_lt (entry_time other.place) (entry_time one.place) then other else one
 
     -- the least of a chain with an entry more, where that is known
     abbrev pub least_with : Option Key → Option Key → Key → Option Key
-    least_with None first key = if is_end first then Some key else None
+    least_with None first key = if leads_nowhere first then Some key else None
     least_with (Some least) first key = Some (earlier_key least key)
 
     -- the ends of a chain with an entry more
@@ -145,7 +145,7 @@ module _ {T : Type 0} where
 
     -- The first of a chain has the least number of its slot and the last the greatest. The link behind an
     -- entry leads to the least number above its own in its slot, and the one before it to the greatest below.
-    pub record AreChained (ends : List Ends) : Type 0 where
+    pub record EntriesAreChained (ends : List Ends) : Type 0 where
       pub few : length ends ≤ 2049
       pub first : (slot : ℕ) → slot < length ends → Least (numbers_in slot) 0 (ends_at ends slot).first
       pub last : (slot : ℕ) → slot < length ends → Greatest (numbers_in slot) (2 ^ 64) (ends_at ends slot).last
@@ -163,7 +163,7 @@ module _ {T : Type 0} where
     StandsIn ends key = (p : Placed T) × (placed_at key ≡ Some p) × (p.slot < length ends)
 
     -- an entry stands in no chain, and above all numbers of a slot
-    pub record IsNext (slot key : ℕ) : Type 0 where
+    pub record IsAboveAll (slot key : ℕ) : Type 0 where
       pub entry : Placed T
       pub at_key : placed_at key ≡ Some entry
       pub out : entry.slot ≡ OUT

@@ -1,7 +1,7 @@
 -- Entries by number: numbers by rising order, each with the key at which its entry was put.
 use Rattle.std.specs.Prelude.{◌≡◌, ◌⊎◌, ℕ, ◌+◌, ◌^◌, ◌<◌, ◌≤◌, ◌==◌, Bool, false, List, length, [], ◌∷◌, ◌++◌, Option, Some, None, if◌then◌else◌}
 use Rattle.slab.specs.Slab.{Slab, slab_len}
-use Rattle.gptp_scheduler.specs.Pending.{Entry}
+use Rattle.gptp_scheduler.specs.Pending.{AgendaEntry}
 use Rattle.gptp_scheduler.specs.Numbers.{key_of}
 use Rattle.gptp_scheduler.specs.Chain.{held}
 use Rattle.gptp_scheduler.specs.Wheel.{Earliest, IsWheel}
@@ -18,35 +18,35 @@ abbrev pub Rises : ℕ → List Filed → ℕ → Type 0
 Rises low [] next = low ≤ next
 Rises low (f ∷ fs) next = (low ≤ f.number) × Rises (f.number + 1) fs next
 
-abbrev pub IsIn : Filed → List Filed → Type 0
-IsIn f [] = ⊥
-IsIn f (x ∷ xs) = (x ≡ f) ⊎ IsIn f xs
+abbrev pub IsInSlab : Filed → List Filed → Type 0
+IsInSlab f [] = ⊥
+IsInSlab f (x ∷ xs) = (x ≡ f) ⊎ IsInSlab f xs
 
 module _ {T : Type 0} where
   -- what stands at a key is the entry of this number still
-  abbrev pub lives : ℕ → Option (Entry T) → Bool
-  lives number None = false
-  lives number (Some e) = e.number == number
+  abbrev pub entry_lives : ℕ → Option (AgendaEntry T) → Bool
+  entry_lives number None = false
+  entry_lives number (Some e) = e.number == number
 
   -- the entry of a number, if it is what stands at a key
-  abbrev pub living : ℕ → Option (Entry T) → Option (Entry T)
+  abbrev pub living : ℕ → Option (AgendaEntry T) → Option (AgendaEntry T)
   living number None = None
   living number (Some e) = if e.number == number then Some e else None
 
-  abbrev pub live : ℕ → Option (Entry T) → List (Entry T)
+  abbrev pub live : ℕ → Option (AgendaEntry T) → List (AgendaEntry T)
   live number None = []
   live number (Some e) = if e.number == number then e ∷ [] else []
 
   module _ (nodes : ℕ → Option (Node T)) where
     -- the entries of these numbers that are there still
-    abbrev pub listed : List Filed → List (Entry T)
+    abbrev pub listed : List Filed → List (AgendaEntry T)
     listed [] = []
     listed (f ∷ fs) = live f.number (held nodes f.key.place) ++ listed fs
 
     -- each entry stands among these by its number
     pub record AreFiled (fs : List Filed) (next : ℕ) : Type 0 where
       pub rising : Rises 0 fs next
-      pub filed : (k : ℕ) (e : Entry T) → held nodes k ≡ Some e → IsIn (filed_at e.number k) fs
+      pub filed : (k : ℕ) (e : AgendaEntry T) → held nodes k ≡ Some e → IsInSlab (filed_at e.number k) fs
 
     -- a wheel, its entries by number, and the least of them
     pub record IsAgenda (base next : ℕ) (ends : List Ends) (fs : List Filed) (link : Option Key) : Type 0 where

@@ -7,7 +7,7 @@ abbrev pub key_of : ℕ → Key
 key_of place = record { place = place }
 
 -- a key has the least of the numbers from `low` on
-pub record IsLeast (numbers : ℕ → Option ℕ) (low key : ℕ) : Type 0 where
+pub record HasLeastNumber (numbers : ℕ → Option ℕ) (low key : ℕ) : Type 0 where
   pub number : ℕ
   pub at : numbers key ≡ Some number
   pub from : low ≤ number
@@ -23,7 +23,7 @@ pub record IsGreatest (numbers : ℕ → Option ℕ) (high key : ℕ) : Type 0 w
 -- a link leads to the least number from `low` on, if there is one
 abbrev pub Least : (ℕ → Option ℕ) → ℕ → Option Key → Type 0
 Least numbers low None = (k n : ℕ) → numbers k ≡ Some n → n < low
-Least numbers low (Some key) = IsLeast numbers low key.place
+Least numbers low (Some key) = HasLeastNumber numbers low key.place
 
 -- a link leads to the greatest number below `high`, if there is one
 abbrev pub Greatest : (ℕ → Option ℕ) → ℕ → Option Key → Type 0

@@ -22,7 +22,7 @@ IsPlace base time slot = IsInLevels base time slot ⊎ ((slot ≡ 2048) × (time
 -- The same by level and slot, level 0 for the most significant octet: the level is that of the highest octet in
 -- which the time differs from the base, and 7 where it is the base. The slot is that octet of the time. Level 8
 -- has one slot, for times below the base.
-abbrev pub StandsAt : ℕ → ℕ → ℕ → ℕ → Type 0
-StandsAt base time level slot =
+abbrev pub StandsAtLevel : ℕ → ℕ → ℕ → ℕ → Type 0
+StandsAtLevel base time level slot =
     ((level ≤ 7) × (slot < 256) × IsInLevels base time ((7 - level) * 256 + slot))
     ⊎ ((level ≡ 8) × (slot ≡ 0) × (time < base))

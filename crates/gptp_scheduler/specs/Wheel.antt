@@ -1,7 +1,7 @@
 -- A wheel: each entry stands in the chain of its slot, and what is done with it.
 use Rattle.std.specs.Prelude.{◌≡◌, ◌≢◌, ℕ, ◌/◌, ◌-◌, ◌^◌, ◌<◌, ◌≤◌, List, length, Option, Some, None, unwrap_or}
-use Rattle.gptp_scheduler.specs.Pending.{Entry, IsNoEarlier}
-use Rattle.gptp_scheduler.specs.Chain.{Placed, entry_of, placed_at, held, numbers_in, earlier_key, AreChained}
+use Rattle.gptp_scheduler.specs.Pending.{AgendaEntry, IsNoEarlier}
+use Rattle.gptp_scheduler.specs.Chain.{Placed, chain_entry, placed_at, held, numbers_in, earlier_key, EntriesAreChained}
 use Rattle.gptp_scheduler.specs.Numbers.{Least}
 use Rattle.gptp_scheduler.specs.Places.{tick, IsPlace}
 use Rattle.gptp_scheduler.specs.declared.key.Key.{Key}
@@ -17,14 +17,14 @@ module _ {T : Type 0} where
   module _ (nodes : ℕ → Option (Node T)) where
     -- each entry stands in the chain of the slot that its time has at this base
     pub record IsWheel (base : ℕ) (ends : List Ends) : Type 0 where
-      pub chained : AreChained nodes ends
+      pub chained : EntriesAreChained nodes ends
       pub made : (k : ℕ) (p : Placed T) → placed_at nodes k ≡ Some p → 2049 ≤ length ends
       pub places : (k : ℕ) (p : Placed T) → placed_at nodes k ≡ Some p → IsPlace base p.time p.slot
 
     -- The entries of a slot are brought to lower ones, since the base has come to it: what was brought down
     -- has a lower number than what is left.
     pub record IsLowering (base slot : ℕ) (ends : List Ends) : Type 0 where
-      pub chained : AreChained nodes ends
+      pub chained : EntriesAreChained nodes ends
       pub made : 2049 ≤ length ends
       pub high : 256 ≤ slot
       pub within : slot < 2048
@@ -43,15 +43,15 @@ module _ {T : Type 0} where
       pub first : (k : ℕ) (p : Placed T) → placed_at nodes k ≡ Some p → time ≤ p.time
 
     -- no entry is earlier than the one at this key
-    pub record IsEarliest (key : ℕ) : Type 0 where
-      pub entry : Entry T
+    pub record IsEarliestEntry (key : ℕ) : Type 0 where
+      pub entry : AgendaEntry T
       pub at_key : held nodes key ≡ Some entry
-      pub least : (k : ℕ) (e : Entry T) → held nodes k ≡ Some e → IsNoEarlier entry.time entry.number e
+      pub least : (k : ℕ) (e : AgendaEntry T) → held nodes k ≡ Some e → IsNoEarlier entry.time entry.number e
 
     -- a link leads to the least entry of all, if there is one
     abbrev pub Earliest : Option Key → Type 0
     Earliest None = (k : ℕ) → held nodes k ≡ None
-    Earliest (Some key) = IsEarliest key.place
+    Earliest (Some key) = IsEarliestEntry key.place
 
     -- the earlier of two, where the second has the higher number and the first may be none
     abbrev pub first_of : Option Key → Key → Key
@@ -69,7 +69,7 @@ module _ {T : Type 0} where
       pub in_it : entry.slot ≡ slot
       pub below : entry.number < low
       pub least : (k : ℕ) (p : Placed T) → placed_at nodes k ≡ Some p → p.slot ≡ slot → p.number < low
-          → IsNoEarlier entry.time entry.number (entry_of p)
+          → IsNoEarlier entry.time entry.number (chain_entry p)
 
     abbrev pub LeastBelow : ℕ → ℕ → Option Key → Type 0
     LeastBelow slot low None = (k : ℕ) (p : Placed T) → placed_at nodes k ≡ Some p → p.slot ≡ slot → low ≤ p.number
@@ -86,13 +86,13 @@ module _ {T : Type 0} where
     SameEntries = (k : ℕ) → held new k ≡ held old k
 
     -- an entry was put in at a key
-    pub record Puts (key : ℕ) (e : Entry T) : Type 0 where
+    pub record Puts (key : ℕ) (e : AgendaEntry T) : Type 0 where
       pub free : held old key ≡ None
       pub put : held new key ≡ Some e
       pub others : (k : ℕ) → k ≢ key → held new k ≡ held old k
 
     -- the entry of a key was taken out
-    pub record Takes (key : ℕ) (e : Entry T) : Type 0 where
+    pub record TakesEntry (key : ℕ) (e : AgendaEntry T) : Type 0 where
       pub was : held old key ≡ Some e
       pub gone : held new key ≡ None
       pub others : (k : ℕ) → k ≢ key → held new k ≡ held old k

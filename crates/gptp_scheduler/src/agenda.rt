@@ -3,7 +3,7 @@
 ghost use Rattle.std.specs.Prelude.{◌≡◌, ℕ, ◌+◌, ◌^◌, ◌<◌, ◌≤◌, [], ◌∷◌, ◌++◌, IsOk, OnOk, OnErr, IfOk, IfSome, IfNone, option_copied, Some, is_some, max};
 ghost use Rattle.std.specs.Option.{option_map};
 ghost use Rattle.slab.specs.Slab.{get};
-ghost use Rattle.gptp_scheduler.specs.Pending.{entry, entry_at, Entry, without, IsFirst, NothingDue, RiseFrom};
+ghost use Rattle.gptp_scheduler.specs.Pending.{entry, entry_at, AgendaEntry, without_number, IsFirst, NothingDue, RiseFrom};
 ghost use Rattle.gptp_scheduler.specs.Places.{IsPlace};
 
 use crate::chains::time_at;
@@ -174,7 +174,7 @@ impl<T: Drop> Agenda<T> {
         ensures due { IfSome result (λ due. due.0 ≤ now) }
         ensures base { IfSome result (λ due. self.new.base ≡ max self.old.base due.0) }
         ensures item { IfSome result (λ due. entry_at self.old.entries due.1 ≡ Some (entry due.0 due.1 due.2)) }
-        ensures taken { IfSome result (λ due. self.new.entries ≡ without due.1 self.old.entries) }
+        ensures taken { IfSome result (λ due. self.new.entries ≡ without_number due.1 self.old.entries) }
         ensures nothing { IfNone result (NothingDue self.old.entries now) }
         ensures kept { IfNone result (self.new ≡ self.old) }
         ensures next { self.new.next ≡ self.old.next }
@@ -192,7 +192,7 @@ impl<T: Drop> Agenda<T> {
     /// Takes the entry of a number out, wherever it stands, and answers its item, if it is there. The base stays.
     pub fn cancel(&mut self, number: u64) -> Option<T>
         ensures item { result ≡ option_map (λ e. e.item) (entry_at self.old.entries number) }
-        ensures taken { self.new.entries ≡ without number self.old.entries }
+        ensures taken { self.new.entries ≡ without_number number self.old.entries }
         ensures base { self.new.base ≡ self.old.base }
         ensures next { self.new.next ≡ self.old.next }
         ensures room { self.old.room ≤ self.new.room }
@@ -218,7 +218,7 @@ impl<T: Drop> Agenda<T> {
         ensures there { is_some result ≡ is_some (entry_at self.now.entries number) }
         ensures within { IfSome result (λ slot. slot ≤ 2048) }
         ensures stands { IfSome result
-            (λ slot. (e : Entry T) → entry_at self.now.entries number ≡ Some e → IsPlace self.now.base e.time slot) }
+            (λ slot. (e : AgendaEntry T) → entry_at self.now.entries number ≡ Some e → IsPlace self.now.base e.time slot) }
     {
         let key = find(&self.filed, number)?;
         let node = self.nodes.get(key.place)?;

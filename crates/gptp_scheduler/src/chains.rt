@@ -3,7 +3,7 @@
 ghost use Rattle.std.specs.Prelude.{◌≡◌, ℕ, ◌≤◌, ◌<◌, ◌==◌, length, Option, Some, None, IsSome, IfSome, option_copied};
 ghost use Rattle.std.specs.Option.{option_map};
 ghost use Rattle.slab.specs.Slab.{get, Updates};
-ghost use Rattle.gptp_scheduler.specs.Chain.{with_after, with_before, with_place, joined_after, joined_before, ends_at, ends_with, ends_without, earlier_key, least_with, time_of, SameRoom, AreChained, StandsIn, IsNext, Moves, Relinks, OUT as OUTSIDE};
+ghost use Rattle.gptp_scheduler.specs.Chain.{with_after, with_before, with_place, entry_joined_after, joined_before, ends_at, ends_with, ends_without, earlier_key, least_with, entry_time, SameEntryRoom, EntriesAreChained, StandsIn, IsAboveAll, Moves, Relinks, OUT as OUTSIDE};
 
 use crate::key::{Key, Node, OUT};
 use crate::slots::{Ends, Slots};
@@ -12,7 +12,7 @@ use slab::Slab;
 /// Makes the link behind an entry lead elsewhere.
 fn set_after<T>(nodes: &mut Slab<Node<T>>, key: Key, after: Option<Key>)
     ensures updates { Updates nodes.old nodes.new key.place (option_map (with_after after) (get nodes.old key.place)) }
-    ensures room { SameRoom nodes.old nodes.new }
+    ensures room { SameEntryRoom nodes.old nodes.new }
 {
     if let Some(node) = nodes.get_mut(key.place) {
         node.after = after;
@@ -23,7 +23,7 @@ fn set_after<T>(nodes: &mut Slab<Node<T>>, key: Key, after: Option<Key>)
 fn set_before<T>(nodes: &mut Slab<Node<T>>, key: Key, before: Option<Key>)
     ensures updates { Updates nodes.old nodes.new key.place
         (option_map (with_before before) (get nodes.old key.place)) }
-    ensures room { SameRoom nodes.old nodes.new }
+    ensures room { SameEntryRoom nodes.old nodes.new }
 {
     if let Some(node) = nodes.get_mut(key.place) {
         node.before = before;
@@ -40,7 +40,7 @@ fn set_place<T>(
 )
     ensures updates { Updates nodes.old nodes.new key.place
         (option_map (with_place slot before after) (get nodes.old key.place)) }
-    ensures room { SameRoom nodes.old nodes.new }
+    ensures room { SameEntryRoom nodes.old nodes.new }
 {
     if let Some(node) = nodes.get_mut(key.place) {
         node.slot = slot;
@@ -51,8 +51,8 @@ fn set_place<T>(
 
 /// Makes the link behind an entry lead elsewhere, if there is such an entry.
 fn join_after<T>(nodes: &mut Slab<Node<T>>, before: Option<Key>, after: Option<Key>)
-    ensures joined { Relinks (get nodes.old) (get nodes.new) (joined_after before after) }
-    ensures room { SameRoom nodes.old nodes.new }
+    ensures joined { Relinks (get nodes.old) (get nodes.new) (entry_joined_after before after) }
+    ensures room { SameEntryRoom nodes.old nodes.new }
 {
     if let Some(key) = before {
         set_after(nodes, key, after);
@@ -62,7 +62,7 @@ fn join_after<T>(nodes: &mut Slab<Node<T>>, before: Option<Key>, after: Option<K
 /// Makes the link before an entry lead elsewhere, if there is such an entry.
 fn join_before<T>(nodes: &mut Slab<Node<T>>, before: Option<Key>, after: Option<Key>)
     ensures joined { Relinks (get nodes.old) (get nodes.new) (joined_before before after) }
-    ensures room { SameRoom nodes.old nodes.new }
+    ensures room { SameEntryRoom nodes.old nodes.new }
 {
     if let Some(key) = after {
         set_before(nodes, key, before);
@@ -71,7 +71,7 @@ fn join_before<T>(nodes: &mut Slab<Node<T>>, before: Option<Key>, after: Option<
 
 /// When an entry is due.
 pub(crate) fn time_at<T>(nodes: &Slab<Node<T>>, key: Key) -> u64
-    ensures { result ≡ time_of (get nodes.now) key.place }
+    ensures { result ≡ entry_time (get nodes.now) key.place }
 {
     match nodes.get(key.place) {
         Some(node) => node.time,
@@ -119,11 +119,11 @@ fn ends_without_entry(ends: Ends, key: Key, before: Option<Key>, after: Option<K
 
 /// Takes an entry out of its chain. It stands in none then.
 pub(crate) fn unlink<T>(nodes: &mut Slab<Node<T>>, slots: &mut Slots, key: Key)
-    requires chained { AreChained (get nodes.old) slots.old }
+    requires chained { EntriesAreChained (get nodes.old) slots.old }
     requires stands { StandsIn (get nodes.old) slots.old key.place }
-    ensures chained { AreChained (get nodes.new) slots.new }
+    ensures chained { EntriesAreChained (get nodes.new) slots.new }
     ensures moved { Moves (get nodes.old) (get nodes.new) key.place OUTSIDE }
-    ensures room { SameRoom nodes.old nodes.new }
+    ensures room { SameEntryRoom nodes.old nodes.new }
     ensures len { length slots.new ≡ length slots.old }
 {
     let node = nodes.get(key.place).unwrap();
@@ -137,12 +137,12 @@ pub(crate) fn unlink<T>(nodes: &mut Slab<Node<T>>, slots: &mut Slots, key: Key)
 
 /// Puts an entry that stands in no chain, and whose number is above all of a slot, at the end of its chain.
 pub(crate) fn push_back<T>(nodes: &mut Slab<Node<T>>, slots: &mut Slots, slot: usize, key: Key)
-    requires chained { AreChained (get nodes.old) slots.old }
+    requires chained { EntriesAreChained (get nodes.old) slots.old }
     requires slot { slot < length slots.old }
-    requires next { IsNext (get nodes.old) slot key.place }
-    ensures chained { AreChained (get nodes.new) slots.new }
+    requires next { IsAboveAll (get nodes.old) slot key.place }
+    ensures chained { EntriesAreChained (get nodes.new) slots.new }
     ensures moved { Moves (get nodes.old) (get nodes.new) key.place slot }
-    ensures room { SameRoom nodes.old nodes.new }
+    ensures room { SameEntryRoom nodes.old nodes.new }
     ensures len { length slots.new ≡ length slots.old }
 {
     let ends = slots.get(slot);

@@ -3,7 +3,7 @@
 ghost use Rattle.std.specs.Prelude.{◌≡◌, ℕ, ◌-◌, ◌≤◌, IsOk, OnOk, IfSome, IfNone, vec_capacity, vec_len};
 ghost use Rattle.slab.specs.Slab.{get};
 ghost use Rattle.gptp_scheduler.specs.Chain.{held};
-ghost use Rattle.gptp_scheduler.specs.Filed.{filed_at, listed, lives, AreFiled, IsIn, Rises};
+ghost use Rattle.gptp_scheduler.specs.Filed.{filed_at, listed, entry_lives, AreFiled, IsInSlab, Rises};
 
 use crate::key::{Key, Node};
 use slab::Slab;
@@ -19,8 +19,8 @@ pub(crate) struct Filed {
 /// The key that a number was filed with.
 pub(crate) fn find(filed: &[Filed], number: u64) -> Option<Key>
     requires rising { (next : ℕ) × Rises 0 filed.now next }
-    ensures found { IfSome result (λ key. IsIn (filed_at number key.place) filed.now) }
-    ensures nowhere { IfNone result ((place : ℕ) → IsIn (filed_at number place) filed.now → ⊥) }
+    ensures found { IfSome result (λ key. IsInSlab (filed_at number key.place) filed.now) }
+    ensures nowhere { IfNone result ((place : ℕ) → IsInSlab (filed_at number place) filed.now → ⊥) }
 {
     let place = filed.partition_point(|one| one.number < number);
     let one = filed.get(place)?;
@@ -33,7 +33,7 @@ pub(crate) fn find(filed: &[Filed], number: u64) -> Option<Key>
 
 /// Whether the entry of a number is there still.
 pub(crate) fn is_live<T>(nodes: &Slab<Node<T>>, filed: Filed) -> bool
-    ensures { result ≡ lives filed.number (held (get nodes.now) filed.key.place) }
+    ensures { result ≡ entry_lives filed.number (held (get nodes.now) filed.key.place) }
 {
     match nodes.get(filed.key.place) {
         Some(node) => node.number == filed.number,

@@ -1,8 +1,8 @@
 //! Where an entry stands in the wheel.
 
 ghost use Rattle.std.specs.Prelude.{◌≡◌, ℕ, IfSome, is_some, Some};
-ghost use Rattle.gptp_scheduler.specs.Pending.{entry_at, Entry};
-ghost use Rattle.gptp_scheduler.specs.Places.{StandsAt};
+ghost use Rattle.gptp_scheduler.specs.Pending.{entry_at, AgendaEntry};
+ghost use Rattle.gptp_scheduler.specs.Places.{StandsAtLevel};
 
 use crate::agenda::Agenda;
 
@@ -13,8 +13,8 @@ use crate::agenda::Agenda;
 pub fn place<T: Drop>(agenda: &Agenda<T>, number: u64) -> Option<(u8, u8)>
     ensures there { is_some result ≡ is_some (entry_at agenda.now.entries number) }
     ensures stands { IfSome result
-        (λ place. (e : Entry T) → entry_at agenda.now.entries number ≡ Some e
-        → StandsAt agenda.now.base e.time place.0 place.1) }
+        (λ place. (e : AgendaEntry T) → entry_at agenda.now.entries number ≡ Some e
+        → StandsAtLevel agenda.now.base e.time place.0 place.1) }
 {
     let slot = agenda.slot(number)?;
     if slot == 2048 {

@@ -3,8 +3,8 @@
 ghost use Rattle.std.specs.Prelude.{◌≡◌, ℕ, ◌+◌, ◌≤◌, ◌<◌, false, length, max};
 ghost use Rattle.slab.specs.Slab.{get, slab_len, HasRoomFor};
 ghost use Rattle.gptp_scheduler.specs.Pending.{entry};
-ghost use Rattle.gptp_scheduler.specs.Chain.{leads, AreChained, LeastIn, SameRoom, StandsIn};
-ghost use Rattle.gptp_scheduler.specs.Wheel.{first_of, link_behind, AreBelow, Earliest, IsEarliest, IsLeft, IsLowering, IsWheel, Puts, SameEntries, Takes};
+ghost use Rattle.gptp_scheduler.specs.Chain.{leads, EntriesAreChained, LeastIn, SameEntryRoom, StandsIn};
+ghost use Rattle.gptp_scheduler.specs.Wheel.{first_of, link_behind, AreBelow, Earliest, IsEarliestEntry, IsLeft, IsLowering, IsWheel, Puts, SameEntries, TakesEntry};
 
 use crate::chains::{earlier, push_back, time_at, unlink};
 use crate::key::{Key, Node, OUT};
@@ -46,10 +46,10 @@ pub(crate) fn put<T>(
 
 /// Takes an entry out, wherever it stands.
 pub(crate) fn take<T>(nodes: &mut Slab<Node<T>>, slots: &mut Slots, key: Key) -> Node<T>
-    requires chained { AreChained (get nodes.old) slots.old }
+    requires chained { EntriesAreChained (get nodes.old) slots.old }
     requires stands { StandsIn (get nodes.old) slots.old key.place }
     ensures wheel { (base : ℕ) → IsWheel (get nodes.old) base slots.old → IsWheel (get nodes.new) base slots.new }
-    ensures takes { Takes (get nodes.old) (get nodes.new) key.place (entry result.time result.number result.item) }
+    ensures takes { TakesEntry (get nodes.old) (get nodes.new) key.place (entry result.time result.number result.item) }
     ensures len { slab_len nodes.new + 1 ≡ slab_len nodes.old }
     ensures capacity { nodes.new.capacity ≡ nodes.old.capacity }
     ensures chains { length slots.new ≡ length slots.old }
@@ -66,9 +66,9 @@ pub(crate) fn take_earliest<T>(
     key: Key,
 ) -> Node<T>
     requires wheel { IsWheel (get nodes.old) base.old slots.old }
-    requires earliest { IsEarliest (get nodes.old) key.place }
+    requires earliest { IsEarliestEntry (get nodes.old) key.place }
     ensures wheel { IsWheel (get nodes.new) base.new slots.new }
-    ensures takes { Takes (get nodes.old) (get nodes.new) key.place (entry result.time result.number result.item) }
+    ensures takes { TakesEntry (get nodes.old) (get nodes.new) key.place (entry result.time result.number result.item) }
     ensures base { base.new ≡ max base.old result.time }
     ensures len { slab_len nodes.new + 1 ≡ slab_len nodes.old }
     ensures capacity { nodes.new.capacity ≡ nodes.old.capacity }
@@ -93,7 +93,7 @@ fn move_base<T>(
     ensures wheel { IsWheel (get nodes.new) result slots.new }
     ensures base { result ≡ max base time }
     ensures same { SameEntries (get nodes.old) (get nodes.new) }
-    ensures room { SameRoom nodes.old nodes.new }
+    ensures room { SameEntryRoom nodes.old nodes.new }
     ensures chains { length slots.new ≡ length slots.old }
 {
     if slot >= LEVELS_END {
@@ -110,7 +110,7 @@ fn lower<T>(nodes: &mut Slab<Node<T>>, slots: &mut Slots, base: u64, slot: usize
     requires lowering { IsLowering (get nodes.old) base slot slots.old }
     ensures wheel { IsWheel (get nodes.new) base slots.new }
     ensures same { SameEntries (get nodes.old) (get nodes.new) }
-    ensures room { SameRoom nodes.old nodes.new }
+    ensures room { SameEntryRoom nodes.old nodes.new }
     ensures chains { length slots.new ≡ length slots.old }
 {
     while let Some(key) = slots.get(slot).first {
@@ -142,7 +142,7 @@ fn behind<T>(nodes: &Slab<Node<T>>, key: Key) -> Option<Key>
 
 /// The least entry of a slot, which all of its chain is gone through for.
 fn search_least<T>(nodes: &Slab<Node<T>>, slots: &Slots, slot: usize) -> Option<Key>
-    requires chained { AreChained (get nodes.now) slots.now }
+    requires chained { EntriesAreChained (get nodes.now) slots.now }
     requires slot { slot < length slots.now }
     ensures least { LeastIn (get nodes.now) slot result }
 {
@@ -157,10 +157,10 @@ fn search_least<T>(nodes: &Slab<Node<T>>, slots: &Slots, slot: usize) -> Option<
 
 /// The least entry of a slot. Where it wasn't known, it is looked for once, and known from then on.
 fn least_in<T>(nodes: &Slab<Node<T>>, slots: &mut Slots, slot: usize) -> Option<Key>
-    requires chained { AreChained (get nodes.now) slots.old }
+    requires chained { EntriesAreChained (get nodes.now) slots.old }
     requires slot { slot < length slots.old }
     ensures least { LeastIn (get nodes.now) slot result }
-    ensures chained { AreChained (get nodes.now) slots.new }
+    ensures chained { EntriesAreChained (get nodes.now) slots.new }
     ensures chains { length slots.new ≡ length slots.old }
 {
     let ends = slots.get(slot);

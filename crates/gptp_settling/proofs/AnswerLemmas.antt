@@ -4,21 +4,21 @@ use native.Mathlib.Decide.{ℕ_discrete}
 use Rattle.gptp_lists.specs.Members.{In}
 use Rattle.gptp_graph.specs.Snapshot.{PortIdentity, port_of}
 use Rattle.gptp_lists.proofs.MemberLemmas.{In-right}
-use Rattle.gptp_settling.specs.Frame.{Announce, Says, Frame, Lane, Send}
-use Rattle.gptp_settling.specs.Station.{Reception, Held, Disabled, Aged, Mine, Received, Port, Station, State}
-use Rattle.gptp_settling.specs.Touch.{Touch, Hear, Grow, Mid}
-use Rattle.gptp_settling.specs.Reacts.{IsKept, BecomesMaster, IsOwn, IsMasterAt, PortStep}
-use Rattle.gptp_settling.specs.Acts.{LaneStep, Calls}
-use Rattle.gptp_settling.specs.Stage.{Wiring, from_port, IsFinal, AllFinal, IsSaid, Stays, Stage}
-use Rattle.gptp_settling.specs.Link.{HasSettled, IsReady, TellsSettled, IsTeller, HearsSettled, IsLaneOf, Ends, StaysOn, Stand, LinkSettles}
+use Rattle.gptp_settling.specs.Frame.{Announce, Spelling, AnnounceFrame, Lane, Send}
+use Rattle.gptp_settling.specs.Station.{Reception, Held, Disabled, Aged, Mine, Received, Port, Station, MachineState}
+use Rattle.gptp_settling.specs.Touch.{StationTouch, Hear, Grow, HeldInTouch}
+use Rattle.gptp_settling.specs.Reacts.{KeepsHeld, BecomesMaster, IsOwn, IsMasterAt, PortStep}
+use Rattle.gptp_settling.specs.Acts.{LaneStep, StationAnswers}
+use Rattle.gptp_settling.specs.Stage.{Wiring, from_port, IsFinal, AllFinal, FrameSaysAnnounce, FinalAnnounceStays, Stage}
+use Rattle.gptp_settling.specs.Link.{HasSettled, TellerIsReady, TellerIsSettled, IsTeller, HearsSettled, IsLaneOf, Ends, StaysOn, Stand, LinkSettles}
 use Rattle.gptp_settling.proofs.PlaceLemmas.{same_mine, same_there}
 use Rattle.gptp_settling.proofs.StageLemmas.{enters, begins, tells, keeps, hears, young}
 use Rattle.gptp_settling.proofs.HearingLemmas.{mid_stays, mid_mine, final_taken, mid_on, final_kept}
 
-module _ (says : Says) (k : Wiring) (touch : Touch) (w w' : State) (call : Calls says touch w w') (ends : Ends k w)
+module _ (says : Spelling) (k : Wiring) (touch : StationTouch) (w w' : MachineState) (call : StationAnswers says touch w w') (ends : Ends k w)
     (ends' : Ends k w') (since : k.from ≤ w.time) (lasts : StaysOn k w w') where
   -- whatever stands at the teller's place has settled
-  abbrev Settled : State → Type 0
+  abbrev Settled : MachineState → Type 0
   Settled x = (v : Station) → slice_get x.stations k.teller_place ≡ Some v → HasSettled k v
 
   -- whether a system has settled
@@ -46,13 +46,13 @@ module _ (says : Says) (k : Wiring) (touch : Touch) (w w' : State) (call : Calls
   hearer_answers e = (ends.hearer_stands call.place call.s call.here).0 (sym e)
 
   -- whether it has, and its port is on
-  ready_dec : (v : Station) (q : Port) → Dec (IsReady k v q)
+  ready_dec : (v : Station) (q : Port) → Dec (TellerIsReady k v q)
   ready_dec v q = elim (settled_dec v) [
     | no not ↦ no (λ h. not h.0)
     | yes has ↦ by q.held refl has
   ]
     where
-      by : (held : Held) → q.held ≡ held → HasSettled k v → Dec (IsReady k v q)
+      by : (held : Held) → q.held ≡ held → HasSettled k v → Dec (TellerIsReady k v q)
       by Disabled e has = no (λ h. h.1 e)
       by Aged e has = yes (has, λ off. absurd (let x : Aged ≡ Disabled = sym e ∙ off in cc))
       by (Mine root steps) e has = yes (has, λ off. absurd (let x : Mine root steps ≡ Disabled = sym e ∙ off in cc))
@@ -98,7 +98,7 @@ module _ (says : Says) (k : Wiring) (touch : Touch) (w w' : State) (call : Calls
           teller : IsTeller k w'.time call.s' q
           teller = ends'.teller call.s' q here port'
 
-          tells : TellsSettled k call.s' q
+          tells : TellerIsSettled k call.s' q
           tells =
               teller.settled since' (
                 settled call.s' here,
@@ -121,11 +121,11 @@ module _ (says : Says) (k : Wiring) (touch : Touch) (w w' : State) (call : Calls
 
   -- the teller had settled, and its timer stays or what it tells enters the lane; or it settles, and that enters the
   -- lane
-  abbrev TellerStep : Port → List Frame → Type 0
+  abbrev TellerStep : Port → List AnnounceFrame → Type 0
   TellerStep pv' news = (v : Station) × (pv : Port) × (slice_get w.stations k.teller_place ≡ Some v)
       × (slice_get v.ports k.teller_port ≡ Some pv)
-      × ((IsReady k v pv × ((pv'.announce ≡ pv.announce) ⊎ ((f : Frame) × In f news × IsSaid says f)))
-      ⊎ ((IsReady k v pv → ⊥) × ((f : Frame) × In f news × IsSaid says f)))
+      × ((TellerIsReady k v pv × ((pv'.announce ≡ pv.announce) ⊎ ((f : AnnounceFrame) × In f news × FrameSaysAnnounce says f)))
+      ⊎ ((TellerIsReady k v pv → ⊥) × ((f : AnnounceFrame) × In f news × FrameSaysAnnounce says f)))
 
   teller_step : Settled w' → (v' : Station) (pv' : Port) (l l' : Lane) → pv'.held ≢ Disabled
       → slice_get w'.stations k.teller_place ≡ Some v' → slice_get v'.ports k.teller_port ≡ Some pv'
@@ -142,7 +142,7 @@ module _ (says : Says) (k : Wiring) (touch : Touch) (w w' : State) (call : Calls
 
       told : k.teller_place ≡ call.place
           → ((x : Send) × In x call.sends × (x.port ≡ suc k.teller_port) × ((a : Announce) × says x.octets a))
-          → (f : Frame) × In f step.news × IsSaid says f
+          → (f : AnnounceFrame) × In f step.news × FrameSaysAnnounce says f
       told same (x, sent, number, (a, said)) =
           let from : l.from ≡ port_of call.s.clock x.port =
           lane_is.from ∙ (λ j. port_of (sym (teller_answers same) j) (sym number j)) in
@@ -176,7 +176,7 @@ module _ (says : Says) (k : Wiring) (touch : Touch) (w w' : State) (call : Calls
         ],
       )
         where
-          not_kept : (mid : Held) → mid ≡ Mine k.root k.steps → IsKept mid → ⊥
+          not_kept : (mid : Held) → mid ≡ Mine k.root k.steps → KeepsHeld mid → ⊥
           not_kept Disabled e h = absurd cc
           not_kept Aged e h = h
           not_kept (Mine root steps) e h = h
@@ -191,7 +191,7 @@ module _ (says : Says) (k : Wiring) (touch : Touch) (w w' : State) (call : Calls
           ]
 
           -- where the port held the root and the steps already, the system had them
-          before : answer.mid ≡ Mine call.s'.root call.s'.steps → IsReady k call.s pv
+          before : answer.mid ≡ Mine call.s'.root call.s'.steps → TellerIsReady k call.s pv
           before already =
               let held : pv.held ≡ Mine call.s'.root call.s'.steps =
               mid_mine call.s.clock (suc k.teller_port) w.time call.s'.root call.s'.steps touch pv.held answer.mid
@@ -244,25 +244,25 @@ module _ (says : Says) (k : Wiring) (touch : Touch) (w w' : State) (call : Calls
 
   -- the teller's timer isn't over
   timer_left : (v : Station) (pv : Port) → slice_get w.stations k.teller_place ≡ Some v
-      → slice_get v.ports k.teller_port ≡ Some pv → IsReady k v pv → w.time ≤ pv.announce
+      → slice_get v.ports k.teller_port ≡ Some pv → TellerIsReady k v pv → w.time ≤ pv.announce
   timer_left v pv at port has =
       let teller = ends.teller v pv at port in
       (teller.timer k.root k.steps (teller.settled since has).mine).0
 
   -- and is due within an interval
   timer_soon : (v : Station) (pv : Port) → slice_get w.stations k.teller_place ≡ Some v
-      → slice_get v.ports k.teller_port ≡ Some pv → IsReady k v pv → pv.announce ≤ w.time + k.interval
+      → slice_get v.ports k.teller_port ≡ Some pv → TellerIsReady k v pv → pv.announce ≤ w.time + k.interval
   timer_soon v pv at port has =
       let teller = ends.teller v pv at port in
       (teller.timer k.root k.steps (teller.settled since has).mine).1
 
   -- the hearer's own step leaves a final Announce that it holds, where it hears none
-  held_on : (pv pu pu' : Port) (l : Lane) (stand : Stand k w pv pu l) → IsReady k stand.v pv → HearsSettled k pu'
+  held_on : (pv pu pu' : Port) (l : Lane) (stand : Stand k w pv pu l) → TellerIsReady k stand.v pv → HearsSettled k pu'
       → (pu.held ≢ Disabled → pu'.held ≢ Disabled)
       → PortStep says k.hearer (suc k.hearer_port) w.time touch call.s'.root call.s'.steps pu pu' call.sends
       → ((a : Announce) → touch ≡ Hear (suc k.hearer_port) a → ⊥)
       → ((r : Reception) → touch ≡ Grow (suc k.hearer_port) → pu.held ≡ Received r → r.at + r.span ≤ w.time)
-      → (stays : Stays says k pv.announce pu.held l.frames) → pu'.held ≡ Received stays.what
+      → (stays : FinalAnnounceStays says k pv.announce pu.held l.frames) → pu'.held ≡ Received stays.what
   held_on pv pu pu' l stand has settles' on step deaf ages stays =
       final_kept k says w.time touch call.s'.root call.s'.steps pu pu' call.sends step settles' stays.what stays.final
       (mid_stays k.hearer (suc k.hearer_port) w.time touch pu.held step.mid stays.what deaf not_aged
@@ -284,17 +284,17 @@ module _ (says : Says) (k : Wiring) (touch : Touch) (w w' : State) (call : Calls
 
   -- what enters the lane is due within the largest delay
   due_soon : (l l' : Lane) → slice_get w'.lanes k.lane ≡ Some l' → (step : LaneStep call.s.clock call.sends l l')
-      → (f : Frame) → In f step.news → f.due ≤ w.time + k.most
+      → (f : AnnounceFrame) → In f step.news → f.due ≤ w.time + k.most
   due_soon l l' at step f new =
       subst (λ t. f.due ≤ t + k.most) call.time
       ((ends'.frames l' f at (subst (In f) (sym step.behind) (In-right f l.frames step.news new))).due since')
 
   -- what the teller's timer and the lane come to
   sent_on : Settled w' → (v : Station) (pv pv' : Port) (held : Held) (l l' : Lane)
-      → slice_get w.stations k.teller_place ≡ Some v → slice_get v.ports k.teller_port ≡ Some pv → IsReady k v pv
+      → slice_get w.stations k.teller_place ≡ Some v → slice_get v.ports k.teller_port ≡ Some pv → TellerIsReady k v pv
       → slice_get w.lanes k.lane ≡ Some l → slice_get w'.lanes k.lane ≡ Some l'
       → (step : LaneStep call.s.clock call.sends l l')
-      → (pv'.announce ≡ pv.announce) ⊎ ((f : Frame) × In f step.news × IsSaid says f)
+      → (pv'.announce ≡ pv.announce) ⊎ ((f : AnnounceFrame) × In f step.news × FrameSaysAnnounce says f)
       → Stage says k pv.announce held l.frames → Stage says k pv'.announce held l'.frames
   sent_on settled v pv pv' held l l' at port has lane_at lane_at' step timing stage =
       subst (Stage says k pv'.announce held) (sym step.behind) (go timing)
@@ -302,7 +302,7 @@ module _ (says : Says) (k : Wiring) (touch : Touch) (w w' : State) (call : Calls
       final : AllFinal says k step.news
       final = news_final settled l l' lane_at step
 
-      go : (pv'.announce ≡ pv.announce) ⊎ ((f : Frame) × In f step.news × IsSaid says f)
+      go : (pv'.announce ≡ pv.announce) ⊎ ((f : AnnounceFrame) × In f step.news × FrameSaysAnnounce says f)
           → Stage says k pv'.announce held (l.frames ++ step.news)
       go (inl same) =
           subst (λ t. Stage says k t held (l.frames ++ step.news)) (sym same)
@@ -314,9 +314,9 @@ module _ (says : Says) (k : Wiring) (touch : Touch) (w w' : State) (call : Calls
   -- where the teller settles only now, it tells in time
   begins_now : Settled w' → (v : Station) (pv pv' : Port) (held : Held) (l l' : Lane)
       → slice_get w.stations k.teller_place ≡ Some v → slice_get v.ports k.teller_port ≡ Some pv
-      → (IsReady k v pv → ⊥) → slice_get w.lanes k.lane ≡ Some l → slice_get w'.lanes k.lane ≡ Some l'
+      → (TellerIsReady k v pv → ⊥) → slice_get w.lanes k.lane ≡ Some l → slice_get w'.lanes k.lane ≡ Some l'
       → (step : LaneStep call.s.clock call.sends l l')
-      → (f : Frame) × In f step.news × IsSaid says f
+      → (f : AnnounceFrame) × In f step.news × FrameSaysAnnounce says f
       → Stage says k pv'.announce held l'.frames
   begins_now settled v pv pv' held l l' at port not lane_at lane_at' step (f, new, said) =
       let soon : f.due ≤ w.time + k.most = due_soon l l' lane_at' step f new in
@@ -326,7 +326,7 @@ module _ (says : Says) (k : Wiring) (touch : Touch) (w w' : State) (call : Calls
       (omega arith))
 
   -- an answer keeps the link at a stage, where what it does to the hearer's port alone does
-  answered : ((pv pu pu' : Port) (l : Lane) (stood : Stand k w pv pu l) → IsReady k stood.v pv → HearsSettled k pu'
+  answered : ((pv pu pu' : Port) (l : Lane) (stood : Stand k w pv pu l) → TellerIsReady k stood.v pv → HearsSettled k pu'
       → (pu.held ≢ Disabled → pu'.held ≢ Disabled) → Hearing stood.u pu pu'
       → Stage says k pv.announce pu'.held l.frames)
       → LinkSettles says k w'
@@ -379,9 +379,9 @@ module _ (says : Says) (k : Wiring) (touch : Touch) (w w' : State) (call : Calls
   ])
 
   -- and the hearer's to the oldest frame of the lane, which has been taken off it
-  pub heard : (f : Frame) (a : Announce) → touch ≡ Hear (suc k.hearer_port) a → says f.octets a
+  pub heard : (f : AnnounceFrame) (a : Announce) → touch ≡ Hear (suc k.hearer_port) a → says f.octets a
       → k.hearer_place ≡ call.place
-      → ((pv pu : Port) (l : Lane) (stood : Stand k w pv pu l) → IsReady k stood.v pv
+      → ((pv pu : Port) (l : Lane) (stood : Stand k w pv pu l) → TellerIsReady k stood.v pv
       → Stage says k pv.announce pu.held (f ∷ l.frames))
       → LinkSettles says k w'
   heard f a touched said place link =
@@ -398,7 +398,7 @@ module _ (says : Says) (k : Wiring) (touch : Touch) (w w' : State) (call : Calls
       taken pv pu pu' l stood settles' answer final =
           let (span, mid) =
           final_taken k w.time a pu answer.mid final (ends.hearer stood.u pu stood.hearer stood.hearer_port since)
-          (subst (λ t. Mid k.hearer (suc k.hearer_port) t w.time pu.held answer.mid) touched answer.before) in
+          (subst (λ t. HeldInTouch k.hearer (suc k.hearer_port) t w.time pu.held answer.mid) touched answer.before) in
           let r : Reception = record { said = a; at = w.time; span = span } in (
             span,
             final_kept k says w.time touch call.s'.root call.s'.steps pu pu' call.sends answer settles'

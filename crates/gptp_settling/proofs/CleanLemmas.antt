@@ -8,13 +8,13 @@ use Rattle.gptp_graph.proofs.LinkLemmas.{Joins-sym}
 use Rattle.gptp_graph.proofs.PathLemmas.{IsPath-self}
 use Rattle.gptp_graph.proofs.SystemLemmas.{In-clocks}
 use Rattle.gptp_lists.proofs.MemberLemmas.{In-parts}
-use Rattle.gptp_settling.specs.Frame.{Announce, Says, Frame, Lane, Send}
-use Rattle.gptp_settling.specs.Station.{Station, State}
-use Rattle.gptp_settling.specs.Touch.{Touch, Hear}
-use Rattle.gptp_settling.specs.Reacts.{IsOwn, Reacts}
-use Rattle.gptp_settling.specs.Acts.{LaneStep, Calls, Pops, Arrives, Acts, Waits, Steps}
+use Rattle.gptp_settling.specs.Frame.{Announce, Spelling, AnnounceFrame, Lane, Send}
+use Rattle.gptp_settling.specs.Station.{Station, MachineState}
+use Rattle.gptp_settling.specs.Touch.{StationTouch, Hear}
+use Rattle.gptp_settling.specs.Reacts.{IsOwn, StationReacts}
+use Rattle.gptp_settling.specs.Acts.{LaneStep, StationAnswers, Pops, Arrives, StationActs, MomentComes, MachineSteps}
 use Rattle.gptp_settling.specs.Clean.{Clean, Whole, Good, Came, CameWhole}
-use Rattle.gptp_settling.specs.Facts.{Setting, turn, Late, BeginsLater, SendersLive, system_of, FollowsPort, IsInTime, IsStation, Facts}
+use Rattle.gptp_settling.specs.Facts.{NetworkSetting, turn, Late, BeginsLater, SendersLive, station_system, FollowsPort, HeldIsInTime, IsLiveStationState, StationFacts}
 use Rattle.gptp_settling.specs.CleanInvariant.{LaneIsClean, StationIsClean, TracesAreClean}
 use Rattle.gptp_settling.specs.CleanLaws.{HeldIsWhole}
 use Rattle.gptp_lists.proofs.ReverseLemmas.{reverse-end}
@@ -22,15 +22,15 @@ use Rattle.gptp_settling.proofs.TraceLemmas.{clean_first, clean_on, whole_own, w
 use Rattle.gptp_settling.proofs.ReactsLemmas.{JustHeard, held_from}
 
 -- both ends of a link are joined, seen from either
-joined_back : (k : Setting) (from : PortIdentity) (c n : ℕ) → Joins k.graph from (port_of c n)
+joined_back : (k : NetworkSetting) (from : PortIdentity) (c n : ℕ) → Joins k.graph from (port_of c n)
     → Adjacent k.graph c from.clock
 joined_back k from c n joins = (n, from.port, Joins-sym k.graph from (port_of c n) joins)
 
 -- a live system's clock is one of the snapshot
-known_clock : (k : Setting) (now : ℕ) (s : Station) → IsStation k now s → In s.clock (clocks k.graph)
-known_clock k now s is = In-clocks k.graph (system_of s) is.known
+known_clock : (k : NetworkSetting) (now : ℕ) (s : Station) → IsLiveStationState k now s → In s.clock (clocks k.graph)
+known_clock k now s is = In-clocks k.graph (station_system s) is.known
 
-module _ (k : Setting) (now : ℕ) (s : Station) (is : IsStation k now s) (clean : StationIsClean k s) where
+module _ (k : NetworkSetting) (now : ℕ) (s : Station) (is : IsLiveStationState k now s) (clean : StationIsClean k s) where
   -- what follows a port goes on what the port received, which was sent a turn earlier at most
   follows_clean : (c : ℕ) (p : FollowsPort s) (n : ℕ) (a : Announce) → IsOwn s n a → k.start + c * turn k ≤ now
       → Clean k.graph (suc c) s.clock a.path ⊎ Whole k.graph s.clock a
@@ -40,10 +40,10 @@ module _ (k : Setting) (now : ℕ) (s : Station) (is : IsStation k now s) (clean
   follows_clean (suc c) p n a own late =
       on (clean p.place p.r c p.holds (sent_before in_time))
     where
-      in_time : IsInTime k now s.clock p.r
+      in_time : HeldIsInTime k now s.clock p.r
       in_time = is.held p.place p.r p.holds
 
-      sent_before : IsInTime k now s.clock p.r → Late k c p.r.at
+      sent_before : HeldIsInTime k now s.clock p.r → Late k c p.r.at
       sent_before t =
           let stays : now ≤ p.r.at + p.r.span = t.stays in
           let short : p.r.span ≤ k.span = t.short in
@@ -68,19 +68,19 @@ module _ (k : Setting) (now : ℕ) (s : Station) (is : IsStation k now s) (clean
   may_say c n a own late = record {
     source = own.source;
     clean = elim is.follows [
-      | inl itself ↦ inr (whole_own k.graph (system_of s) a is.known (own.root ∙ itself.root)
+      | inl itself ↦ inr (whole_own k.graph (station_system s) a is.known (own.root ∙ itself.root)
           (own.steps ∙ itself.steps) (own.path ∙ itself.trace))
       | inr port ↦ follows_clean c port n a own late
     ];
   }
 
 -- what a system is about to hear at its port n came over that port's link, and is clean by when it is due
-HeardIsClean : Setting → Station → ℕ → Touch → Type 0
+HeardIsClean : NetworkSetting → Station → ℕ → StationTouch → Type 0
 HeardIsClean k s now touch = (n : ℕ) (a : Announce) (c : ℕ) → touch ≡ Hear n a → Late k c now
     → (from : PortIdentity) × Joins k.graph from (port_of s.clock n) × Good k.graph (suc c) from a
 
-module _ (says : Says) (k : Setting) (s s' : Station) (touch : Touch) (now : ℕ) (sends : List Send)
-    (reacts : Reacts says s touch now s' sends) where
+module _ (says : Spelling) (k : NetworkSetting) (s s' : Station) (touch : StationTouch) (now : ℕ) (sends : List Send)
+    (reacts : StationReacts says s touch now s' sends) where
   -- what a system has received after an answer is as clean as it was, or as what it heard
   reacted : StationIsClean k s → HeardIsClean k s now touch → StationIsClean k s'
   unfolding HeardIsClean
@@ -101,17 +101,17 @@ module _ (says : Says) (k : Setting) (s s' : Station) (touch : Touch) (now : ℕ
       }
 
   -- what enters a lane is as clean as what its sender may say
-  lane_sent : (l l' : Lane) → LaneIsClean says k l → LaneStep s.clock sends l l' → IsStation k now s'
+  lane_sent : (l l' : Lane) → LaneIsClean says k l → LaneStep s.clock sends l l' → IsLiveStationState k now s'
       → StationIsClean k s'
-      → ((f : Frame) → In f l'.frames → Joins k.graph l'.from l'.to → (f.due ≤ now + k.most) ⊎ (f.due < k.start))
-      → ((f : Frame) → In f l'.frames → f.due ≤ now + k.interval) → LaneIsClean says k l'
+      → ((f : AnnounceFrame) → In f l'.frames → Joins k.graph l'.from l'.to → (f.due ≤ now + k.most) ⊎ (f.due < k.start))
+      → ((f : AnnounceFrame) → In f l'.frames → f.due ≤ now + k.interval) → LaneIsClean says k l'
   lane_sent l l' clean step is' clean' fresh near = record { sender = sender; clean = good; anywhere = good_anywhere }
     where
       -- what entered came from the system's port
       at_port : (x : Send) → l.from ≡ port_of s.clock x.port → port_of s'.clock x.port ≡ l'.from
       at_port x from = (λ i. port_of (reacts.clock i) x.port) ∙ sym (step.from ∙ from)
 
-      sender : (f : Frame) → In f l'.frames → k.gone ≤ f.due → In l'.from.clock (clocks k.graph)
+      sender : (f : AnnounceFrame) → In f l'.frames → k.gone ≤ f.due → In l'.from.clock (clocks k.graph)
       sender f at late = elim (In-parts f l.frames step.news (subst (In f) step.behind at)) [
         | inl old ↦ subst (λ (p : PortIdentity). In p.clock (clocks k.graph)) (sym step.from) (clean.sender f old late)
         | inr new ↦
@@ -120,14 +120,14 @@ module _ (says : Says) (k : Setting) (s s' : Station) (touch : Touch) (now : ℕ
       ]
 
       -- an Announce that entered after c turns
-      sent_good : (f : Frame) (a : Announce) (c : ℕ) → In f step.news → says f.octets a → k.start + c * turn k ≤ now
+      sent_good : (f : AnnounceFrame) (a : Announce) (c : ℕ) → In f step.news → says f.octets a → k.start + c * turn k ≤ now
           → Good k.graph (suc c) l'.from a
       sent_good f a c new said late =
           let (x, x_in, from, octets) = step.sent f new in
           let own : IsOwn s' x.port a = (reacts.tells x a x_in (subst (λ (o : List ℕ). says o a) octets said)).0 in
           subst (λ p. Good k.graph (suc c) p a) (at_port x from) (may_say k now s' is' clean' c x.port a own late)
 
-      good : (f : Frame) (a : Announce) (c : ℕ) → In f l'.frames → says f.octets a → Joins k.graph l'.from l'.to
+      good : (f : AnnounceFrame) (a : Announce) (c : ℕ) → In f l'.frames → says f.octets a → Joins k.graph l'.from l'.to
           → Late k c f.due → Good k.graph (suc c) l'.from a
       good f a c at said joins late = elim (In-parts f l.frames step.news (subst (In f) step.behind at)) [
         | inl old ↦ subst (λ p. Good k.graph (suc c) p a) (sym step.from)
@@ -140,24 +140,24 @@ module _ (says : Says) (k : Setting) (s s' : Station) (touch : Touch) (now : ℕ
           sent_late (inl soon) = omega arith
           sent_late (inr early) = absurd (omega arith)
 
-      good_anywhere : (f : Frame) (a : Announce) (c : ℕ) → In f l'.frames → says f.octets a
+      good_anywhere : (f : AnnounceFrame) (a : Announce) (c : ℕ) → In f l'.frames → says f.octets a
           → k.start + c * turn k + k.interval ≤ f.due → Good k.graph (suc c) l'.from a
       good_anywhere f a c at said late = elim (In-parts f l.frames step.news (subst (In f) step.behind at)) [
         | inl old ↦ subst (λ p. Good k.graph (suc c) p a) (sym step.from) (clean.anywhere f a c old said late)
         | inr new ↦ sent_good f a c new said (let soon = near f at in omega (arith, late, soon))
       ]
 
-module _ (says : Says) (k : Setting) where
+module _ (says : Spelling) (k : NetworkSetting) where
   -- one system answers
-  called : (touch : Touch) (w w' : State) (call : Calls says touch w w') → Facts k w' → TracesAreClean says k w
+  called : (touch : StationTouch) (w w' : MachineState) (call : StationAnswers says touch w w') → StationFacts k w' → TracesAreClean says k w
       → HeardIsClean k call.s w.time touch → TracesAreClean says k w'
   called touch w w' call facts' clean heard = record { lanes = lanes; stations = stations }
     where
       live' : call.s'.live ≡ true
       live' = call.reacts.live ∙ call.live
 
-      is' : IsStation k w.time call.s'
-      is' = subst (λ t. IsStation k t call.s') call.time (facts'.stations call.place call.s' call.there live')
+      is' : IsLiveStationState k w.time call.s'
+      is' = subst (λ t. IsLiveStationState k t call.s') call.time (facts'.stations call.place call.s' call.there live')
 
       clean' : StationIsClean k call.s'
       clean' =
@@ -179,7 +179,7 @@ module _ (says : Says) (k : Setting) where
           (λ f h. subst (λ t. f.due ≤ t + k.interval) call.time (facts'.near j l' f at h))
 
   -- a frame is taken off its lane
-  popped : (j : ℕ) (l : Lane) (f : Frame) (fs : List Frame) (w w' : State) → Pops j l f fs w w'
+  popped : (j : ℕ) (l : Lane) (f : AnnounceFrame) (fs : List AnnounceFrame) (w w' : MachineState) → Pops j l f fs w w'
       → TracesAreClean says k w → TracesAreClean says k w'
   popped j l f fs w w' pops clean = record {
     lanes = λ n m at. elim (pops.lanes n m at) [
@@ -197,7 +197,7 @@ module _ (says : Says) (k : Setting) where
       }
 
   -- what arrives is as clean as its lane
-  arrived : BeginsLater k → (w w' : State) (act : Arrives says w w') → Facts k w → TracesAreClean says k w
+  arrived : BeginsLater k → (w w' : MachineState) (act : Arrives says w w') → StationFacts k w → TracesAreClean says k w
       → HeardIsClean k act.call.s act.mid.time act.touch
   unfolding HeardIsClean
   arrived begun w w' act facts clean n a c touched late =
@@ -207,7 +207,7 @@ module _ (says : Says) (k : Setting) where
       let lane = clean.lanes act.j act.l act.pops.here in
       let late_due : Late k c act.f.due = subst (Late k c) due late in
       let from_known = lane.sender act.f frame (omega arith) in
-      let is : IsStation k w.time act.call.s =
+      let is : IsLiveStationState k w.time act.call.s =
       facts.stations act.call.place act.call.s
       (act.pops.stations act.call.place act.call.s act.call.here) act.call.live in
       let to_known : In act.l.to.clock (clocks k.graph) =
@@ -220,13 +220,13 @@ module _ (says : Says) (k : Setting) where
       )
 
   -- nothing is heard
-  heard_none : (s : Station) (now : ℕ) (touch : Touch) → ((n : ℕ) (a : Announce) → touch ≡ Hear n a → ⊥)
+  heard_none : (s : Station) (now : ℕ) (touch : StationTouch) → ((n : ℕ) (a : Announce) → touch ≡ Hear n a → ⊥)
       → HeardIsClean k s now touch
   unfolding HeardIsClean
   heard_none s now touch deaf n a c touched late = absurd (deaf n a touched)
 
   -- what happens keeps how clean traces are
-  acts : BeginsLater k → (w w' : State) → Facts k w → Facts k w' → Acts says w w' → TracesAreClean says k w
+  acts : BeginsLater k → (w w' : MachineState) → StationFacts k w → StationFacts k w' → StationActs says w w' → TracesAreClean says k w
       → TracesAreClean says k w'
   acts begun w w' facts facts' (inl act) clean =
       called act.touch act.mid w' act.call facts'
@@ -236,19 +236,19 @@ module _ (says : Says) (k : Setting) where
       called act.touch w w' act.call facts' clean (heard_none act.call.s w.time act.touch act.deaf)
 
   -- so does the passing of time
-  waits : (w w' : State) → Waits w w' → TracesAreClean says k w → TracesAreClean says k w'
+  waits : (w w' : MachineState) → MomentComes w w' → TracesAreClean says k w → TracesAreClean says k w'
   waits w w' wait clean = subst (TracesAreClean says k) (sym wait.is)
       (let later : TracesAreClean says k (record w { time = wait.time }) =
       record { lanes = clean.lanes; stations = clean.stations } in later)
 
   -- every step keeps how clean traces are
-  pub clean_kept : BeginsLater k → (w w' : State) → Facts k w → Facts k w' → Steps says w w' → TracesAreClean says k w
+  pub clean_kept : BeginsLater k → (w w' : MachineState) → StationFacts k w → StationFacts k w' → MachineSteps says w w' → TracesAreClean says k w
       → TracesAreClean says k w'
   clean_kept begun w w' facts facts' (inl wait) clean = waits w w' wait clean
   clean_kept begun w w' facts facts' (inr act) clean = acts begun w w' facts facts' act clean
 
   -- before the start nothing is claimed of traces
-  pub clean_begins : (w : State) → Facts k w → SendersLive k w → w.time < k.start → TracesAreClean says k w
+  pub clean_begins : (w : MachineState) → StationFacts k w → SendersLive k w → w.time < k.start → TracesAreClean says k w
   clean_begins w facts live early = record {
     lanes = λ j l at. record {
       sender = λ f h late. live j l f at h late;
@@ -260,20 +260,20 @@ module _ (says : Says) (k : Setting) where
         absurd (omega arith);
   }
     where
-      by : (f : Frame) (c : ℕ) → (f.due ≤ w.time + k.most) ⊎ (f.due < k.start) → Late k c f.due → ⊥
+      by : (f : AnnounceFrame) (c : ℕ) → (f.due ≤ w.time + k.most) ⊎ (f.due < k.start) → Late k c f.due → ⊥
       by f c (inl soon) late = omega arith
       by f c (inr before) late = omega arith
 
   -- as many turns after the start as a path may have systems, all that is held is wholly clean
-  pub held_whole : (m : ℕ) (w : State) → BoundsPaths k.graph m → Facts k w → TracesAreClean says k w
+  pub held_whole : (m : ℕ) (w : MachineState) → BoundsPaths k.graph m → StationFacts k w → TracesAreClean says k w
       → k.start + m * turn k ≤ w.time → HeldIsWhole k w
   held_whole m w bounded facts clean late i s place r at live holds =
       go m bounded late
     where
-      is : IsStation k w.time s
+      is : IsLiveStationState k w.time s
       is = facts.stations i s at live
 
-      in_time : IsInTime k w.time s.clock r
+      in_time : HeldIsInTime k w.time s.clock r
       in_time = is.held place r holds
 
       here : In s.clock (clocks k.graph)
@@ -286,7 +286,7 @@ module _ (says : Says) (k : Setting) where
           absurd (omega arith)
       go (suc m) bounded late' = whole (clean.stations i s at live place r m holds (since in_time))
         where
-          since : IsInTime k w.time s.clock r → Late k m r.at
+          since : HeldIsInTime k w.time s.clock r → Late k m r.at
           since t =
               let stays : w.time ≤ r.at + r.span = t.stays in
               let short : r.span ≤ k.span = t.short in

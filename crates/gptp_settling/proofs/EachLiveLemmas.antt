@@ -1,18 +1,18 @@
 -- A fact of each live system that holds on as time passes and through each answer is kept by every step.
 use Rattle.std.proofs.Common.{◌≡◌, ◌≤◌, ℕ, List, Some, slice_get, sym, subst, inl, inr}
-use Rattle.gptp_settling.specs.Frame.{Says, Send}
-use Rattle.gptp_settling.specs.Station.{Station, State}
-use Rattle.gptp_settling.specs.Touch.{Touch}
-use Rattle.gptp_settling.specs.Reacts.{Reacts}
-use Rattle.gptp_settling.specs.Acts.{Calls, Steps}
+use Rattle.gptp_settling.specs.Frame.{Spelling, Send}
+use Rattle.gptp_settling.specs.Station.{Station, MachineState}
+use Rattle.gptp_settling.specs.Touch.{StationTouch}
+use Rattle.gptp_settling.specs.Reacts.{StationReacts}
+use Rattle.gptp_settling.specs.Acts.{StationAnswers, MachineSteps}
 use Rattle.gptp_settling.specs.HeldLaws.{OfEachLive}
 
-module _ (says : Says) (P : ℕ → Station → Type 0)
+module _ (says : Spelling) (P : ℕ → Station → Type 0)
     (waits : (now later : ℕ) (s : Station) → now ≤ later → P now s → P later s)
-    (answers : (touch : Touch) (now : ℕ) (s s' : Station) (sends : List Send) → Reacts says s touch now s' sends
+    (answers : (touch : StationTouch) (now : ℕ) (s s' : Station) (sends : List Send) → StationReacts says s touch now s' sends
     → P now s → P now s') where
   -- a system answers
-  called : (touch : Touch) (w w' : State) → Calls says touch w w' → OfEachLive P w → OfEachLive P w'
+  called : (touch : StationTouch) (w w' : MachineState) → StationAnswers says touch w w' → OfEachLive P w → OfEachLive P w'
   called touch w w' call each i s at live =
       subst (λ t. P t s) (sym call.time) (elim (call.stations i s at) [
         | inl (same, is) ↦ subst (P w.time) (sym is)
@@ -21,13 +21,13 @@ module _ (says : Says) (P : ℕ → Station → Type 0)
       ])
 
   -- no system changes where its state's systems are those of the one before, at the same time
-  same_stations : (w w' : State) → w'.time ≡ w.time
+  same_stations : (w w' : MachineState) → w'.time ≡ w.time
       → ((i : ℕ) (m : Station) → slice_get w'.stations i ≡ Some m → slice_get w.stations i ≡ Some m)
       → OfEachLive P w → OfEachLive P w'
   same_stations w w' time stood each i s at live = subst (λ t. P t s) (sym time) (each i s (stood i s at) live)
 
   -- every step keeps the fact
-  pub each_live_kept : (w w' : State) → Steps says w w' → OfEachLive P w → OfEachLive P w'
+  pub each_live_kept : (w w' : MachineState) → MachineSteps says w w' → OfEachLive P w → OfEachLive P w'
   each_live_kept w w' (inl wait) each =
       subst (OfEachLive P) (sym wait.is) (λ i s at live. waits w.time wait.time s wait.later (each i s at live))
   each_live_kept w w' (inr (inl act)) each =

@@ -11,28 +11,28 @@ use Rattle.gptp_graph.specs.Distance.{IsDistance}
 use Rattle.gptp_graph.proofs.LinkLemmas.{Joins-sym, Joins-clock}
 use Rattle.gptp_graph.proofs.SystemLemmas as systems
 use Rattle.gptp_graph.proofs.BestLemmas.{IsBest-neighbour}
-use Rattle.gptp_settling.specs.Frame.{Says, Frame, Lane}
+use Rattle.gptp_settling.specs.Frame.{Spelling, AnnounceFrame, Lane}
 use Rattle.gptp_settling.specs.EarlyPorts.{EarlyPortsHear}
-use Rattle.gptp_settling.specs.Station.{Reception, Disabled, Mine, Received, Port, Station, State}
+use Rattle.gptp_settling.specs.Station.{Reception, Disabled, Mine, Received, Port, Station, MachineState}
 use Rattle.gptp_settling.specs.Vectors.{master}
 use Rattle.gptp_settling.specs.Facts.{FollowsItself, FollowsPort}
-use Rattle.gptp_settling.specs.Sound.{IsSound}
+use Rattle.gptp_settling.specs.Sound.{RunIsSound}
 use Rattle.gptp_settling.specs.Stage.{Wiring}
-use Rattle.gptp_settling.specs.Link.{final_vector, StandsAt, IsReady, TellsSettled, HearsSettled, IsLaneOf, IsOnTime, Ends, LapsesLater, HearsOn, StaysOn}
-use Rattle.gptp_settling.specs.Network.{Network, IsTimed, IsNetwork, since, wiring}
+use Rattle.gptp_settling.specs.Link.{final_vector, StandsAt, TellerIsReady, TellerIsSettled, HearsSettled, IsLaneOf, LaneIsOnTime, Ends, LapsesLater, HearsOn, StaysOn}
+use Rattle.gptp_settling.specs.Network.{Network, IsTimed, IsSettlingNetwork, since, wiring}
 use Rattle.gptp_settling.specs.Calm.{IsCalmPort, HasLane, Calm}
-use Rattle.gptp_settling.specs.Lapsing.{FollowsFrom, NothingLapses}
+use Rattle.gptp_settling.specs.Lapsing.{FollowsFrom, NothingNearLapses}
 use Rattle.gptp_settling.specs.Levels.{LeadsFarther}
 use Rattle.gptp_settling.proofs.PlaceLemmas.{same_there}
 use Rattle.gptp_settling.proofs.RestLemmas.{Chooses, IsClear, root_above, steps_above, is_master}
 
 -- the systems at distance d have settled
-abbrev pub AllChoose : Network → State → ℕ → Type 0
+abbrev pub AllChoose : Network → MachineState → ℕ → Type 0
 AllChoose n w d = (v : ℕ) (best : System) (s : Station) → slice_get w.stations (n.place v) ≡ Some s
     → IsBest n.graph v best → IsDistance n.graph v d → Chooses s best d
 
 -- a settled system's trace has no system that is as far or farther, and is of the length of its distance and one
-module _ (n : Network) (net : IsNetwork n) (s : Station) (clear : IsClear n.graph s) (best : System)
+module _ (n : Network) (net : IsSettlingNetwork n) (s : Station) (clear : IsClear n.graph s) (best : System)
     (is_best : IsBest n.graph s.clock best) (d : ℕ) (chooses : Chooses s best d) where
   no_farther : (u far : ℕ) → IsBest n.graph u best → IsDistance n.graph u far → d ≤ far → s.clock ≢ u
       → FollowsItself s ⊎ FollowsPort s → In u s.trace → ⊥
@@ -61,7 +61,7 @@ module _ (n : Network) (net : IsNetwork n) (s : Station) (clear : IsClear n.grap
       let own : s.steps ≡ d = chooses.steps in
       omega (arith, length-append port.r.said.path (s.clock ∷ [])))
 
-module _ (n : Network) (net : IsNetwork n) (w : State) (calm : Calm n w) (sound : IsSound n w) where
+module _ (n : Network) (net : IsSettlingNetwork n) (w : MachineState) (calm : Calm n w) (sound : RunIsSound n w) where
   -- a live system is at rest, and all it holds is sound
   pub clear_at : (i : ℕ) (s : Station) → slice_get w.stations i ≡ Some s → s.live ≡ true → n.sound ≤ w.time
       → IsClear n.graph s
@@ -132,8 +132,8 @@ module _ (n : Network) (net : IsNetwork n) (w : State) (calm : Calm n w) (sound 
     by_then : n.claimed d (port_of v (suc p)) ≤ w.time → n.sound ≤ w.time
     by_then late = let sound : n.sound ≤ n.claimed d (port_of v (suc p)) = timed.sound in omega arith
 
-    on_time : (l : Lane) (f : Frame) → slice_get w.lanes (n.lane (port_of v (suc p))) ≡ Some l → In f l.frames
-        → IsOnTime (wiring n d best v p u q) w.time f
+    on_time : (l : Lane) (f : AnnounceFrame) → slice_get w.lanes (n.lane (port_of v (suc p))) ≡ Some l → In f l.frames
+        → LaneIsOnTime (wiring n d best v p u q) w.time f
     on_time l f at h = record {
       left = calm.left (n.lane (port_of v (suc p))) l f at h;
       due = λ late. within (started late) (calm.facts.fresh (n.lane (port_of v (suc p))) l f at h
@@ -147,11 +147,11 @@ module _ (n : Network) (net : IsNetwork n) (w : State) (calm : Calm n w) (sound 
 
     -- the system that tells has settled
     pub tells_settled : n.sound ≤ w.time → (s : Station) (pv : Port) → slice_get w.stations (n.place v) ≡ Some s
-        → slice_get s.ports p ≡ Some pv → IsReady (wiring n d best v p u q) s pv
-        → TellsSettled (wiring n d best v p u q) s pv
+        → slice_get s.ports p ≡ Some pv → TellerIsReady (wiring n d best v p u q) s pv
+        → TellerIsSettled (wiring n d best v p u q) s pv
     tells_settled late s pv at port (has, on) = go (is_station v s from_known at)
       where
-        go : (s.live ≡ true) × (s.clock ≡ v) → TellsSettled (wiring n d best v p u q) s pv
+        go : (s.live ≡ true) × (s.clock ≡ v) → TellerIsSettled (wiring n d best v p u q) s pv
         go (live, clock) = record {
           mine = is_master n.graph net.graph s clear best is_best d leads.far p pv (port_of u (suc q)) chooses port on
               (subst (λ c. Joins n.graph (port_of c (suc p)) (port_of u (suc q))) (sym clock) leads.joins) leads.there
@@ -258,7 +258,7 @@ module _ (n : Network) (net : IsNetwork n) (w : State) (calm : Calm n w) (sound 
 
     -- a system that hasn't settled yet, or whose port isn't on yet, still has the time
     early : (s : Station) (pv : Port) → slice_get w.stations (n.place v) ≡ Some s → slice_get s.ports p ≡ Some pv
-        → (IsReady (wiring n d best v p u q) s pv → ⊥) → w.time + n.most < since n (suc d)
+        → (TellerIsReady (wiring n d best v p u q) s pv → ⊥) → w.time + n.most < since n (suc d)
     early s pv at port not = elim (dec_le (since n d) w.time) [
       | no before ↦ let delay : n.most ≤ n.step = timed.delay in omega arith
       | yes late ↦ elim (dec_le (n.ready (port_of v (suc p))) w.time) [
@@ -272,7 +272,7 @@ module _ (n : Network) (net : IsNetwork n) (w : State) (calm : Calm n w) (sound 
     ]
 
     -- the port that hears is on where it must be
-    pub hears_on : (says : Says) (w' : State) → EarlyPortsHear says n w w' → HearsOn says (wiring n d best v p u q) w
+    pub hears_on : (says : Spelling) (w' : MachineState) → EarlyPortsHear says n w w' → HearsOn says (wiring n d best v p u q) w
     hears_on says w' waking l f fs a s pu late lane_at frames due said at port =
         elim (dec_le (n.ready (port_of u (suc q))) w.time) [
           | yes ready ↦ capable_at u q (port_of v (suc p)) s pu to_known back at port ready
@@ -281,7 +281,7 @@ module _ (n : Network) (net : IsNetwork n) (w : State) (calm : Calm n w) (sound 
               due said at port
         ]
 
-    pub stays_on : (says : Says) (w' : State) → ((s' : Station) (pu' : Port)
+    pub stays_on : (says : Spelling) (w' : MachineState) → ((s' : Station) (pu' : Port)
         → slice_get w'.stations (n.place u) ≡ Some s' → slice_get s'.ports q ≡ Some pu'
         → n.ready (port_of u (suc q)) ≤ w.time → pu'.held ≢ Disabled) → EarlyPortsHear says n w w'
         → StaysOn (wiring n d best v p u q) w w'
@@ -325,7 +325,7 @@ module _ (n : Network) (net : IsNetwork n) (w : State) (calm : Calm n w) (sound 
     }
 
     -- what the system that hears received over the link doesn't lapse, where nothing does
-    pub lapses_later : NothingLapses n w → LapsesLater (wiring n d best v p u q) w
+    pub lapses_later : NothingNearLapses n w → LapsesLater (wiring n d best v p u q) w
     lapses_later nothing s due at late slave lapse = go (is_station u s to_known at)
       where
         go : (s.live ≡ true) × (s.clock ≡ u) → w.time < due

@@ -9,14 +9,14 @@ use Rattle.gptp_graph.proofs.OrderLemmas.{IsLower-dec, IsLower-irrefl}
 use Rattle.gptp_graph.proofs.LinkDecisions.{PortIdentity-dec}
 use Rattle.gptp_graph.proofs.PathLemmas.{path_bounded}
 use Rattle.gptp_graph.proofs.SureTests.{sure_well_formed}
-use Rattle.gptp_settling.specs.Frame.{Frame, Lane}
+use Rattle.gptp_settling.specs.Frame.{AnnounceFrame, Lane}
 use Rattle.gptp_settling.specs.Station.{Reception, Disabled, Aged, Mine, Received, Port, Station, HoldsAt}
 use Rattle.gptp_settling.specs.Vectors.{message, path_vector, master, system_vector}
-use Rattle.gptp_settling.specs.Facts.{system_of, IsInTime, IsStation, Facts}
-use Rattle.gptp_settling.specs.AtRest.{IsAtRest}
-use Rattle.gptp_settling.specs.Network.{IsNetwork, setting}
+use Rattle.gptp_settling.specs.Facts.{station_system, HeldIsInTime, IsLiveStationState, StationFacts}
+use Rattle.gptp_settling.specs.AtRest.{StationIsAtRest}
+use Rattle.gptp_settling.specs.Network.{IsSettlingNetwork, network_setting}
 use Rattle.gptp_settling.specs.Calm.{IsCalmPort, IsCalmStation, HasStation, HasLane, Calm}
-use Rattle.gptp_settling.specs.Example.{lane_out, lane_back, lone, heard, first_identity, network, announce, first, alone, following, state}
+use Rattle.gptp_settling.specs.Example.{lane_out, lane_back, lone, heard_at, first_identity, network, announce, first_system, lone_system, following, example_state}
 use Rattle.gptp_settling.proofs.PlaceLemmas.{same_mine, received_injective}
 use Rattle.gptp_settling.proofs.TimesLemmas.{times_fit}
 
@@ -47,7 +47,7 @@ well_formed : IsWellFormed network.graph
 unfolding ℕ_discrete dec_le dec_lt dec_both dec_either IsLower-dec PortIdentity-dec
 well_formed = (sure_well_formed network.graph).1 refl
 
-pub is_network : IsNetwork network
+pub is_network : IsSettlingNetwork network
 is_network =
     times_fit network well_formed (λ v w us path. path_bounded network.graph v w us well_formed path) (omega arith)
     (inl (record {
@@ -81,14 +81,14 @@ module _ (now clock identity timer : ℕ) (early : now ≤ timer) (soon : timer 
       (record { held = Mine identity 0; log = pos 2; interval = 4; announce = timer })
       (λ holds. mine_received identity 0 r holds) i q at e)
 
-  pub lone_station : IsStation (setting network) now (lone clock identity timer)
+  pub lone_station : IsLiveStationState (network_setting network) now (lone clock identity timer)
   lone_station = record {
     known = known;
     follows = inl (record { root = refl; steps = refl; trace = refl });
     held = λ i r holds. lone_holds i r holds;
   }
 
-  lone_rests : IsAtRest (lone clock identity timer)
+  lone_rests : StationIsAtRest (lone clock identity timer)
   lone_rests = record {
     vector = system_vector (lone clock identity timer);
     chosen = inl (refl, refl);
@@ -124,21 +124,21 @@ module _ (now clock identity timer : ℕ) (early : now ≤ timer) (soon : timer 
 
 module _ (now at : ℕ) (came : at ≤ now) (stays : now ≤ at + 8) where
   -- what the second system's port received
-  holds : HoldsAt (following at) 0 (heard at)
-  holds = (record { held = Received (heard at); log = pos 2; interval = 4; announce = 4 }, refl, refl)
+  holds : HoldsAt (following at) 0 (heard_at at)
+  holds = (record { held = Received (heard_at at); log = pos 2; interval = 4; announce = 4 }, refl, refl)
 
   -- it received nothing else
-  only_heard : (P : ℕ → Reception → Type 0) → P 0 (heard at) → (i : ℕ) (r : Reception) → HoldsAt (following at) i r
+  only_heard : (P : ℕ → Reception → Type 0) → P 0 (heard_at at) → (i : ℕ) (r : Reception) → HoldsAt (following at) i r
       → P i r
   only_heard P p i r (q, there, e) = each_of_one (λ i (q : Port). (r : Reception) → q.held ≡ Received r → P i r)
-      (record { held = Received (heard at); log = pos 2; interval = 4; announce = 4 })
-      (λ r e. subst (P 0) (received_injective (heard at) r e) p) i q there r e
+      (record { held = Received (heard_at at); log = pos 2; interval = 4; announce = 4 })
+      (λ r e. subst (P 0) (received_injective (heard_at at) r e) p) i q there r e
 
-  pub following_station : IsStation (setting network) now (following at)
+  pub following_station : IsLiveStationState (network_setting network) now (following at)
   following_station = record {
     known = inr (inl refl);
-    follows = inr (record { place = 0; r = heard at; holds = holds; root = refl; steps = refl; trace = refl });
-    held = only_heard (λ i r. IsInTime (setting network) now 2 r) (record {
+    follows = inr (record { place = 0; r = heard_at at; holds = holds; root = refl; steps = refl; trace = refl });
+    held = only_heard (λ i r. HeldIsInTime (network_setting network) now 2 r) (record {
       came = came;
       stays = stays;
       short = omega arith;
@@ -146,21 +146,21 @@ module _ (now at : ℕ) (came : at ≤ now) (stays : now ≤ at + 8) where
     });
   }
 
-  following_rests : IsAtRest (following at)
+  following_rests : StationIsAtRest (following at)
   following_rests = record {
     vector = path_vector announce 1;
-    chosen = inr (0, heard at, holds, refl, refl);
+    chosen = inr (0, heard_at at, holds, refl, refl);
     own_not_lower = λ h. elim h [ inl less ↦ absurd (omega arith) | inr (same, rest) ↦ absurd (omega arith) ];
     held_not_lower = only_heard (λ i r. IsLower (path_vector r.said (suc i)) (path_vector announce 1) → ⊥)
         (λ h. IsLower-irrefl (path_vector announce 1) h);
     source = 1 ∷ 1 ∷ 1 ∷ [];
     is = refl;
     fresh = each_of_one (λ i (q : Port). q.held ≢ Aged)
-        (record { held = Received (heard at); log = pos 2; interval = 4; announce = 4 }) (λ e. absurd cc);
+        (record { held = Received (heard_at at); log = pos 2; interval = 4; announce = 4 }) (λ e. absurd cc);
     mine = λ i q root steps there e.
         each_of_one (λ i (q : Port). q.held ≡ Mine root steps → (root ≡ first_identity) × (steps ≡ 1))
-        (record { held = Received (heard at); log = pos 2; interval = 4; announce = 4 })
-        (λ h. mine_received root steps (heard at) (sym h)) i q there e;
+        (record { held = Received (heard_at at); log = pos 2; interval = 4; announce = 4 })
+        (λ h. mine_received root steps (heard_at at) (sym h)) i q there e;
     passive = only_heard (λ i r. (Some 1 ≡ Some (suc i))
         ⊎ (IsLower (master first_identity 1 2 (suc i)) (message r.said (suc i)) → ⊥)) (inl refl);
   }
@@ -169,47 +169,47 @@ module _ (now at : ℕ) (came : at ≤ now) (stays : now ≤ at + 8) where
   following_calm = record {
     at_rest = following_rests;
     ports = each_of_one (λ i q. IsCalmPort network now (port_of 2 (suc i)) q)
-        (record { held = Received (heard at); log = pos 2; interval = 4; announce = 4 })
+        (record { held = Received (heard_at at); log = pos 2; interval = 4; announce = 4 })
         (record {
           log = refl;
           interval = refl;
-          timer = λ root steps e. mine_received root steps (heard at) (sym e);
+          timer = λ root steps e. mine_received root steps (heard_at at) (sym e);
           capable = λ started is_linked e. absurd cc;
           bare = λ started out r e. absurd (out (port_of 1 1, inr (inl refl)));
           unlinked = λ started out. absurd (out (port_of 1 1, inr (inl refl)));
           long = λ r from e joins source log.
-              subst (λ (x : Reception). 5 < x.span) (received_injective (heard at) r e) (omega arith);
+              subst (λ (x : Reception). 5 < x.span) (received_injective (heard_at at) r e) (omega arith);
         });
   }
 
-module _ (now timer : ℕ) (second : Station) (frames : List Frame) (early : now ≤ timer) (soon : timer ≤ now + 4)
-    (is_station : IsStation (setting network) now second) (is_calm : IsCalmStation network now second)
-    (is_live : second.live ≡ true) (is_second : system_of second ≡ system_of alone)
-    (flight : (f : Frame) → In f frames → (now ≤ f.due) × (f.due ≤ now + 1)) where
+module _ (now timer : ℕ) (second : Station) (frames : List AnnounceFrame) (early : now ≤ timer) (soon : timer ≤ now + 4)
+    (is_station : IsLiveStationState (network_setting network) now second) (is_calm : IsCalmStation network now second)
+    (is_live : second.live ≡ true) (is_second : station_system second ≡ station_system lone_system)
+    (flight : (f : AnnounceFrame) → In f frames → (now ≤ f.due) × (f.due ≤ now + 1)) where
   -- the better system's port is linked
   first_linked : IsLinked network.graph (port_of 1 1)
   first_linked = (port_of 2 1, inl (inl refl))
 
   -- a fact of each frame in flight
-  each_frame : (P : Lane → Frame → Type 0)
-      → ((f : Frame) → In f frames
+  each_frame : (P : Lane → AnnounceFrame → Type 0)
+      → ((f : AnnounceFrame) → In f frames
       → P (lane_out frames) f)
-      → (j : ℕ) (l : Lane) (f : Frame) → slice_get (state now timer second frames).lanes j ≡ Some l → In f l.frames
+      → (j : ℕ) (l : Lane) (f : AnnounceFrame) → slice_get (example_state now timer second frames).lanes j ≡ Some l → In f l.frames
       → P l f
   each_frame P p j l f at h =
-      each_of_two (λ j (l : Lane). (f : Frame) → In f l.frames → P l f)
+      each_of_two (λ j (l : Lane). (f : AnnounceFrame) → In f l.frames → P l f)
       (lane_out frames)
       lane_back
       p (λ f none. absurd none) j l at f h
 
   -- a fact of each system
-  each_station : (P : ℕ → Station → Type 0) → P 0 (first timer) → P 1 second → (i : ℕ) (s : Station)
-      → slice_get (state now timer second frames).stations i ≡ Some s → P i s
-  each_station P p q = each_of_two P (first timer) second p q
+  each_station : (P : ℕ → Station → Type 0) → P 0 (first_system timer) → P 1 second → (i : ℕ) (s : Station)
+      → slice_get (example_state now timer second frames).stations i ≡ Some s → P i s
+  each_station P p q = each_of_two P (first_system timer) second p q
 
-  facts : Facts (setting network) (state now timer second frames)
+  facts : StationFacts (network_setting network) (example_state now timer second frames)
   facts = record {
-    stations = each_station (λ i s. s.live ≡ true → IsStation (setting network) now s)
+    stations = each_station (λ i s. s.live ≡ true → IsLiveStationState (network_setting network) now s)
         (λ live. lone_station now 1 first_identity timer early soon (inl refl) first_linked) (λ live. is_station);
     near = each_frame (λ l f. f.due ≤ now + 4) (λ f h. let (left, due) = flight f h in omega arith);
     fresh = λ j l f at h joins. inl (each_frame (λ l f. f.due ≤ now + 1) (λ f h. (flight f h).1) j l f at h);
@@ -217,15 +217,15 @@ module _ (now timer : ℕ) (second : Station) (frames : List Frame) (early : now
         each_frame (λ l f. Joins network.graph l.from l.to) (λ f h. inl (inl refl)) j l f at h;
   }
 
-  there : (s : System) → In s network.graph.systems → HasStation network (state now timer second frames) s
+  there : (s : System) → In s network.graph.systems → HasStation network (example_state now timer second frames) s
   there s (inl e) =
-      subst (HasStation network (state now timer second frames)) (sym e)
-      (record { station = first timer; there = refl; live = refl; is = refl })
+      subst (HasStation network (example_state now timer second frames)) (sym e)
+      (record { station = first_system timer; there = refl; live = refl; is = refl })
   there s (inr (inl e)) =
-      subst (HasStation network (state now timer second frames)) (is_second ∙ sym e)
+      subst (HasStation network (example_state now timer second frames)) (is_second ∙ sym e)
       (record {
         station = second;
-        there = subst (λ c. slice_get (first timer ∷ second ∷ []) (pred c) ≡ Some second)
+        there = subst (λ c. slice_get (first_system timer ∷ second ∷ []) (pred c) ≡ Some second)
             (λ i. (sym is_second i).clock) refl;
         live = is_live;
         is = refl;
@@ -236,8 +236,8 @@ module _ (now timer : ℕ) (second : Station) (frames : List Frame) (early : now
   not_back : port_of 2 1 ≢ port_of 1 1
   not_back e = absurd (let clock : 2 ≡ 1 = ap (λ (p : PortIdentity). p.clock) e in cc)
 
-  apart : (i j : ℕ) (l m : Lane) → slice_get (state now timer second frames).lanes i ≡ Some l
-      → slice_get (state now timer second frames).lanes j ≡ Some m → l.to ≡ m.to → i ≡ j
+  apart : (i j : ℕ) (l m : Lane) → slice_get (example_state now timer second frames).lanes i ≡ Some l
+      → slice_get (example_state now timer second frames).lanes j ≡ Some m → l.to ≡ m.to → i ≡ j
   apart i j l m at also =
       each_of_two (λ i (l : Lane). l.to ≡ m.to → i ≡ j)
       (lane_out frames)
@@ -252,15 +252,15 @@ module _ (now timer : ℕ) (second : Station) (frames : List Frame) (early : now
       (λ e. absurd (not_back (sym e))) (λ e. refl) j m also)
       i l at
 
-  -- the state is calm
-  pub calm : Calm network (state now timer second frames)
+  -- the example_state is calm
+  pub calm : Calm network (example_state now timer second frames)
   calm = record {
     facts = facts;
     stations = each_station (λ i s. s.live ≡ true → IsCalmStation network now s)
         (λ live. lone_calm now 1 first_identity timer early soon (inl refl) first_linked) (λ live. is_calm);
     placed = each_station (λ i s. i ≡ pred s.clock) refl (ap (λ (s : System). pred s.clock) (sym is_second));
     there = there;
-    lanes = each_direction (λ p q. HasLane network (state now timer second frames) p q)
+    lanes = each_direction (λ p q. HasLane network (example_state now timer second frames) p q)
         (record {
           lane = lane_out frames;
           there = refl;

@@ -7,21 +7,21 @@ use Rattle.gptp_graph.specs.Best.{IsBest}
 use Rattle.gptp_graph.proofs.LinkLemmas.{Joins-clock}
 use Rattle.gptp_graph.proofs.BestLemmas.{IsBest-unique}
 use Rattle.gptp_graph.proofs.SystemLemmas.{In-clocks}
-use Rattle.gptp_settling.specs.Frame.{Announce, Says, Frame, Lane}
-use Rattle.gptp_settling.specs.Station.{State}
-use Rattle.gptp_settling.specs.Touch.{Touch}
+use Rattle.gptp_settling.specs.Frame.{Announce, Spelling, AnnounceFrame, Lane}
+use Rattle.gptp_settling.specs.Station.{MachineState}
+use Rattle.gptp_settling.specs.Touch.{StationTouch}
 use Rattle.gptp_settling.specs.Reacts.{IsOwn}
-use Rattle.gptp_settling.specs.Acts.{Calls, Pops, Steps}
+use Rattle.gptp_settling.specs.Acts.{StationAnswers, Pops, MachineSteps}
 use Rattle.gptp_settling.specs.Clean.{Whole}
-use Rattle.gptp_settling.specs.Facts.{system_of}
-use Rattle.gptp_settling.specs.Network.{Network, IsNetwork, since, settled_from}
+use Rattle.gptp_settling.specs.Facts.{station_system}
+use Rattle.gptp_settling.specs.Network.{Network, IsSettlingNetwork, since, settled_from}
 use Rattle.gptp_settling.specs.Calm.{Calm}
 use Rattle.gptp_settling.specs.Levels.{Invariant}
-use Rattle.gptp_settling.specs.SoundLaws.{IsSoundFrom, IsSoundOnLinks, AllIsWhole, AreNear, FlightNamesBest}
+use Rattle.gptp_settling.specs.SoundLaws.{IsSoundFrom, IsSoundOnLinks, AllIsWhole, AllAreNear, FlightNamesBest}
 use Rattle.gptp_settling.proofs.SettledLemmas.{network_settles, network_whole}
 
-module _ (says : Says) (n : Network) (net : IsNetwork n) where
-  pub flight_begins : (w : State) → Calm n w → w.time < settled_from n → FlightNamesBest says n w
+module _ (says : Spelling) (n : Network) (net : IsSettlingNetwork n) where
+  pub flight_begins : (w : MachineState) → Calm n w → w.time < settled_from n → FlightNamesBest says n w
   flight_begins w calm early j l f a best at flies said joins late is_best =
       absurd (by (calm.facts.fresh j l f at flies joins))
     where
@@ -29,9 +29,9 @@ module _ (says : Says) (n : Network) (net : IsNetwork n) where
       by (inl soon) = omega arith
       by (inr before) = let begun : n.start ≤ since n 0 = net.begun in omega arith
 
-  module _ (near : AreNear n.graph) where
+  module _ (near : AllAreNear n.graph) where
     -- one system answers
-    called : (touch : Touch) (w w' : State) → Calls says touch w w' → Calm n w' → Invariant says n w'
+    called : (touch : StationTouch) (w w' : MachineState) → StationAnswers says touch w w' → Calm n w' → Invariant says n w'
         → FlightNamesBest says n w → FlightNamesBest says n w'
     called touch w w' call calm' invariant' flight j l' f a best at flies said joins late is_best =
         let (l, stood, step) = call.lanes j l' at in
@@ -49,7 +49,7 @@ module _ (says : Says) (n : Network) (net : IsNetwork n) where
               let known = (calm'.facts.stations call.place call.s' call.there live').known in
               let (has, follows, roles) = network_settles says n w' call.place call.s' net calm' invariant' call.there
               live'
-              (near call.s'.clock (In-clocks n.graph (system_of call.s') known))
+              (near call.s'.clock (In-clocks n.graph (station_system call.s') known))
               (now (calm'.facts.fresh j l' f at flies joins)) in
               let (b, is_b, root) = has.root in
               let same : b ≡ best =
@@ -63,7 +63,7 @@ module _ (says : Says) (n : Network) (net : IsNetwork n) where
         now (inr before) = let begun : n.start ≤ since n 0 = net.begun in absurd (omega arith)
 
     -- a frame is taken off its lane
-    popped : (j : ℕ) (l : Lane) (f : Frame) (fs : List Frame) (w w' : State) → Pops j l f fs w w'
+    popped : (j : ℕ) (l : Lane) (f : AnnounceFrame) (fs : List AnnounceFrame) (w w' : MachineState) → Pops j l f fs w w'
         → FlightNamesBest says n w → FlightNamesBest says n w'
     popped j l f fs w w' pops flight m l' x a best at flies said joins late is_best = elim (pops.lanes m l' at) [
       | inl (same, is) ↦ flight j l x a best pops.here
@@ -73,7 +73,7 @@ module _ (says : Says) (n : Network) (net : IsNetwork n) where
       | inr (other, stood) ↦ flight m l' x a best stood flies said joins late is_best
     ]
 
-    pub flight_kept : (w w' : State) → Calm n w' → Invariant says n w' → Steps says w w' → FlightNamesBest says n w
+    pub flight_kept : (w w' : MachineState) → Calm n w' → Invariant says n w' → MachineSteps says w w' → FlightNamesBest says n w
         → FlightNamesBest says n w'
     flight_kept w w' calm' invariant' (inl wait) flight =
         subst (FlightNamesBest says n) (sym wait.is) (λ j l f a best. flight j l f a best)
@@ -86,7 +86,7 @@ module _ (says : Says) (n : Network) (net : IsNetwork n) where
         called act.touch w w' act.call calm' invariant' flight
 
     -- a delay after all has settled all is wholly clean
-    pub settled_is_whole : (w : State) → Calm n w → Invariant says n w → IsSoundOnLinks says n.graph w
+    pub settled_is_whole : (w : MachineState) → Calm n w → Invariant says n w → IsSoundOnLinks says n.graph w
         → FlightNamesBest says n w → settled_from n + n.most ≤ w.time → n.off ≤ w.time
         → AllIsWhole says n.graph (Joins n.graph) w
     settled_is_whole w calm invariant all flight late off = record {
@@ -102,7 +102,7 @@ module _ (says : Says) (n : Network) (net : IsNetwork n) where
       stations = λ i s place r at live holds.
           let known = (calm.facts.stations i s at live).known in
           network_whole says n w i s net calm invariant at live
-          (near s.clock (In-clocks n.graph (system_of s) known)) (omega arith) off place r
+          (near s.clock (In-clocks n.graph (station_system s) known)) (omega arith) off place r
           (all.stations i s place r at live holds) holds;
     }
       where

@@ -2,18 +2,18 @@
 use Rattle.std.proofs.Common.{◌≡◌, ◌≢◌, ℕ, suc, List, [], ◌∷◌, refl, sym, subst, ◌∙◌, inl, inr}
 use Rattle.gptp_graph.specs.Order.{IsLower}
 use Rattle.gptp_graph.proofs.OrderLemmas.{IsLower-irrefl, IsLower-trans}
-use Rattle.gptp_settling.specs.Frame.{Announce, Says, Send}
+use Rattle.gptp_settling.specs.Frame.{Announce, Spelling, Send}
 use Rattle.gptp_settling.specs.Station.{Reception, Held, Disabled, Aged, Mine, Received, Port}
 use Rattle.gptp_settling.specs.Vectors.{message, master}
-use Rattle.gptp_settling.specs.Touch.{Touch, Hear, Tick, Grow, Enable, Disable, Other, Mid, Replaces}
+use Rattle.gptp_settling.specs.Touch.{StationTouch, Hear, Tick, Grow, Enable, Disable, Other, HeldInTouch, Replaces}
 use Rattle.gptp_settling.specs.Reacts.{PortStep}
 use Rattle.gptp_settling.specs.Stage.{Wiring, IsFinal}
 use Rattle.gptp_settling.specs.Link.{final_vector, HearsSettled}
 
 -- a touch that is no Hear and no Grow of the port, and doesn't disable it, leaves what it received
-pub mid_stays : (c n now : ℕ) (touch : Touch) (held mid : Held) (r : Reception)
+pub mid_stays : (c n now : ℕ) (touch : StationTouch) (held mid : Held) (r : Reception)
     → ((a : Announce) → touch ≡ Hear n a → ⊥) → (touch ≡ Grow n → ⊥) → mid ≢ Disabled
-    → Mid c n touch now held mid → held ≡ Received r → mid ≡ Received r
+    → HeldInTouch c n touch now held mid → held ≡ Received r → mid ≡ Received r
 mid_stays c n now (Hear m a) held mid r deaf young on (inl (same, up, rest)) e =
     absurd (deaf a (λ i. Hear (sym same i) a))
 mid_stays c n now (Hear m a) held mid r deaf young on (inr (other, is)) e = is ∙ e
@@ -28,7 +28,7 @@ mid_stays c n now (Disable m) held mid r deaf young on (inr (other, is)) e = is 
 mid_stays c n now Other held mid r deaf young on is e = is ∙ e
 
 -- no touch makes a port master
-pub mid_mine : (c n now root steps : ℕ) (touch : Touch) (held mid : Held) → Mid c n touch now held mid
+pub mid_mine : (c n now root steps : ℕ) (touch : StationTouch) (held mid : Held) → HeldInTouch c n touch now held mid
     → mid ≡ Mine root steps → held ≡ Mine root steps
 mid_mine c n now root steps (Hear m a) held mid (inl (same, up, inl takes)) e =
     absurd (let x = sym takes.is ∙ e in cc)
@@ -64,14 +64,14 @@ module _ (k : Wiring) where
 
   -- so the hearer takes it
   pub final_taken : (now : ℕ) (a : Announce) (q : Port) (mid : Held) → IsFinal k a → HearsSettled k q
-      → Mid k.hearer (suc k.hearer_port) (Hear (suc k.hearer_port) a) now q.held mid
+      → HeldInTouch k.hearer (suc k.hearer_port) (Hear (suc k.hearer_port) a) now q.held mid
       → (span : ℕ) × (mid ≡ Received (record { said = a; at = now; span = span }))
   final_taken now a q mid final hears (inl (same, on, inl takes)) = (takes.span, takes.is)
   final_taken now a q mid final hears (inl (same, on, inr refuses)) =
       absurd (refuses.fails final.qualified (final_replaces a q final on hears))
   final_taken now a q mid final hears (inr (other, is)) = absurd (other refl)
 
-  module _ (says : Says) (now : ℕ) (touch : Touch) (root steps : ℕ) (q q' : Port) (sends : List Send)
+  module _ (says : Spelling) (now : ℕ) (touch : StationTouch) (root steps : ℕ) (q q' : Port) (sends : List Send)
       (step : PortStep says k.hearer (suc k.hearer_port) now touch root steps q q' sends)
       (hears' : HearsSettled k q') where
     -- the port isn't disabled in between

@@ -1,11 +1,11 @@
 -- No trace that a system holds names it, since none that did is taken.
 use Rattle.std.proofs.Common.{◌≡◌, ◌≤◌, ℕ, suc, List, sym, subst, inl, inr, arith}
 use Rattle.gptp_lists.specs.Members.{In}
-use Rattle.gptp_settling.specs.Frame.{Announce, Says, Send}
-use Rattle.gptp_settling.specs.Station.{Station, State}
-use Rattle.gptp_settling.specs.Touch.{Touch}
-use Rattle.gptp_settling.specs.Reacts.{Reacts}
-use Rattle.gptp_settling.specs.Acts.{Steps}
+use Rattle.gptp_settling.specs.Frame.{Announce, Spelling, Send}
+use Rattle.gptp_settling.specs.Station.{Station, MachineState}
+use Rattle.gptp_settling.specs.Touch.{StationTouch}
+use Rattle.gptp_settling.specs.Reacts.{StationReacts}
+use Rattle.gptp_settling.specs.Acts.{MachineSteps}
 use Rattle.gptp_settling.specs.HeldLaws.{OfEachLive, HoldsNoLoop}
 use Rattle.gptp_settling.proofs.ReactsLemmas.{JustHeard, held_from}
 use Rattle.gptp_settling.proofs.EachLiveLemmas.{each_live_kept}
@@ -16,9 +16,9 @@ held_later now later s passes held place r holds =
     let (came, no_loop) = held place r holds in
     (omega arith, no_loop)
 
-module _ (says : Says) where
+module _ (says : Spelling) where
   -- through an answer: what is held was held before, or just heard, and then qualified
-  held_after : (touch : Touch) (now : ℕ) (s s' : Station) (sends : List Send) → Reacts says s touch now s' sends
+  held_after : (touch : StationTouch) (now : ℕ) (s s' : Station) (sends : List Send) → StationReacts says s touch now s' sends
       → HoldsNoLoop now s → HoldsNoLoop now s'
   held_after touch now s s' sends reacts held place r holds =
       subst (λ c. (r.at ≤ now) × (In c r.said.path → ⊥)) (sym reacts.clock)
@@ -35,5 +35,5 @@ module _ (says : Says) where
           )
 
   -- through every step
-  pub no_loop_taken : (w w' : State) → Steps says w w' → OfEachLive HoldsNoLoop w → OfEachLive HoldsNoLoop w'
+  pub no_loop_taken : (w w' : MachineState) → MachineSteps says w w' → OfEachLive HoldsNoLoop w → OfEachLive HoldsNoLoop w'
   no_loop_taken = each_live_kept says HoldsNoLoop held_later held_after

@@ -9,20 +9,20 @@ use Rattle.gptp_graph.proofs.LinkLemmas.{Joins-sym, Joins-clock}
 use Rattle.gptp_graph.proofs.SystemLemmas.{same_clock}
 use Rattle.gptp_graph.proofs.BestLemmas.{IsBest-neighbour}
 use Rattle.gptp_graph.proofs.DistanceLemmas.{IsDistance-clock, nearer_neighbour}
-use Rattle.gptp_settling.specs.Frame.{Announce, Says, Lane}
+use Rattle.gptp_settling.specs.Frame.{Announce, Spelling, Lane}
 use Rattle.gptp_settling.specs.Clean.{Good, Whole}
 use Rattle.gptp_settling.specs.SoundLaws.{IsWholeFrom, AllIsWhole}
-use Rattle.gptp_settling.specs.Station.{Reception, Port, Station, State, HoldsAt}
-use Rattle.gptp_settling.specs.Acts.{Steps}
-use Rattle.gptp_settling.specs.Facts.{system_of}
+use Rattle.gptp_settling.specs.Station.{Reception, Port, Station, MachineState, HoldsAt}
+use Rattle.gptp_settling.specs.Acts.{MachineSteps}
+use Rattle.gptp_settling.specs.Facts.{station_system}
 use Rattle.gptp_settling.specs.CleanInvariant.{TracesAreClean}
-use Rattle.gptp_settling.specs.Sound.{IsSound}
+use Rattle.gptp_settling.specs.Sound.{RunIsSound}
 use Rattle.gptp_settling.specs.Stage.{IsFinal}
 use Rattle.gptp_settling.specs.Link.{Stand, LinkSettles}
-use Rattle.gptp_settling.specs.Network.{Network, IsNetwork, setting, clean_from, since, wiring}
+use Rattle.gptp_settling.specs.Network.{Network, IsSettlingNetwork, network_setting, machine_clean_from, since, wiring}
 use Rattle.gptp_settling.specs.Calm.{Calm}
 use Rattle.gptp_settling.specs.EarlyPorts.{EarlyPortsHear, ClaimsWhenReady}
-use Rattle.gptp_settling.specs.Lapsing.{NothingLapses}
+use Rattle.gptp_settling.specs.Lapsing.{NothingNearLapses}
 use Rattle.gptp_settling.specs.Levels.{LeadsFarther, LevelSettles, Invariant}
 use Rattle.gptp_settling.proofs.PlaceLemmas.{there_within}
 use Rattle.gptp_settling.proofs.NearestLemmas.{came_fits}
@@ -46,8 +46,8 @@ places_of g v m u k wf joins =
     let (q, is_q) = place_of k second.first in
     (p, q, is_p, is_q)
 
-module _ (says : Says) (n : Network) (net : IsNetwork n) (w : State) (calm : Calm n w)
-    (sound : IsSound n w) where
+module _ (says : Spelling) (n : Network) (net : IsSettlingNetwork n) (w : MachineState) (calm : Calm n w)
+    (sound : RunIsSound n w) where
   -- a linked port of a live system stands at its place
   pub port_there : (v p : ℕ) (to : PortIdentity) (s : Station) → slice_get w.stations (n.place v) ≡ Some s
       → Joins n.graph (port_of v (suc p)) to → (q : Port) × (slice_get s.ports p ≡ Some q)
@@ -60,8 +60,8 @@ module _ (says : Says) (n : Network) (net : IsNetwork n) (w : State) (calm : Cal
       within =
           let (live, clock) = is_station n net w calm sound v s known at in
           let (x, in_x, is_port) = net.graph.ends (port_of v (suc p)) to joins in
-          let same : x ≡ system_of s =
-          same_clock n.graph x (system_of s) net.graph in_x (calm.facts.stations (n.place v) s at live).known
+          let same : x ≡ station_system s =
+          same_clock n.graph x (station_system s) net.graph in_x (calm.facts.stations (n.place v) s at live).known
           (is_port.clock ∙ sym clock) in
           subst (λ (y : System). suc p ≤ y.ports) same is_port.last
 
@@ -155,15 +155,15 @@ module _ (says : Says) (n : Network) (net : IsNetwork n) (w : State) (calm : Cal
               (subst (λ c. IsDistance n.graph c (suc e)) (sym clock) here) holds final.root final.steps
 
 -- time doesn't go back
-steps_on : (says : Says) (w w' : State) → Steps says w w' → w.time ≤ w'.time
-steps_on says w w' (inl wait) = subst (λ (x : State). w.time ≤ x.time) (sym wait.is) wait.later
+steps_on : (says : Spelling) (w w' : MachineState) → MachineSteps says w w' → w.time ≤ w'.time
+steps_on says w w' (inl wait) = subst (λ (x : MachineState). w.time ≤ x.time) (sym wait.is) wait.later
 steps_on says w w' (inr (inl act)) =
     let one = act.call.time in let two = act.pops.time in omega (arith, one, two)
 steps_on says w w' (inr (inr (inl act))) = let same = act.pops.time in omega (arith, same)
 steps_on says w w' (inr (inr (inr act))) = let same = act.call.time in omega (arith, same)
 
 -- where claims are made only once ports are capable nothing need be known of them
-pub no_early_ports : (says : Says) (n : Network) (w w' : State) → ClaimsWhenReady n → EarlyPortsHear says n w w'
+pub no_early_ports : (says : Spelling) (n : Network) (w w' : MachineState) → ClaimsWhenReady n → EarlyPortsHear says n w w'
 no_early_ports says n w w' ready = record {
   hears = λ d p u i joins late early.
       let by : n.ready (port_of u (suc i)) ≤ n.claimed d p = ready d p (port_of u (suc i)) joins in
@@ -173,10 +173,10 @@ no_early_ports says n w w' ready = record {
       absurd (omega arith);
 }
 
-module _ (says : Says) (n : Network) (net : IsNetwork n) where
-  module _ (w w' : State) (calm : Calm n w) (calm' : Calm n w') (nothing : NothingLapses n w)
+module _ (says : Spelling) (n : Network) (net : IsSettlingNetwork n) where
+  module _ (w w' : MachineState) (calm : Calm n w) (calm' : Calm n w') (nothing : NothingNearLapses n w)
       (waking : EarlyPortsHear says n w w')
-      (step : Steps says w w') (time : w.time ≤ w'.time) (sound' : IsSound n w') (invariant : Invariant says n w) where
+      (step : MachineSteps says w w') (time : w.time ≤ w'.time) (sound' : RunIsSound n w') (invariant : Invariant says n w) where
     -- one level is kept, where those below it are
     level_kept : (d : ℕ) → ((e : ℕ) → e < d → LevelSettles says n e w') → LevelSettles says n d w'
     level_kept d below best v p u q near leads =
@@ -207,9 +207,9 @@ module _ (says : Says) (n : Network) (net : IsNetwork n) where
     ]
 
   -- every step from a calm state to a calm state keeps the invariant, where what is held stays sound
-  pub invariant_kept : (w w' : State) → Calm n w → Calm n w' → NothingLapses n w → EarlyPortsHear says n w w'
-      → Steps says w w'
-      → IsSound n w' → Invariant says n w → Invariant says n w'
+  pub invariant_kept : (w w' : MachineState) → Calm n w → Calm n w' → NothingNearLapses n w → EarlyPortsHear says n w w'
+      → MachineSteps says w w'
+      → RunIsSound n w' → Invariant says n w → Invariant says n w'
   invariant_kept w w' calm calm' nothing waking step sound' invariant = record {
     sound = sound';
     levels = λ d. levels_below w w' calm calm' nothing waking step (steps_on says w w' step) sound' invariant (suc d) d
@@ -217,15 +217,15 @@ module _ (says : Says) (n : Network) (net : IsNetwork n) where
   }
 
   -- what is held is sound where it has become wholly clean
-  pub clean_sound : (w : State) → Calm n w → TracesAreClean says (setting n) w → clean_from n ≤ n.sound → IsSound n w
+  pub clean_sound : (w : MachineState) → Calm n w → TracesAreClean says (network_setting n) w → machine_clean_from n ≤ n.sound → RunIsSound n w
   clean_sound w calm traces clean late i s place r at live holds =
       let came =
-      held_whole says (setting n) n.reach w net.paths calm.facts traces (omega arith) i s place r at live holds in
+      held_whole says (network_setting n) n.reach w net.paths calm.facts traces (omega arith) i s place r at live holds in
       came_fits n.graph s.clock (suc place) r net.graph
       (record { from = came.from; joins = came.joins; source = came.source; sound = inr came.whole })
 
 -- what is clean by more members than a path has systems is wholly so
-pub good_whole : (n : Network) → IsNetwork n → (from : PortIdentity) (a : Announce)
+pub good_whole : (n : Network) → IsSettlingNetwork n → (from : PortIdentity) (a : Announce)
     → Good n.graph (suc n.reach) from a → Whole n.graph from.clock a
 good_whole n net from a good = elim good.clean [
   | inl c ↦
@@ -236,20 +236,20 @@ good_whole n net from a good = elim good.clean [
 ]
 
 -- a delay after what is held has become wholly clean all is
-pub all_whole : (says : Says) (n : Network) (w : State) → IsNetwork n → Calm n w → TracesAreClean says (setting n) w
-    → clean_from n + n.most ≤ w.time → AllIsWhole says n.graph (Joins n.graph) w
+pub all_whole : (says : Spelling) (n : Network) (w : MachineState) → IsSettlingNetwork n → Calm n w → TracesAreClean says (network_setting n) w
+    → machine_clean_from n + n.most ≤ w.time → AllIsWhole says n.graph (Joins n.graph) w
 all_whole says n w net calm traces late = record {
   lanes = λ j l f a at flies said joins.
       let left : w.time ≤ f.due = calm.left j l f at flies in
       whole l a ((traces.lanes j l at).clean f a n.reach flies said joins (omega arith));
-  stations = held_whole says (setting n) n.reach w net.paths calm.facts traces (omega arith);
+  stations = held_whole says (network_setting n) n.reach w net.paths calm.facts traces (omega arith);
 }
   where
     whole : (l : Lane) (a : Announce) → Good n.graph (suc n.reach) l.from a → IsWholeFrom n.graph l.from a
     whole l a good = record { source = good.source; whole = good_whole n net l.from a good }
 
 -- before what is held must be sound the invariant claims nothing
-pub invariant_begins : (says : Says) (n : Network) → IsNetwork n → (w : State) → w.time < n.sound → Invariant says n w
+pub invariant_begins : (says : Spelling) (n : Network) → IsSettlingNetwork n → (w : MachineState) → w.time < n.sound → Invariant says n w
 invariant_begins says n net w early = record {
   sound = λ late. absurd (omega arith);
   levels = λ d best v p u q near leads late.

@@ -2,19 +2,19 @@
 use Rattle.std.proofs.Common.{◌≡◌, ◌≢◌, ◌⊎◌, ◌<◌, ◌≤◌, ◌+◌, ℕ, suc, ◌∷◌, Some, slice_get, refl, sym, ap, subst, ◌∙◌, inl, inr, arith}
 use native.Mathlib.Decide.{ℕ_discrete, dec_le}
 use Rattle.gptp_graph.specs.Snapshot.{PortIdentity, port_of}
-use Rattle.gptp_settling.specs.Frame.{Announce, Says, Lane}
-use Rattle.gptp_settling.specs.Station.{Reception, Received, Port, Station, State}
-use Rattle.gptp_settling.specs.Touch.{Touch, Hear, Tick, Grow, Enable, Disable, Other}
-use Rattle.gptp_settling.specs.Acts.{Arrives, Drops, Runs, Acts, Steps}
-use Rattle.gptp_settling.specs.Stage.{Wiring, to_port, IsFinal, IsSaid, Stage}
-use Rattle.gptp_settling.specs.Link.{IsReady, Ends, LapsesLater, HearsOn, StaysOn, Stand, LinkSettles}
+use Rattle.gptp_settling.specs.Frame.{Announce, Spelling, Lane}
+use Rattle.gptp_settling.specs.Station.{Reception, Received, Port, Station, MachineState}
+use Rattle.gptp_settling.specs.Touch.{StationTouch, Hear, Tick, Grow, Enable, Disable, Other}
+use Rattle.gptp_settling.specs.Acts.{Arrives, Drops, Runs, StationActs, MachineSteps}
+use Rattle.gptp_settling.specs.Stage.{Wiring, to_port, IsFinal, FrameSaysAnnounce, Stage}
+use Rattle.gptp_settling.specs.Link.{TellerIsReady, Ends, LapsesLater, HearsOn, StaysOn, Stand, LinkSettles}
 use Rattle.gptp_settling.proofs.StageLemmas.{settled}
 use Rattle.gptp_settling.proofs.PlaceLemmas.{same_there}
 use Rattle.gptp_settling.proofs.PopLemmas.{ends_popped, stood_popped, other_lane, silent_frame}
 use Rattle.gptp_settling.proofs.AnswerLemmas.{called, heard}
 
 -- whether an input is an Announce that is heard
-is_hear : (touch : Touch) → ((n : ℕ) × (a : Announce) × (touch ≡ Hear n a))
+is_hear : (touch : StationTouch) → ((n : ℕ) × (a : Announce) × (touch ≡ Hear n a))
     ⊎ ((n : ℕ) (a : Announce) → touch ≡ Hear n a → ⊥)
 is_hear (Hear n a) = inl (n, a, refl)
 is_hear (Tick m) = inr (λ n a e. absurd cc)
@@ -23,9 +23,9 @@ is_hear (Enable m) = inr (λ n a e. absurd cc)
 is_hear (Disable m) = inr (λ n a e. absurd cc)
 is_hear Other = inr (λ n a e. absurd cc)
 
-module _ (says : Says) (k : Wiring) where
+module _ (says : Spelling) (k : Wiring) where
   -- something that is no delivery
-  runs : (w w' : State) → Ends k w → Ends k w' → LapsesLater k w → StaysOn k w w' → Runs says w w'
+  runs : (w w' : MachineState) → Ends k w → Ends k w' → LapsesLater k w → StaysOn k w w' → Runs says w w'
       → LinkSettles says k w
       → LinkSettles says k w'
   runs w w' ends ends' lapses lasts act link late =
@@ -45,7 +45,7 @@ module _ (says : Says) (k : Wiring) where
       ]
 
   -- a frame that does nothing
-  drops : (w w' : State) → Ends k w → Drops says w w' → LinkSettles says k w → LinkSettles says k w'
+  drops : (w w' : MachineState) → Ends k w → Drops says w w' → LinkSettles says k w → LinkSettles says k w'
   drops w w' ends act link = elim (ℕ_discrete k.lane act.j) [
     | no other ↦ other_lane says k act.j act.l act.f act.fs w w' act.pops other link
     | yes same ↦ silent_frame says k act.j act.l act.f act.fs w w' act.pops same (λ since pv pu stood (a, said).
@@ -58,7 +58,7 @@ module _ (says : Says) (k : Wiring) where
         ]) link
   ]
 
-  module _ (w w' : State) (ends : Ends k w) (ends' : Ends k w') (act : Arrives says w w')
+  module _ (w w' : MachineState) (ends : Ends k w) (ends' : Ends k w') (act : Arrives says w w')
       (hears_on : HearsOn says k w) (lasts : StaysOn k w w') (link : LinkSettles says k w) where
     -- what stays on does from when the frame is taken off
     lasts_mid : StaysOn k act.mid w'
@@ -108,7 +108,7 @@ module _ (says : Says) (k : Wiring) where
             (act.owner ∙ ap (λ (p : PortIdentity). p.clock) to)
 
         silent : ((n : ℕ) (a : Announce) → act.touch ≡ Hear n a → ⊥) → k.from ≤ w.time → (pv pu : Port)
-            → Stand k w pv pu act.l → IsSaid says act.f → ⊥
+            → Stand k w pv pu act.l → FrameSaysAnnounce says act.f → ⊥
         silent deaf since pv pu stood (a, said) =
             let s_is : stood.u ≡ act.call.s =
             same_there w.stations k.hearer_place stood.u act.call.s stood.hearer
@@ -129,7 +129,7 @@ module _ (says : Says) (k : Wiring) where
             number : n ≡ suc k.hearer_port
             number = (act.heard n a touched).0 ∙ ap (λ (p : PortIdentity). p.port) to
 
-            stage : (pv pu : Port) (l : Lane) (stand : Stand k act.mid pv pu l) → IsReady k stand.v pv
+            stage : (pv pu : Port) (l : Lane) (stand : Stand k act.mid pv pu l) → TellerIsReady k stand.v pv
                 → Stage says k pv.announce pu.held (act.f ∷ l.frames)
             stage pv pu l stand has = elim (act.pops.lanes k.lane l stand.lane) [
               | inl (here, is) ↦ subst (λ (x : Lane). Stage says k pv.announce pu.held (act.f ∷ x.frames)) (sym is)
@@ -146,14 +146,14 @@ module _ (says : Says) (k : Wiring) where
     ]
 
   -- whatever happens keeps the link at a stage
-  acts : (w w' : State) → Ends k w → Ends k w' → LapsesLater k w → HearsOn says k w → StaysOn k w w' → Acts says w w'
+  acts : (w w' : MachineState) → Ends k w → Ends k w' → LapsesLater k w → HearsOn says k w → StaysOn k w w' → StationActs says w w'
       → LinkSettles says k w → LinkSettles says k w'
   acts w w' ends ends' lapses on lasts (inl act) link = arrives w w' ends ends' act on lasts link
   acts w w' ends ends' lapses on lasts (inr (inl act)) link = drops w w' ends act link
   acts w w' ends ends' lapses on lasts (inr (inr act)) link = runs w w' ends ends' lapses lasts act link
 
   -- a moment comes: where claims are made from then on, the teller's timer is due within an interval of an earlier time
-  later : (w : State) (t : ℕ) → Ends k w → Ends k (record w { time = t }) → LinkSettles says k w
+  later : (w : MachineState) (t : ℕ) → Ends k w → Ends k (record w { time = t }) → LinkSettles says k w
       → LinkSettles says k (record w { time = t })
   later w t ends ends' link late pv pu l stand has = elim (dec_le k.from w.time) [
     | yes since ↦ link since pv pu l stood has
@@ -178,16 +178,16 @@ module _ (says : Says) (k : Wiring) where
       }
 
   -- every step keeps the link at a stage
-  pub link_kept : (w w' : State) → Ends k w → Ends k w' → LapsesLater k w → HearsOn says k w → StaysOn k w w'
-      → Steps says w w' → LinkSettles says k w → LinkSettles says k w'
+  pub link_kept : (w w' : MachineState) → Ends k w → Ends k w' → LapsesLater k w → HearsOn says k w → StaysOn k w w'
+      → MachineSteps says w w' → LinkSettles says k w → LinkSettles says k w'
   link_kept w w' ends ends' lapses on lasts (inl wait) link =
       subst (LinkSettles says k) (sym wait.is)
       (later w wait.time ends (subst (Ends k) wait.is ends') link)
   link_kept w w' ends ends' lapses on lasts (inr act) link = acts w w' ends ends' lapses on lasts act link
 
   -- in the end the hearer holds what a settled teller tells
-  pub link_settled : (w : State) (pv pu : Port) (l : Lane) → Ends k w → LinkSettles says k w
-      → (stand : Stand k w pv pu l) → IsReady k stand.v pv → k.before ≤ w.time
+  pub link_settled : (w : MachineState) (pv pu : Port) (l : Lane) → Ends k w → LinkSettles says k w
+      → (stand : Stand k w pv pu l) → TellerIsReady k stand.v pv → k.before ≤ w.time
       → (r : Reception) × (pu.held ≡ Received r) × IsFinal k r.said
   link_settled w pv pu l ends link stand has late =
       let in_time : k.until + k.most ≤ k.before = ends.in_time in

@@ -7,25 +7,25 @@ use Rattle.gptp_graph.specs.Snapshot.{System, PortIdentity, Snapshot, clocks, po
 use Rattle.gptp_graph.specs.Best.{IsBest}
 use Rattle.gptp_graph.specs.Distance.{IsDistance}
 use Rattle.gptp_graph.proofs.LinkLemmas.{Joins-sym, Joins-clock, Adjacent-sym}
-use Rattle.gptp_graph.proofs.SystemLemmas.{In-clocks, system_of as live_system}
+use Rattle.gptp_graph.proofs.SystemLemmas.{In-clocks, station_system as live_system}
 use Rattle.gptp_graph.proofs.BestLemmas.{IsBest-unique, IsBest-neighbour}
 use Rattle.gptp_graph.proofs.DistanceLemmas.{IsDistance-unique, IsDistance-neighbour, IsDistance-clock}
 use Rattle.gptp_graph.proofs.ExistenceLemmas.{distance_exists}
-use Rattle.gptp_settling.specs.Frame.{Announce, Says, Frame, Lane}
-use Rattle.gptp_settling.specs.Station.{Reception, Station, State, HoldsAt}
-use Rattle.gptp_settling.specs.Touch.{Touch, Hear}
+use Rattle.gptp_settling.specs.Frame.{Announce, Spelling, AnnounceFrame, Lane}
+use Rattle.gptp_settling.specs.Station.{Reception, Station, MachineState, HoldsAt}
+use Rattle.gptp_settling.specs.Touch.{StationTouch, Hear}
 use Rattle.gptp_settling.specs.Reacts.{IsOwn}
-use Rattle.gptp_settling.specs.Acts.{Calls, Pops, Arrives, Steps}
-use Rattle.gptp_settling.specs.Clean.{HeldFits, CameOver, CameFits}
+use Rattle.gptp_settling.specs.Acts.{StationAnswers, Pops, Arrives, MachineSteps}
+use Rattle.gptp_settling.specs.Clean.{HeldFits, CameOverLink, CameFits}
 use Rattle.gptp_settling.specs.Sound.{ReceivedFits}
-use Rattle.gptp_settling.specs.Facts.{system_of, FollowsItself, FollowsPort, IsStation}
+use Rattle.gptp_settling.specs.Facts.{station_system, FollowsItself, FollowsPort, IsLiveStationState}
 use Rattle.gptp_settling.specs.Link.{Stand}
-use Rattle.gptp_settling.specs.Network.{Network, IsNetwork, setting, settled_from, wiring}
+use Rattle.gptp_settling.specs.Network.{Network, IsSettlingNetwork, network_setting, settled_from, wiring}
 use Rattle.gptp_settling.specs.Calm.{Calm}
 use Rattle.gptp_settling.specs.Levels.{LeadsFarther, LevelSettles, Invariant}
-use Rattle.gptp_settling.specs.Run.{last_of, IsSettled}
+use Rattle.gptp_settling.specs.Run.{last_state, NearHaveSettled}
 use Rattle.gptp_settling.specs.RestLaws.{IsResting}
-use Rattle.gptp_settling.specs.LossLaws.{FlightFits, EverythingFits, IsLeft, IsLoss, NothingMoved, IsLossRun}
+use Rattle.gptp_settling.specs.LossLaws.{FlightFits, EverythingFits, IsWhatIsLeft, IsLoss, NothingMoved, IsLossRun}
 use Rattle.gptp_settling.proofs.NearestLemmas.{came_fits}
 use Rattle.gptp_settling.proofs.RestLemmas.{IsClear, root_above, steps_above}
 use Rattle.gptp_settling.proofs.ReactsLemmas.{JustHeard, held_from}
@@ -34,19 +34,19 @@ use Rattle.gptp_settling.proofs.LevelLemmas.{invariant_kept}
 use Rattle.gptp_settling.proofs.SettledLemmas.{network_settles}
 use Rattle.gptp_settling.proofs.RestingLemmas.{links_stay, stays_so}
 
-module _ (says : Says) (g : Snapshot) (n : Network) (left : IsLeft g n) where
+module _ (says : Spelling) (g : Snapshot) (n : Network) (left : IsWhatIsLeft g n) where
   -- the system is one of the snapshot
-  known_in : (now : ℕ) (s : Station) → IsStation (setting n) now s → In (system_of s) g.systems
-  known_in now s is = left.systems (system_of s) is.known
+  known_in : (now : ℕ) (s : Station) → IsLiveStationState (network_setting n) now s → In (station_system s) g.systems
+  known_in now s is = left.systems (station_system s) is.known
 
   -- all that the station holds fits
   abbrev StationFits : Station → Type 0
   StationFits s = (place : ℕ) (r : Reception) → HoldsAt s place r → CameFits g s.clock (suc place) r
 
   -- what a live system says, over a link to u, fits u
-  module _ (w : State) (calm : Calm n w) (i : ℕ) (s : Station) (at : slice_get w.stations i ≡ Some s)
+  module _ (w : MachineState) (calm : Calm n w) (i : ℕ) (s : Station) (at : slice_get w.stations i ≡ Some s)
       (live : s.live ≡ true) (held : StationFits s) (p : ℕ) (a : Announce) (own : IsOwn s p a) where
-    is : IsStation (setting n) w.time s
+    is : IsLiveStationState (network_setting n) w.time s
     is = calm.facts.stations i s at live
 
     clear : IsClear g s
@@ -108,7 +108,7 @@ module _ (says : Says) (g : Snapshot) (n : Network) (left : IsLeft g n) where
       fits = record {
         root = λ best is_best. above best (there best is_best);
         here = λ best far is_best root far_is. by best far is_best root far_is
-            (distance_exists g s.clock left.graph (In-clocks g (system_of s) (known_in w.time s is)));
+            (distance_exists g s.clock left.graph (In-clocks g (station_system s) (known_in w.time s is)));
         members = λ best x far is_best root. members best x far (there best is_best) root;
         long = λ best is_best. long best (there best is_best);
       };
@@ -131,12 +131,12 @@ module _ (says : Says) (g : Snapshot) (n : Network) (left : IsLeft g n) where
             omega arith
 
   -- what a system hears at a port fits, as what the port would hold
-  HeardFits : Station → Touch → Type 0
+  HeardFits : Station → StationTouch → Type 0
   HeardFits s touch = (i : ℕ) (a : Announce) → touch ≡ Hear (suc i) a
-      → (IsLinked g (port_of s.clock (suc i)) → CameOver g s.clock (suc i) a) × HeldFits g s.clock a
+      → (IsLinked g (port_of s.clock (suc i)) → CameOverLink g s.clock (suc i) a) × HeldFits g s.clock a
 
   -- one system answers
-  called : (touch : Touch) (w w' : State) (call : Calls says touch w w') → Calm n w' → EverythingFits says g n w
+  called : (touch : StationTouch) (w w' : MachineState) (call : StationAnswers says touch w w') → Calm n w' → EverythingFits says g n w
       → HeardFits call.s touch → EverythingFits says g n w'
   unfolding HeardFits
   called touch w w' call calm' all heard = record { lanes = lanes; stations = stations }
@@ -153,11 +153,11 @@ module _ (says : Says) (g : Snapshot) (n : Network) (left : IsLeft g n) where
           ])
         where
           came : (just : JustHeard call.s.clock (suc i) w.time touch r)
-              → ((IsLinked g (port_of call.s.clock (suc i)) → CameOver g call.s.clock (suc i) just.said)
+              → ((IsLinked g (port_of call.s.clock (suc i)) → CameOverLink g call.s.clock (suc i) just.said)
               × HeldFits g call.s.clock just.said)
               → CameFits g call.s.clock (suc i) r
           came just (over, fits) = record {
-            over = λ linked. subst (CameOver g call.s.clock (suc i)) (sym just.is_said) (over linked);
+            over = λ linked. subst (CameOverLink g call.s.clock (suc i)) (sym just.is_said) (over linked);
             fits = subst (HeldFits g call.s.clock) (sym just.is_said) fits;
           }
 
@@ -168,7 +168,7 @@ module _ (says : Says) (g : Snapshot) (n : Network) (left : IsLeft g n) where
         | inr (other, stood) ↦ all.stations i s place r stood live holds
       ]
 
-      lanes : (j : ℕ) (l' : Lane) (f : Frame) (a : Announce) → slice_get w'.lanes j ≡ Some l' → In f l'.frames
+      lanes : (j : ℕ) (l' : Lane) (f : AnnounceFrame) (a : Announce) → slice_get w'.lanes j ≡ Some l' → In f l'.frames
           → says f.octets a → In l'.to.clock (clocks n.graph) → FlightFits g l' a
       lanes j l' f a at flies said known =
           let (l, stood, step) = call.lanes j l' at in
@@ -190,7 +190,7 @@ module _ (says : Says) (g : Snapshot) (n : Network) (left : IsLeft g n) where
                 (call.reacts.tells x a x_in (subst (λ (o : List ℕ). says o a) octets said)).0 in
                 let port : l'.from ≡ port_of call.s'.clock x.port =
                 step.from ∙ from ∙ (λ i. port_of (sym call.reacts.clock i) x.port) in
-                let sender = In-clocks n.graph (system_of call.s')
+                let sender = In-clocks n.graph (station_system call.s')
                 (calm'.facts.stations call.place call.s' call.there live').known in
                 let joins = calm'.facts.linked j l' f at flies
                 (subst (λ (x : PortIdentity). In x.clock (clocks n.graph)) (sym port) sender) known in
@@ -199,7 +199,7 @@ module _ (says : Says) (g : Snapshot) (n : Network) (left : IsLeft g n) where
           ]
 
   -- a frame is taken off its lane
-  popped : (j : ℕ) (l : Lane) (f : Frame) (fs : List Frame) (w w' : State) → Pops j l f fs w w'
+  popped : (j : ℕ) (l : Lane) (f : AnnounceFrame) (fs : List AnnounceFrame) (w w' : MachineState) → Pops j l f fs w w'
       → EverythingFits says g n w
       → EverythingFits says g n w'
   popped j l f fs w w' pops all = record {
@@ -216,7 +216,7 @@ module _ (says : Says) (g : Snapshot) (n : Network) (left : IsLeft g n) where
   }
 
   -- what arrives fits
-  arrived : (w w' : State) (act : Arrives says w w') → Calm n w → EverythingFits says g n w
+  arrived : (w w' : MachineState) (act : Arrives says w w') → Calm n w → EverythingFits says g n w
       → HeardFits act.call.s act.touch
   unfolding HeardFits
   arrived w w' act calm all i a touched = (
@@ -227,7 +227,7 @@ module _ (says : Says) (g : Snapshot) (n : Network) (left : IsLeft g n) where
       known : In act.l.to.clock (clocks n.graph)
       known =
           subst (λ c. In c (clocks n.graph)) act.owner
-          (In-clocks n.graph (system_of act.call.s) (calm.facts.stations act.call.place act.call.s
+          (In-clocks n.graph (station_system act.call.s) (calm.facts.stations act.call.place act.call.s
           (act.pops.stations act.call.place act.call.s act.call.here) act.call.live).known)
 
       fit : FlightFits g act.l a
@@ -238,7 +238,7 @@ module _ (says : Says) (g : Snapshot) (n : Network) (left : IsLeft g n) where
       to : act.l.to ≡ port_of act.call.s.clock (suc i)
       to = λ j. port_of (sym act.owner j) (sym (act.heard (suc i) a touched).0 j)
 
-      over : IsLinked g (port_of act.call.s.clock (suc i)) → CameOver g act.call.s.clock (suc i) a
+      over : IsLinked g (port_of act.call.s.clock (suc i)) → CameOverLink g act.call.s.clock (suc i) a
       over linked = record {
         from = act.l.from;
         joins = subst (Joins g act.l.from) to fit.joins;
@@ -247,12 +247,12 @@ module _ (says : Says) (g : Snapshot) (n : Network) (left : IsLeft g n) where
             fit.sender best far (subst (λ (x : PortIdentity). IsBest g x.clock best) (sym to) is_best);
       }
 
-  heard_none : (s : Station) (touch : Touch) → ((m : ℕ) (a : Announce) → touch ≡ Hear m a → ⊥) → HeardFits s touch
+  heard_none : (s : Station) (touch : StationTouch) → ((m : ℕ) (a : Announce) → touch ≡ Hear m a → ⊥) → HeardFits s touch
   unfolding HeardFits
   heard_none s touch deaf i a touched = absurd (deaf (suc i) a touched)
 
   -- every step keeps that all fits
-  pub fits_kept : (w w' : State) → Calm n w → Calm n w' → Steps says w w' → EverythingFits says g n w
+  pub fits_kept : (w w' : MachineState) → Calm n w → Calm n w' → MachineSteps says w w' → EverythingFits says g n w
       → EverythingFits says g n w'
   fits_kept w w' calm calm' (inl wait) all =
       subst (EverythingFits says g n) (sym wait.is) (record { lanes = all.lanes; stations = all.stations })
@@ -264,7 +264,7 @@ module _ (says : Says) (g : Snapshot) (n : Network) (left : IsLeft g n) where
       called act.touch w w' act.call calm' all (heard_none act.call.s act.touch act.deaf)
 
   -- so nothing is better than in the snapshot
-  pub nothing_better : (w : State) (i : ℕ) (s : Station) (best : System) → Calm n w → EverythingFits says g n w
+  pub nothing_better : (w : MachineState) (i : ℕ) (s : Station) (best : System) → Calm n w → EverythingFits says g n w
       → slice_get w.stations i ≡ Some s → s.live ≡ true → IsBest g s.clock best
       → (best.identity ≤ s.root) × ((far : ℕ) → IsDistance g s.clock far → s.root ≡ best.identity → far ≤ s.steps)
   nothing_better w i s best calm all at live is_best =
@@ -278,7 +278,7 @@ module _ (says : Says) (g : Snapshot) (n : Network) (left : IsLeft g n) where
 
 -- ---- a loss
 
-pub loss_fits : (says : Says) (n n' : Network) (w w' : State) → IsNetwork n → IsLoss says n n' w w'
+pub loss_fits : (says : Spelling) (n n' : Network) (w w' : MachineState) → IsSettlingNetwork n → IsLoss says n n' w w'
     → EverythingFits says n.graph n' w'
 loss_fits says n n' w w' net loss = record {
   lanes = λ j l f a at flies said known.
@@ -306,7 +306,7 @@ loss_fits says n n' w w' net loss = record {
 
 -- ---- a loss that moves nothing
 
-module _ (says : Says) (n n' : Network) (net : IsNetwork n) (net' : IsNetwork n') (w w' : State)
+module _ (says : Spelling) (n n' : Network) (net : IsSettlingNetwork n) (net' : IsSettlingNetwork n') (w w' : MachineState)
     (moved : NothingMoved says n n' w w') (calm' : Calm n' w') where
   rests : IsResting says n w
   rests = moved.loss.rests
@@ -344,8 +344,8 @@ module _ (says : Says) (n n' : Network) (net : IsNetwork n) (net' : IsNetwork n'
     long = λ best is_best. fits.long best (best_back c best known is_best);
   }
 
-  over_on : (c m : ℕ) (a : Announce) → In c (clocks n'.graph) → CameOver n.graph c m a → IsLinked n'.graph (port_of c m)
-      → CameOver n'.graph c m a
+  over_on : (c m : ℕ) (a : Announce) → In c (clocks n'.graph) → CameOverLink n.graph c m a → IsLinked n'.graph (port_of c m)
+      → CameOverLink n'.graph c m a
   over_on c m a known came (from, linked) = record {
     from = from;
     joins = Joins-sym n'.graph (port_of c m) from linked;
@@ -362,9 +362,9 @@ module _ (says : Says) (n n' : Network) (net : IsNetwork n) (net' : IsNetwork n'
           (moved.loss.left.links (port_of c m) from linked)
 
   -- in any later state what fits as before fits now
-  pub fits_now : (x : State) → Calm n' x → ReceivedFits n.graph x → ReceivedFits n'.graph x
+  pub fits_now : (x : MachineState) → Calm n' x → ReceivedFits n.graph x → ReceivedFits n'.graph x
   fits_now x calm all i s place r at live holds =
-      let known = In-clocks n'.graph (system_of s) (calm.facts.stations i s at live).known in
+      let known = In-clocks n'.graph (station_system s) (calm.facts.stations i s at live).known in
       let fit = all i s place r at live holds in
       record {
         over = λ linked. over_on s.clock (suc place) r.said known (fit.over (linked_before s.clock (suc place) linked))
@@ -423,14 +423,14 @@ module _ (says : Says) (n n' : Network) (net : IsNetwork n) (net' : IsNetwork n'
 
 -- ---- a run after it
 
-first_calm : (says : Says) (n : Network) (w : State) (ws : List State) → IsLossRun says n w ws → Calm n w
+first_calm : (says : Spelling) (n : Network) (w : MachineState) (ws : List MachineState) → IsLossRun says n w ws → Calm n w
 first_calm says n w [] run = run
 first_calm says n w (w' ∷ ws) run = run.0
 
-module _ (says : Says) (g : Snapshot) (n : Network) (net : IsNetwork n) (left : IsLeft g n)
-    (now : (w : State) → Calm n w → ReceivedFits g w → ReceivedFits n.graph w) where
-  run_keeps : (w : State) (ws : List State) → IsLossRun says n w ws → EverythingFits says g n w → Invariant says n w
-      → Calm n (last_of w ws) × Invariant says n (last_of w ws)
+module _ (says : Spelling) (g : Snapshot) (n : Network) (net : IsSettlingNetwork n) (left : IsWhatIsLeft g n)
+    (now : (w : MachineState) → Calm n w → ReceivedFits g w → ReceivedFits n.graph w) where
+  run_keeps : (w : MachineState) (ws : List MachineState) → IsLossRun says n w ws → EverythingFits says g n w → Invariant says n w
+      → Calm n (last_state w ws) × Invariant says n (last_state w ws)
   run_keeps w [] run all invariant = (run, invariant)
   run_keeps w (w' ∷ ws) (calm, nothing, waking, step, rest) all invariant =
       let calm' = first_calm says n w' ws rest in
@@ -438,9 +438,9 @@ module _ (says : Says) (g : Snapshot) (n : Network) (net : IsNetwork n) (left : 
       run_keeps w' ws rest all'
       (invariant_kept says n net w w' calm calm' nothing waking step (λ late. now w' calm' all'.stations) invariant)
 
-pub nothing_moved_settles : (says : Says) (n n' : Network) (w w' : State) (ws : List State) → IsNetwork n → IsNetwork n'
-    → NothingMoved says n n' w w' → IsLossRun says n' w' ws → settled_from n' ≤ (last_of w' ws).time
-    → IsSettled n' (last_of w' ws)
+pub nothing_moved_settles : (says : Spelling) (n n' : Network) (w w' : MachineState) (ws : List MachineState) → IsSettlingNetwork n → IsSettlingNetwork n'
+    → NothingMoved says n n' w w' → IsLossRun says n' w' ws → settled_from n' ≤ (last_state w' ws).time
+    → NearHaveSettled n' (last_state w' ws)
 nothing_moved_settles says n n' w w' ws net net' moved run late i s at live near =
     let calm' = first_calm says n' w' ws run in
     let all = loss_fits says n n' w w' net moved.loss in
@@ -448,4 +448,4 @@ nothing_moved_settles says n n' w w' ws net net' moved run late i s at live near
     let invariant : Invariant says n' w' =
     record { sound = λ by. now w' calm' all.stations; levels = levels says n n' net net' w w' moved calm' } in
     let (calm, last) = run_keeps says n.graph n' net' moved.loss.left now w' ws run all invariant in
-    network_settles says n' (last_of w' ws) i s net' calm last at live near late
+    network_settles says n' (last_state w' ws) i s net' calm last at live near late

@@ -5,25 +5,25 @@ use Rattle.gptp_graph.proofs.LinkLemmas.{Joins-clock}
 use Rattle.gptp_graph.proofs.LinkDecisions.{IsLinked-dec}
 use Rattle.gptp_settling.specs.Sound.{ReceivedFits}
 use Rattle.gptp_settling.proofs.EndsLemmas.{is_station}
-use Rattle.gptp_settling.specs.Frame.{Says}
-use Rattle.gptp_settling.specs.Station.{Reception, Disabled, Received, Port, Station, State}
-use Rattle.gptp_settling.specs.Network.{Network, IsNetwork, settled_from}
+use Rattle.gptp_settling.specs.Frame.{Spelling}
+use Rattle.gptp_settling.specs.Station.{Reception, Disabled, Received, Port, Station, MachineState}
+use Rattle.gptp_settling.specs.Network.{Network, IsSettlingNetwork, settled_from}
 use Rattle.gptp_settling.specs.Calm.{Calm}
 use Rattle.gptp_settling.specs.Levels.{LevelSettles, Invariant}
-use Rattle.gptp_settling.specs.Run.{last_of, IsSettled}
-use Rattle.gptp_settling.specs.SoundLaws.{IsSoundOnLinks, Starts, HasNews, AllIsWhole, AreNear, FlightNamesBest, IsNewsRun}
+use Rattle.gptp_settling.specs.Run.{last_state, NearHaveSettled}
+use Rattle.gptp_settling.specs.SoundLaws.{IsSoundOnLinks, NothingIsHeldAtStart, HasNews, AllIsWhole, AllAreNear, FlightNamesBest, IsNewsRun}
 use Rattle.gptp_settling.proofs.LevelLemmas.{invariant_kept, invariant_begins}
 use Rattle.gptp_settling.proofs.SettledLemmas.{network_settles}
 use Rattle.gptp_settling.proofs.SoundLemmas.{received_fits, sound_kept, news_all_sound}
 use Rattle.gptp_settling.proofs.FlightLemmas.{flight_begins, flight_kept, settled_is_whole}
 
-module _ (says : Says) (n : Network) (net : IsNetwork n) where
-  pub first_calm : (w : State) (ws : List State) → IsNewsRun says n w ws → Calm n w
+module _ (says : Spelling) (n : Network) (net : IsSettlingNetwork n) where
+  pub first_calm : (w : MachineState) (ws : List MachineState) → IsNewsRun says n w ws → Calm n w
   first_calm w [] run = run
   first_calm w (w' ∷ ws) run = run.0
 
-  run_keeps : (w : State) (ws : List State) → IsNewsRun says n w ws → IsSoundOnLinks says n.graph w → Invariant says n w
-      → Calm n (last_of w ws) × Invariant says n (last_of w ws)
+  run_keeps : (w : MachineState) (ws : List MachineState) → IsNewsRun says n w ws → IsSoundOnLinks says n.graph w → Invariant says n w
+      → Calm n (last_state w ws) × Invariant says n (last_state w ws)
   run_keeps w [] run all invariant = (run, invariant)
   run_keeps w (w' ∷ ws) (calm, off, nothing, waking, step, rest) all invariant =
       let calm' = first_calm w' ws rest in
@@ -33,25 +33,25 @@ module _ (says : Says) (n : Network) (net : IsNetwork n) where
       (λ late. received_fits says n.graph w' net.graph all')
       invariant)
 
-  pub news_settle : (g : Snapshot) (w : State) (ws : List State) → HasNews g n.graph
+  pub news_settle : (g : Snapshot) (w : MachineState) (ws : List MachineState) → HasNews g n.graph
       → AllIsWhole says g (Joins n.graph) w → IsNewsRun says n w ws → w.time < n.sound
-      → settled_from n ≤ (last_of w ws).time → IsSettled n (last_of w ws)
+      → settled_from n ≤ (last_state w ws).time → NearHaveSettled n (last_state w ws)
   news_settle g w ws news all run early by i s at live near =
       let (calm, invariant) =
       run_keeps w ws run (news_all_sound g n.graph news says w net.graph all) (invariant_begins says n net w early) in
-      network_settles says n (last_of w ws) i s net calm invariant at live near by
+      network_settles says n (last_state w ws) i s net calm invariant at live near by
 
   -- from rest
-  pub rest_settles : (w : State) (ws : List State) → IsSoundOnLinks says n.graph w → ((d : ℕ) → LevelSettles says n d w)
-      → IsNewsRun says n w ws → settled_from n ≤ (last_of w ws).time → IsSettled n (last_of w ws)
+  pub rest_settles : (w : MachineState) (ws : List MachineState) → IsSoundOnLinks says n.graph w → ((d : ℕ) → LevelSettles says n d w)
+      → IsNewsRun says n w ws → settled_from n ≤ (last_state w ws).time → NearHaveSettled n (last_state w ws)
   rest_settles w ws all levels run by i s at live near =
       let (calm, invariant) =
       run_keeps w ws run all (record { sound = λ late. received_fits says n.graph w net.graph all; levels = levels }) in
-      network_settles says n (last_of w ws) i s net calm invariant at live near by
+      network_settles says n (last_state w ws) i s net calm invariant at live near by
 
   -- from a start: no port is on, and so none holds anything and none is ready to tell
-  pub start_settles : (w : State) (ws : List State) → Starts says n w → IsNewsRun says n w ws
-      → settled_from n ≤ (last_of w ws).time → IsSettled n (last_of w ws)
+  pub start_settles : (w : MachineState) (ws : List MachineState) → NothingIsHeldAtStart says n w → IsNewsRun says n w ws
+      → settled_from n ≤ (last_state w ws).time → NearHaveSettled n (last_state w ws)
   start_settles w ws starts run =
       rest_settles w ws (record {
         lanes = λ j l f a at flies said joins. absurd (starts.silent j l f a at flies said joins);
@@ -82,12 +82,12 @@ module _ (says : Says) (n : Network) (net : IsNetwork n) where
           sound : ReceivedFits n.graph w
           sound i s place r at alive (q', port, holds) = absurd (holds_nothing i s place q' r at alive port holds)
 
-  module _ (near : AreNear n.graph) where
+  module _ (near : AllAreNear n.graph) where
     -- the end of a run is whole, where it is late enough
-    run_whole : (w : State) (ws : List State) → IsNewsRun says n w ws → IsSoundOnLinks says n.graph w
+    run_whole : (w : MachineState) (ws : List MachineState) → IsNewsRun says n w ws → IsSoundOnLinks says n.graph w
         → Invariant says n w
-        → FlightNamesBest says n w → settled_from n + n.most ≤ (last_of w ws).time → n.off ≤ (last_of w ws).time
-        → AllIsWhole says n.graph (Joins n.graph) (last_of w ws)
+        → FlightNamesBest says n w → settled_from n + n.most ≤ (last_state w ws).time → n.off ≤ (last_state w ws).time
+        → AllIsWhole says n.graph (Joins n.graph) (last_state w ws)
     run_whole w [] calm all invariant flight late off =
         settled_is_whole says n net near w calm invariant all flight late off
     run_whole w (w' ∷ ws) (calm, off, nothing, waking, step, rest) all invariant flight late disabled =
@@ -98,20 +98,20 @@ module _ (says : Says) (n : Network) (net : IsNetwork n) where
         run_whole w' ws rest all' invariant'
         (flight_kept says n net near w w' calm' invariant' step flight) late disabled
 
-    pub news_become_whole : (g : Snapshot) (w : State) (ws : List State) → HasNews g n.graph
+    pub news_become_whole : (g : Snapshot) (w : MachineState) (ws : List MachineState) → HasNews g n.graph
         → AllIsWhole says g (Joins n.graph) w → IsNewsRun says n w ws → w.time < n.sound
-        → settled_from n + n.most ≤ (last_of w ws).time → n.off ≤ (last_of w ws).time
-        → AllIsWhole says n.graph (Joins n.graph) (last_of w ws)
+        → settled_from n + n.most ≤ (last_state w ws).time → n.off ≤ (last_state w ws).time
+        → AllIsWhole says n.graph (Joins n.graph) (last_state w ws)
     news_become_whole g w ws news all run early =
         run_whole w ws run (news_all_sound g n.graph news says w net.graph all) (invariant_begins says n net w early)
         (flight_begins says n net w (first_calm w ws run) (omega arith))
 
     -- from rest a run ends at rest
-    pub rest_goes_on : (w : State) (ws : List State) → IsSoundOnLinks says n.graph w
+    pub rest_goes_on : (w : MachineState) (ws : List MachineState) → IsSoundOnLinks says n.graph w
         → ((d : ℕ) → LevelSettles says n d w)
-        → IsNewsRun says n w ws → w.time < settled_from n → settled_from n + n.most ≤ (last_of w ws).time
-        → n.off ≤ (last_of w ws).time → Calm n (last_of w ws) × Invariant says n (last_of w ws)
-        × AllIsWhole says n.graph (Joins n.graph) (last_of w ws)
+        → IsNewsRun says n w ws → w.time < settled_from n → settled_from n + n.most ≤ (last_state w ws).time
+        → n.off ≤ (last_state w ws).time → Calm n (last_state w ws) × Invariant says n (last_state w ws)
+        × AllIsWhole says n.graph (Joins n.graph) (last_state w ws)
     rest_goes_on w ws all levels run early late off =
         let invariant : Invariant says n w =
         record { sound = λ by. received_fits says n.graph w net.graph all; levels = levels } in

@@ -1,16 +1,16 @@
 -- A frame is taken off a lane: what that does to the ends of a link, and to its stage.
 use Rattle.std.proofs.Common.{◌≡◌, ◌≢◌, ◌≤◌, ℕ, List, Some, slice_get, sym, ap, subst, ◌∙◌, inl, inr}
 use Rattle.gptp_lists.specs.Members.{In}
-use Rattle.gptp_settling.specs.Frame.{Says, Frame, Lane}
-use Rattle.gptp_settling.specs.Station.{Port, State}
+use Rattle.gptp_settling.specs.Frame.{Spelling, AnnounceFrame, Lane}
+use Rattle.gptp_settling.specs.Station.{Port, MachineState}
 use Rattle.gptp_settling.specs.Acts.{Pops}
-use Rattle.gptp_settling.specs.Stage.{Wiring, IsSaid, Stage}
-use Rattle.gptp_settling.specs.Link.{IsTeller, IsLaneOf, IsOnTime, Ends, Stand, LinkSettles}
+use Rattle.gptp_settling.specs.Stage.{Wiring, FrameSaysAnnounce, Stage}
+use Rattle.gptp_settling.specs.Link.{IsTeller, IsLaneOf, LaneIsOnTime, Ends, Stand, LinkSettles}
 use Rattle.gptp_settling.proofs.StageLemmas.{misses}
 
-module _ (says : Says) (k : Wiring) where
+module _ (says : Spelling) (k : Wiring) where
   -- the link keeps its ends when a frame is taken off a lane
-  pub ends_popped : (j : ℕ) (l : Lane) (f : Frame) (fs : List Frame) (w w' : State) → Pops j l f fs w w' → Ends k w
+  pub ends_popped : (j : ℕ) (l : Lane) (f : AnnounceFrame) (fs : List AnnounceFrame) (w w' : MachineState) → Pops j l f fs w w' → Ends k w
       → Ends k w'
   ends_popped j l f fs w w' pops ends = record {
     in_time = ends.in_time;
@@ -28,7 +28,7 @@ module _ (says : Says) (k : Wiring) where
       | inl (same, is) ↦ same ∙ ends.only_lane j l pops.here (ap (λ (x : Lane). x.to) (sym is) ∙ to)
       | inr (other, stood) ↦ ends.only_lane n m stood to
     ];
-    frames = λ m g at h. subst (λ t. IsOnTime k t g) (sym pops.time) (elim (pops.lanes k.lane m at) [
+    frames = λ m g at h. subst (λ t. LaneIsOnTime k t g) (sym pops.time) (elim (pops.lanes k.lane m at) [
       | inl (same, is) ↦ ends.frames l g (there same)
           (subst (In g) (sym pops.frames) (inr (subst (λ (x : Lane). In g x.frames) is h)))
       | inr (other, stood) ↦ ends.frames m g stood h
@@ -46,7 +46,7 @@ module _ (says : Says) (k : Wiring) where
       rest h = record { from = h.from; to = h.to; loss = h.loss; is_up = h.is_up }
 
   -- what stands after a frame was taken off stood before, with the lane's frames behind that one
-  abbrev pub stood_popped : (j : ℕ) (l : Lane) (f : Frame) (fs : List Frame) (w w' : State) → Pops j l f fs w w'
+  abbrev pub stood_popped : (j : ℕ) (l : Lane) (f : AnnounceFrame) (fs : List AnnounceFrame) (w w' : MachineState) → Pops j l f fs w w'
       → (m : Lane)
       → slice_get w.lanes k.lane ≡ Some m → (pv pu : Port) (l' : Lane) → Stand k w' pv pu l' → Stand k w pv pu m
   stood_popped j l f fs w w' pops m at pv pu l' stand = record {
@@ -60,7 +60,7 @@ module _ (says : Says) (k : Wiring) where
   }
 
   -- a frame of another lane
-  pub other_lane : (j : ℕ) (l : Lane) (f : Frame) (fs : List Frame) (w w' : State) → Pops j l f fs w w' → k.lane ≢ j
+  pub other_lane : (j : ℕ) (l : Lane) (f : AnnounceFrame) (fs : List AnnounceFrame) (w w' : MachineState) → Pops j l f fs w w' → k.lane ≢ j
       → LinkSettles says k w → LinkSettles says k w'
   other_lane j l f fs w w' pops other link since pv pu l' stand settled =
       elim (pops.lanes k.lane l' stand.lane) [
@@ -70,8 +70,8 @@ module _ (says : Says) (k : Wiring) where
       ]
 
   -- a frame of this lane that says no Announce
-  pub silent_frame : (j : ℕ) (l : Lane) (f : Frame) (fs : List Frame) (w w' : State) → Pops j l f fs w w' → k.lane ≡ j
-      → (k.from ≤ w.time → (pv pu : Port) → Stand k w pv pu l → IsSaid says f → ⊥)
+  pub silent_frame : (j : ℕ) (l : Lane) (f : AnnounceFrame) (fs : List AnnounceFrame) (w w' : MachineState) → Pops j l f fs w w' → k.lane ≡ j
+      → (k.from ≤ w.time → (pv pu : Port) → Stand k w pv pu l → FrameSaysAnnounce says f → ⊥)
       → LinkSettles says k w → LinkSettles says k w'
   silent_frame j l f fs w w' pops same silent link since pv pu l' stand settled =
       elim (pops.lanes k.lane l' stand.lane) [

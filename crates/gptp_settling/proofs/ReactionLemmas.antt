@@ -10,16 +10,16 @@ use Rattle.gptp_graph.specs.Path.{IsPath}
 use Rattle.gptp_graph.proofs.LinkLemmas.{Joins-sym, Joins-clock}
 use Rattle.gptp_graph.proofs.BestLemmas.{IsBest-neighbour}
 use Rattle.gptp_graph.proofs.PathBoundLemmas.{IsDistance-within}
-use Rattle.gptp_settling.specs.Frame.{Says, Frame, Lane}
-use Rattle.gptp_settling.specs.Station.{Reception, Mine, Received, Port, Station, State}
+use Rattle.gptp_settling.specs.Frame.{Spelling, AnnounceFrame, Lane}
+use Rattle.gptp_settling.specs.Station.{Reception, Mine, Received, Port, Station, MachineState}
 use Rattle.gptp_settling.specs.Vectors.{master}
 use Rattle.gptp_settling.specs.Touch.{Other}
-use Rattle.gptp_settling.specs.Link.{final_vector, IsReady, TellsSettled, IsTeller, HearsSettled, IsLaneOf, IsOnTime, Ends, StaysOn, LinkSettles}
-use Rattle.gptp_settling.specs.Network.{Network, IsTimed, IsNetwork, since, settled_from, wiring}
+use Rattle.gptp_settling.specs.Link.{final_vector, TellerIsReady, TellerIsSettled, IsTeller, HearsSettled, IsLaneOf, LaneIsOnTime, Ends, StaysOn, LinkSettles}
+use Rattle.gptp_settling.specs.Network.{Network, IsTimed, IsSettlingNetwork, since, settled_from, wiring}
 use Rattle.gptp_settling.specs.Calm.{IsCalmPort, HasLane, Calm}
 use Rattle.gptp_settling.specs.Levels.{LeadsFarther}
-use Rattle.gptp_settling.specs.Run.{last_of, IsSettled}
-use Rattle.gptp_settling.specs.SoundLaws.{IsSoundOnLinks, AreNear, IsNewsRun}
+use Rattle.gptp_settling.specs.Run.{last_state, NearHaveSettled}
+use Rattle.gptp_settling.specs.SoundLaws.{IsSoundOnLinks, AllAreNear, IsNewsRun}
 use Rattle.gptp_settling.specs.RestLaws.{IsResting}
 use Rattle.gptp_settling.specs.ReactionLaws.{ReactsAtRest}
 use Rattle.gptp_settling.proofs.PlaceLemmas.{same_there}
@@ -30,7 +30,7 @@ use Rattle.gptp_settling.proofs.SoundLemmas.{received_fits, path_on, news_all_so
 use Rattle.gptp_settling.proofs.NewsLemmas.{rest_settles, rest_goes_on, first_calm}
 use Rattle.gptp_settling.proofs.RestingLemmas.{all_choose, by_then_at, best_clock, nearer_now, leads_before, stage_on}
 
-module _ (says : Says) (n n' : Network) (net : IsNetwork n) (net' : IsNetwork n') (w w' : State)
+module _ (says : Spelling) (n n' : Network) (net : IsSettlingNetwork n) (net' : IsSettlingNetwork n') (w w' : MachineState)
     (k : ReactsAtRest says n n' w w') (calm' : Calm n' w') where
   rests : IsResting says n w
   rests = k.rests
@@ -100,8 +100,8 @@ module _ (says : Says) (n n' : Network) (net : IsNetwork n) (net' : IsNetwork n'
         (subst (λ i. slice_get w.lanes i ≡ Some l) (k.same.lane (port_of v (suc p))) at))
         (record { from = has_lane.from; to = has_lane.to; loss = has_lane.loss; is_up = has_lane.is_up })
 
-    on_time : (l : Lane) (f : Frame) → slice_get w.lanes (n'.lane (port_of v (suc p))) ≡ Some l → In f l.frames
-        → IsOnTime (wiring n' d b' v p u q) w.time f
+    on_time : (l : Lane) (f : AnnounceFrame) → slice_get w.lanes (n'.lane (port_of v (suc p))) ≡ Some l → In f l.frames
+        → LaneIsOnTime (wiring n' d b' v p u q) w.time f
     on_time l f at flies = record {
       left = calm.left (n.lane (port_of v (suc p))) l f there flies;
       due = λ late. within (calm.facts.fresh (n.lane (port_of v (suc p))) l f there flies
@@ -118,11 +118,11 @@ module _ (says : Says) (n n' : Network) (net : IsNetwork n) (net' : IsNetwork n'
 
     -- a teller that has settled had before
     tells_before : (s : Station) (pv : Port) → slice_get w.stations (n'.place v) ≡ Some s
-        → slice_get s.ports p ≡ Some pv → IsReady (wiring n' d b' v p u q) s pv
-        → TellsSettled (wiring n' d b' v p u q) s pv
+        → slice_get s.ports p ≡ Some pv → TellerIsReady (wiring n' d b' v p u q) s pv
+        → TellerIsSettled (wiring n' d b' v p u q) s pv
     tells_before s pv at port ready = go (settled_at v s known_v (at_place v s at))
       where
-        go : SettledAt v s → TellsSettled (wiring n' d b' v p u q) s pv
+        go : SettledAt v s → TellerIsSettled (wiring n' d b' v p u q) s pv
         go x =
             let root : b'.identity ≡ x.here.best.identity = sym ready.0.0 ∙ x.chosen.root in
             let steps : d ≡ x.d = sym ready.0.1 ∙ x.chosen.steps in
@@ -130,7 +130,7 @@ module _ (says : Says) (n n' : Network) (net : IsNetwork n) (net' : IsNetwork n'
             let before : LeadsFarther n.graph d x.here.best v p u q =
             leads_before n.graph n'.graph net.graph net'.graph k.news d x.here.best b' v p u q x.here.is_best here joins
             root leads in
-            let t : TellsSettled (wiring n d x.here.best v p u q) s pv =
+            let t : TellerIsSettled (wiring n d x.here.best v p u q) s pv =
             tells_settled n net w calm rests.invariant.sound d x.here.best v p u q close before
             (λ by. all_choose says n net w calm rests.invariant rests.late d close by) (omega (arith, started)) s pv
             (at_place v s at) port ((ready.0.0 ∙ root, ready.0.1), ready.1) in
@@ -305,19 +305,19 @@ module _ (says : Says) (n n' : Network) (net : IsNetwork n) (net' : IsNetwork n'
             (port_of v (suc p)) s' pu' (Joins-clock n'.graph (port_of u (suc q)) (port_of v (suc p)) net'.graph back')
             back' at' port' (subst (λ t. n'.ready (port_of u (suc q)) ≤ t) (sym k.call.time) ready)
 
-pub reaction_settles : (says : Says) (n n' : Network) (w w' : State) (ws : List State) → IsNetwork n → IsNetwork n'
-    → ReactsAtRest says n n' w w' → IsNewsRun says n' w' ws → settled_from n' ≤ (last_of w' ws).time
-    → IsSettled n' (last_of w' ws)
+pub reaction_settles : (says : Spelling) (n n' : Network) (w w' : MachineState) (ws : List MachineState) → IsSettlingNetwork n → IsSettlingNetwork n'
+    → ReactsAtRest says n n' w w' → IsNewsRun says n' w' ws → settled_from n' ≤ (last_state w' ws).time
+    → NearHaveSettled n' (last_state w' ws)
 reaction_settles says n n' w w' ws net net' k run =
     rest_settles says n' net' w' ws (all_after says n n' net net' w w' k (first_calm says n' net' w' ws run))
     (λ d best v p u q close leads. stage_after says n n' net net' w w' k (first_calm says n' net' w' ws run) d best v
     p u q
     close leads) run
 
-pub rest_follows_reaction : (says : Says) (n n' : Network) (w w' : State) (ws : List State) → IsNetwork n
-    → IsNetwork n' → ReactsAtRest says n n' w w' → AreNear n'.graph → IsNewsRun says n' w' ws
-    → settled_from n' + n'.most ≤ (last_of w' ws).time → n'.off ≤ (last_of w' ws).time
-    → IsResting says n' (last_of w' ws)
+pub rest_follows_reaction : (says : Spelling) (n n' : Network) (w w' : MachineState) (ws : List MachineState) → IsSettlingNetwork n
+    → IsSettlingNetwork n' → ReactsAtRest says n n' w w' → AllAreNear n'.graph → IsNewsRun says n' w' ws
+    → settled_from n' + n'.most ≤ (last_state w' ws).time → n'.off ≤ (last_state w' ws).time
+    → IsResting says n' (last_state w' ws)
 rest_follows_reaction says n n' w w' ws net net' k near run late off =
     let calm' = first_calm says n' net' w' ws run in
     let time : w'.time ≡ w.time = k.call.time in

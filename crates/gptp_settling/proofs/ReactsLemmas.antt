@@ -1,21 +1,21 @@
 -- Where what a port holds after an answer came from.
 use Rattle.std.proofs.Common.{◌≡◌, ◌⊎◌, ℕ, suc, List, Some, slice_get, sym, ◌∙◌, inl, inr}
-use Rattle.gptp_settling.specs.Frame.{Announce, Says, Send}
+use Rattle.gptp_settling.specs.Frame.{Announce, Spelling, Send}
 use Rattle.gptp_settling.specs.Station.{Reception, Held, Disabled, Aged, Mine, Received, Port, Station, HoldsAt}
-use Rattle.gptp_settling.specs.Touch.{Touch, Hear, Tick, Grow, Enable, Disable, Other, Qualified, Mid}
-use Rattle.gptp_settling.specs.Reacts.{PortStep, Reacts}
+use Rattle.gptp_settling.specs.Touch.{StationTouch, Hear, Tick, Grow, Enable, Disable, Other, IsUsable, HeldInTouch}
+use Rattle.gptp_settling.specs.Reacts.{PortStep, StationReacts}
 use Rattle.gptp_settling.proofs.PlaceLemmas.{received_injective}
 
 -- the reception is of the Announce of this touch of port n, which the system with clock c may use
-pub record JustHeard (c n now : ℕ) (touch : Touch) (r : Reception) : Type 0 where
+pub record JustHeard (c n now : ℕ) (touch : StationTouch) (r : Reception) : Type 0 where
   pub said : Announce
   pub touched : touch ≡ Hear n said
-  pub qualified : Qualified c said
+  pub qualified : IsUsable c said
   pub is_said : r.said ≡ said
   pub at : r.at ≡ now
 
 -- what a port received after a touch it had received before, or just heard
-pub mid_from : (c n now : ℕ) (touch : Touch) (held mid : Held) (r : Reception) → Mid c n touch now held mid
+pub mid_from : (c n now : ℕ) (touch : StationTouch) (held mid : Held) (r : Reception) → HeldInTouch c n touch now held mid
     → mid ≡ Received r → (held ≡ Received r) ⊎ JustHeard c n now touch r
 mid_from c n now (Hear m a) held mid r (inl (same, on, inl takes)) e =
     let taken : Reception = record { said = a; at = now; span = takes.span } in
@@ -40,8 +40,8 @@ mid_from c n now (Disable m) held mid r (inl (same, is)) e =
 mid_from c n now (Disable m) held mid r (inr (other, is)) e = inl (sym is ∙ e)
 mid_from c n now Other held mid r is e = inl (sym is ∙ e)
 
-module _ (says : Says) (s s' : Station) (touch : Touch) (now : ℕ) (sends : List Send)
-    (reacts : Reacts says s touch now s' sends) where
+module _ (says : Spelling) (s s' : Station) (touch : StationTouch) (now : ℕ) (sends : List Send)
+    (reacts : StationReacts says s touch now s' sends) where
   -- what a system received it had received before, or just heard
   pub held_from : (i : ℕ) (r : Reception) → HoldsAt s' i r → HoldsAt s i r ⊎ JustHeard s.clock (suc i) now touch r
   held_from i r (q', at, holds) = go (reacts.ports i q' at)

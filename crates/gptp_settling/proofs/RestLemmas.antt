@@ -12,9 +12,9 @@ use Rattle.gptp_graph.proofs.PathLemmas.{Reaches-self}
 use Rattle.gptp_graph.proofs.DistanceLemmas.{IsDistance-unique, IsDistance-best, best_at_zero}
 use Rattle.gptp_settling.specs.Station.{Reception, Held, Disabled, Aged, Mine, Received, Port, Station, HoldsAt}
 use Rattle.gptp_settling.specs.Vectors.{message, path_vector, master, system_vector}
-use Rattle.gptp_settling.specs.Clean.{CameOver, CameFits}
-use Rattle.gptp_settling.specs.Facts.{system_of}
-use Rattle.gptp_settling.specs.AtRest.{ChoosesItself, ChoosesPort, IsAtRest}
+use Rattle.gptp_settling.specs.Clean.{CameOverLink, CameFits}
+use Rattle.gptp_settling.specs.Facts.{station_system}
+use Rattle.gptp_settling.specs.AtRest.{ChoosesItself, ChoosesPort, StationIsAtRest}
 use Rattle.gptp_settling.proofs.PlaceLemmas.{same_place}
 
 -- a system that has the best's identity as its root, and so many steps
@@ -24,8 +24,8 @@ pub record Chooses (s : Station) (best : System) (d : ℕ) : Type 0 where
 
 -- it is at rest, the snapshot has it, and all it holds fits
 pub record IsClear (g : Snapshot) (s : Station) : Type 0 where
-  pub rest : IsAtRest s
-  pub known : In (system_of s) g.systems
+  pub rest : StationIsAtRest s
+  pub known : In (station_system s) g.systems
   pub held : (i : ℕ) (r : Reception) → HoldsAt s i r → CameFits g s.clock (suc i) r
 
 -- a list's first two members are those of its parts
@@ -41,12 +41,12 @@ module _ (g : Snapshot) (wf : IsWellFormed g) (s : Station) (clear : IsClear g s
   -- nor is its own
   pub own_root : best.identity ≤ s.identity
   own_root =
-      is_best.least (system_of s) clear.known (Reaches-self g s.clock (In-clocks g (system_of s) clear.known))
+      is_best.least (station_system s) clear.known (Reaches-self g s.clock (In-clocks g (station_system s) clear.known))
 
   -- a system with the identity of the best is the best
   pub own_best : best.identity ≡ s.identity → IsDistance g s.clock 0
   own_best e =
-      let same : best ≡ system_of s = same_identity g best (system_of s) wf is_best.live clear.known e in
+      let same : best ≡ station_system s = same_identity g best (station_system s) wf is_best.live clear.known e in
       let clock : best.clock ≡ s.clock = ap (λ (x : System). x.clock) same in
       subst (λ v. IsDistance g v 0) clock
       (IsDistance-best g best (subst (λ v. IsBest g v best) (sym clock) is_best))
@@ -55,9 +55,9 @@ module _ (g : Snapshot) (wf : IsWellFormed g) (s : Station) (clear : IsClear g s
   pub zero_settles : IsDistance g s.clock 0 → Chooses s best 0
   zero_settles here = by_choice clear.rest.chosen
     where
-      same : best ≡ system_of s
+      same : best ≡ station_system s
       same =
-          same_clock g best (system_of s) wf is_best.live clear.known
+          same_clock g best (station_system s) wf is_best.live clear.known
           (best_at_zero g s.clock best wf is_best here)
 
       identity : best.identity ≡ s.identity
@@ -233,7 +233,7 @@ module _ (g : Snapshot) (wf : IsWellFormed g) (s : Station) (clear : IsClear g s
           holds : HoldsAt s i r
           holds = (q, at, e)
 
-          came : CameOver g s.clock (suc i) r.said
+          came : CameOverLink g s.clock (suc i) r.said
           came = (clear.held i r holds).over (u, joins)
 
           from_is : came.from ≡ u

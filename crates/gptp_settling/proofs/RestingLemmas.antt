@@ -12,15 +12,15 @@ use Rattle.gptp_graph.proofs.BestLemmas.{IsBest-neighbour}
 use Rattle.gptp_graph.proofs.DistanceLemmas.{distance_from}
 use Rattle.gptp_graph.proofs.ExistenceLemmas.{distance_exists}
 use Rattle.gptp_graph.proofs.PathBoundLemmas.{IsDistance-within}
-use Rattle.gptp_settling.specs.Frame.{Announce, Says, Frame}
-use Rattle.gptp_settling.specs.Station.{Held, Disabled, State}
-use Rattle.gptp_settling.specs.Stage.{IsFinal, Stays, Stage}
+use Rattle.gptp_settling.specs.Frame.{Announce, Spelling, AnnounceFrame}
+use Rattle.gptp_settling.specs.Station.{Held, Disabled, MachineState}
+use Rattle.gptp_settling.specs.Stage.{IsFinal, FinalAnnounceStays, Stage}
 use Rattle.gptp_settling.specs.Link.{HasSettled, IsTeller, Ends, Stand, LinkSettles}
-use Rattle.gptp_settling.specs.Network.{Network, IsNetwork, since, settled_from, wiring}
+use Rattle.gptp_settling.specs.Network.{Network, IsSettlingNetwork, since, settled_from, wiring}
 use Rattle.gptp_settling.specs.Calm.{Calm}
 use Rattle.gptp_settling.specs.Levels.{LeadsFarther, LevelSettles, Invariant}
-use Rattle.gptp_settling.specs.Run.{last_of, IsSettled}
-use Rattle.gptp_settling.specs.SoundLaws.{IsSoundOnLinks, AreNear, HasNews, IsNewsRun}
+use Rattle.gptp_settling.specs.Run.{last_state, NearHaveSettled}
+use Rattle.gptp_settling.specs.SoundLaws.{IsSoundOnLinks, AllAreNear, HasNews, IsNewsRun}
 use Rattle.gptp_settling.specs.RestLaws.{LinkStays, SameWiring, StandsAsBefore, IsResting, NewsAtRest}
 use Rattle.gptp_settling.proofs.StageLemmas.{settled}
 use Rattle.gptp_settling.proofs.NearestLemmas.{equal_within}
@@ -33,7 +33,7 @@ use Rattle.gptp_settling.proofs.NewsLemmas.{rest_settles, rest_goes_on}
 
 -- ---- rest is reached
 
-module _ (says : Says) (n : Network) (net : IsNetwork n) (w : State) (calm : Calm n w) (invariant : Invariant says n w)
+module _ (says : Spelling) (n : Network) (net : IsSettlingNetwork n) (w : MachineState) (calm : Calm n w) (invariant : Invariant says n w)
     (late : settled_from n ≤ w.time) where
   pub by_then_at : (e : ℕ) → suc e ≤ n.reach → since n e ≤ w.time
   by_then_at e h =
@@ -107,7 +107,7 @@ module _ (says : Says) (n : Network) (net : IsNetwork n) (w : State) (calm : Cal
 
 -- ---- what was final is
 
-module _ (says : Says) (n n' : Network) (same : SameWiring n n') (d : ℕ) (b b' : System) (v p u q : ℕ)
+module _ (says : Spelling) (n n' : Network) (same : SameWiring n n') (d : ℕ) (b b' : System) (v p u q : ℕ)
     (root : b'.identity ≡ b.identity) where
   final_on : (a : Announce) → IsFinal (wiring n d b v p u q) a → IsFinal (wiring n' d b' v p u q) a
   final_on a final = record {
@@ -118,8 +118,8 @@ module _ (says : Says) (n n' : Network) (same : SameWiring n n') (d : ℕ) (b b'
     qualified = final.qualified;
   }
 
-  pub stays_so : (announce : ℕ) (held : Held) (fs : List Frame) → Stays says (wiring n d b v p u q) announce held fs
-      → Stays says (wiring n' d b' v p u q) announce held fs
+  pub stays_so : (announce : ℕ) (held : Held) (fs : List AnnounceFrame) → FinalAnnounceStays says (wiring n d b v p u q) announce held fs
+      → FinalAnnounceStays says (wiring n' d b' v p u q) announce held fs
   stays_so announce held fs stays = record {
     what = stays.what;
     holds = stays.holds;
@@ -191,7 +191,7 @@ module _ (g g' : Snapshot) (wf : IsWellFormed g) (wf' : IsWellFormed g') (news :
 
 -- ---- a run from rest
 
-module _ (says : Says) (n n' : Network) (net : IsNetwork n) (net' : IsNetwork n') (w w' : State)
+module _ (says : Spelling) (n n' : Network) (net : IsSettlingNetwork n) (net' : IsSettlingNetwork n') (w w' : MachineState)
     (rests : IsResting says n w) (news : HasNews n.graph n'.graph) (same : SameWiring n n') where
   -- a link that was there is at its last stage
   pub stage_on : (v p u q : ℕ) → Joins n.graph (port_of v (suc p)) (port_of u (suc q)) → StandsAsBefore n w w' v p u
@@ -239,7 +239,7 @@ module _ (says : Says) (n n' : Network) (net : IsNetwork n) (net' : IsNetwork n'
                 (subst (λ i. slice_get w'.lanes i ≡ Some l) (same.lane (port_of v (suc p))) stand.lane);
           }
 
-module _ (says : Says) (n n' : Network) (net : IsNetwork n) (net' : IsNetwork n') (w w' : State)
+module _ (says : Spelling) (n n' : Network) (net : IsSettlingNetwork n) (net' : IsSettlingNetwork n') (w w' : MachineState)
     (finds : NewsAtRest says n n' w w') where
   levels : (d : ℕ) → LevelSettles says n' d w'
   levels d best v p u q close leads = elim (finds.links v p u q leads.joins) [
@@ -252,13 +252,13 @@ module _ (says : Says) (n n' : Network) (net : IsNetwork n) (net' : IsNetwork n'
   sound_now : IsSoundOnLinks says n'.graph w'
   sound_now = news_all_sound n.graph n'.graph finds.news says w' net'.graph finds.whole
 
-  pub news_from_rest : (ws : List State) → IsNewsRun says n' w' ws → settled_from n' ≤ (last_of w' ws).time
-      → IsSettled n' (last_of w' ws)
+  pub news_from_rest : (ws : List MachineState) → IsNewsRun says n' w' ws → settled_from n' ≤ (last_state w' ws).time
+      → NearHaveSettled n' (last_state w' ws)
   news_from_rest ws run = rest_settles says n' net' w' ws sound_now levels run
 
-  pub rest_follows : (ws : List State) → AreNear n'.graph → IsNewsRun says n' w' ws → w'.time < settled_from n'
-      → settled_from n' + n'.most ≤ (last_of w' ws).time → n'.off ≤ (last_of w' ws).time
-      → IsResting says n' (last_of w' ws)
+  pub rest_follows : (ws : List MachineState) → AllAreNear n'.graph → IsNewsRun says n' w' ws → w'.time < settled_from n'
+      → settled_from n' + n'.most ≤ (last_state w' ws).time → n'.off ≤ (last_state w' ws).time
+      → IsResting says n' (last_state w' ws)
   rest_follows ws near run early late off =
       let (calm, invariant, whole) = rest_goes_on says n' net' near w' ws sound_now levels run early late off in
       record { near = near; calm = calm; invariant = invariant; late = omega arith; whole = whole }

@@ -16,15 +16,15 @@ use Rattle.gptp_graph.proofs.DistanceLemmas.{IsDistance-unique, IsDistance-neigh
 use Rattle.gptp_graph.proofs.PathBoundLemmas.{IsDistance-within}
 use Rattle.gptp_graph.proofs.ExistenceLemmas.{distance_exists}
 use Rattle.gptp_graph.proofs.ParentLemmas.{LeadsNearer-distance, IsParent-unique, no_parent_at_zero}
-use Rattle.gptp_settling.specs.Frame.{Says}
-use Rattle.gptp_settling.specs.Station.{Reception, Disabled, Mine, Received, Port, Station, State, HoldsAt}
+use Rattle.gptp_settling.specs.Frame.{Spelling}
+use Rattle.gptp_settling.specs.Station.{Reception, Disabled, Mine, Received, Port, Station, MachineState, HoldsAt}
 use Rattle.gptp_settling.specs.Vectors.{path_vector}
-use Rattle.gptp_settling.specs.Clean.{Whole, CameOver, CameWhole, CameSound}
+use Rattle.gptp_settling.specs.Clean.{Whole, CameOverLink, CameWhole, CameSound}
 use Rattle.gptp_settling.specs.AtRest.{ChoosesPort}
-use Rattle.gptp_settling.specs.Network.{Network, IsNetwork, since, settled_from}
+use Rattle.gptp_settling.specs.Network.{Network, IsSettlingNetwork, since, settled_from}
 use Rattle.gptp_settling.specs.Calm.{IsCalmPort, Calm}
 use Rattle.gptp_settling.specs.Levels.{LeadsFarther, IsHeardFrom, Invariant}
-use Rattle.gptp_settling.specs.Settled.{Plays, IsSlaveOf, HasBest, FollowsBest, HasSettledRoles}
+use Rattle.gptp_settling.specs.Settled.{PlaysRole, IsSlaveOf, HasBest, FollowsBest, HasSettledRoles}
 use Rattle.gptp_settling.proofs.PlaceLemmas.{same_there, received_injective}
 use Rattle.gptp_settling.proofs.NearestLemmas.{equal_within}
 use Rattle.gptp_settling.proofs.RestLemmas.{Chooses, IsClear, chosen_port, chosen_itself, chosen_said, root_above, steps_above, is_master}
@@ -35,7 +35,7 @@ use Rattle.gptp_settling.proofs.LevelLemmas.{places_of, told, chooses}
 pub since_grows : (n : Network) (d e : ℕ) → d ≤ e → since n d ≤ since n e
 since_grows n d e h = let more : d * n.step ≤ e * n.step = mul-le-mul_right n.step h in omega arith
 
-module _ (says : Says) (n : Network) (net : IsNetwork n) (w : State) (calm : Calm n w) (invariant : Invariant says n w)
+module _ (says : Spelling) (n : Network) (net : IsSettlingNetwork n) (w : MachineState) (calm : Calm n w) (invariant : Invariant says n w)
     (i : ℕ) (s : Station) (at : slice_get w.stations i ≡ Some s) (live : s.live ≡ true) (d : ℕ)
     (here : IsDistance n.graph s.clock d) (near : d < 255) where
   stands : slice_get w.stations (n.place s.clock) ≡ Some s
@@ -86,7 +86,7 @@ module _ (says : Says) (n : Network) (net : IsNetwork n) (w : State) (calm : Cal
                       holds.2)
                 ]
 
-                came : CameOver n.graph s.clock (suc j) x.said
+                came : CameOverLink n.graph s.clock (suc j) x.said
                 came = (clear.held j x holds).over linked
 
                 l : ParentLink
@@ -250,7 +250,7 @@ module _ (says : Says) (n : Network) (net : IsNetwork n) (w : State) (calm : Cal
 
       -- a port towards a system that is farther, or as far with the higher clock
       plays_master : (d < e) ⊎ ((d ≡ e) × (s.clock < u.clock))
-          → (r : Role) × Plays s.slave (suc p) q.held r × IsSettledRole n.graph (port_of s.clock (suc p)) r
+          → (r : Role) × PlaysRole s.slave (suc p) q.held r × IsSettledRole n.graph (port_of s.clock (suc p)) r
       plays_master farther = (
         Master,
         (
@@ -313,7 +313,7 @@ module _ (says : Says) (n : Network) (net : IsNetwork n) (w : State) (calm : Cal
               (r, subst (λ (z : Port). z.held ≡ Received r) (same_there s.ports p q' q at' at_p) holds, root)
 
       plays_other : n.bare ≤ w.time → (e < d) ⊎ ((e ≡ d) × (u.clock < s.clock))
-          → (r : Role) × Plays s.slave (suc p) q.held r × IsSettledRole n.graph (port_of s.clock (suc p)) r
+          → (r : Role) × PlaysRole s.slave (suc p) q.held r × IsSettledRole n.graph (port_of s.clock (suc p)) r
       plays_other bare nearer = elim (slave_dec p) [
         | yes slave ↦ (Slave, (slave, received), (linked, slave_is bare p slave))
         | no other ↦ (
@@ -366,7 +366,7 @@ module _ (says : Says) (n : Network) (net : IsNetwork n) (w : State) (calm : Cal
 
       -- one of the two it is
       plays : n.bare ≤ w.time
-          → (r : Role) × Plays s.slave (suc p) q.held r × IsSettledRole n.graph (port_of s.clock (suc p)) r
+          → (r : Role) × PlaysRole s.slave (suc p) q.held r × IsSettledRole n.graph (port_of s.clock (suc p)) r
       plays bare = elim (dec_lt d e) [
         | yes less ↦ plays_master (inl less)
         | no not_less ↦ elim (dec_lt e d) [
@@ -427,7 +427,7 @@ module _ (says : Says) (n : Network) (net : IsNetwork n) (w : State) (calm : Cal
     ]
 
 -- by the end each distance has settled, and so have the Passive ends
-module _ (n : Network) (net : IsNetwork n) (w : State) (d : ℕ) (s : Station) (here : IsDistance n.graph s.clock d)
+module _ (n : Network) (net : IsSettlingNetwork n) (w : MachineState) (d : ℕ) (s : Station) (here : IsDistance n.graph s.clock d)
     (late : settled_from n ≤ w.time) where
   by_then : (e : ℕ) → suc e ≤ n.reach → since n e ≤ w.time
   by_then e h =
@@ -447,7 +447,7 @@ module _ (n : Network) (net : IsNetwork n) (w : State) (d : ℕ) (s : Station) (
       (equal_within n.graph n.reach s.clock u d net.graph net.paths joined (λ e. absurd (omega arith)) here there)
 
 -- in the end every near system has settled, and all its ports
-pub network_settles : (says : Says) (n : Network) (w : State) (i : ℕ) (s : Station) → IsNetwork n → Calm n w
+pub network_settles : (says : Spelling) (n : Network) (w : MachineState) (i : ℕ) (s : Station) → IsSettlingNetwork n → Calm n w
     → Invariant says n w → slice_get w.stations i ≡ Some s → s.live ≡ true → IsNear n.graph s.clock
     → settled_from n ≤ w.time
     → HasBest n.graph s × (n.bare ≤ w.time → FollowsBest n.graph s) × (n.off ≤ w.time → HasSettledRoles n.graph s)
@@ -459,7 +459,7 @@ network_settles says n w i s net calm invariant at live (d, here, near) late = (
 )
 
 -- In the end what a near live system holds is wholly clean.
-pub network_whole : (says : Says) (n : Network) (w : State) (i : ℕ) (s : Station) → IsNetwork n → Calm n w
+pub network_whole : (says : Spelling) (n : Network) (w : MachineState) (i : ℕ) (s : Station) → IsSettlingNetwork n → Calm n w
     → Invariant says n w → slice_get w.stations i ≡ Some s → s.live ≡ true → IsNear n.graph s.clock
     → settled_from n ≤ w.time → n.off ≤ w.time → (place : ℕ) (r : Reception)
     → CameSound n.graph s.clock (suc place) r → HoldsAt s place r
@@ -470,7 +470,7 @@ network_whole says n w i s net calm invariant at live (d, here, near) late =
 
 -- once all that is held is sound, a system's root is no better than its best, and for that its steps are no fewer than
 -- its distance
-pub systems_bounded : (says : Says) (n : Network) (w : State) (i : ℕ) (s : Station) (best : System) → IsNetwork n
+pub systems_bounded : (says : Spelling) (n : Network) (w : MachineState) (i : ℕ) (s : Station) (best : System) → IsSettlingNetwork n
     → Calm n w → Invariant says n w → slice_get w.stations i ≡ Some s → s.live ≡ true → IsBest n.graph s.clock best
     → n.sound ≤ w.time
     → (best.identity ≤ s.root) × ((d : ℕ) → IsDistance n.graph s.clock d → s.root ≡ best.identity → d ≤ s.steps)

@@ -8,16 +8,16 @@ use Rattle.gptp_graph.proofs.BestLemmas.{IsBest-neighbour}
 use Rattle.gptp_graph.proofs.ExistenceLemmas.{best_exists}
 use Rattle.gptp_graph.proofs.LinkLemmas.{Joins-sym}
 use Rattle.gptp_graph.proofs.SystemLemmas.{In-clocks}
-use Rattle.gptp_settling.specs.Frame.{Announce, Says, Frame, Lane, Send}
-use Rattle.gptp_settling.specs.Station.{Station, State}
-use Rattle.gptp_settling.specs.Touch.{Touch, Hear}
-use Rattle.gptp_settling.specs.Reacts.{IsOwn, Reacts}
-use Rattle.gptp_settling.specs.Acts.{LaneStep, Calls, Pops, Arrives, Acts, Steps}
+use Rattle.gptp_settling.specs.Frame.{Announce, Spelling, AnnounceFrame, Lane, Send}
+use Rattle.gptp_settling.specs.Station.{Station, MachineState}
+use Rattle.gptp_settling.specs.Touch.{StationTouch, Hear}
+use Rattle.gptp_settling.specs.Reacts.{IsOwn, StationReacts}
+use Rattle.gptp_settling.specs.Acts.{LaneStep, StationAnswers, Pops, Arrives, StationActs, MachineSteps}
 use Rattle.gptp_settling.specs.Calm.{Calm}
 use Rattle.gptp_settling.specs.Clean.{CameSound, IsWorse, Whole}
 use Rattle.gptp_settling.specs.CleanInvariant.{TracesAreClean}
-use Rattle.gptp_settling.specs.Network.{IsNetwork, Network, clean_from, setting}
-use Rattle.gptp_settling.specs.Facts.{Setting, system_of, FollowsPort, IsStation, Facts}
+use Rattle.gptp_settling.specs.Network.{IsSettlingNetwork, Network, machine_clean_from, network_setting}
+use Rattle.gptp_settling.specs.Facts.{NetworkSetting, station_system, FollowsPort, IsLiveStationState, StationFacts}
 use Rattle.gptp_settling.specs.Sound.{HeldIsSound}
 use Rattle.gptp_settling.specs.SoundLaws.{IsSoundOnLinks, HasNews}
 use Rattle.gptp_settling.specs.SoundEverywhere.{IsSoundEverywhere, IsSoundSent, LaneIsSound, MaySay, StationIsSound}
@@ -34,7 +34,7 @@ joined_to : (g : Snapshot) (from : PortIdentity) (c n : ℕ) → Joins g from (p
 joined_to g from c n joins = (n, from.port, Joins-sym g from (port_of c n) joins)
 
 -- what is known of a live system is enough
-pub may_say : (k : Setting) (now : ℕ) (s : Station) → IsStation k now s → MaySay k.graph s
+pub may_say : (k : NetworkSetting) (now : ℕ) (s : Station) → IsLiveStationState k now s → MaySay k.graph s
 may_say k now s is = record {
   known = is.known;
   follows = is.follows;
@@ -43,7 +43,7 @@ may_say k now s is = record {
 
 module _ (g : Snapshot) (well : IsWellFormed g) (s : Station) (is : MaySay g s) (sound : StationIsSound g s) where
   here : In s.clock (clocks g)
-  here = In-clocks g (system_of s) is.known
+  here = In-clocks g (station_system s) is.known
 
   -- what follows a port goes on what the port received
   follows_sound : (p : FollowsPort s) (n : ℕ) (a : Announce) → IsOwn s n a
@@ -66,19 +66,19 @@ module _ (g : Snapshot) (well : IsWellFormed g) (s : Station) (is : MaySay g s) 
     sender = here;
     source = own.source;
     sound = elim is.follows [
-      | inl itself ↦ inr (whole_own g (system_of s) a is.known (own.root ∙ itself.root)
+      | inl itself ↦ inr (whole_own g (station_system s) a is.known (own.root ∙ itself.root)
           (own.steps ∙ itself.steps) (own.path ∙ itself.trace))
       | inr port ↦ follows_sound port n a own
     ];
   }
 
 -- what a system is about to hear at its port n came over that port's link, and is sound
-abbrev HeardIsSound : Snapshot → Station → Touch → Type 0
+abbrev HeardIsSound : Snapshot → Station → StationTouch → Type 0
 HeardIsSound g s touch = (n : ℕ) (a : Announce) → touch ≡ Hear n a
     → (from : PortIdentity) × Joins g from (port_of s.clock n) × IsSoundSent g from a
 
-module _ (says : Says) (g : Snapshot) (well : IsWellFormed g) (s s' : Station) (touch : Touch) (now : ℕ)
-    (sends : List Send) (reacts : Reacts says s touch now s' sends) where
+module _ (says : Spelling) (g : Snapshot) (well : IsWellFormed g) (s s' : Station) (touch : StationTouch) (now : ℕ)
+    (sends : List Send) (reacts : StationReacts says s touch now s' sends) where
   -- what a system has received after an answer it had received, or heard
   reacted_sound : StationIsSound g s → HeardIsSound g s touch → StationIsSound g s'
   reacted_sound sound heard place r holds =
@@ -101,7 +101,7 @@ module _ (says : Says) (g : Snapshot) (well : IsWellFormed g) (s s' : Station) (
 
   -- what enters a lane its sender says
   lane_sound : (l l' : Lane) → LaneStep s.clock sends l l' → MaySay g s' → StationIsSound g s'
-      → (f : Frame) (a : Announce) → In f l'.frames → says f.octets a
+      → (f : AnnounceFrame) (a : Announce) → In f l'.frames → says f.octets a
       → In f l.frames ⊎ IsSoundSent g l'.from a
   lane_sound l l' step is' sound' f a at said =
       elim (In-parts f l.frames step.news (subst (In f) step.behind at)) [
@@ -120,9 +120,9 @@ module _ (says : Says) (g : Snapshot) (well : IsWellFormed g) (s s' : Station) (
 
 -- ---- steps
 
-module _ (says : Says) (g : Snapshot) (well : IsWellFormed g) where
+module _ (says : Spelling) (g : Snapshot) (well : IsWellFormed g) where
   -- one system answers
-  called_sound : (touch : Touch) (w w' : State) (call : Calls says touch w w') → MaySay g call.s'
+  called_sound : (touch : StationTouch) (w w' : MachineState) (call : StationAnswers says touch w w') → MaySay g call.s'
       → HeardIsSound g call.s touch → IsSoundEverywhere says g w → IsSoundEverywhere says g w'
   called_sound touch w w' call is' heard all = record { lanes = lanes; stations = stations }
     where
@@ -147,15 +147,15 @@ module _ (says : Says) (g : Snapshot) (well : IsWellFormed g) where
             | inr new ↦ new
           ]
 
-module _ (says : Says) (k : Setting) (well : IsWellFormed k.graph) where
+module _ (says : Spelling) (k : NetworkSetting) (well : IsWellFormed k.graph) where
   -- the system that answers is one of the snapshot
-  answers_known : (touch : Touch) (w w' : State) (call : Calls says touch w w') → Facts k w'
+  answers_known : (touch : StationTouch) (w w' : MachineState) (call : StationAnswers says touch w w') → StationFacts k w'
       → MaySay k.graph call.s'
   answers_known touch w w' call facts' =
       may_say k w'.time call.s' (facts'.stations call.place call.s' call.there (call.reacts.live ∙ call.live))
 
   -- a frame is taken off its lane
-  popped_sound : (j : ℕ) (l : Lane) (f : Frame) (fs : List Frame) (w w' : State) → Pops j l f fs w w'
+  popped_sound : (j : ℕ) (l : Lane) (f : AnnounceFrame) (fs : List AnnounceFrame) (w w' : MachineState) → Pops j l f fs w w'
       → IsSoundEverywhere says k.graph w → IsSoundEverywhere says k.graph w'
   popped_sound j l f fs w w' pops all = record {
     lanes = λ n m at. elim (pops.lanes n m at) [
@@ -169,26 +169,26 @@ module _ (says : Says) (k : Setting) (well : IsWellFormed k.graph) where
       rest g a at = all.lanes j l pops.here g a (subst (In g) (sym pops.frames) (inr at))
 
   -- what arrives came over the link
-  arrived_sound : (w w' : State) (act : Arrives says w w') → Facts k w → IsSoundEverywhere says k.graph w
+  arrived_sound : (w w' : MachineState) (act : Arrives says w w') → StationFacts k w → IsSoundEverywhere says k.graph w
       → HeardIsSound k.graph act.call.s act.touch
   arrived_sound w w' act facts all n a touched =
       let (to, said) = act.heard n a touched in
       let frame : In act.f act.l.frames = subst (In act.f) (sym act.pops.frames) (inl refl) in
       let is = all.lanes act.j act.l act.pops.here act.f a frame said in
-      let stands : IsStation k w.time act.call.s =
+      let stands : IsLiveStationState k w.time act.call.s =
       facts.stations act.call.place act.call.s
       (act.pops.stations act.call.place act.call.s act.call.here) act.call.live in
       let to_known : In act.l.to.clock (clocks k.graph) =
-      subst (λ v. In v (clocks k.graph)) act.owner (In-clocks k.graph (system_of act.call.s) stands.known) in
+      subst (λ v. In v (clocks k.graph)) act.owner (In-clocks k.graph (station_system act.call.s) stands.known) in
       let joins : Joins k.graph act.l.from act.l.to =
       facts.linked act.j act.l act.f act.pops.here frame is.sender to_known in
       (act.l.from, subst (Joins k.graph act.l.from) (λ i. port_of (sym act.owner i) (sym to i)) joins, is)
 
-  heard_nothing : (s : Station) (touch : Touch) → ((n : ℕ) (a : Announce) → touch ≡ Hear n a → ⊥)
+  heard_nothing : (s : Station) (touch : StationTouch) → ((n : ℕ) (a : Announce) → touch ≡ Hear n a → ⊥)
       → HeardIsSound k.graph s touch
   heard_nothing s touch deaf n a touched = absurd (deaf n a touched)
 
-  acts_sound : (w w' : State) → Facts k w → Facts k w' → Acts says w w' → IsSoundEverywhere says k.graph w
+  acts_sound : (w w' : MachineState) → StationFacts k w → StationFacts k w' → StationActs says w w' → IsSoundEverywhere says k.graph w
       → IsSoundEverywhere says k.graph w'
   acts_sound w w' facts facts' (inl act) all =
       called_sound says k.graph well act.touch act.mid w' act.call
@@ -200,24 +200,24 @@ module _ (says : Says) (k : Setting) (well : IsWellFormed k.graph) where
       called_sound says k.graph well act.touch w w' act.call (answers_known act.touch w w' act.call facts')
       (heard_nothing act.call.s act.touch act.deaf) all
 
-pub sound_kept : (says : Says) (k : Setting) (w w' : State) → IsWellFormed k.graph → Facts k w → Facts k w'
-    → Steps says w w' → IsSoundEverywhere says k.graph w → IsSoundEverywhere says k.graph w'
+pub sound_kept : (says : Spelling) (k : NetworkSetting) (w w' : MachineState) → IsWellFormed k.graph → StationFacts k w → StationFacts k w'
+    → MachineSteps says w w' → IsSoundEverywhere says k.graph w → IsSoundEverywhere says k.graph w'
 sound_kept says k w w' well facts facts' (inl wait) all = subst (IsSoundEverywhere says k.graph) (sym wait.is)
     (let later : IsSoundEverywhere says k.graph (record w { time = wait.time }) =
     record { lanes = all.lanes; stations = all.stations } in later)
 sound_kept says k w w' well facts facts' (inr act) all = acts_sound says k well w w' facts facts' act all
 
-pub calls_sound : (says : Says) (g : Snapshot) (touch : Touch) (w w' : State) (call : Calls says touch w w')
+pub calls_sound : (says : Spelling) (g : Snapshot) (touch : StationTouch) (w w' : MachineState) (call : StationAnswers says touch w w')
     → IsWellFormed g → MaySay g call.s' → ((n : ℕ) (a : Announce) → touch ≡ Hear n a → ⊥) → IsSoundEverywhere says g w
     → IsSoundEverywhere says g w'
 calls_sound says g touch w w' call well is' deaf all =
     called_sound says g well touch w w' call is' (λ n a touched. absurd (deaf n a touched)) all
 
-pub all_held : (says : Says) (g : Snapshot) (w : State) → IsSoundEverywhere says g w → HeldIsSound g w
+pub all_held : (says : Spelling) (g : Snapshot) (w : MachineState) → IsSoundEverywhere says g w → HeldIsSound g w
 all_held says g w all i s place r at live holds = all.stations i s at live place r holds
 
 -- and on the links of the snapshot all is
-pub on_links : (says : Says) (g : Snapshot) (w : State) → IsSoundEverywhere says g w → IsSoundOnLinks says g w
+pub on_links : (says : Spelling) (g : Snapshot) (w : MachineState) → IsSoundEverywhere says g w → IsSoundOnLinks says g w
 on_links says g w all = record {
   lanes = λ j l f a at flies said joins.
       let is = all.lanes j l at f a flies said in record { source = is.source; sound = is.sound };
@@ -252,7 +252,7 @@ module _ (g g' : Snapshot) (well : IsWellFormed g) (more : HasNews g g') where
       let (s, live, port) = well.ends p q joins in
       subst (λ c. In c (clocks g)) port.clock (In-clocks g s live)
 
-  pub sound_more : (says : Says) (w : State) → IsSoundEverywhere says g w → IsSoundEverywhere says g' w
+  pub sound_more : (says : Spelling) (w : MachineState) → IsSoundEverywhere says g w → IsSoundEverywhere says g' w
   sound_more says w all = record {
     lanes = λ j l at f a member said.
         let is = all.lanes j l at f a member said in
@@ -274,8 +274,8 @@ module _ (g g' : Snapshot) (well : IsWellFormed g) (more : HasNews g g') where
 
 -- ---- it comes to be so
 
-pub everywhere_sound : (says : Says) (n : Network) (w : State) → IsNetwork n → Calm n w
-    → TracesAreClean says (setting n) w → n.gone ≤ w.time → clean_from n + n.interval ≤ w.time
+pub everywhere_sound : (says : Spelling) (n : Network) (w : MachineState) → IsSettlingNetwork n → Calm n w
+    → TracesAreClean says (network_setting n) w → n.gone ≤ w.time → machine_clean_from n + n.interval ≤ w.time
     → IsSoundEverywhere says n.graph w
 everywhere_sound says n w net calm traces gone late = record {
   lanes = λ j l at f a member said.
@@ -289,7 +289,7 @@ everywhere_sound says n w net calm traces gone late = record {
       };
   stations = λ i s at live place r holds.
       let came =
-      held_whole says (setting n) n.reach w net.paths calm.facts traces (omega (arith, late)) i s place r at live
+      held_whole says (network_setting n) n.reach w net.paths calm.facts traces (omega (arith, late)) i s place r at live
       holds in
       record { from = came.from; joins = came.joins; source = came.source; sound = inr came.whole };
 }

@@ -10,14 +10,14 @@ use Rattle.gptp_graph.proofs.LinkDecisions.{IsLinked-dec}
 use Rattle.gptp_graph.proofs.SystemLemmas.{In-clocks}
 use Rattle.gptp_graph.proofs.SystemLemmas as systems
 use Rattle.gptp_graph.proofs.BestLemmas.{IsBest-neighbour}
-use Rattle.gptp_settling.specs.Frame.{Announce, Says, Frame, Lane, Send}
-use Rattle.gptp_settling.specs.Station.{Reception, Held, Disabled, Mine, Received, Port, Station, State, HoldsAt}
-use Rattle.gptp_settling.specs.Touch.{Touch, Hear, Tick, Grow, Enable, Disable, Other, Mid}
-use Rattle.gptp_settling.specs.Reacts.{IsOwn, Reacts}
-use Rattle.gptp_settling.specs.Acts.{Calls, Pops, Arrives, Steps}
+use Rattle.gptp_settling.specs.Frame.{Announce, Spelling, AnnounceFrame, Lane, Send}
+use Rattle.gptp_settling.specs.Station.{Reception, Held, Disabled, Mine, Received, Port, Station, MachineState, HoldsAt}
+use Rattle.gptp_settling.specs.Touch.{StationTouch, Hear, Tick, Grow, Enable, Disable, Other, HeldInTouch}
+use Rattle.gptp_settling.specs.Reacts.{IsOwn, StationReacts}
+use Rattle.gptp_settling.specs.Acts.{StationAnswers, Pops, Arrives, MachineSteps}
 use Rattle.gptp_settling.specs.Clean.{IsWorse, Whole, CameSound}
-use Rattle.gptp_settling.specs.Facts.{system_of, FollowsPort, IsStation}
-use Rattle.gptp_settling.specs.Network.{Network, IsNetwork, setting}
+use Rattle.gptp_settling.specs.Facts.{station_system, FollowsPort, IsLiveStationState}
+use Rattle.gptp_settling.specs.Network.{Network, IsSettlingNetwork, network_setting}
 use Rattle.gptp_settling.specs.Calm.{HasLane, Calm}
 use Rattle.gptp_settling.specs.SoundLaws.{IsSoundFrom, IsSoundOnLinks, UnlinkedAreOff, HasNews, AllIsWhole}
 use Rattle.gptp_settling.specs.Sound.{ReceivedFits}
@@ -27,7 +27,7 @@ use Rattle.gptp_settling.proofs.TraceLemmas.{whole_own, whole_on}
 use Rattle.gptp_settling.proofs.ReactsLemmas.{JustHeard, held_from}
 
 -- a port that received something after a touch wasn't disabled before
-on_before : (c n now : ℕ) (touch : Touch) (held mid : Held) (r : Reception) → Mid c n touch now held mid
+on_before : (c n now : ℕ) (touch : StationTouch) (held mid : Held) (r : Reception) → HeldInTouch c n touch now held mid
     → mid ≡ Received r → held ≢ Disabled
 on_before c n now (Hear m a) held mid r (inl (same, on, rest)) e off = on off
 on_before c n now (Hear m a) held mid r (inr (other, is)) e off = absurd (let x = sym off ∙ sym is ∙ e in cc)
@@ -41,8 +41,8 @@ on_before c n now (Disable m) held mid r (inr (other, is)) e off = absurd (let x
 on_before c n now Other held mid r is e off = absurd (let x = sym off ∙ sym is ∙ e in cc)
 
 -- so the port of a system that received something after an answer wasn't
-was_on : (says : Says) (s s' : Station) (touch : Touch) (now : ℕ) (sends : List Send)
-    → Reacts says s touch now s' sends → (i : ℕ) (r : Reception) → HoldsAt s' i r
+was_on : (says : Spelling) (s s' : Station) (touch : StationTouch) (now : ℕ) (sends : List Send)
+    → StationReacts says s touch now s' sends → (i : ℕ) (r : Reception) → HoldsAt s' i r
     → (q : Port) × (slice_get s.ports i ≡ Some q) × (q.held ≢ Disabled)
 was_on says s s' touch now sends reacts i r (q', at, holds) =
     let (q, stood, step) = reacts.ports i q' at in (
@@ -54,7 +54,7 @@ was_on says s s' touch now sends reacts i r (q', at, holds) =
       ],
     )
 
-module _ (says : Says) (n : Network) (net : IsNetwork n) where
+module _ (says : Spelling) (n : Network) (net : IsSettlingNetwork n) where
   abbrev g : Snapshot
   g = n.graph
 
@@ -63,10 +63,10 @@ module _ (says : Says) (n : Network) (net : IsNetwork n) where
   IsSoundStation s = (place : ℕ) (r : Reception) → HoldsAt s place r → CameSound g s.clock (suc place) r
 
   -- what a system says is sound where what it holds is
-  says_sound : (now : ℕ) (s : Station) → IsStation (setting n) now s → IsSoundStation s → (p : ℕ) (a : Announce)
+  says_sound : (now : ℕ) (s : Station) → IsLiveStationState (network_setting n) now s → IsSoundStation s → (p : ℕ) (a : Announce)
       → IsOwn s p a → IsWorse g s.clock a ⊎ Whole g s.clock a
   says_sound now s is held p a own = elim is.follows [
-    | inl itself ↦ inr (whole_own g (system_of s) a is.known (own.root ∙ itself.root) (own.steps ∙ itself.steps)
+    | inl itself ↦ inr (whole_own g (station_system s) a is.known (own.root ∙ itself.root) (own.steps ∙ itself.steps)
         (own.path ∙ itself.trace))
     | inr port ↦ on port (held port.place port.r port.holds)
   ]
@@ -80,18 +80,18 @@ module _ (says : Says) (n : Network) (net : IsNetwork n) where
             | inl worse ↦ inl (λ best is_best. subst (λ m. best.identity < m) (sym (own.root ∙ port.root))
                 (worse best (IsBest-neighbour g s.clock came.from.clock best net.graph joined is_best)))
             | inr whole ↦ inr (whole_on g s.clock came.from.clock port.r.said a whole
-                (In-clocks g (system_of s) is.known) joined (is.held port.place port.r port.holds).no_loop
+                (In-clocks g (station_system s) is.known) joined (is.held port.place port.r port.holds).no_loop
                 (own.root ∙ port.root) (own.steps ∙ port.steps) (own.path ∙ port.trace))
           ]
 
   -- what a system hears at a port that isn't disabled came over its link, and is sound
-  HeardIsSound : Station → Touch → Type 0
+  HeardIsSound : Station → StationTouch → Type 0
   HeardIsSound s touch = (i : ℕ) (q : Port) (a : Announce) → touch ≡ Hear (suc i) a → slice_get s.ports i ≡ Some q
       → q.held ≢ Disabled
       → (from : PortIdentity) × Joins g from (port_of s.clock (suc i)) × IsSoundFrom g from a
 
   -- one system answers
-  called : (touch : Touch) (w w' : State) (call : Calls says touch w w') → Calm n w' → IsSoundOnLinks says g w
+  called : (touch : StationTouch) (w w' : MachineState) (call : StationAnswers says touch w w') → Calm n w' → IsSoundOnLinks says g w
       → HeardIsSound call.s touch → IsSoundOnLinks says g w'
   unfolding HeardIsSound
   called touch w w' call calm' all heard = record { lanes = lanes; stations = stations }
@@ -126,7 +126,7 @@ module _ (says : Says) (n : Network) (net : IsNetwork n) where
         | inr (other, stood) ↦ all.stations i s place r stood live holds
       ]
 
-      lanes : (j : ℕ) (l' : Lane) (f : Frame) (a : Announce) → slice_get w'.lanes j ≡ Some l' → In f l'.frames
+      lanes : (j : ℕ) (l' : Lane) (f : AnnounceFrame) (a : Announce) → slice_get w'.lanes j ≡ Some l' → In f l'.frames
           → says f.octets a → Joins g l'.from l'.to → IsSoundFrom g l'.from a
       lanes j l' f a at flies said joins =
           let (l, stood, step) = call.lanes j l' at in
@@ -148,7 +148,7 @@ module _ (says : Says) (n : Network) (net : IsNetwork n) where
           ])
 
   -- a frame is taken off its lane
-  popped : (j : ℕ) (l : Lane) (f : Frame) (fs : List Frame) (w w' : State) → Pops j l f fs w w'
+  popped : (j : ℕ) (l : Lane) (f : AnnounceFrame) (fs : List AnnounceFrame) (w w' : MachineState) → Pops j l f fs w w'
       → IsSoundOnLinks says g w
       → IsSoundOnLinks says g w'
   popped j l f fs w w' pops all = record {
@@ -163,7 +163,7 @@ module _ (says : Says) (n : Network) (net : IsNetwork n) where
   }
 
   -- what arrives came over the link of the port, where that isn't disabled
-  arrived : (w w' : State) (act : Arrives says w w') → Calm n w → UnlinkedAreOff g w → IsSoundOnLinks says g w
+  arrived : (w w' : MachineState) (act : Arrives says w w') → Calm n w → UnlinkedAreOff g w → IsSoundOnLinks says g w
       → HeardIsSound act.call.s act.touch
   unfolding HeardIsSound
   arrived w w' act calm off all i q a touched at on = elim (IsLinked-dec g (port_of act.call.s.clock (suc i))) [
@@ -199,12 +199,12 @@ module _ (says : Says) (n : Network) (net : IsNetwork n) where
           from_is = ap (λ (l : Lane). l.from) (sym lane_is) ∙ has.from
 
   -- nothing is heard
-  heard_none : (s : Station) (touch : Touch) → ((m : ℕ) (a : Announce) → touch ≡ Hear m a → ⊥) → HeardIsSound s touch
+  heard_none : (s : Station) (touch : StationTouch) → ((m : ℕ) (a : Announce) → touch ≡ Hear m a → ⊥) → HeardIsSound s touch
   unfolding HeardIsSound
   heard_none s touch deaf i q a touched at on = absurd (deaf (suc i) a touched)
 
   -- every step between calm states keeps that all is sound
-  pub sound_kept : (w w' : State) → Calm n w → Calm n w' → UnlinkedAreOff g w → Steps says w w'
+  pub sound_kept : (w w' : MachineState) → Calm n w → Calm n w' → UnlinkedAreOff g w → MachineSteps says w w'
       → IsSoundOnLinks says g w
       → IsSoundOnLinks says g w'
   sound_kept w w' calm calm' off (inl wait) all =
@@ -216,15 +216,15 @@ module _ (says : Says) (n : Network) (net : IsNetwork n) where
   sound_kept w w' calm calm' off (inr (inr (inr act))) all =
       called act.touch w w' act.call calm' all (heard_none act.call.s act.touch act.deaf)
 
-module _ (says : Says) (n : Network) (net : IsNetwork n) where
+module _ (says : Spelling) (n : Network) (net : IsSettlingNetwork n) where
   -- a system that answers to what is no Announce keeps it too, whatever the state before was
-  pub reaction_sound : (w w' : State) → Calls says Other w w' → Calm n w' → IsSoundOnLinks says n.graph w
+  pub reaction_sound : (w w' : MachineState) → StationAnswers says Other w w' → Calm n w' → IsSoundOnLinks says n.graph w
       → IsSoundOnLinks says n.graph w'
   reaction_sound w w' call calm' all =
       called says n net Other w w' call calm' all (heard_none says n net call.s Other (λ m a e. absurd cc))
 
 -- what is sound fits
-pub received_fits : (says : Says) (g : Snapshot) (w : State) → IsWellFormed g → IsSoundOnLinks says g w
+pub received_fits : (says : Spelling) (g : Snapshot) (w : MachineState) → IsWellFormed g → IsSoundOnLinks says g w
     → ReceivedFits g w
 received_fits says g w wf all i s place r at live holds =
     came_fits g s.clock (suc place) r wf (all.stations i s place r at live holds)
@@ -281,7 +281,7 @@ module _ (g g' : Snapshot) (news : HasNews g g') where
           identity h = omega arith
 
   -- so all of it is sound
-  pub news_all_sound : (says : Says) (w : State) → IsWellFormed g' → AllIsWhole says g (Joins g') w
+  pub news_all_sound : (says : Spelling) (w : MachineState) → IsWellFormed g' → AllIsWhole says g (Joins g') w
       → IsSoundOnLinks says g' w
   news_all_sound says w wf all = record {
     lanes = λ j l f a at flies said joins.

@@ -13,19 +13,19 @@ use Rattle.gptp_graph.proofs.SystemLemmas as systems
 use Rattle.gptp_graph.proofs.BestLemmas.{IsBest-neighbour}
 use Rattle.gptp_graph.proofs.DistanceLemmas.{IsDistance-unique, IsDistance-neighbour, IsDistance-clock, IsDistance-best, best_at_zero, nearer_neighbour}
 use Rattle.gptp_graph.proofs.ExistenceLemmas.{distance_exists}
-use Rattle.gptp_settling.specs.Frame.{Announce, Says, Frame, Lane}
-use Rattle.gptp_settling.specs.Station.{Reception, Held, Disabled, Mine, Received, Port, Station, State, HoldsAt}
+use Rattle.gptp_settling.specs.Frame.{Announce, Spelling, AnnounceFrame, Lane}
+use Rattle.gptp_settling.specs.Station.{Reception, Held, Disabled, Mine, Received, Port, Station, MachineState, HoldsAt}
 use Rattle.gptp_settling.specs.Vectors.{master}
-use Rattle.gptp_settling.specs.Acts.{Steps}
-use Rattle.gptp_settling.specs.Facts.{system_of, FollowsItself, FollowsPort}
+use Rattle.gptp_settling.specs.Acts.{MachineSteps}
+use Rattle.gptp_settling.specs.Facts.{station_system, FollowsItself, FollowsPort}
 use Rattle.gptp_settling.specs.Sound.{ReceivedFits}
-use Rattle.gptp_settling.specs.Stage.{Wiring, IsFinal, Stays}
-use Rattle.gptp_settling.specs.Link.{final_vector, StandsAt, IsReady, TellsSettled, HearsSettled, IsLaneOf, IsOnTime, Ends, Stand, LinkSettles}
-use Rattle.gptp_settling.specs.Network.{Network, IsNetwork, wiring}
+use Rattle.gptp_settling.specs.Stage.{Wiring, IsFinal, FinalAnnounceStays}
+use Rattle.gptp_settling.specs.Link.{final_vector, StandsAt, TellerIsReady, TellerIsSettled, HearsSettled, IsLaneOf, LaneIsOnTime, Ends, Stand, LinkSettles}
+use Rattle.gptp_settling.specs.Network.{Network, IsSettlingNetwork, wiring}
 use Rattle.gptp_settling.specs.Calm.{IsCalmPort, HasLane, Calm}
 use Rattle.gptp_settling.specs.Levels.{LeadsFarther}
-use Rattle.gptp_settling.specs.Run.{last_of}
-use Rattle.gptp_settling.specs.LossLaws.{EverythingFits, IsLeft, IsLoss, Unmoved, IsKept, IsKeptRun}
+use Rattle.gptp_settling.specs.Run.{last_state}
+use Rattle.gptp_settling.specs.LossLaws.{EverythingFits, IsWhatIsLeft, IsLoss, Unmoved, IsAfterLoss, IsKeptRun}
 use Rattle.gptp_settling.proofs.PlaceLemmas.{same_there, there_within}
 use Rattle.gptp_settling.proofs.LinkLemmas.{link_kept, link_settled}
 use Rattle.gptp_settling.proofs.RestLemmas.{Chooses, IsClear, root_above, steps_above, is_master, zero_settles, suc_settles}
@@ -64,18 +64,18 @@ pub record LeadsOn (g : Snapshot) (n : Network) (d : ℕ) (best : System) (v p u
   pub farther : (d < far) ⊎ ((d ≡ far) × (v < u))
 
 -- each such link from distance d tells, and what it tells stays
-abbrev pub StillSettles : Says → Snapshot → Network → ℕ → State → Type 0
+abbrev pub StillSettles : Spelling → Snapshot → Network → ℕ → MachineState → Type 0
 StillSettles says g n d w = (best : System) (v p u q : ℕ) → d < 255 → LeadsOn g n d best v p u q
     → LinkSettles says (still n d best v p u q) w
 
 -- the unmoved systems at distance d have their roots and steps
-abbrev pub StillChoose : Snapshot → Network → State → ℕ → Type 0
+abbrev pub StillChoose : Snapshot → Network → MachineState → ℕ → Type 0
 StillChoose g n w d = (v : ℕ) (best : System) (s : Station) → slice_get w.stations (n.place v) ≡ Some s
     → Unmoved g n v → IsBest g v best → IsDistance g v d → Chooses s best d
 
 -- ---- distances of unmoved systems
 
-module _ (g : Snapshot) (n : Network) (wf : IsWellFormed n.graph) (left : IsLeft g n) where
+module _ (g : Snapshot) (n : Network) (wf : IsWellFormed n.graph) (left : IsWhatIsLeft g n) where
   adjacent_before : (v x : ℕ) → Adjacent n.graph v x → Adjacent g v x
   adjacent_before v x (m, k, joins) = (m, k, left.links (port_of v m) (port_of x k) joins)
 
@@ -182,7 +182,7 @@ module _ (g : Snapshot) (s : Station) (clear : IsClear g s) (best : System)
       let own : s.steps ≡ d = chooses.steps in
       omega (arith, length-append port.r.said.path (s.clock ∷ [])))
 
-module _ (g : Snapshot) (n : Network) (wf : IsWellFormed n.graph) (left : IsLeft g n) (w : State) (kept : IsKept n w)
+module _ (g : Snapshot) (n : Network) (wf : IsWellFormed n.graph) (left : IsWhatIsLeft g n) (w : MachineState) (kept : IsAfterLoss n w)
     (all : ReceivedFits g w) where
   calm : Calm n w
   calm = kept.calm
@@ -190,7 +190,7 @@ module _ (g : Snapshot) (n : Network) (wf : IsWellFormed n.graph) (left : IsLeft
   clear_at : (i : ℕ) (s : Station) → slice_get w.stations i ≡ Some s → s.live ≡ true → IsClear g s
   clear_at i s at live = record {
     rest = (calm.stations i s at live).at_rest;
-    known = left.systems (system_of s) (calm.facts.stations i s at live).known;
+    known = left.systems (station_system s) (calm.facts.stations i s at live).known;
     held = λ place r holds. all i s place r at live holds;
   }
 
@@ -242,8 +242,8 @@ module _ (g : Snapshot) (n : Network) (wf : IsWellFormed n.graph) (left : IsLeft
       within =
           let (live, clock) = is_station v s known at in
           let (x, in_x, is_port) = wf.ends (port_of v (suc p)) to joins in
-          let same : x ≡ system_of s =
-          systems.same_clock n.graph x (system_of s) wf in_x (calm.facts.stations (n.place v) s at live).known
+          let same : x ≡ station_system s =
+          systems.same_clock n.graph x (station_system s) wf in_x (calm.facts.stations (n.place v) s at live).known
           (is_port.clock ∙ sym clock) in
           subst (λ (y : System). suc p ≤ y.ports) same is_port.last
 
@@ -277,8 +277,8 @@ module _ (g : Snapshot) (n : Network) (wf : IsWellFormed n.graph) (left : IsLeft
         (same_there w.lanes (n.lane (port_of v (suc p))) has_lane.lane l has_lane.there at)
         (record { from = has_lane.from; to = has_lane.to; loss = has_lane.loss; is_up = has_lane.is_up })
 
-    on_time : (l : Lane) (f : Frame) → slice_get w.lanes (n.lane (port_of v (suc p))) ≡ Some l → In f l.frames
-        → IsOnTime (still n d best v p u q) w.time f
+    on_time : (l : Lane) (f : AnnounceFrame) → slice_get w.lanes (n.lane (port_of v (suc p))) ≡ Some l → In f l.frames
+        → LaneIsOnTime (still n d best v p u q) w.time f
     on_time l f at h = record {
       left = calm.left (n.lane (port_of v (suc p))) l f at h;
       due = λ late. within (calm.facts.fresh (n.lane (port_of v (suc p))) l f at h
@@ -292,11 +292,11 @@ module _ (g : Snapshot) (n : Network) (wf : IsWellFormed n.graph) (left : IsLeft
 
     -- the system that tells has settled
     tells_settled : (s : Station) (pv : Port) → slice_get w.stations (n.place v) ≡ Some s
-        → slice_get s.ports p ≡ Some pv → IsReady (still n d best v p u q) s pv
-        → TellsSettled (still n d best v p u q) s pv
+        → slice_get s.ports p ≡ Some pv → TellerIsReady (still n d best v p u q) s pv
+        → TellerIsSettled (still n d best v p u q) s pv
     tells_settled s pv at port (has, on) = go (is_station v s from_known at)
       where
-        go : (s.live ≡ true) × (s.clock ≡ v) → TellsSettled (still n d best v p u q) s pv
+        go : (s.live ≡ true) × (s.clock ≡ v) → TellerIsSettled (still n d best v p u q) s pv
         go (live, clock) = record {
           mine = is_master g left.graph s clear best is_best d leads.far p pv (port_of u (suc q)) chooses port on
               (subst (λ c. Joins g (port_of c (suc p)) (port_of u (suc q))) (sym clock) before) leads.there
@@ -428,9 +428,9 @@ module _ (g : Snapshot) (n : Network) (wf : IsWellFormed n.graph) (left : IsLeft
 
 -- ---- by distance
 
-module _ (says : Says) (g : Snapshot) (n : Network) (wf : IsWellFormed n.graph) (left : IsLeft g n) where
+module _ (says : Spelling) (g : Snapshot) (n : Network) (wf : IsWellFormed n.graph) (left : IsWhatIsLeft g n) where
   -- those that its links lead to hold what an unmoved system tells
-  told : (w : State) (kept : IsKept n w) (all : ReceivedFits g w) (d : ℕ) (best : System) (v p u q : ℕ) → d < 255
+  told : (w : MachineState) (kept : IsAfterLoss n w) (all : ReceivedFits g w) (d : ℕ) (best : System) (v p u q : ℕ) → d < 255
       → LeadsOn g n d best v p u q → StillChoose g n w d → LinkSettles says (still n d best v p u q) w
       → (s : Station) → slice_get w.stations (n.place u) ≡ Some s
       → (r : Reception) × HoldsAt s q r × IsFinal (still n d best v p u q) r.said
@@ -466,7 +466,7 @@ module _ (says : Says) (g : Snapshot) (n : Network) (wf : IsWellFormed n.graph) 
           (r, (pu, pu_at, holds), final)
 
   -- an unmoved system chooses as before
-  chooses_still : (w : State) (kept : IsKept n w) (all : ReceivedFits g w) (d : ℕ)
+  chooses_still : (w : MachineState) (kept : IsAfterLoss n w) (all : ReceivedFits g w) (d : ℕ)
       → ((e : ℕ) → e < d → StillSettles says g n e w) → d < 255 → StillChoose g n w d
   chooses_still w kept all zero levels near v best s at unmoved is_best here =
       go (is_station g n wf left w kept all v s unmoved.live at)
@@ -513,8 +513,8 @@ module _ (says : Says) (g : Snapshot) (n : Network) (wf : IsWellFormed n.graph) 
               (subst (λ c. IsDistance g c (suc e)) (sym clock) here) holds final.root final.steps
 
   -- each step keeps that
-  module _ (w w' : State) (kept : IsKept n w) (kept' : IsKept n w') (all : ReceivedFits g w) (all' : ReceivedFits g w')
-      (step : Steps says w w') (levels : (d : ℕ) → StillSettles says g n d w) where
+  module _ (w w' : MachineState) (kept : IsAfterLoss n w) (kept' : IsAfterLoss n w') (all : ReceivedFits g w) (all' : ReceivedFits g w')
+      (step : MachineSteps says w w') (levels : (d : ℕ) → StillSettles says g n d w) where
     level_kept : (d : ℕ) → ((e : ℕ) → e < d → StillSettles says g n e w') → StillSettles says g n d w'
     level_kept d below best v p u q near leads =
         link_kept says (still n d best v p u q) w w'
@@ -541,14 +541,14 @@ module _ (says : Says) (g : Snapshot) (n : Network) (wf : IsWellFormed n.graph) 
       | no not_less ↦ level_kept e (λ f below. levels_below d f (omega arith))
     ]
 
-  first_kept : (w : State) (ws : List State) → IsKeptRun says n w ws → IsKept n w
+  first_kept : (w : MachineState) (ws : List MachineState) → IsKeptRun says n w ws → IsAfterLoss n w
   first_kept w [] run = run
   first_kept w (w' ∷ ws) run = run.0
 
-  run_keeps : (w : State) (ws : List State) → IsKeptRun says n w ws → EverythingFits says g n w
+  run_keeps : (w : MachineState) (ws : List MachineState) → IsKeptRun says n w ws → EverythingFits says g n w
       → ((d : ℕ) → StillSettles says g n d w)
-      → IsKept n (last_of w ws) × EverythingFits says g n (last_of w ws)
-      × ((d : ℕ) → StillSettles says g n d (last_of w ws))
+      → IsAfterLoss n (last_state w ws) × EverythingFits says g n (last_state w ws)
+      × ((d : ℕ) → StillSettles says g n d (last_state w ws))
   run_keeps w [] run all levels = (run, all, levels)
   run_keeps w (w' ∷ ws) (kept, step, rest) all levels =
       let kept' = first_kept w' ws rest in
@@ -558,8 +558,8 @@ module _ (says : Says) (g : Snapshot) (n : Network) (wf : IsWellFormed n.graph) 
 
 -- ---- as the loss finds it
 
-still_stays : (says : Says) (n : Network) (d : ℕ) (best : System) (v p u q announce : ℕ) (held : Held) (fs : List Frame)
-    → Stays says (wiring n d best v p u q) announce held fs → Stays says (still n d best v p u q) announce held fs
+still_stays : (says : Spelling) (n : Network) (d : ℕ) (best : System) (v p u q announce : ℕ) (held : Held) (fs : List AnnounceFrame)
+    → FinalAnnounceStays says (wiring n d best v p u q) announce held fs → FinalAnnounceStays says (still n d best v p u q) announce held fs
 still_stays says n d best v p u q announce held fs stays = record {
   what = stays.what;
   holds = stays.holds;
@@ -577,8 +577,8 @@ still_stays says n d best v p u q announce held fs stays = record {
       qualified = final.qualified;
     }
 
-module _ (says : Says) (n n' : Network) (net : IsNetwork n) (wf : IsWellFormed n'.graph) (w w' : State)
-    (loss : IsLoss says n n' w w') (kept' : IsKept n' w') where
+module _ (says : Spelling) (n n' : Network) (net : IsSettlingNetwork n) (wf : IsWellFormed n'.graph) (w w' : MachineState)
+    (loss : IsLoss says n n' w w') (kept' : IsAfterLoss n' w') where
   all : EverythingFits says n.graph n' w'
   all = loss_fits says n n' w w' net loss
 
@@ -622,9 +622,9 @@ module _ (says : Says) (n n' : Network) (net : IsNetwork n) (wf : IsWellFormed n
             (subst (λ i. slice_get w'.lanes i ≡ Some l) (loss.same.lane (port_of v (suc p))) stand.lane);
       }
 
-pub unmoved_keep : (says : Says) (n n' : Network) (w w' : State) (ws : List State) (i : ℕ) (s : Station) (best : System)
-    (d : ℕ) → IsNetwork n → IsWellFormed n'.graph → IsLoss says n n' w w' → IsKeptRun says n' w' ws
-    → slice_get (last_of w' ws).stations i ≡ Some s → s.live ≡ true → Unmoved n.graph n' s.clock
+pub unmoved_keep : (says : Spelling) (n n' : Network) (w w' : MachineState) (ws : List MachineState) (i : ℕ) (s : Station) (best : System)
+    (d : ℕ) → IsSettlingNetwork n → IsWellFormed n'.graph → IsLoss says n n' w w' → IsKeptRun says n' w' ws
+    → slice_get (last_state w' ws).stations i ≡ Some s → s.live ≡ true → Unmoved n.graph n' s.clock
     → IsBest n.graph s.clock best → IsDistance n.graph s.clock d → d < 255
     → (s.root ≡ best.identity) × (s.steps ≡ d)
 unmoved_keep says n n' w w' ws i s best d net wf loss run at live unmoved is_best here near =
@@ -632,7 +632,7 @@ unmoved_keep says n n' w w' ws i s best d net wf loss run at live unmoved is_bes
     let found = levels_found says n n' net wf w w' loss kept' in
     let (kept, all_fit, levels) =
     run_keeps says n.graph n' wf loss.left w' ws run (loss_fits says n n' w w' net loss) found in
-    let chooses = chooses_still says n.graph n' wf loss.left (last_of w' ws) kept all_fit.stations d
+    let chooses = chooses_still says n.graph n' wf loss.left (last_state w' ws) kept all_fit.stations d
     (λ e less. levels e) near s.clock best s
-    (subst (λ j. slice_get (last_of w' ws).stations j ≡ Some s) (kept.calm.placed i s at) at) unmoved is_best here in
+    (subst (λ j. slice_get (last_state w' ws).stations j ≡ Some s) (kept.calm.placed i s at) at) unmoved is_best here in
     (chooses.root, chooses.steps)

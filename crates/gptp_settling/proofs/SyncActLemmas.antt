@@ -10,17 +10,17 @@ use Rattle.gptp_graph.proofs.LinkLemmas.{Joins-sym}
 use Rattle.gptp_graph.proofs.BestLemmas.{IsBest-unique, IsBest-neighbour}
 use Rattle.gptp_graph.proofs.DistanceLemmas.{IsDistance-clock}
 use Rattle.gptp_graph.proofs.ParentLemmas.{IsParent-unique, no_parent_at_zero}
-use Rattle.gptp_settling.specs.Frame.{Says, SaysSync}
-use Rattle.gptp_settling.specs.Station.{Reception, Mine, Station, State, HoldsAt}
-use Rattle.gptp_settling.specs.Acts.{Acts, Steps}
-use Rattle.gptp_settling.specs.Sound.{IsSound}
-use Rattle.gptp_settling.specs.Network.{Network, IsNetwork, since}
+use Rattle.gptp_settling.specs.Frame.{Spelling, SaysSync}
+use Rattle.gptp_settling.specs.Station.{Reception, Mine, Station, MachineState, HoldsAt}
+use Rattle.gptp_settling.specs.Acts.{StationActs, MachineSteps}
+use Rattle.gptp_settling.specs.Sound.{RunIsSound}
+use Rattle.gptp_settling.specs.Network.{Network, IsSettlingNetwork, since}
 use Rattle.gptp_settling.specs.Calm.{Calm}
 use Rattle.gptp_settling.specs.Levels.{LeadsFarther, Invariant}
 use Rattle.gptp_settling.specs.Settled.{IsSlaveOf}
-use Rattle.gptp_settling.specs.Lapsing.{FollowsNearer}
+use Rattle.gptp_settling.specs.Lapsing.{FollowsFarther}
 use Rattle.gptp_settling.specs.Matching.{Matches}
-use Rattle.gptp_settling.specs.SyncActs.{FollowsOn, IsHeard, SyncActs, SyncSteps}
+use Rattle.gptp_settling.specs.SyncActs.{FollowsOn, FollowUpIsHeard, SyncActs, SyncSteps}
 use Rattle.gptp_settling.specs.Syncs.{MayLead, HaveSyncTimers, TellsBy, HearsBy, IsExpected, SyncsAreExpected}
 use Rattle.gptp_settling.proofs.EndsLemmas.{station_of, is_station, capable_at, tells_settled}
 use Rattle.gptp_settling.proofs.LevelLemmas.{places_of, port_there, chooses}
@@ -61,14 +61,14 @@ same_root : (g : Snapshot) (v a b : ℕ) → IsWellFormed g → IsBestIdentity g
 same_root g v a b wf (best, is_best, root) (other, is_other, other_root) =
     root ∙ ap (λ (x : System). x.identity) (IsBest-unique g v best other wf is_best is_other) ∙ sym other_root
 
-module _ (says : Says) (says_sync : SaysSync) (n : Network) (net : IsNetwork n) (w w' : State) (calm : Calm n w)
+module _ (says : Spelling) (says_sync : SaysSync) (n : Network) (net : IsSettlingNetwork n) (w w' : MachineState) (calm : Calm n w)
     (calm' : Calm n w') (facts : HaveSyncTimers n w) (facts' : HaveSyncTimers n w') (time : w'.time ≡ w.time)
     (steps : StationsStep says_sync n w w') (invariant : Invariant says n w) (invariant' : Invariant says n w')
     (bare : n.bare ≤ since n 0) where
-  sound : IsSound n w
+  sound : RunIsSound n w
   sound = invariant.sound
 
-  sound' : IsSound n w'
+  sound' : RunIsSound n w'
   sound' = invariant'.sound
 
   -- what a port received came from the other end of its link
@@ -183,13 +183,13 @@ module _ (says : Says) (says_sync : SaysSync) (n : Network) (net : IsNetwork n) 
       → n.sound ≤ w.time → slice_get w.stations (n.place v) ≡ Some s
       → slice_get w'.stations (n.place v) ≡ Some s' → Joins n.graph from (port_of v port) → s.slave ≡ Some port
       → FollowsOn s s' → Matches says_sync w.stations w.lanes (n.lane from) due
-      → Matches says_sync w'.stations w'.lanes (n.lane from) due ⊎ IsHeard n w.time s'
+      → Matches says_sync w'.stations w'.lanes (n.lane from) due ⊎ FollowUpIsHeard n w.time s'
   heard_on v s s' from port due known late at at' joins slave on flies =
       by_places (places_of n.graph from.clock from.port v port net.graph joins)
       (is_station n net w calm sound v s known at)
     where
       by_places : ((p : ℕ) × (q : ℕ) × (from.port ≡ suc p) × (port ≡ suc q)) → (s.live ≡ true) × (s.clock ≡ v)
-          → Matches says_sync w'.stations w'.lanes (n.lane from) due ⊎ IsHeard n w.time s'
+          → Matches says_sync w'.stations w'.lanes (n.lane from) due ⊎ FollowUpIsHeard n w.time s'
       by_places (p, q, is_p, is_q) (live, clock) =
           let has = calm.lanes from (port_of v port) joins in
           let to : has.lane.to ≡ port_of s.clock (suc q) = has.to ∙ (λ i. port_of (sym clock i) (is_q i)) in
@@ -318,7 +318,7 @@ module _ (says : Says) (says_sync : SaysSync) (n : Network) (net : IsNetwork n) 
               slave : s.slave ≡ Some follows.follows.port
               slave = sym on.slave ∙ follows.follows.slave
 
-              before : FollowsNearer n.graph s d
+              before : FollowsFarther n.graph s d
               before = record {
                 here = subst (λ c. IsDistance n.graph c (suc d)) (sym clock) follows.here;
                 follows = record {
@@ -374,28 +374,28 @@ module _ (says : Says) (says_sync : SaysSync) (n : Network) (net : IsNetwork n) 
                     }
                   ]
 
-module _ (says : Says) where
+module _ (says : Spelling) where
   -- an act takes no time
-  act_time : (w w' : State) → Acts says w w' → w'.time ≡ w.time
+  act_time : (w w' : MachineState) → StationActs says w w' → w'.time ≡ w.time
   act_time w w' (inl act) = act.call.time ∙ act.pops.time
   act_time w w' (inr (inl act)) = act.pops.time
   act_time w w' (inr (inr act)) = act.call.time
 
   module _ (says_sync : SaysSync) (n : Network) where
     -- an act of which it is known what it does to Syncs is one
-    act_of : (w w' : State) → SyncActs says says_sync n w w' → Acts says w w'
+    act_of : (w w' : MachineState) → SyncActs says says_sync n w w' → StationActs says w w'
     act_of w w' (inl (act, facts)) = inl act
     act_of w w' (inr (inl (act, facts))) = inr (inl act)
     act_of w w' (inr (inr (act, facts))) = inr (inr act)
 
     -- so is a step
-    pub step_of : (w w' : State) → SyncSteps says says_sync n w w' → Steps says w w'
+    pub step_of : (w w' : MachineState) → SyncSteps says says_sync n w w' → MachineSteps says w w'
     step_of w w' (inl wait) = inl wait
     step_of w w' (inr act) = inr (act_of w w' act)
 
-    module _ (net : IsNetwork n) (bare : n.bare ≤ since n 0) where
+    module _ (net : IsSettlingNetwork n) (bare : n.bare ≤ since n 0) where
       -- every step keeps by when the next Follow_Up is expected
-      pub expected_kept : (w w' : State) → Calm n w → Calm n w' → HaveSyncTimers n w → HaveSyncTimers n w'
+      pub expected_kept : (w w' : MachineState) → Calm n w → Calm n w' → HaveSyncTimers n w → HaveSyncTimers n w'
           → SyncSteps says says_sync n w w' → Invariant says n w → Invariant says n w'
           → SyncsAreExpected says_sync n w → SyncsAreExpected says_sync n w'
       expected_kept w w' calm calm' facts facts' (inl wait) invariant invariant' expected =

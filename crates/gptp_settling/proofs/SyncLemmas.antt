@@ -10,12 +10,12 @@ use Rattle.gptp_graph.proofs.ExistenceLemmas.{distance_exists}
 use Rattle.gptp_graph.proofs.DistanceLemmas.{IsDistance-clock, IsDistance-neighbour}
 use Rattle.gptp_graph.proofs.PathBoundLemmas.{IsDistance-within}
 use Rattle.gptp_graph.proofs.ParentLemmas.{LeadsNearer-distance, parent_exists}
-use Rattle.gptp_settling.specs.Frame.{SaysSync, Frame, Lane}
-use Rattle.gptp_settling.specs.Station.{Station, State}
-use Rattle.gptp_settling.specs.Sound.{IsSound}
-use Rattle.gptp_settling.specs.Network.{Network, IsNetwork, since}
+use Rattle.gptp_settling.specs.Frame.{SaysSync, AnnounceFrame, Lane}
+use Rattle.gptp_settling.specs.Station.{Station, MachineState}
+use Rattle.gptp_settling.specs.Sound.{RunIsSound}
+use Rattle.gptp_settling.specs.Network.{Network, IsSettlingNetwork, since}
 use Rattle.gptp_settling.specs.Calm.{Calm}
-use Rattle.gptp_settling.specs.Lapsing.{FollowsNearer, NothingLapses}
+use Rattle.gptp_settling.specs.Lapsing.{FollowsFarther, NothingNearLapses}
 use Rattle.gptp_settling.specs.Matching.{Matches}
 use Rattle.gptp_settling.specs.Syncs.{HasSyncTimers, HaveSyncTimers, wait, IsPrompt, TellsBy, HearsBy, IsExpected, SyncsAreExpected}
 use Rattle.gptp_settling.proofs.PlaceLemmas.{same_there}
@@ -32,14 +32,14 @@ parent_there g v d l wf here parent =
     subst (IsDistance g l.clock) same parent.nearer.there
 
 -- nothing lapses where no lapse timer runs
-pub none_lapses : (n : Network) (w : State)
+pub none_lapses : (n : Network) (w : MachineState)
     → ((i : ℕ) (s : Station) → slice_get w.stations i ≡ Some s → s.live ≡ true → s.lapse ≡ None)
-    → NothingLapses n w
+    → NothingNearLapses n w
 none_lapses n w none i s d due at live near follows late lapse =
     absurd (let runs : None ≡ Some due = sym (none i s at live) ∙ lapse in cc)
 
-module _ (says_sync : SaysSync) (n : Network) (net : IsNetwork n) (w : State) (calm : Calm n w)
-    (sound : IsSound n w) (facts : HaveSyncTimers n w) where
+module _ (says_sync : SaysSync) (n : Network) (net : IsSettlingNetwork n) (w : MachineState) (calm : Calm n w)
+    (sound : RunIsSound n w) (facts : HaveSyncTimers n w) where
   -- the system at the place of v lives
   pub known_station : (v : ℕ) (s : Station) (d : ℕ) → IsDistance n.graph v d → slice_get w.stations (n.place v) ≡ Some s
       → HasSyncTimers n w.time s
@@ -92,7 +92,7 @@ module _ (says_sync : SaysSync) (n : Network) (net : IsNetwork n) (w : State) (c
       (subst (Joins n.graph from) (sym has.to) joins)) in
       within f (calm.facts.fresh (n.lane from) at.lane f at.there flies over) same
     where
-      within : (f : Frame) → (f.due ≤ w.time + n.most) ⊎ (f.due < n.start) → f.due ≡ due → due ≤ w.time + n.most
+      within : (f : AnnounceFrame) → (f.due ≤ w.time + n.most) ⊎ (f.due < n.start) → f.due ≡ due → due ≤ w.time + n.most
       within f (inl soon) same = omega arith
       within f (inr early) same = omega arith
 
@@ -123,7 +123,7 @@ module _ (says_sync : SaysSync) (n : Network) (net : IsNetwork n) (w : State) (c
 
   -- so nothing lapses, where the wait is short
   pub nothing_lapses : ((e : ℕ) → e < 255 → since n e ≤ w.time → AllChoose n w e) → IsPrompt n
-      → SyncsAreExpected says_sync n w → NothingLapses n w
+      → SyncsAreExpected says_sync n w → NothingNearLapses n w
   nothing_lapses settled prompt expected i s d due at live near follows late lapse =
       by_distance (distance_exists n.graph s.clock net.graph
       (Joins-clock n.graph (port_of s.clock follows.port) follows.from net.graph back))
@@ -135,7 +135,7 @@ module _ (says_sync : SaysSync) (n : Network) (net : IsNetwork n) (w : State) (c
       begun = let waits : since n d + n.sync_wait ≤ n.claimed d follows.from =
           prompt.waits d follows.from in omega arith
 
-      lasts : FollowsNearer n.graph s d → w.time < due
+      lasts : FollowsFarther n.graph s d → w.time < due
       lasts nearer =
           let e = expected i s d due at live near nearer begun lapse in
           let left : w.time ≤ e.by =
@@ -200,6 +200,6 @@ module _ (says_sync : SaysSync) (n : Network) (net : IsNetwork n) (w : State) (c
   ]
 
 -- before what is held must be sound nothing is claimed
-pub expected_begins : (says_sync : SaysSync) (n : Network) (w : State) → w.time < n.sound
+pub expected_begins : (says_sync : SaysSync) (n : Network) (w : MachineState) → w.time < n.sound
     → SyncsAreExpected says_sync n w
 expected_begins says_sync n w early i s d due at live near follows late lapse = absurd (omega arith)

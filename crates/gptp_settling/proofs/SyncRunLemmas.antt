@@ -2,16 +2,16 @@
 use Rattle.std.proofs.Common.{◌<◌, ◌≤◌, ◌+◌, ◌*◌, ℕ, zero, suc, pred, List, [], ◌∷◌, arith}
 use native.Mathlib.Nat.{mul-le-mul_right}
 use Rattle.gptp_graph.specs.Snapshot.{PortIdentity}
-use Rattle.gptp_settling.specs.Frame.{Says, SaysSync}
-use Rattle.gptp_settling.specs.Station.{State}
-use Rattle.gptp_settling.specs.Network.{Network, IsNetwork, BecomesClean, since, setting, settled_from}
+use Rattle.gptp_settling.specs.Frame.{Spelling, SaysSync}
+use Rattle.gptp_settling.specs.Station.{MachineState}
+use Rattle.gptp_settling.specs.Network.{Network, IsSettlingNetwork, BecomesClean, since, network_setting, settled_from}
 use Rattle.gptp_settling.specs.EarlyPorts.{ClaimsWhenReady}
 use Rattle.gptp_settling.specs.Facts.{SendersLive}
 use Rattle.gptp_settling.specs.Calm.{Calm}
 use Rattle.gptp_settling.specs.CleanInvariant.{TracesAreClean}
-use Rattle.gptp_settling.specs.Lapsing.{NothingLapses}
+use Rattle.gptp_settling.specs.Lapsing.{NothingNearLapses}
 use Rattle.gptp_settling.specs.Levels.{Invariant}
-use Rattle.gptp_settling.specs.Run.{last_of, IsSettled}
+use Rattle.gptp_settling.specs.Run.{last_state, NearHaveSettled}
 use Rattle.gptp_settling.specs.Syncs.{HaveSyncTimers, wait, IsPrompt, SyncsAreExpected}
 use Rattle.gptp_settling.specs.SyncLaws.{IsSyncRun}
 use Rattle.gptp_settling.proofs.CleanLemmas.{clean_begins, clean_kept}
@@ -39,28 +39,28 @@ prompt n within short bare waits = record { covers = covers; short = short; bare
         le_pred a (suc b) h = omega arith
 
 -- nothing lapses, where Syncs are expected
-pub in_time : (says : Says) (says_sync : SaysSync) (n : Network) → IsNetwork n → (w : State) → Calm n w
-    → Invariant says n w → HaveSyncTimers n w → IsPrompt n → SyncsAreExpected says_sync n w → NothingLapses n w
+pub in_time : (says : Spelling) (says_sync : SaysSync) (n : Network) → IsSettlingNetwork n → (w : MachineState) → Calm n w
+    → Invariant says n w → HaveSyncTimers n w → IsPrompt n → SyncsAreExpected says_sync n w → NothingNearLapses n w
 in_time says says_sync n net w calm invariant facts =
     nothing_lapses says_sync n net w calm invariant.sound facts
     (λ d near late. chooses says n net w calm invariant.sound d (λ e less. invariant.levels e) near late)
 
-module _ (says : Says) (says_sync : SaysSync) (n : Network) (net : IsNetwork n) (is_prompt : IsPrompt n)
+module _ (says : Spelling) (says_sync : SaysSync) (n : Network) (net : IsSettlingNetwork n) (is_prompt : IsPrompt n)
     (cleans : BecomesClean n) (ready : ClaimsWhenReady n) where
   -- the first state of a run is calm, and Syncs are told in it
-  first_calm : (w : State) (ws : List State) → IsSyncRun says says_sync n w ws → Calm n w × HaveSyncTimers n w
+  first_calm : (w : MachineState) (ws : List MachineState) → IsSyncRun says says_sync n w ws → Calm n w × HaveSyncTimers n w
   first_calm w [] (calm, facts) = (calm, facts)
   first_calm w (w' ∷ ws) (calm, facts, step, rest) = (calm, facts)
 
   -- the last state is calm and keeps the invariant, where the first does and Syncs are expected in it
-  run_keeps : (w : State) (ws : List State) → IsSyncRun says says_sync n w ws → TracesAreClean says (setting n) w
-      → Invariant says n w → SyncsAreExpected says_sync n w → Calm n (last_of w ws) × Invariant says n (last_of w ws)
+  run_keeps : (w : MachineState) (ws : List MachineState) → IsSyncRun says says_sync n w ws → TracesAreClean says (network_setting n) w
+      → Invariant says n w → SyncsAreExpected says_sync n w → Calm n (last_state w ws) × Invariant says n (last_state w ws)
   run_keeps w [] (calm, facts) traces invariant expected = (calm, invariant)
   run_keeps w (w' ∷ ws) (calm, facts, step, rest) traces invariant expected =
       let (calm', facts') = first_calm w' ws rest in
       let nothing = in_time says says_sync n net w calm invariant facts is_prompt expected in
       let acts = step_of says says_sync n w w' step in
-      let traces' = clean_kept says (setting n) cleans.begins w w' calm.facts calm'.facts acts traces in
+      let traces' = clean_kept says (network_setting n) cleans.begins w w' calm.facts calm'.facts acts traces in
       let invariant' =
       invariant_kept says n net w w' calm calm' nothing (no_early_ports says n w w' ready) acts
       (clean_sound says n net w' calm' traces' cleans.late) invariant in
@@ -69,15 +69,15 @@ module _ (says : Says) (says_sync : SaysSync) (n : Network) (net : IsNetwork n) 
       expected)
 
   -- so it ends settled, where it begins early and ends late enough
-  pub sync_run_settles : (w : State) (ws : List State) → IsSyncRun says says_sync n w ws → SendersLive (setting n) w
+  pub sync_run_settles : (w : MachineState) (ws : List MachineState) → IsSyncRun says says_sync n w ws → SendersLive (network_setting n) w
       → w.time < n.start
-      → settled_from n ≤ (last_of w ws).time → IsSettled n (last_of w ws)
+      → settled_from n ≤ (last_state w ws).time → NearHaveSettled n (last_state w ws)
   sync_run_settles w ws run live_senders early by i s at live near =
       let (first, facts) = first_calm w ws run in
       let after : n.start ≤ n.sound = cleans.after in
       let before : w.time < n.sound = omega arith in
       let (calm, invariant) =
-      run_keeps w ws run (clean_begins says (setting n) w first.facts live_senders early)
+      run_keeps w ws run (clean_begins says (network_setting n) w first.facts live_senders early)
       (invariant_begins says n net w before)
       (expected_begins says_sync n w before) in
-      network_settles says n (last_of w ws) i s net calm invariant at live near by
+      network_settles says n (last_state w ws) i s net calm invariant at live near by

@@ -3,24 +3,24 @@ use Rattle.std.proofs.Common.{◌≡◌, ◌≢◌, ◌⊎◌, ◌+◌, ℕ, suc
 use native.Mathlib.Decide.{ℕ_discrete}
 use Rattle.gptp_graph.specs.Snapshot.{PortIdentity, Snapshot, port_of, Joins}
 use Rattle.gptp_graph.proofs.LinkLemmas.{Joins-sym, Joins-clock}
-use Rattle.gptp_settling.specs.Frame.{Says, SyncId, SaysSync, Lane}
-use Rattle.gptp_settling.specs.Station.{Reception, Mine, Port, Station, State, HoldsAt}
-use Rattle.gptp_settling.specs.Touch.{Touch}
-use Rattle.gptp_settling.specs.AtRest.{IsAtRest}
-use Rattle.gptp_settling.specs.Acts.{LaneStep, Calls, Arrives, Drops, Runs}
-use Rattle.gptp_settling.specs.Sound.{IsSound}
-use Rattle.gptp_settling.specs.Network.{Network, IsNetwork}
+use Rattle.gptp_settling.specs.Frame.{Spelling, SyncId, SaysSync, Lane}
+use Rattle.gptp_settling.specs.Station.{Reception, Mine, Port, Station, MachineState, HoldsAt}
+use Rattle.gptp_settling.specs.Touch.{StationTouch}
+use Rattle.gptp_settling.specs.AtRest.{StationIsAtRest}
+use Rattle.gptp_settling.specs.Acts.{LaneStep, StationAnswers, Arrives, Drops, Runs}
+use Rattle.gptp_settling.specs.Sound.{RunIsSound}
+use Rattle.gptp_settling.specs.Network.{Network, IsSettlingNetwork}
 use Rattle.gptp_settling.specs.Calm.{Calm}
 use Rattle.gptp_settling.specs.Matching.{WillMatch, HasPair, Matches}
 use Rattle.gptp_settling.specs.Syncs.{MayLead}
-use Rattle.gptp_settling.specs.SyncActs.{FollowsOn, IsHeard, SendsPairs, HearsSync, SyncArrives, SyncDrops, SyncRuns, SyncActs}
+use Rattle.gptp_settling.specs.SyncActs.{FollowsOn, FollowUpIsHeard, SendsPairs, HearsFollowedSync, SyncArrives, SyncDrops, SyncRuns, SyncActs}
 use Rattle.gptp_settling.proofs.PlaceLemmas.{same_there, same_place}
 use Rattle.gptp_settling.proofs.EndsLemmas.{station_of}
 use Rattle.gptp_settling.proofs.MatchingLemmas.{match_on, pair_behind, match_heard, match_dropped}
 
 -- from each of its master ports a Follow_Up that will match is on its way, where a link of the snapshot is there, up
 -- and without loss
-abbrev pub TellsTime : SaysSync → Snapshot → State → Station → Type 0
+abbrev pub TellsTime : SaysSync → Snapshot → MachineState → Station → Type 0
 TellsTime says_sync g w s = (i j : ℕ) (q : Port) (l : Lane) (root steps : ℕ) → slice_get s.ports i ≡ Some q
     → q.held ≡ Mine root steps → slice_get w.lanes j ≡ Some l → l.from ≡ port_of s.clock (suc i) → Joins g l.from l.to
     → l.loss ≡ 0 → l.is_up ≡ true
@@ -30,7 +30,7 @@ TellsTime says_sync g w s = (i j : ℕ) (q : Port) (l : Lane) (root steps : ℕ)
 -- Relay timer that doesn't stay has expired, and the system tells time; what would match at its slave port, from the
 -- port whose Announce that holds, stays in flight or is heard; and its lapse timer stays or starts again. Where it
 -- doesn't, that starts again, if it runs.
-pub record StationStep (says_sync : SaysSync) (n : Network) (w w' : State) (s s' : Station) : Type 0 where
+pub record StationStep (says_sync : SaysSync) (n : Network) (w w' : MachineState) (s s' : Station) : Type 0 where
   pub sync : s.slave ≡ None → MayLead s.root → FollowsOn s s' → (s'.sync ≡ s.sync) ⊎ TellsTime says_sync n.graph w' s'
   pub relay : (due : ℕ) → s.relay ≡ Some due → FollowsOn s s' → (s'.relay ≡ Some due)
       ⊎ TellsTime says_sync n.graph w' s'
@@ -38,33 +38,33 @@ pub record StationStep (says_sync : SaysSync) (n : Network) (w w' : State) (s s'
       → Joins n.graph l.from l.to → ((r : Reception) → HoldsAt s i r → r.said.source ≡ l.from)
       → s.slave ≡ Some (suc i) → FollowsOn s s'
       → Matches says_sync w.stations w.lanes j due
-      → Matches says_sync w'.stations w'.lanes j due ⊎ IsHeard n w.time s'
+      → Matches says_sync w'.stations w'.lanes j due ⊎ FollowUpIsHeard n w.time s'
   pub lapse : (due : ℕ) → s'.lapse ≡ Some due
       → ((s.lapse ≡ Some due) × FollowsOn s s') ⊎ (due ≡ w.time + n.syncs.span)
 
 -- each live system makes such a step
-abbrev pub StationsStep : SaysSync → Network → State → State → Type 0
+abbrev pub StationsStep : SaysSync → Network → MachineState → MachineState → Type 0
 StationsStep says_sync n w w' = (i : ℕ) (s s' : Station) → slice_get w.stations i ≡ Some s
     → slice_get w'.stations i ≡ Some s' → s.live ≡ true
     → StationStep says_sync n w w' s s'
 
 -- the slave port of a system at rest received something
-slave_holds : (s : Station) (i : ℕ) → IsAtRest s → s.slave ≡ Some (suc i) → (r : Reception) × HoldsAt s i r
+slave_holds : (s : Station) (i : ℕ) → StationIsAtRest s → s.slave ≡ Some (suc i) → (r : Reception) × HoldsAt s i r
 slave_holds s i rest slave = elim rest.chosen [
   | inl (own, none) ↦ absurd (let x : Some (suc i) ≡ None = sym slave ∙ none in cc)
   | inr (j, r, holds, path, slave_j) ↦ (r, subst (λ m. HoldsAt s m r) (same_place j i (sym slave_j ∙ slave)) holds)
 ]
 
-module _ (says : Says) (says_sync : SaysSync) (n : Network) (net : IsNetwork n) where
+module _ (says : Spelling) (says_sync : SaysSync) (n : Network) (net : IsSettlingNetwork n) where
   -- a lane of the snapshot stands where its port says
-  lane_place : (w : State) (j : ℕ) (l : Lane) → Calm n w → slice_get w.lanes j ≡ Some l → Joins n.graph l.from l.to
+  lane_place : (w : MachineState) (j : ℕ) (l : Lane) → Calm n w → slice_get w.lanes j ≡ Some l → Joins n.graph l.from l.to
       → j ≡ n.lane l.from
   lane_place w j l calm at joins =
       let has = calm.lanes l.from l.to joins in
       calm.apart j (n.lane l.from) l has.lane at has.there (sym has.to)
 
   -- so it stands there after the act too, between the same ports
-  lane_after : (w w' : State) (j : ℕ) (l : Lane) → Calm n w → Calm n w' → slice_get w.lanes j ≡ Some l
+  lane_after : (w w' : MachineState) (j : ℕ) (l : Lane) → Calm n w → Calm n w' → slice_get w.lanes j ≡ Some l
       → Joins n.graph l.from l.to
       → (l' : Lane) × (slice_get w'.lanes j ≡ Some l') × (l'.from ≡ l.from) × (l'.to ≡ l.to)
   lane_after w w' j l calm calm' at joins =
@@ -76,7 +76,7 @@ module _ (says : Says) (says_sync : SaysSync) (n : Network) (net : IsNetwork n) 
       )
 
   -- what will match, where the hearer is known
-  will_match : (w : State) (j due : ℕ) (l : Lane) (i : ℕ) (s : Station) → Calm n w → slice_get w.lanes j ≡ Some l
+  will_match : (w : MachineState) (j due : ℕ) (l : Lane) (i : ℕ) (s : Station) → Calm n w → slice_get w.lanes j ≡ Some l
       → slice_get w.stations i ≡ Some s → s.clock ≡ l.to.clock → Matches says_sync w.stations w.lanes j due
       → WillMatch says_sync l.from s.kept l.frames due
   will_match w j due l i s calm at stands clock m =
@@ -91,8 +91,8 @@ module _ (says : Says) (says_sync : SaysSync) (n : Network) (net : IsNetwork n) 
       (subst (λ (x : Station). WillMatch says_sync m.lane.from x.kept m.lane.frames due) hearer m.matches)
 
   -- pairs that enter the lanes of master ports will match
-  tells_time : (w w' : State) (s : Station) → Calm n w'
-      → (IsSound n w')
+  tells_time : (w w' : MachineState) (s : Station) → Calm n w'
+      → (RunIsSound n w')
       → ((j : ℕ) (l' : Lane) → slice_get w'.lanes j ≡ Some l'
       → (l : Lane) × (slice_get w.lanes j ≡ Some l) × (l'.from ≡ l.from) × (l'.loss ≡ l.loss) × (l'.is_up ≡ l.is_up))
       → SendsPairs says_sync w w' s → TellsTime says_sync n.graph w' s
@@ -117,13 +117,13 @@ module _ (says : Says) (says_sync : SaysSync) (n : Network) (net : IsNetwork n) 
       )
 
   -- what happens to what will match at one system, by what happens to the frames of the lane
-  flight_after : (w w' : State) (i j due : ℕ) (s s' : Station) (l : Lane) → Calm n w → Calm n w'
+  flight_after : (w w' : MachineState) (i j due : ℕ) (s s' : Station) (l : Lane) → Calm n w → Calm n w'
       → slice_get w.stations i ≡ Some s → slice_get w'.stations i ≡ Some s' → s'.clock ≡ s.clock
       → slice_get w.lanes j ≡ Some l → s.clock ≡ l.to.clock → Joins n.graph l.from l.to
       → ((l' : Lane) → slice_get w'.lanes j ≡ Some l' → WillMatch says_sync l.from s.kept l.frames due
-      → WillMatch says_sync l.from s'.kept l'.frames due ⊎ IsHeard n w.time s')
+      → WillMatch says_sync l.from s'.kept l'.frames due ⊎ FollowUpIsHeard n w.time s')
       → Matches says_sync w.stations w.lanes j due
-      → Matches says_sync w'.stations w'.lanes j due ⊎ IsHeard n w.time s'
+      → Matches says_sync w'.stations w'.lanes j due ⊎ FollowUpIsHeard n w.time s'
   flight_after w w' i j due s s' l calm calm' stands stands' clocks at to joins frames m =
       let (l', at', from', to') = lane_after w w' j l calm calm' at joins in
       elim (frames l' at' (will_match w j due l i s calm at stands to m)) [
@@ -140,7 +140,7 @@ module _ (says : Says) (says_sync : SaysSync) (n : Network) (net : IsNetwork n) 
       ]
 
   -- a system that doesn't answer
-  unchanged : (w w' : State) (i : ℕ) (s : Station) → Calm n w → Calm n w' → slice_get w.stations i ≡ Some s
+  unchanged : (w w' : MachineState) (i : ℕ) (s : Station) → Calm n w → Calm n w' → slice_get w.stations i ≡ Some s
       → slice_get w'.stations i ≡ Some s
       → ((p j due : ℕ) (l l' : Lane) → slice_get w.lanes j ≡ Some l → l.to ≡ port_of s.clock (suc p)
       → slice_get w'.lanes j ≡ Some l' → WillMatch says_sync l.from s.kept l.frames due
@@ -156,7 +156,7 @@ module _ (says : Says) (says_sync : SaysSync) (n : Network) (net : IsNetwork n) 
   }
 
   -- a frame is dropped: no system changes
-  drops_steps : (w w' : State) → Calm n w → Calm n w' → (act : Drops says w w') → SyncDrops says says_sync w w' act
+  drops_steps : (w w' : MachineState) → Calm n w → Calm n w' → (act : Drops says w w') → SyncDrops says says_sync w w' act
       → StationsStep says_sync n w w'
   drops_steps w w' calm calm' act silent i s s' at at' live =
       subst (λ (x : Station). StationStep says_sync n w w' s x) same
@@ -188,7 +188,7 @@ module _ (says : Says) (says_sync : SaysSync) (n : Network) (net : IsNetwork n) 
       ]
 
   -- frames that enter a lane
-  entered : (touch : Touch) (w w' : State) (call : Calls says touch w w') (j due : ℕ) (from : PortIdentity)
+  entered : (touch : StationTouch) (w w' : MachineState) (call : StationAnswers says touch w w') (j due : ℕ) (from : PortIdentity)
       (kept : Option SyncId) (l l' : Lane) → slice_get w.lanes j ≡ Some l → slice_get w'.lanes j ≡ Some l'
       → WillMatch says_sync from kept l.frames due → WillMatch says_sync from kept l'.frames due
   entered touch w w' call j due from kept l l' there there' match =
@@ -198,7 +198,7 @@ module _ (says : Says) (says_sync : SaysSync) (n : Network) (net : IsNetwork n) 
       (subst (λ (x : Lane). WillMatch says_sync from kept x.frames due) (same_there w.lanes j l m there was) match))
 
   -- what a call leaves of a lane
-  lane_before : (touch : Touch) (w w' : State) → Calls says touch w w' → (j : ℕ) (l' : Lane)
+  lane_before : (touch : StationTouch) (w w' : MachineState) → StationAnswers says touch w w' → (j : ℕ) (l' : Lane)
       → slice_get w'.lanes j ≡ Some l'
       → (l : Lane) × (slice_get w.lanes j ≡ Some l) × (l'.from ≡ l.from) × (l'.loss ≡ l.loss) × (l'.is_up ≡ l.is_up)
   lane_before touch w w' call j l' at =
@@ -206,7 +206,7 @@ module _ (says : Says) (says_sync : SaysSync) (n : Network) (net : IsNetwork n) 
       (l, was, step.from, step.loss, step.is_up)
 
   -- something that is no delivery
-  runs_steps : (w w' : State) → Calm n w → Calm n w' → (IsSound n w')
+  runs_steps : (w w' : MachineState) → Calm n w → Calm n w' → (RunIsSound n w')
       → (act : Runs says w w') → SyncRuns says says_sync n w w' act
       → StationsStep says_sync n w w'
   runs_steps w w' calm calm' sound' act facts i s s' at at' live = elim (act.call.stations i s' at') [
@@ -243,8 +243,8 @@ module _ (says : Says) (says_sync : SaysSync) (n : Network) (net : IsNetwork n) 
         lapse = facts.timers.lapse;
       }
 
-  module _ (w w' : State) (calm : Calm n w) (calm' : Calm n w')
-      (sound' : IsSound n w') (act : Arrives says w w')
+  module _ (w w' : MachineState) (calm : Calm n w) (calm' : Calm n w')
+      (sound' : RunIsSound n w') (act : Arrives says w w')
       (facts : SyncArrives says says_sync n w w' act) where
     -- the system that answers stood before
     stood : slice_get w.stations act.call.place ≡ Some act.call.s
@@ -281,7 +281,7 @@ module _ (says : Says) (says_sync : SaysSync) (n : Network) (net : IsNetwork n) 
         → ((r : Reception) → HoldsAt act.call.s p r → r.said.source ≡ l.from) → act.call.s.slave ≡ Some (suc p)
         → FollowsOn act.call.s act.call.s' → slice_get w'.lanes j ≡ Some l'
         → WillMatch says_sync l.from act.call.s.kept l.frames due
-        → WillMatch says_sync l.from act.call.s'.kept l'.frames due ⊎ IsHeard n w.time act.call.s'
+        → WillMatch says_sync l.from act.call.s'.kept l'.frames due ⊎ FollowUpIsHeard n w.time act.call.s'
     answers_flight p j due l l' there to source slave on there' match = elim (ℕ_discrete j act.j) [
       | no apart ↦ inl (entered_other j due l.from act.call.s'.kept l l' there there' apart
           (subst (λ x. WillMatch says_sync l.from x l.frames due)
@@ -297,7 +297,7 @@ module _ (says : Says) (says_sync : SaysSync) (n : Network) (net : IsNetwork n) 
 
         by_lane : j ≡ act.j
             → ((m : Lane) × (slice_get act.mid.lanes j ≡ Some m) × LaneStep act.call.s.clock act.call.sends m l')
-            → WillMatch says_sync l.from act.call.s'.kept l'.frames due ⊎ IsHeard n w.time act.call.s'
+            → WillMatch says_sync l.from act.call.s'.kept l'.frames due ⊎ FollowUpIsHeard n w.time act.call.s'
         by_lane here (m, was, step) = elim (act.pops.lanes j m was) [
           | inr (other, at) ↦ absurd (other here)
           | inl (same, is) ↦ elim (match_heard says_sync l.from act.call.s.kept act.call.s'.kept act.f act.fs due
@@ -318,7 +318,7 @@ module _ (says : Says) (says_sync : SaysSync) (n : Network) (net : IsNetwork n) 
             port : act.l.to.port ≡ suc p
             port = ap (λ (x : Lane). x.to.port) (sym one) ∙ ap (λ (x : PortIdentity). x.port) to
 
-            hears : HearsSync says_sync n w.time p act.f.octets act.call.s act.call.s'
+            hears : HearsFollowedSync says_sync n w.time p act.f.octets act.call.s act.call.s'
             hears = facts.hears p slave port on
 
             held : (r : Reception) × HoldsAt act.call.s p r
@@ -382,7 +382,7 @@ module _ (says : Says) (says_sync : SaysSync) (n : Network) (net : IsNetwork n) 
                 ap (λ (x : PortIdentity). x.clock) (sym to) ∙ ap (λ (x : Lane). x.to.clock) one
 
   -- whatever happens
-  pub acts_steps : (w w' : State) → Calm n w → Calm n w' → (IsSound n w')
+  pub acts_steps : (w w' : MachineState) → Calm n w → Calm n w' → (RunIsSound n w')
       → SyncActs says says_sync n w w'
       → StationsStep says_sync n w w'
   acts_steps w w' calm calm' sound' (inl (act, facts)) = arrives_steps w w' calm calm' sound' act facts

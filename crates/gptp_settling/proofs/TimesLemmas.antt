@@ -2,7 +2,7 @@
 use Rattle.std.proofs.Common.{◌≡◌, ◌⊎◌, ◌≤◌, ◌+◌, ◌*◌, ℕ, inl, inr, arith}
 use Rattle.gptp_graph.specs.Snapshot.{PortIdentity, Joins, IsWellFormed}
 use Rattle.gptp_graph.specs.PathBound.{BoundsPaths}
-use Rattle.gptp_settling.specs.Network.{Network, IsTimed, IsNetwork}
+use Rattle.gptp_settling.specs.Network.{Network, IsTimed, IsSettlingNetwork}
 use Rattle.gptp_settling.specs.Times.{SettlesAtOnce, SettlesInTurn, SettlesFromAnyPast, SettlesFromRest}
 
 module _ (n : Network) where
@@ -82,7 +82,7 @@ module _ (n : Network) where
       ready = k.ready p (q, joins)
 
   pub times_fit : IsWellFormed n.graph → BoundsPaths n.graph n.reach → n.bare ≤ n.off
-      → SettlesFromAnyPast n ⊎ SettlesFromRest n → IsNetwork n
+      → SettlesFromAnyPast n ⊎ SettlesFromRest n → IsSettlingNetwork n
   times_fit graph paths bare (inl k) = record {
     graph = graph;
     bare = bare;

@@ -16,7 +16,7 @@ ChoosesPort s vector = (i : ℕ) × (r : Reception) × HoldsAt s i r × (vector 
 -- Of its own vector and the path vectors of all that its ports received none is lower than the one chosen, of which it
 -- has the root and the steps (IEEE 802.1AS-2020, 10.3.5). No port is left aged, a master port holds that root and those
 -- steps, and a port that received something and isn't slave has no lower master vector (10.3.13).
-pub record IsAtRest (s : Station) : Type 0 where
+pub record StationIsAtRest (s : Station) : Type 0 where
   pub vector : List ℕ
   pub chosen : ChoosesItself s vector ⊎ ChoosesPort s vector
   pub own_not_lower : IsLower (system_vector s) vector → ⊥

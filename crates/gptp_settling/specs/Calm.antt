@@ -3,11 +3,11 @@
 use Rattle.std.specs.Prelude.{◌≡◌, ◌≢◌, ◌<◌, ◌≤◌, ◌+◌, ℕ, suc, true, Some, slice_get}
 use Rattle.gptp_lists.specs.Members.{In}
 use Rattle.gptp_graph.specs.Snapshot.{System, PortIdentity, port_of, Joins, IsLinked}
-use Rattle.gptp_settling.specs.Frame.{Frame, Lane}
-use Rattle.gptp_settling.specs.Station.{Reception, Disabled, Mine, Received, Port, Station, State}
-use Rattle.gptp_settling.specs.Facts.{system_of, Facts}
-use Rattle.gptp_settling.specs.AtRest.{IsAtRest}
-use Rattle.gptp_settling.specs.Network.{Network, setting}
+use Rattle.gptp_settling.specs.Frame.{AnnounceFrame, Lane}
+use Rattle.gptp_settling.specs.Station.{Reception, Disabled, Mine, Received, Port, Station, MachineState}
+use Rattle.gptp_settling.specs.Facts.{station_system, StationFacts}
+use Rattle.gptp_settling.specs.AtRest.{StationIsAtRest}
+use Rattle.gptp_settling.specs.Network.{Network, network_setting}
 
 -- What is known of port p of a live system. Its interval is the one it has in the network, and its timer is due within
 -- that while it is master. Where a link is at it it isn't disabled once it is capable; where none is, there is a time
@@ -25,18 +25,18 @@ pub record IsCalmPort (n : Network) (now : ℕ) (p : PortIdentity) (q : Port) : 
 
 -- what is known of a live system: it is at rest, and each of its ports is such a one
 pub record IsCalmStation (n : Network) (now : ℕ) (s : Station) : Type 0 where
-  pub at_rest : IsAtRest s
+  pub at_rest : StationIsAtRest s
   pub ports : (i : ℕ) (q : Port) → slice_get s.ports i ≡ Some q → IsCalmPort n now (port_of s.clock (suc i)) q
 
 -- the system of the snapshot stands at its place, live
-pub record HasStation (n : Network) (w : State) (s : System) : Type 0 where
+pub record HasStation (n : Network) (w : MachineState) (s : System) : Type 0 where
   pub station : Station
   pub there : slice_get w.stations (n.place s.clock) ≡ Some station
   pub live : station.live ≡ true
-  pub is : system_of station ≡ s
+  pub is : station_system station ≡ s
 
 -- the lane from port p to port q of a link of the snapshot stands at its place, up and without loss
-pub record HasLane (n : Network) (w : State) (p q : PortIdentity) : Type 0 where
+pub record HasLane (n : Network) (w : MachineState) (p q : PortIdentity) : Type 0 where
   pub lane : Lane
   pub there : slice_get w.lanes (n.lane p) ≡ Some lane
   pub from : lane.from ≡ p
@@ -46,12 +46,12 @@ pub record HasLane (n : Network) (w : State) (p q : PortIdentity) : Type 0 where
 
 -- Every system, live or failed, stands where its clock says, and those of the snapshot do; so do the lanes of the links
 -- of the snapshot, and no two lanes lead to one port. Nothing in flight was due before now.
-pub record Calm (n : Network) (w : State) : Type 0 where
-  pub facts : Facts (setting n) w
+pub record Calm (n : Network) (w : MachineState) : Type 0 where
+  pub facts : StationFacts (network_setting n) w
   pub stations : (i : ℕ) (s : Station) → slice_get w.stations i ≡ Some s → s.live ≡ true → IsCalmStation n w.time s
   pub placed : (i : ℕ) (s : Station) → slice_get w.stations i ≡ Some s → i ≡ n.place s.clock
   pub there : (s : System) → In s n.graph.systems → HasStation n w s
   pub lanes : (p q : PortIdentity) → Joins n.graph p q → HasLane n w p q
   pub apart : (i j : ℕ) (l m : Lane) → slice_get w.lanes i ≡ Some l → slice_get w.lanes j ≡ Some m
       → l.to ≡ m.to → i ≡ j
-  pub left : (j : ℕ) (l : Lane) (f : Frame) → slice_get w.lanes j ≡ Some l → In f l.frames → w.time ≤ f.due
+  pub left : (j : ℕ) (l : Lane) (f : AnnounceFrame) → slice_get w.lanes j ≡ Some l → In f l.frames → w.time ≤ f.due

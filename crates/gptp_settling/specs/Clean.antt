@@ -51,7 +51,7 @@ pub record HeldFits (g : Snapshot) (c : ℕ) (a : Announce) : Type 0 where
   pub long : (best : System) → IsBest g c best → a.root ≡ best.identity → length a.path ≡ suc a.steps
 
 -- it came over the link of the port, and its steps are no fewer than the sender's distance
-pub record CameOver (g : Snapshot) (c n : ℕ) (a : Announce) : Type 0 where
+pub record CameOverLink (g : Snapshot) (c n : ℕ) (a : Announce) : Type 0 where
   pub from : PortIdentity
   pub joins : Joins g from (port_of c n)
   pub source : a.source ≡ from
@@ -60,7 +60,7 @@ pub record CameOver (g : Snapshot) (c n : ℕ) (a : Announce) : Type 0 where
 
 -- it fits, and came over the link of the port where there is one
 pub record CameFits (g : Snapshot) (c n : ℕ) (r : Reception) : Type 0 where
-  pub over : IsLinked g (port_of c n) → CameOver g c n r.said
+  pub over : IsLinked g (port_of c n) → CameOverLink g c n r.said
   pub fits : HeldFits g c r.said
 
 -- its root is worse than the best of the system u

@@ -3,35 +3,35 @@ use Rattle.std.specs.Prelude.{◌≡◌, ◌<◌, ◌≤◌, ◌+◌, ◌*◌, �
 use Rattle.gptp_graph.specs.Snapshot.{Snapshot}
 use Rattle.gptp_graph.specs.Path.{IsPath}
 use Rattle.gptp_graph.specs.PathBound.{BoundsPaths}
-use Rattle.gptp_settling.specs.Frame.{Says}
-use Rattle.gptp_settling.specs.Station.{Reception, Station, State, HoldsAt}
-use Rattle.gptp_settling.specs.Acts.{Steps}
+use Rattle.gptp_settling.specs.Frame.{Spelling}
+use Rattle.gptp_settling.specs.Station.{Reception, Station, MachineState, HoldsAt}
+use Rattle.gptp_settling.specs.Acts.{MachineSteps}
 use Rattle.gptp_settling.specs.Clean.{Clean, CameWhole}
-use Rattle.gptp_settling.specs.Facts.{Setting, turn, BeginsLater, SendersLive, Facts}
+use Rattle.gptp_settling.specs.Facts.{NetworkSetting, turn, BeginsLater, SendersLive, StationFacts}
 use Rattle.gptp_settling.specs.CleanInvariant.{TracesAreClean}
 
 -- before the start nothing is claimed of traces, whatever is held and in flight
-abbrev pub CleanBegins : Says → Type 0
-CleanBegins says = (k : Setting) (w : State)
-    → Facts k w → SendersLive k w → w.time < k.start
+abbrev pub CleanBegins : Spelling → Type 0
+CleanBegins says = (k : NetworkSetting) (w : MachineState)
+    → StationFacts k w → SendersLive k w → w.time < k.start
     → TracesAreClean says k w
 
 -- every step keeps how clean traces are
-abbrev pub CleanIsKept : Says → Type 0
-CleanIsKept says = (k : Setting) (w w' : State)
-    → BeginsLater k → Facts k w → Facts k w' → Steps says w w' → TracesAreClean says k w
+abbrev pub CleanIsKept : Spelling → Type 0
+CleanIsKept says = (k : NetworkSetting) (w w' : MachineState)
+    → BeginsLater k → StationFacts k w → StationFacts k w' → MachineSteps says w w' → TracesAreClean says k w
     → TracesAreClean says k w'
 
 -- everything that a live system of the snapshot received has come over the port's link, and is wholly clean
-abbrev pub HeldIsWhole : Setting → State → Type 0
+abbrev pub HeldIsWhole : NetworkSetting → MachineState → Type 0
 HeldIsWhole k w = (i : ℕ) (s : Station) (place : ℕ) (r : Reception)
     → slice_get w.stations i ≡ Some s → s.live ≡ true → HoldsAt s place r
     → CameWhole k.graph s.clock (suc place) r
 
 -- where no path has more than m systems, everything received is wholly clean once m turns have passed from the start
-abbrev pub HeldBecomesWhole : Says → Type 0
-HeldBecomesWhole says = (k : Setting) (m : ℕ) (w : State)
-    → BoundsPaths k.graph m → Facts k w → TracesAreClean says k w
+abbrev pub MachineHeldBecomesWhole : Spelling → Type 0
+MachineHeldBecomesWhole says = (k : NetworkSetting) (m : ℕ) (w : MachineState)
+    → BoundsPaths k.graph m → StationFacts k w → TracesAreClean says k w
     → k.start + m * turn k ≤ w.time
     → HeldIsWhole k w
 

@@ -1,16 +1,16 @@
 -- Ports that are about to become capable: what is known of them in a step.
 use Rattle.std.specs.Prelude.{◌≡◌, ◌≢◌, ◌<◌, ◌≤◌, ℕ, suc, List, ◌∷◌, Some, slice_get}
 use Rattle.gptp_graph.specs.Snapshot.{PortIdentity, port_of, Joins}
-use Rattle.gptp_settling.specs.Frame.{Announce, Says, Frame, Lane}
-use Rattle.gptp_settling.specs.Station.{Disabled, Port, Station, State}
+use Rattle.gptp_settling.specs.Frame.{Announce, Spelling, AnnounceFrame, Lane}
+use Rattle.gptp_settling.specs.Station.{Disabled, Port, Station, MachineState}
 use Rattle.gptp_settling.specs.Network.{Network}
 
 -- The port at place i of system u, to which a link leads of which claims are made, though it needn't be capable yet: it
 -- is where an Announce comes over the link now, and stays so in the step.
-pub record EarlyPortsHear (says : Says) (n : Network) (w w' : State) : Type 0 where
+pub record EarlyPortsHear (says : Spelling) (n : Network) (w w' : MachineState) : Type 0 where
   pub hears : (d : ℕ) (p : PortIdentity) (u i : ℕ) → Joins n.graph p (port_of u (suc i)) → n.claimed d p ≤ w.time
       → w.time < n.ready (port_of u (suc i))
-      → (l : Lane) (f : Frame) (fs : List Frame) (a : Announce) (s : Station) (q : Port)
+      → (l : Lane) (f : AnnounceFrame) (fs : List AnnounceFrame) (a : Announce) (s : Station) (q : Port)
       → slice_get w.lanes (n.lane p) ≡ Some l → l.frames ≡ f ∷ fs → f.due ≡ w.time → says f.octets a
       → slice_get w.stations (n.place u) ≡ Some s → slice_get s.ports i ≡ Some q
       → q.held ≢ Disabled

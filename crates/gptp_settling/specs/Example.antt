@@ -1,11 +1,11 @@
 -- An example run: two systems and a link, over which the better one announces itself again and again.
 use Rattle.std.specs.Prelude.{◌≡◌, ◌+◌, ℕ, zero, suc, pred, pos, true, List, [], ◌∷◌, ◌++◌, Some, None}
 use Rattle.gptp_graph.specs.Snapshot.{port_of}
-use Rattle.gptp_settling.specs.Frame.{Announce, Frame, Lane}
-use Rattle.gptp_settling.specs.Station.{Reception, Mine, Received, Station, State}
+use Rattle.gptp_settling.specs.Frame.{Announce, AnnounceFrame, Lane}
+use Rattle.gptp_settling.specs.Station.{Reception, Mine, Received, Station, MachineState}
 use Rattle.gptp_settling.specs.Network.{Network}
 
--- clocks 1 and 2, the first of which is better
+-- clocks 1 and 2, the first_system of which is better
 abbrev pub first_identity : ℕ
 first_identity = 0xf6f8fe436af80000000000000001
 
@@ -45,17 +45,17 @@ network = record {
   until = λ d p. 27;
 }
 
--- what the first system announces, and the octets that say so; no others say anything
+-- what the first_system system announces, and the octets that say so; no others say anything
 abbrev pub announce : Announce
 announce = record { root = first_identity; steps = 0; source = port_of 1 1; log = pos 2; path = 1 ∷ [] }
 
 abbrev pub octets : List ℕ
 octets = 11 ∷ []
 
-abbrev pub says : List ℕ → Announce → Type 0
-says text a = (text ≡ octets) × (a ≡ announce)
+abbrev pub example_says : List ℕ → Announce → Type 0
+example_says text a = (text ≡ octets) × (a ≡ announce)
 
--- a system of one port that knows of itself alone, whose Announce timer is due at this time
+-- a system of one port that knows of itself lone_system, whose Announce timer is due at this time
 abbrev pub lone : ℕ → ℕ → ℕ → Station
 lone clock identity timer = record {
   live = true;
@@ -72,23 +72,23 @@ lone clock identity timer = record {
   lapse = None;
 }
 
--- the first system is such a one always, and the second while it has heard nothing
-abbrev pub first : ℕ → Station
-first timer = lone 1 first_identity timer
+-- the first_system system is such a one always, and the second while it has heard_at nothing
+abbrev pub first_system : ℕ → Station
+first_system timer = lone 1 first_identity timer
 
-abbrev pub alone : Station
-alone = lone 2 second_identity 4
+abbrev pub lone_system : Station
+lone_system = lone 2 second_identity 4
 
--- what the second system received at this time, and how it follows the first then
-abbrev pub heard : ℕ → Reception
-heard at = record { said = announce; at = at; span = 8 }
+-- what the second system received at this time, and how it follows the first_system then
+abbrev pub heard_at : ℕ → Reception
+heard_at at = record { said = announce; at = at; span = 8 }
 
 abbrev pub following : ℕ → Station
 following at = record {
   live = true;
   clock = 2;
   identity = second_identity;
-  ports = record { held = Received (heard at); log = pos 2; interval = 4; announce = 4 } ∷ [];
+  ports = record { held = Received (heard_at at); log = pos 2; interval = 4; announce = 4 } ∷ [];
   root = first_identity;
   steps = 1;
   slave = Some 1;
@@ -99,53 +99,53 @@ following at = record {
   lapse = None;
 }
 
--- the frame that is due at this time
-abbrev pub frame : ℕ → Frame
-frame due = record { due = due; octets = octets }
+-- the example_frame that is due at this time
+abbrev pub example_frame : ℕ → AnnounceFrame
+example_frame due = record { due = due; octets = octets }
 
--- the two directions of the link, of which only the one from the first to the second carries frames
-abbrev pub lane_out : List Frame → Lane
+-- the two directions of the link, of which only the one from the first_system to the second carries frames
+abbrev pub lane_out : List AnnounceFrame → Lane
 lane_out frames = record { from = port_of 1 1; to = port_of 2 1; loss = 0; is_up = true; frames = frames }
 
 abbrev pub lane_back : Lane
 lane_back = record { from = port_of 2 1; to = port_of 1 1; loss = 0; is_up = true; frames = [] }
 
--- a state: the time, the two systems, and what is in flight
-abbrev pub state : ℕ → ℕ → Station → List Frame → State
-state now timer second frames = record {
+-- a example_state: the time, the two systems, and what is in flight
+abbrev pub example_state : ℕ → ℕ → Station → List AnnounceFrame → MachineState
+example_state now timer second frames = record {
   time = now;
-  stations = first timer ∷ second ∷ [];
+  stations = first_system timer ∷ second ∷ [];
   lanes = lane_out frames ∷ lane_back ∷ [];
 }
 
--- An Announce was heard last at this time. The next is sent three later and heard one after that: the moment of the
--- timer comes, the first system announces itself, the moment of the frame comes, the second hears it.
-abbrev pub turn : ℕ → List State
-turn at =
-    state (3 + at) (3 + at) (following at) []
-    ∷ state (3 + at) (7 + at) (following at) (frame (4 + at) ∷ [])
-    ∷ state (4 + at) (7 + at) (following at) (frame (4 + at) ∷ [])
-    ∷ state (4 + at) (7 + at) (following (4 + at)) []
+-- An Announce was heard_at last at this time. The next is sent three later and heard_at one after that: the moment of the
+-- timer comes, the first_system system announces itself, the moment of the example_frame comes, the second hears it.
+abbrev pub example_turn : ℕ → List MachineState
+example_turn at =
+    example_state (3 + at) (3 + at) (following at) []
+    ∷ example_state (3 + at) (7 + at) (following at) (example_frame (4 + at) ∷ [])
+    ∷ example_state (4 + at) (7 + at) (following at) (example_frame (4 + at) ∷ [])
+    ∷ example_state (4 + at) (7 + at) (following (4 + at)) []
     ∷ []
 
 -- so many turns
-abbrev pub turns : ℕ → ℕ → List State
+abbrev pub turns : ℕ → ℕ → List MachineState
 turns at zero = []
-turns at (suc count) = turn at ++ turns (4 + at) count
+turns at (suc count) = example_turn at ++ turns (4 + at) count
 
--- The second system hears of the first for the first time at 2.
-abbrev pub opening : List State
+-- The second system hears of the first_system for the first_system time at 2.
+abbrev pub opening : List MachineState
 opening =
-    state 1 1 alone []
-    ∷ state 1 5 alone (frame 2 ∷ [])
-    ∷ state 2 5 alone (frame 2 ∷ [])
-    ∷ state 2 5 (following 2) []
+    example_state 1 1 lone_system []
+    ∷ example_state 1 5 lone_system (example_frame 2 ∷ [])
+    ∷ example_state 2 5 lone_system (example_frame 2 ∷ [])
+    ∷ example_state 2 5 (following 2) []
     ∷ []
 
--- at time 0 both systems know of themselves alone
-abbrev pub begin : State
-begin = state 0 1 alone []
+-- at time 0 both systems know of themselves lone_system
+abbrev pub begin : MachineState
+begin = example_state 0 1 lone_system []
 
 -- the run: the opening, and ten Announces more, until 42
-abbrev pub run : List State
+abbrev pub run : List MachineState
 run = opening ++ turns 2 10

@@ -13,8 +13,8 @@ pub record Announce : Type 0 where
 
 -- Which octets say which Announce. Every law is over all such relations: nothing of the message grammar is used, and
 -- octets that say none may stand for any other message.
-abbrev pub Says : Type 1
-Says = List ℕ → Announce → Type 0
+abbrev pub Spelling : Type 1
+Spelling = List ℕ → Announce → Type 0
 
 -- what a Sync and its Follow_Up have in common: the port that sent both, and their number (sourcePortIdentity and
 -- sequenceId; IEEE 1588-2019, 9.5.5)
@@ -31,7 +31,7 @@ abbrev pub SaysSync : Type 1
 SaysSync = List ℕ → SyncMessage → Type 0
 
 -- a frame in flight: when it is due at the other end, and its octets
-pub record Frame : Type 0 where
+pub record AnnounceFrame : Type 0 where
   pub due : ℕ
   pub octets : List ℕ
 
@@ -41,7 +41,7 @@ pub record Lane : Type 0 where
   pub to : PortIdentity
   pub loss : ℕ
   pub is_up : Bool
-  pub frames : List Frame
+  pub frames : List AnnounceFrame
 
 -- what a system sends: from which of its ports, and the octets
 pub record Send : Type 0 where

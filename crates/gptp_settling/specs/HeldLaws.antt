@@ -1,12 +1,12 @@
 -- Laws on what systems hold: facts of one item that the steps themselves keep.
 use Rattle.std.specs.Prelude.{◌≡◌, ◌≢◌, ◌≤◌, ◌+◌, ℕ, true, Some, slice_get}
 use Rattle.gptp_lists.specs.Members.{In}
-use Rattle.gptp_settling.specs.Frame.{Says}
-use Rattle.gptp_settling.specs.Station.{Reception, Aged, Mine, Port, Station, State, HoldsAt}
-use Rattle.gptp_settling.specs.Acts.{Steps}
+use Rattle.gptp_settling.specs.Frame.{Spelling}
+use Rattle.gptp_settling.specs.Station.{Reception, Aged, Mine, Port, Station, MachineState, HoldsAt}
+use Rattle.gptp_settling.specs.Acts.{MachineSteps}
 
 -- a fact of the time and of each live system
-abbrev pub OfEachLive : (ℕ → Station → Type 0) → State → Type 0
+abbrev pub OfEachLive : (ℕ → Station → Type 0) → MachineState → Type 0
 OfEachLive P w = (i : ℕ) (s : Station) → slice_get w.stations i ≡ Some s → s.live ≡ true → P w.time s
 
 -- whatever the system received came by now, and its trace doesn't name the system
@@ -26,13 +26,13 @@ abbrev pub PortsAreSelected : ℕ → Station → Type 0
 PortsAreSelected now s = (place : ℕ) (q : Port) → slice_get s.ports place ≡ Some q → IsSelected now s q
 
 -- every step keeps that no live system holds a loop
-abbrev pub NoLoopIsTaken : Says → Type 0
-NoLoopIsTaken says = (w w' : State)
-    → Steps says w w' → OfEachLive HoldsNoLoop w
+abbrev pub NoLoopIsTaken : Spelling → Type 0
+NoLoopIsTaken says = (w w' : MachineState)
+    → MachineSteps says w w' → OfEachLive HoldsNoLoop w
     → OfEachLive HoldsNoLoop w'
 
 -- and that the ports of each are selected
-abbrev pub SelectionIsKept : Says → Type 0
-SelectionIsKept says = (w w' : State)
-    → Steps says w w' → OfEachLive PortsAreSelected w
+abbrev pub SelectionIsKept : Spelling → Type 0
+SelectionIsKept says = (w w' : MachineState)
+    → MachineSteps says w w' → OfEachLive PortsAreSelected w
     → OfEachLive PortsAreSelected w'

@@ -2,7 +2,7 @@
 use Rattle.std.specs.Prelude.{◌≡◌, ◌<◌, ◌≤◌, ℕ, suc, true, Some, slice_get}
 use Rattle.gptp_graph.specs.Snapshot.{PortIdentity, Snapshot, port_of, Joins}
 use Rattle.gptp_graph.specs.Distance.{IsDistance}
-use Rattle.gptp_settling.specs.Station.{Station, State}
+use Rattle.gptp_settling.specs.Station.{Station, MachineState}
 use Rattle.gptp_settling.specs.Network.{Network}
 
 -- the link at the slave port leads from a system at distance d
@@ -14,12 +14,12 @@ pub record FollowsFrom (g : Snapshot) (s : Station) (d : ℕ) : Type 0 where
   pub there : IsDistance g from.clock d
 
 -- it leads to the system a step farther
-pub record FollowsNearer (g : Snapshot) (s : Station) (d : ℕ) : Type 0 where
+pub record FollowsFarther (g : Snapshot) (s : Station) (d : ℕ) : Type 0 where
   pub here : IsDistance g s.clock (suc d)
   pub follows : FollowsFrom g s d
 
 -- what a system received from a near one doesn't lapse now, once claims are made of the links that lead from that
-abbrev pub NothingLapses : Network → State → Type 0
-NothingLapses n w = (i : ℕ) (s : Station) (d due : ℕ) → slice_get w.stations i ≡ Some s → s.live ≡ true → d < 255
+abbrev pub NothingNearLapses : Network → MachineState → Type 0
+NothingNearLapses n w = (i : ℕ) (s : Station) (d due : ℕ) → slice_get w.stations i ≡ Some s → s.live ≡ true → d < 255
     → (follows : FollowsFrom n.graph s d) → n.claimed d follows.from ≤ w.time → s.lapse ≡ Some due
     → w.time < due

@@ -2,7 +2,7 @@
 use Rattle.std.specs.Prelude.{◌≡◌, ◌⊎◌, ◌≤◌, ◌+◌, ◌*◌, ℕ, suc, pred, ℤ}
 use Rattle.gptp_graph.specs.Snapshot.{System, PortIdentity, Snapshot, port_of, Joins, IsLinked, IsWellFormed}
 use Rattle.gptp_graph.specs.PathBound.{BoundsPaths}
-use Rattle.gptp_settling.specs.Facts.{Setting, turn, BeginsLater}
+use Rattle.gptp_settling.specs.Facts.{NetworkSetting, turn, BeginsLater}
 use Rattle.gptp_settling.specs.Stage.{Wiring}
 
 -- the sync interval, how long after a Follow_Up a system relays it, and how long after one its lapse timer is due
@@ -43,8 +43,8 @@ pub record Network : Type 0 where
   pub until : ℕ → PortIdentity → ℕ
 
 -- what is received stays for the receipt timeout at most
-abbrev pub setting : Network → Setting
-setting n = record {
+abbrev pub network_setting : Network → NetworkSetting
+network_setting n = record {
   graph = n.graph;
   gone = n.gone;
   start = n.start;
@@ -54,8 +54,8 @@ setting n = record {
 }
 
 -- when all that is held is wholly clean
-abbrev pub clean_from : Network → ℕ
-clean_from n = n.start + n.reach * turn (setting n)
+abbrev pub machine_clean_from : Network → ℕ
+machine_clean_from n = n.start + n.reach * turn (network_setting n)
 
 -- when the systems at distance d have settled
 abbrev pub since : Network → ℕ → ℕ
@@ -80,7 +80,7 @@ pub record IsTimed (n : Network) (d : ℕ) (p q : PortIdentity) : Type 0 where
 
 -- The snapshot is a network's, and no path of it has more systems than is said; each link has its times, and before any
 -- system has settled claims are made and ports are capable.
-pub record IsNetwork (n : Network) : Type 0 where
+pub record IsSettlingNetwork (n : Network) : Type 0 where
   pub graph : IsWellFormed n.graph
   pub paths : BoundsPaths n.graph n.reach
   pub timed : (d : ℕ) (p q : PortIdentity) → Joins n.graph p q → IsTimed n d p q
@@ -91,8 +91,8 @@ pub record IsNetwork (n : Network) : Type 0 where
 -- what is held is sound from when it is wholly clean
 pub record BecomesClean (n : Network) : Type 0 where
   pub after : n.start ≤ n.sound
-  pub begins : BeginsLater (setting n)
-  pub late : clean_from n ≤ n.sound
+  pub begins : BeginsLater (network_setting n)
+  pub late : machine_clean_from n ≤ n.sound
 
 -- The link from port p + 1 of system v, at distance d from its best, to port q + 1 of system u.
 abbrev pub wiring : Network → ℕ → System → ℕ → ℕ → ℕ → ℕ → Wiring

@@ -9,11 +9,11 @@ use Rattle.gptp_graph.specs.SettledChoice.{IsBestIdentity}
 use Rattle.gptp_settling.specs.Station.{Reception, Held, Disabled, Mine, Received, Port, Station}
 
 -- The role of port n by the slave port and by what it holds. An aged port has none: it isn't at rest.
-abbrev pub Plays : Option ℕ → ℕ → Held → Role → Type 0
-Plays slave n held role.Disabled = held ≡ Disabled
-Plays slave n held Master = (root steps : ℕ) × (held ≡ Mine root steps)
-Plays slave n held Slave = (slave ≡ Some n) × ((r : Reception) × (held ≡ Received r))
-Plays slave n held Passive = (slave ≢ Some n) × ((r : Reception) × (held ≡ Received r))
+abbrev pub PlaysRole : Option ℕ → ℕ → Held → Role → Type 0
+PlaysRole slave n held role.Disabled = held ≡ Disabled
+PlaysRole slave n held Master = (root steps : ℕ) × (held ≡ Mine root steps)
+PlaysRole slave n held Slave = (slave ≡ Some n) × ((r : Reception) × (held ≡ Received r))
+PlaysRole slave n held Passive = (slave ≢ Some n) × ((r : Reception) × (held ≡ Received r))
 
 -- the slave port is the own port of the system's parent, and none where it has none
 abbrev pub IsSlaveOf : Snapshot → ℕ → Option ℕ → Type 0
@@ -34,4 +34,4 @@ pub record FollowsBest (g : Snapshot) (s : Station) : Type 0 where
 -- every port has its settled role
 abbrev pub HasSettledRoles : Snapshot → Station → Type 0
 HasSettledRoles g s = (i : ℕ) (q : Port) → slice_get s.ports i ≡ Some q
-    → (r : Role) × Plays s.slave (suc i) q.held r × IsSettledRole g (port_of s.clock (suc i)) r
+    → (r : Role) × PlaysRole s.slave (suc i) q.held r × IsSettledRole g (port_of s.clock (suc i)) r

@@ -4,17 +4,17 @@ use Rattle.gptp_lists.specs.Members.{In}
 use Rattle.gptp_graph.specs.Snapshot.{System, PortIdentity, Snapshot, clocks, port_of, Joins, IsLinked, IsWellFormed}
 use Rattle.gptp_graph.specs.Best.{IsBest}
 use Rattle.gptp_graph.specs.Distance.{IsNear}
-use Rattle.gptp_settling.specs.Frame.{Announce, Says, Frame, Lane}
-use Rattle.gptp_settling.specs.Station.{Reception, Disabled, Port, Station, State, HoldsAt}
-use Rattle.gptp_settling.specs.Acts.{Steps}
+use Rattle.gptp_settling.specs.Frame.{Announce, Spelling, AnnounceFrame, Lane}
+use Rattle.gptp_settling.specs.Station.{Reception, Disabled, Port, Station, MachineState, HoldsAt}
+use Rattle.gptp_settling.specs.Acts.{MachineSteps}
 use Rattle.gptp_settling.specs.Clean.{IsWorse, Whole, CameWhole}
-use Rattle.gptp_settling.specs.Network.{Network, IsNetwork, setting, clean_from, settled_from}
+use Rattle.gptp_settling.specs.Network.{Network, IsSettlingNetwork, network_setting, machine_clean_from, settled_from}
 use Rattle.gptp_settling.specs.CleanInvariant.{TracesAreClean}
 use Rattle.gptp_settling.specs.Calm.{Calm}
 use Rattle.gptp_settling.specs.EarlyPorts.{EarlyPortsHear}
-use Rattle.gptp_settling.specs.Lapsing.{NothingLapses}
+use Rattle.gptp_settling.specs.Lapsing.{NothingNearLapses}
 use Rattle.gptp_settling.specs.Levels.{LevelSettles, Invariant}
-use Rattle.gptp_settling.specs.Run.{last_of, IsSettled}
+use Rattle.gptp_settling.specs.Run.{last_state, NearHaveSettled}
 use Rattle.gptp_settling.specs.Sound.{HeldIsSound}
 
 -- an Announce from this port names a root worse than the best of its system, or is wholly clean
@@ -23,21 +23,21 @@ pub record IsSoundFrom (g : Snapshot) (from : PortIdentity) (a : Announce) : Typ
   pub sound : IsWorse g from.clock a ⊎ Whole g from.clock a
 
 -- so is each Announce in flight on a link of the snapshot, and all that live systems hold
-pub record IsSoundOnLinks (says : Says) (g : Snapshot) (w : State) : Type 0 where
-  pub lanes : (j : ℕ) (l : Lane) (f : Frame) (a : Announce) → slice_get w.lanes j ≡ Some l → In f l.frames
+pub record IsSoundOnLinks (says : Spelling) (g : Snapshot) (w : MachineState) : Type 0 where
+  pub lanes : (j : ℕ) (l : Lane) (f : AnnounceFrame) (a : Announce) → slice_get w.lanes j ≡ Some l → In f l.frames
       → says f.octets a → Joins g l.from l.to → IsSoundFrom g l.from a
   pub stations : HeldIsSound g w
 
 -- ports of live systems that no link of the snapshot is at are disabled
-abbrev pub UnlinkedAreOff : Snapshot → State → Type 0
+abbrev pub UnlinkedAreOff : Snapshot → MachineState → Type 0
 UnlinkedAreOff g w = (i : ℕ) (s : Station) (place : ℕ) (q : Port) → slice_get w.stations i ≡ Some s → s.live ≡ true
     → slice_get s.ports place ≡ Some q → (IsLinked g (port_of s.clock (suc place)) → ⊥)
     → q.held ≡ Disabled
 
 -- every step between calm states keeps that all is sound
-abbrev pub SoundIsKept : Says → Type 0
-SoundIsKept says = (n : Network) (w w' : State)
-    → IsNetwork n → Calm n w → Calm n w' → UnlinkedAreOff n.graph w → Steps says w w' → IsSoundOnLinks says n.graph w
+abbrev pub SoundIsKept : Spelling → Type 0
+SoundIsKept says = (n : Network) (w w' : MachineState)
+    → IsSettlingNetwork n → Calm n w → Calm n w' → UnlinkedAreOff n.graph w → MachineSteps says w w' → IsSoundOnLinks says n.graph w
     → IsSoundOnLinks says n.graph w'
 
 -- Of two snapshots the second has news: the systems of the first live in it, no worse than before, and so do its links.
@@ -58,96 +58,96 @@ pub record IsWholeFrom (g : Snapshot) (from : PortIdentity) (a : Announce) : Typ
   pub whole : Whole g from.clock a
 
 -- so is each in flight on these links, and so is all that live systems hold
-pub record AllIsWhole (says : Says) (g : Snapshot) (links : PortIdentity → PortIdentity → Type 0) (w : State)
+pub record AllIsWhole (says : Spelling) (g : Snapshot) (links : PortIdentity → PortIdentity → Type 0) (w : MachineState)
     : Type 0 where
-  pub lanes : (j : ℕ) (l : Lane) (f : Frame) (a : Announce) → slice_get w.lanes j ≡ Some l → In f l.frames
+  pub lanes : (j : ℕ) (l : Lane) (f : AnnounceFrame) (a : Announce) → slice_get w.lanes j ≡ Some l → In f l.frames
       → says f.octets a → links l.from l.to → IsWholeFrom g l.from a
   pub stations : (i : ℕ) (s : Station) (place : ℕ) (r : Reception) → slice_get w.stations i ≡ Some s
       → s.live ≡ true → HoldsAt s place r → CameWhole g s.clock (suc place) r
 
 -- a delay after what is held has become wholly clean all is, on the links of the snapshot
-abbrev pub AllBecomesWhole : Says → Type 0
-AllBecomesWhole says = (n : Network) (w : State)
-    → IsNetwork n → Calm n w → TracesAreClean says (setting n) w → clean_from n + n.most ≤ w.time
+abbrev pub AllBecomesWhole : Spelling → Type 0
+AllBecomesWhole says = (n : Network) (w : MachineState)
+    → IsSettlingNetwork n → Calm n w → TracesAreClean says (network_setting n) w → machine_clean_from n + n.most ≤ w.time
     → AllIsWhole says n.graph (Joins n.graph) w
 
 -- all live systems are near
-abbrev pub AreNear : Snapshot → Type 0
-AreNear g = (v : ℕ) → In v (clocks g) → IsNear g v
+abbrev pub AllAreNear : Snapshot → Type 0
+AllAreNear g = (v : ℕ) → In v (clocks g) → IsNear g v
 
 -- what was sent once all had settled names the best
-abbrev pub FlightNamesBest : Says → Network → State → Type 0
-FlightNamesBest says n w = (j : ℕ) (l : Lane) (f : Frame) (a : Announce) (best : System) → slice_get w.lanes j ≡ Some l
+abbrev pub FlightNamesBest : Spelling → Network → MachineState → Type 0
+FlightNamesBest says n w = (j : ℕ) (l : Lane) (f : AnnounceFrame) (a : Announce) (best : System) → slice_get w.lanes j ≡ Some l
     → In f l.frames → says f.octets a → Joins n.graph l.from l.to → settled_from n + n.most ≤ f.due
     → IsBest n.graph l.from.clock best
     → a.root ≡ best.identity
 
 -- before all has settled that claims nothing, and every step keeps it
-abbrev pub NamingBegins : Says → Type 0
-NamingBegins says = (n : Network) (w : State)
-    → IsNetwork n → Calm n w → w.time < settled_from n
+abbrev pub NamingBegins : Spelling → Type 0
+NamingBegins says = (n : Network) (w : MachineState)
+    → IsSettlingNetwork n → Calm n w → w.time < settled_from n
     → FlightNamesBest says n w
 
-abbrev pub NamingIsKept : Says → Type 0
-NamingIsKept says = (n : Network) (w w' : State)
-    → IsNetwork n → AreNear n.graph → Calm n w' → Invariant says n w' → Steps says w w' → FlightNamesBest says n w
+abbrev pub NamingIsKept : Spelling → Type 0
+NamingIsKept says = (n : Network) (w w' : MachineState)
+    → IsSettlingNetwork n → AllAreNear n.graph → Calm n w' → Invariant says n w' → MachineSteps says w w' → FlightNamesBest says n w
     → FlightNamesBest says n w'
 
 -- so a delay after all has settled all is wholly clean, where it is sound
-abbrev pub SettledIsWhole : Says → Type 0
-SettledIsWhole says = (n : Network) (w : State)
-    → IsNetwork n → AreNear n.graph → Calm n w → Invariant says n w → IsSoundOnLinks says n.graph w
+abbrev pub SettledIsWhole : Spelling → Type 0
+SettledIsWhole says = (n : Network) (w : MachineState)
+    → IsSettlingNetwork n → AllAreNear n.graph → Calm n w → Invariant says n w → IsSoundOnLinks says n.graph w
     → FlightNamesBest says n w → settled_from n + n.most ≤ w.time → n.off ≤ w.time
     → AllIsWhole says n.graph (Joins n.graph) w
 
 -- each state of a run is calm, in none of them something lapses, and no port is on that no link is at
-abbrev pub IsNewsRun : Says → Network → State → List State → Type 0
+abbrev pub IsNewsRun : Spelling → Network → MachineState → List MachineState → Type 0
 IsNewsRun says n w [] = Calm n w
-IsNewsRun says n w (w' ∷ ws) = Calm n w × UnlinkedAreOff n.graph w × NothingLapses n w × EarlyPortsHear says n w w'
-    × Steps says w w'
+IsNewsRun says n w (w' ∷ ws) = Calm n w × UnlinkedAreOff n.graph w × NothingNearLapses n w × EarlyPortsHear says n w w'
+    × MachineSteps says w w'
     × IsNewsRun says n w' ws
 
 -- After news that come when all is wholly clean, with no Announce on links that are new, a run ends settled: all is
 -- sound from the news on, so that the time of settling is counted from when ports are capable.
-abbrev pub NewsSettle : Says → Type 0
-NewsSettle says = (g : Snapshot) (n : Network) (w : State) (ws : List State)
-    → IsNetwork n → HasNews g n.graph → AllIsWhole says g (Joins n.graph) w → IsNewsRun says n w ws → w.time < n.sound
-    → settled_from n ≤ (last_of w ws).time
-    → IsSettled n (last_of w ws)
+abbrev pub NewsSettle : Spelling → Type 0
+NewsSettle says = (g : Snapshot) (n : Network) (w : MachineState) (ws : List MachineState)
+    → IsSettlingNetwork n → HasNews g n.graph → AllIsWhole says g (Joins n.graph) w → IsNewsRun says n w ws → w.time < n.sound
+    → settled_from n ≤ (last_state w ws).time
+    → NearHaveSettled n (last_state w ws)
 
 -- and a delay later all is wholly clean again, so that the next news may come
-abbrev pub NewsBecomeWhole : Says → Type 0
-NewsBecomeWhole says = (g : Snapshot) (n : Network) (w : State) (ws : List State)
-    → IsNetwork n → AreNear n.graph → HasNews g n.graph → AllIsWhole says g (Joins n.graph) w → IsNewsRun says n w ws
-    → w.time < n.sound → settled_from n + n.most ≤ (last_of w ws).time → n.off ≤ (last_of w ws).time
-    → AllIsWhole says n.graph (Joins n.graph) (last_of w ws)
+abbrev pub NewsBecomeWhole : Spelling → Type 0
+NewsBecomeWhole says = (g : Snapshot) (n : Network) (w : MachineState) (ws : List MachineState)
+    → IsSettlingNetwork n → AllAreNear n.graph → HasNews g n.graph → AllIsWhole says g (Joins n.graph) w → IsNewsRun says n w ws
+    → w.time < n.sound → settled_from n + n.most ≤ (last_state w ws).time → n.off ≤ (last_state w ws).time
+    → AllIsWhole says n.graph (Joins n.graph) (last_state w ws)
 
 -- ---- from rest
 
 -- Where all is sound and each link of which claims are made is at its stage at the news, a run ends settled: no
 -- interval has to pass.
-abbrev pub RestSettles : Says → Type 0
-RestSettles says = (n : Network) (w : State) (ws : List State)
-    → IsNetwork n → IsSoundOnLinks says n.graph w → ((d : ℕ) → LevelSettles says n d w) → IsNewsRun says n w ws
-    → settled_from n ≤ (last_of w ws).time
-    → IsSettled n (last_of w ws)
+abbrev pub RestSettles : Spelling → Type 0
+RestSettles says = (n : Network) (w : MachineState) (ws : List MachineState)
+    → IsSettlingNetwork n → IsSoundOnLinks says n.graph w → ((d : ℕ) → LevelSettles says n d w) → IsNewsRun says n w ws
+    → settled_from n ≤ (last_state w ws).time
+    → NearHaveSettled n (last_state w ws)
 
 -- no port that a link is at is capable yet
-abbrev pub LinkedAreOff : Network → State → Type 0
+abbrev pub LinkedAreOff : Network → MachineState → Type 0
 LinkedAreOff n w = (i : ℕ) (s : Station) (place : ℕ) (q : Port) → slice_get w.stations i ≡ Some s → s.live ≡ true
     → slice_get s.ports place ≡ Some q → IsLinked n.graph (port_of s.clock (suc place))
     → q.held ≡ Disabled
 
 -- at a start nothing is held and no Announce is in flight
-pub record Starts (says : Says) (n : Network) (w : State) : Type 0 where
+pub record NothingIsHeldAtStart (says : Spelling) (n : Network) (w : MachineState) : Type 0 where
   pub off : LinkedAreOff n w
   pub unlinked : UnlinkedAreOff n.graph w
-  pub silent : (j : ℕ) (l : Lane) (f : Frame) (a : Announce) → slice_get w.lanes j ≡ Some l → In f l.frames
+  pub silent : (j : ℕ) (l : Lane) (f : AnnounceFrame) (a : Announce) → slice_get w.lanes j ≡ Some l → In f l.frames
       → says f.octets a → Joins n.graph l.from l.to → ⊥
 
 -- so a run from a start ends settled
-abbrev pub StartSettles : Says → Type 0
-StartSettles says = (n : Network) (w : State) (ws : List State)
-    → IsNetwork n → Starts says n w → IsNewsRun says n w ws
-    → settled_from n ≤ (last_of w ws).time
-    → IsSettled n (last_of w ws)
+abbrev pub StartSettles : Spelling → Type 0
+StartSettles says = (n : Network) (w : MachineState) (ws : List MachineState)
+    → IsSettlingNetwork n → NothingIsHeldAtStart says n w → IsNewsRun says n w ws
+    → settled_from n ≤ (last_state w ws).time
+    → NearHaveSettled n (last_state w ws)

@@ -2,9 +2,9 @@
 use Rattle.std.specs.Prelude.{◌≡◌, ◌⊎◌, ◌<◌, ◌≤◌, ◌+◌, ℕ, suc, ℤ, List, [], ◌∷◌}
 use Rattle.gptp_lists.specs.Members.{In}
 use Rattle.gptp_graph.specs.Snapshot.{PortIdentity, port_of}
-use Rattle.gptp_settling.specs.Frame.{Announce, Says, Frame}
+use Rattle.gptp_settling.specs.Frame.{Announce, Spelling, AnnounceFrame}
 use Rattle.gptp_settling.specs.Station.{Reception, Held, Received}
-use Rattle.gptp_settling.specs.Touch.{Qualified}
+use Rattle.gptp_settling.specs.Touch.{IsUsable}
 
 -- One direction of a link: the clock of the system that tells, its place among the systems and that of its port, which
 -- is numbered one higher; the same of the system that hears; the place of the lane; the logarithm of the announce
@@ -42,34 +42,34 @@ pub record IsFinal (k : Wiring) (a : Announce) : Type 0 where
   pub steps : a.steps ≡ k.steps
   pub source : a.source ≡ from_port k
   pub log : a.log ≡ k.log
-  pub qualified : Qualified k.hearer a
+  pub qualified : IsUsable k.hearer a
 
 -- every Announce among the frames is final
-abbrev pub AllFinal : Says → Wiring → List Frame → Type 0
-AllFinal says k fs = (f : Frame) (a : Announce) → In f fs → says f.octets a → IsFinal k a
+abbrev pub AllFinal : Spelling → Wiring → List AnnounceFrame → Type 0
+AllFinal says k fs = (f : AnnounceFrame) (a : Announce) → In f fs → says f.octets a → IsFinal k a
 
 -- the frame says an Announce
-abbrev pub IsSaid : Says → Frame → Type 0
-IsSaid says f = (a : Announce) × says f.octets a
+abbrev pub FrameSaysAnnounce : Spelling → AnnounceFrame → Type 0
+FrameSaysAnnounce says f = (a : Announce) × says f.octets a
 
 -- from some frame on, which says an Announce and is due before this time, every Announce is final
-abbrev pub FinalTail : Says → Wiring → ℕ → List Frame → Type 0
+abbrev pub FinalTail : Spelling → Wiring → ℕ → List AnnounceFrame → Type 0
 FinalTail says k before [] = ⊥
 FinalTail says k before (f ∷ fs) =
-    ((f.due < before) × IsSaid says f × AllFinal says k (f ∷ fs)) ⊎ FinalTail says k before fs
+    ((f.due < before) × FrameSaysAnnounce says f × AllFinal says k (f ∷ fs)) ⊎ FinalTail says k before fs
 
 -- The port holds a final Announce, every Announce in flight is final, and the next one comes in time: the teller's
 -- timer is due by then, or a frame in flight says it.
-pub record Stays (says : Says) (k : Wiring) (announce : ℕ) (held : Held) (fs : List Frame) : Type 0 where
+pub record FinalAnnounceStays (says : Spelling) (k : Wiring) (announce : ℕ) (held : Held) (fs : List AnnounceFrame) : Type 0 where
   pub what : Reception
   pub holds : held ≡ Received what
   pub final : IsFinal k what.said
   pub flight : AllFinal says k fs
   pub next : (announce ≤ what.at + k.interval)
-      ⊎ ((f : Frame) × In f fs × IsSaid says f × (f.due ≤ what.at + k.interval + k.most))
+      ⊎ ((f : AnnounceFrame) × In f fs × FrameSaysAnnounce says f × (f.due ≤ what.at + k.interval + k.most))
 
 -- The teller will tell it by its timer, which has to run out yet; or it is on its way; or it is held, and stays. By the
 -- strict bounds the first two are over in the end.
-abbrev pub Stage : Says → Wiring → ℕ → Held → List Frame → Type 0
+abbrev pub Stage : Spelling → Wiring → ℕ → Held → List AnnounceFrame → Type 0
 Stage says k announce held fs =
-    (announce < k.until) ⊎ (FinalTail says k k.before fs ⊎ Stays says k announce held fs)
+    (announce < k.until) ⊎ (FinalTail says k k.before fs ⊎ FinalAnnounceStays says k announce held fs)

@@ -42,7 +42,7 @@ pub record Station : Type 0 where
   pub lapse : Option ℕ
 
 -- the time, the systems, and one lane for each direction of each link
-pub record State : Type 0 where
+pub record MachineState : Type 0 where
   pub time : ℕ
   pub stations : List Station
   pub lanes : List Lane

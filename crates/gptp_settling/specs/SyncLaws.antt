@@ -1,36 +1,36 @@
 -- Laws on Syncs: they come in time, so that nothing lapses, and networks in which things may lapse settle.
 use Rattle.std.specs.Prelude.{ℕ, ◌<◌, ◌≤◌, ◌+◌, ◌*◌, pred, List, [], ◌∷◌}
-use Rattle.gptp_settling.specs.Frame.{Says, SaysSync}
-use Rattle.gptp_settling.specs.Station.{State}
+use Rattle.gptp_settling.specs.Frame.{Spelling, SaysSync}
+use Rattle.gptp_settling.specs.Station.{MachineState}
 use Rattle.gptp_graph.specs.Snapshot.{PortIdentity}
-use Rattle.gptp_settling.specs.Network.{Network, IsNetwork, BecomesClean, setting, since, settled_from}
+use Rattle.gptp_settling.specs.Network.{Network, IsSettlingNetwork, BecomesClean, network_setting, since, settled_from}
 use Rattle.gptp_settling.specs.Facts.{SendersLive}
 use Rattle.gptp_settling.specs.Calm.{Calm}
 use Rattle.gptp_settling.specs.Levels.{Invariant}
-use Rattle.gptp_settling.specs.Run.{last_of, IsSettled}
+use Rattle.gptp_settling.specs.Run.{last_state, NearHaveSettled}
 use Rattle.gptp_settling.specs.EarlyPorts.{ClaimsWhenReady}
-use Rattle.gptp_settling.specs.Lapsing.{NothingLapses}
+use Rattle.gptp_settling.specs.Lapsing.{NothingNearLapses}
 use Rattle.gptp_settling.specs.Syncs.{HaveSyncTimers, IsPrompt, SyncsAreExpected}
 use Rattle.gptp_settling.specs.SyncActs.{SyncSteps}
 
 -- before the start no Sync is expected
 abbrev pub SyncsBegin : SaysSync → Type 0
-SyncsBegin says_sync = (n : Network) (w : State)
+SyncsBegin says_sync = (n : Network) (w : MachineState)
     → w.time < n.sound
     → SyncsAreExpected says_sync n w
 
 -- every step keeps by when they are expected
-abbrev pub SyncsAreKept : Says → SaysSync → Type 0
-SyncsAreKept says says_sync = (n : Network) (w w' : State)
-    → IsNetwork n → n.bare ≤ since n 0 → Calm n w → Calm n w' → Invariant says n w → Invariant says n w'
+abbrev pub ExpectedSyncsAreKept : Spelling → SaysSync → Type 0
+ExpectedSyncsAreKept says says_sync = (n : Network) (w w' : MachineState)
+    → IsSettlingNetwork n → n.bare ≤ since n 0 → Calm n w → Calm n w' → Invariant says n w → Invariant says n w'
     → HaveSyncTimers n w → HaveSyncTimers n w' → SyncSteps says says_sync n w w' → SyncsAreExpected says_sync n w
     → SyncsAreExpected says_sync n w'
 
 -- so nothing lapses
-abbrev pub SyncsComeInTime : Says → SaysSync → Type 0
-SyncsComeInTime says says_sync = (n : Network) (w : State)
-    → IsNetwork n → IsPrompt n → Calm n w → Invariant says n w → HaveSyncTimers n w → SyncsAreExpected says_sync n w
-    → NothingLapses n w
+abbrev pub ExpectedSyncsComeInTime : Spelling → SaysSync → Type 0
+ExpectedSyncsComeInTime says says_sync = (n : Network) (w : MachineState)
+    → IsSettlingNetwork n → IsPrompt n → Calm n w → Invariant says n w → HaveSyncTimers n w → SyncsAreExpected says_sync n w
+    → NothingNearLapses n w
 
 -- a settled system waits no longer than a sync interval, and for each link of a path a residence time and a delay
 abbrev pub WaitIsBounded : Type 0
@@ -40,15 +40,15 @@ WaitIsBounded = (n : Network)
     → IsPrompt n
 
 -- each state follows from the one before it by a step, and all are calm; Syncs are told as they should be
-abbrev pub IsSyncRun : Says → SaysSync → Network → State → List State → Type 0
+abbrev pub IsSyncRun : Spelling → SaysSync → Network → MachineState → List MachineState → Type 0
 IsSyncRun says says_sync n w [] = Calm n w × HaveSyncTimers n w
 IsSyncRun says says_sync n w (w' ∷ ws) = Calm n w × HaveSyncTimers n w × SyncSteps says says_sync n w w'
     × IsSyncRun says says_sync n w' ws
 
 -- such a run, begun before the start, ends settled, once it is late enough
-abbrev pub SyncRunSettles : Says → SaysSync → Type 0
-SyncRunSettles says says_sync = (n : Network) (w : State) (ws : List State)
-    → IsNetwork n → IsPrompt n → BecomesClean n → ClaimsWhenReady n → IsSyncRun says says_sync n w ws
-    → SendersLive (setting n) w → w.time < n.start
-    → settled_from n ≤ (last_of w ws).time
-    → IsSettled n (last_of w ws)
+abbrev pub SyncRunSettles : Spelling → SaysSync → Type 0
+SyncRunSettles says says_sync = (n : Network) (w : MachineState) (ws : List MachineState)
+    → IsSettlingNetwork n → IsPrompt n → BecomesClean n → ClaimsWhenReady n → IsSyncRun says says_sync n w ws
+    → SendersLive (network_setting n) w → w.time < n.start
+    → settled_from n ≤ (last_state w ws).time
+    → NearHaveSettled n (last_state w ws)

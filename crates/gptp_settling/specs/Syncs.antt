@@ -5,9 +5,9 @@ use Rattle.std.specs.Prelude.{◌≡◌, ◌⊎◌, ◌<◌, ◌≤◌, ◌+◌,
 use Rattle.gptp_graph.specs.Snapshot.{PortIdentity, port_of}
 use Rattle.gptp_graph.specs.Parent.{ParentLink, IsParent}
 use Rattle.gptp_settling.specs.Frame.{SaysSync, Lane}
-use Rattle.gptp_settling.specs.Station.{Station, State}
+use Rattle.gptp_settling.specs.Station.{Station, MachineState}
 use Rattle.gptp_settling.specs.Network.{Network, since}
-use Rattle.gptp_settling.specs.Lapsing.{FollowsNearer}
+use Rattle.gptp_settling.specs.Lapsing.{FollowsFarther}
 use Rattle.gptp_settling.specs.Matching.{Matches}
 
 -- ---- each state
@@ -24,7 +24,7 @@ pub record HasSyncTimers (n : Network) (now : ℕ) (s : Station) : Type 0 where
   pub lapse : (due : ℕ) → s.lapse ≡ Some due → MayLead s.root
 
 -- all live systems are so
-abbrev pub HaveSyncTimers : Network → State → Type 0
+abbrev pub HaveSyncTimers : Network → MachineState → Type 0
 HaveSyncTimers n w = (i : ℕ) (s : Station) → slice_get w.stations i ≡ Some s → s.live ≡ true
     → HasSyncTimers n w.time s
 
@@ -74,7 +74,7 @@ pub record IsExpected (says_sync : SaysSync) (n : Network) (stations : List Stat
   pub soon : (by + n.syncs.span ≤ due + wait n d) ⊎ (by < since n d + wait n d)
 
 -- so it is for every system with a lapse timer that follows a near one that has settled
-abbrev pub SyncsAreExpected : SaysSync → Network → State → Type 0
+abbrev pub SyncsAreExpected : SaysSync → Network → MachineState → Type 0
 SyncsAreExpected says_sync n w = (i : ℕ) (s : Station) (d due : ℕ) → slice_get w.stations i ≡ Some s → s.live ≡ true
-    → d < 255 → (follows : FollowsNearer n.graph s d) → since n d ≤ w.time → s.lapse ≡ Some due
+    → d < 255 → (follows : FollowsFarther n.graph s d) → since n d ≤ w.time → s.lapse ≡ Some due
     → IsExpected says_sync n w.stations w.lanes d follows.follows.from due

@@ -3,7 +3,7 @@
 use Rattle.std.specs.Prelude.{◌≡◌, ◌⊎◌, ◌≤◌, ◌+◌, ◌*◌, ℕ}
 use Rattle.gptp_graph.specs.Snapshot.{PortIdentity, IsLinked, IsWellFormed}
 use Rattle.gptp_graph.specs.PathBound.{BoundsPaths}
-use Rattle.gptp_settling.specs.Network.{Network, IsNetwork}
+use Rattle.gptp_settling.specs.Network.{Network, IsSettlingNetwork}
 
 -- From any past, where nothing lapses: claims of all links are made as soon as all that is held is sound. It takes the
 -- largest announce interval, and for each step of distance the largest delay.
@@ -44,4 +44,4 @@ pub record SettlesFromRest (n : Network) : Type 0 where
 abbrev pub NetworksAreTimed : Type 0
 NetworksAreTimed = (n : Network)
     → IsWellFormed n.graph → BoundsPaths n.graph n.reach → n.bare ≤ n.off → SettlesFromAnyPast n ⊎ SettlesFromRest n
-    → IsNetwork n
+    → IsSettlingNetwork n

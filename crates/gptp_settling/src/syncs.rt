@@ -1,6 +1,6 @@
 //! Laws on Syncs: they come in time, so that nothing lapses.
 
-ghost use Rattle.gptp_settling.specs.SyncLaws.{SyncsBegin, SyncsAreKept, SyncsComeInTime, WaitIsBounded};
+ghost use Rattle.gptp_settling.specs.SyncLaws.{SyncsBegin, ExpectedSyncsAreKept, ExpectedSyncsComeInTime, WaitIsBounded};
 ghost use Rattle.gptp_settling.specs.SyncLaws.{SyncRunSettles};
 
 use crate::coding::Coding;
@@ -11,13 +11,13 @@ use crate::coding::Coding;
 /// relays what it hears, and a Relay timer that runs isn't restarted.
 pub fn syncs_are_expected<C: Coding>()
     ensures begins { SyncsBegin C.says_sync }
-    ensures kept { SyncsAreKept C.says C.says_sync }
+    ensures kept { ExpectedSyncsAreKept C.says C.says_sync }
 {}
 
 /// So nothing lapses, where the wait is below the span of lapse timers. It is at most a sync interval and, for each
 /// link of the longest path, a residence time and the largest delay.
 pub fn syncs_come_in_time<C: Coding>()
-    ensures in_time { SyncsComeInTime C.says C.says_sync }
+    ensures in_time { ExpectedSyncsComeInTime C.says C.says_sync }
     ensures bounded { WaitIsBounded }
 {}
 

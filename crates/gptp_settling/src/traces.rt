@@ -1,6 +1,6 @@
 //! Laws on traces: they become clean.
 
-ghost use Rattle.gptp_settling.specs.CleanLaws.{CleanIsByLastMembers, CleanBegins, CleanIsKept, HeldBecomesWhole};
+ghost use Rattle.gptp_settling.specs.CleanLaws.{CleanIsByLastMembers, CleanBegins, CleanIsKept, MachineHeldBecomesWhole};
 
 use crate::coding::Coding;
 
@@ -21,5 +21,5 @@ pub fn traces_stay_clean<C: Coding>()
 /// passed from the start, a turn being the longest span for which anything received stays and the largest delay: it
 /// came over the port's link, and its trace is a path of the snapshot from the announced root, of the announced length.
 pub fn traces_become_clean<C: Coding>()
-    ensures { HeldBecomesWhole C.says }
+    ensures { MachineHeldBecomesWhole C.says }
 {}

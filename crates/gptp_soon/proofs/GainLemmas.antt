@@ -20,7 +20,7 @@ use Rattle.gptp_acts.specs.World.{WorldState, port_id}
 use Rattle.gptp_network.proofs.SnapshotLemmas.{clock_after}
 use Rattle.gptp_kept.specs.NewsWorld.{AllLive}
 use Rattle.gptp_kept.specs.SoundWorld.{IsDownAt, IsGain}
-use Rattle.gptp_reached.specs.Reached.{Shape, StandsAs, shape, shape_after, wire_of}
+use Rattle.gptp_reached.specs.Reached.{Shape, StandsAs, shape, shape_after, channel_wire}
 use Rattle.gptp_soon.specs.Gains.{AllLiveAfter, IsDownAfter, IsGainAfter, IsIdleAfter, IsNoWorse, IsUpAfter}
 use Rattle.gptp_soon.specs.Idle.{IsIdle, IsUpAt}
 
@@ -60,17 +60,17 @@ module _ (n : NetworkState) (events : List Timed) (w : WorldState) (so : StandsA
   -- a link that is down in the network is down in the world
   down_so : (port : PortId) → IsDownAfter n events port → IsDownAt port w
   down_so port down place channel is =
-      let (v, there, same) = alike (link_after events) wire_of n.links w.net.channels (sym so.links) place channel
+      let (v, there, same) = alike (link_after events) channel_wire n.links w.net.channels (sym so.links) place channel
       is.here in
-      let end : IsEnd port (wire_of channel) = is.joined in
+      let end : IsEnd port (channel_wire channel) = is.joined in
       let off : (link_after events v).up ≡ false = down place v there (subst (IsEnd port) (sym same) end) in
       sym (ap (λ (x : Wire). x.up) same) ∙ off
 
   up_so : (port : PortId) → IsUpAfter n events port → IsUpAt port w
   up_so port up place channel is =
-      let (v, there, same) = alike (link_after events) wire_of n.links w.net.channels (sym so.links) place channel
+      let (v, there, same) = alike (link_after events) channel_wire n.links w.net.channels (sym so.links) place channel
       is.here in
-      let end : IsEnd port (wire_of channel) = is.joined in
+      let end : IsEnd port (channel_wire channel) = is.joined in
       let on : (link_after events v).up ≡ true = up place v there (subst (IsEnd port) (sym same) end) in
       sym (ap (λ (x : Wire). x.up) same) ∙ on
 

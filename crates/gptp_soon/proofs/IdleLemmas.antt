@@ -15,13 +15,13 @@ use Rattle.gptp_acts.specs.Prompt.{IsPromptIn}
 use Rattle.gptp_acts.specs.World.{WorldState, port_id}
 use Rattle.gptp_settling.specs.Frame.{Lane}
 use Rattle.gptp_settling.specs.Network.{Network}
-use Rattle.gptp_settling.specs.Station.{State, Station as SeenStation}
+use Rattle.gptp_settling.specs.Station.{MachineState, Station as SeenStation}
 use Rattle.gptp_settling.specs.Syncs.{SyncsAreExpected, TellsBy}
 use Rattle.gptp_kept.specs.Claimed.{IsClaimed}
 use Rattle.gptp_kept.specs.Holds.{IsWorld}
 use Rattle.gptp_kept.specs.LegibleLaws.{SetsAnOctet}
 use Rattle.gptp_kept.specs.LinkView.{LinkPlace}
-use Rattle.gptp_kept.specs.Measured.{IsLiveAt, IsMeasured, StandsAt}
+use Rattle.gptp_kept.specs.Measured.{StationIsLiveAt, LinkIsMeasured, LinkStandsAt}
 use Rattle.gptp_kept.specs.NewsWorld.{IsNews, IsReadyBy, turn_network}
 use Rattle.gptp_kept.specs.Unanswered.{StandsUnanswered}
 use Rattle.gptp_kept.specs.View.{says_sync, view}
@@ -104,7 +104,7 @@ module _ (n : Network) (gone : ℕ) where
         ),
       )
 
-  expected_same : (w : State) → SyncsAreExpected says_sync n w → SyncsAreExpected says_sync other w
+  expected_same : (w : MachineState) → SyncsAreExpected says_sync n w → SyncsAreExpected says_sync other w
   expected_same w expected i s d due here live near follows late lapse =
       let e = expected i s d due here live near follows late lapse in
       record {
@@ -123,10 +123,10 @@ module _ (p : Pace) (start : ℕ) (w : WorldState) (news : IsNews p start w) whe
   abbrev changed : WorldState
   changed = record w { last_change = w.time }
 
-  live_before : (place number : ℕ) → IsLiveAt place number changed → IsLiveAt place number w
+  live_before : (place number : ℕ) → StationIsLiveAt place number changed → StationIsLiveAt place number w
   live_before place number x = record { station = x.station; here = x.here; live = x.live; named = x.named }
 
-  stood : (at : LinkPlace) → StandsAt at changed → StandsAt at w
+  stood : (at : LinkPlace) → LinkStandsAt at changed → LinkStandsAt at w
   unfolding live_before
   stood at s = record {
     channel = s.channel;
@@ -154,7 +154,7 @@ module _ (p : Pace) (start : ℕ) (w : WorldState) (news : IsNews p start w) whe
   ready_still at (inr (gone, since, l, past, late)) =
       inr (gone, since, record { link = l.link; good = l.good; facts = l.facts; inv = l.inv }, past, late)
 
-  pub news_still : IsWorld p changed → IsMeasured changed → IsNews p start changed
+  pub news_still : IsWorld p changed → LinkIsMeasured changed → IsNews p start changed
   news_still world measured = record {
     pace = news.pace;
     world = world;
@@ -193,7 +193,7 @@ module _ {F : Type 0} (answers : Bounds → ℕ → F → Option ℕ → F → T
       let is : w' ≡ now = idle_same change now k.draws w' (idle_now change then idle) k.acts.1 in
       subst (IsNews p start) (sym is)
       (news_still p start then (news_go_on p start time w timely.now timely.first news)
-      (subst (IsWorld p) is claimed.world) (subst IsMeasured is claimed.measured))
+      (subst (IsWorld p) is claimed.world) (subst LinkIsMeasured is claimed.measured))
 
   pub idles_stay_settled : IdlesStaySettled answers
   idles_stay_settled p start time until m change told fate drawn fate_after w between w' done claim news idle octet k

@@ -30,7 +30,7 @@ use Rattle.gptp_kept.specs.Claimed.{IsClaimed}
 use Rattle.gptp_kept.specs.Holds.{IsWorld}
 use Rattle.gptp_kept.specs.LegibleLaws.{SetsAnOctet}
 use Rattle.gptp_kept.specs.LinkView.{LinkPlace}
-use Rattle.gptp_kept.specs.Measured.{IsMeasured}
+use Rattle.gptp_kept.specs.Measured.{LinkIsMeasured}
 use Rattle.gptp_kept.specs.NewsWorld.{AreReadyBy, AreSilentBy, IsNews}
 use Rattle.gptp_kept.specs.SoundWorld.{IsGain, IsSoundWorld}
 use Rattle.gptp_kept.specs.Unanswered.{StandsUnanswered}
@@ -41,7 +41,7 @@ use Rattle.gptp_kept.proofs.NewsWorldLemmas.{news_go_on, none_silent}
 use Rattle.gptp_kept.proofs.OutlineLemmas.{change_is_last, change_time}
 use Rattle.gptp_kept.proofs.SoundWorldLemmas.{sound_later}
 use Rattle.gptp_reached.specs.PlayedLaws.{IsMade, IsPlayable}
-use Rattle.gptp_reached.specs.Reached.{StandsAs, wire_of}
+use Rattle.gptp_reached.specs.Reached.{StandsAs, channel_wire}
 use Rattle.gptp_reached.proofs.ChangeLemmas.{changes_stand}
 use Rattle.gptp_reached.proofs.ClaimedLemmas.{IsFitEvent, least_of}
 use Rattle.gptp_reached.proofs.KeptLemmas.{time_stands}
@@ -161,11 +161,11 @@ module _ {F : Type 0} (answers : Bounds → ℕ → F → Option ℕ → F → T
         let one : channel ≡ near.old =
         same_there then.net.channels place.link channel near.old
         (subst (λ i. slice_get then.net.channels i ≡ Some channel) same at_port.here) near.here in
-        let joined : IsEnd (port_id number port) (wire_of s.channel) = elim at_port.joined [
+        let joined : IsEnd (port_id number port) (channel_wire s.channel) = elim at_port.joined [
           | inl a ↦ inl (near.a ∙ sym (ap (λ (c : Channel). c.a) one) ∙ a)
           | inr b ↦ inr (near.b ∙ sym (ap (λ (c : Channel). c.b) one) ∙ b)
         ] in
-        let (v, there, wire) = alike (link_after more) wire_of n.links w'.net.channels (sym after.stands.links)
+        let (v, there, wire) = alike (link_after more) channel_wire n.links w'.net.channels (sym after.stands.links)
         place.link s.channel s.here in
         let ends = live place.link v there (subst (IsEnd (port_id number port)) (sym wire) joined) in
         let lives : IsLive n.systems more (receiver place.direction s.channel).clock =
@@ -236,7 +236,7 @@ module _ {F : Type 0} (answers : Bounds → ℕ → F → Option ℕ → F → T
         let same : w' ≡ now = idle_same is.change now k.draws w' (idle_now is.change then idle) acts.1 in
         subst (IsNews p start) (sym same)
         (news_still p start then news (subst (IsWorld p) same after.claim.world)
-        (subst IsMeasured same after.claim.measured))
+        (subst LinkIsMeasured same after.claim.measured))
 
     pub made_still : (start next : ℕ) → IsNews p start then → AreCapableStill n made start event next
         → IsNewsFrom next

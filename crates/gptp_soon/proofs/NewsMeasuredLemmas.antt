@@ -15,12 +15,12 @@ use Rattle.gptp_measuring.specs.Measured.{HasMeasured}
 use Rattle.gptp_kept.specs.Calm.{HaveQuietLinks}
 use Rattle.gptp_kept.specs.Holds.{IsWorld}
 use Rattle.gptp_kept.specs.Known.{IsKnown}
-use Rattle.gptp_kept.specs.LinkView.{IsLinkOf, LinkPlace, least_delay, opposite, setting}
-use Rattle.gptp_kept.specs.Measured.{IsLiveAt, StandsAt}
+use Rattle.gptp_kept.specs.LinkView.{IsLinkOf, LinkPlace, least_delay, other_direction, link_setting}
+use Rattle.gptp_kept.specs.Measured.{StationIsLiveAt, LinkStandsAt}
 use Rattle.gptp_kept.specs.MeasuredLinks.{HasMeasuredLink, HaveMeasuredLinks}
 use Rattle.gptp_kept.specs.NewsWorld.{AreReadyBy, IsNews, IsReadyBy}
-use Rattle.gptp_kept.specs.Standing.{has_clock, is_used, live_systems, snapshot_of}
-use Rattle.gptp_kept.specs.View.{identity_of}
+use Rattle.gptp_kept.specs.Standing.{stations_have_clock, channel_is_used, live_stations, snapshot_of}
+use Rattle.gptp_kept.specs.View.{port_identity_number}
 use Rattle.gptp_kept.proofs.ElsewhereLemmas.{watched_stay_capable}
 use Rattle.gptp_kept.proofs.FirstAtLemmas.{first_full}
 use Rattle.gptp_kept.proofs.LinkLemmas.{sender_opposite}
@@ -33,7 +33,7 @@ use Rattle.gptp_kept.proofs.WayLemmas.{IsWay, way_of}
 -- the port that asks has measured the link by two exchanges
 record HasMeasuredAt (at : LinkPlace) (w : WorldState) : Type 0 where
   link : IsLinkOf at w
-  measured : HasMeasured (setting at w link) (least_delay at w link) link.asking.state.peer.last
+  measured : HasMeasured (link_setting at w link) (least_delay at w link) link.asking.state.peer.last
 
 ready_measured : (p : Pace) (start : ℕ) (at : LinkPlace) (w : WorldState) → IsKnown p w → IsReadyBy p start at w
     → start ≤ w.time → HasMeasuredAt at w
@@ -41,7 +41,7 @@ ready_measured p start at w known (inl (first, (l, by))) late =
     record { link = l.link; measured = (first_full at first w l (omega (arith, by, late))).1 }
 ready_measured p start at w known (inr (gone, since, l, past, by)) late =
     let asks = (known.set at.asking l.link.asking.station l.link.asking.here).starts.params in
-    let period : (setting at w l.link).period ≡ interval_of p.params.pdelay =
+    let period : (link_setting at w l.link).period ≡ interval_of p.params.pdelay =
     ap (λ (x : Params). interval_of x.pdelay) asks in
     record {
       link = l.link;
@@ -53,14 +53,14 @@ ready_measured p start at w known (inr (gone, since, l, past, by)) late =
 -- a live system with the clock stands somewhere
 record LivesSomewhere (number : ℕ) (w : WorldState) : Type 0 where
   place : ℕ
-  at : IsLiveAt place number w
+  at : StationIsLiveAt place number w
 
 -- so it is where a used link leads to
 receiver_lives : (w : WorldState) (direction : Direction) (channel : Channel)
-    → is_used (live_systems w.stations) channel ≡ true → LivesSomewhere (receiver direction channel).clock w
+    → channel_is_used (live_stations w.stations) channel ≡ true → LivesSomewhere (receiver direction channel).clock w
 receiver_lives w direction channel used =
-    let has = subst (λ (q : PortId). has_clock (live_systems w.stations) q.clock ≡ true)
-    (sender_opposite direction channel) (sender_lives (live_systems w.stations) (opposite direction) channel used) in
+    let has = subst (λ (q : PortId). stations_have_clock (live_stations w.stations) q.clock ≡ true)
+    (sender_opposite direction channel) (sender_lives (live_stations w.stations) (other_direction direction) channel used) in
     let (s, member, same) = clock_lives w.stations (receiver direction channel).clock has in
     let there = live_from w.stations s member in
     record {
@@ -77,7 +77,7 @@ module _ (p : Pace) (start : ℕ) (w : WorldState) (is : IsWorld p w) (ready : A
     (quiet : HaveQuietLinks p.params w) (late : start ≤ w.time) (place : ℕ) (station : Station)
     (here : slice_get w.stations place ≡ Some station) (live : station.live ≡ true) where
   -- where a way from a port of the system stands
-  abbrev place_of_way : (n : ℕ) (to : PortIdentity) → IsWay w (identity_of (own station.system n)) to → LinkPlace
+  abbrev place_of_way : (n : ℕ) (to : PortIdentity) → IsWay w (port_identity_number (own station.system n)) to → LinkPlace
   place_of_way n to way = record {
     link = way.link;
     direction = way.direction;
@@ -86,8 +86,8 @@ module _ (p : Pace) (start : ℕ) (w : WorldState) (is : IsWorld p w) (ready : A
   }
 
   -- it is good, and its ends are two live systems
-  way_stands : (n : ℕ) (to : PortIdentity) → Joins (snapshot_of w) (identity_of (own station.system n)) to
-      → (way : IsWay w (identity_of (own station.system n)) to) → StandsAt (place_of_way n to way) w
+  way_stands : (n : ℕ) (to : PortIdentity) → Joins (snapshot_of w) (port_identity_number (own station.system n)) to
+      → (way : IsWay w (port_identity_number (own station.system n)) to) → LinkStandsAt (place_of_way n to way) w
   way_stands n to joins way =
       let links = quiet way.link way.channel way.here way.used in
       let other = receiver_lives w way.direction way.channel way.used in
@@ -96,7 +96,7 @@ module _ (p : Pace) (start : ℕ) (w : WorldState) (is : IsWorld p w) (ready : A
       record {
         channel = way.channel;
         here = way.here;
-        up = used_up (live_systems w.stations) way.channel way.used;
+        up = used_up (live_stations w.stations) way.channel way.used;
         lossless = links.lossless;
         asking = record {
           station = station;
@@ -109,7 +109,7 @@ module _ (p : Pace) (start : ℕ) (w : WorldState) (is : IsWorld p w) (ready : A
             let alike : station ≡ other.at.station =
             same_there w.stations place station other.at.station here
             (subst (λ at. slice_get w.stations at ≡ Some other.at.station) (sym same) other.at.here) in
-            (stands_well w is.sound is.between is.legible).apart (identity_of (own station.system n)) to joins
+            (stands_well w is.sound is.between is.legible).apart (port_identity_number (own station.system n)) to joins
             (ap (λ (x : Station). clock x.system) alike
             ∙ other.at.named
             ∙ ap (λ (x : PortIdentity). x.clock) way.to);
@@ -118,9 +118,9 @@ module _ (p : Pace) (start : ℕ) (w : WorldState) (is : IsWorld p w) (ready : A
 
   -- so it is measured, where the way from the port stands
   way_measured : (i : ℕ) (q : Port) (to : PortIdentity) → slice_get station.system.ports i ≡ Some q
-      → Joins (snapshot_of w) (identity_of (own station.system (suc i))) to
-      → IsWay w (identity_of (own station.system (suc i))) to
-      → HasMeasuredLink w (identity_of (own station.system (suc i))) to q
+      → Joins (snapshot_of w) (port_identity_number (own station.system (suc i))) to
+      → IsWay w (port_identity_number (own station.system (suc i))) to
+      → HasMeasuredLink w (port_identity_number (own station.system (suc i))) to q
   way_measured i q to there joins way =
       let at = place_of_way (suc i) to way in
       let x = ready_measured p start at w is.known (ready at (way_stands (suc i) to joins way)) late in
@@ -139,10 +139,10 @@ module _ (p : Pace) (start : ℕ) (w : WorldState) (is : IsWorld p w) (ready : A
       record {
         at = at;
         link = l;
-        from_is = ap (λ c. identity_of (sender way.direction c)) same_channel ∙ way.from;
-        to_is = ap (λ c. identity_of (receiver way.direction c)) same_channel ∙ way.to;
+        from_is = ap (λ c. port_identity_number (sender way.direction c)) same_channel ∙ way.from;
+        to_is = ap (λ c. port_identity_number (receiver way.direction c)) same_channel ∙ way.to;
         state = state;
-        measured = subst (λ (one : Port). HasMeasured (setting at w l) (least_delay at w l) one.peer.last) state
+        measured = subst (λ (one : Port). HasMeasured (link_setting at w l) (least_delay at w l) one.peer.last) state
             x.measured;
       }
 
@@ -150,4 +150,4 @@ pub news_measured : (p : Pace) (start : ℕ) (w : WorldState) → IsNews p start
     → start ≤ w.time → HaveMeasuredLinks w
 news_measured p start w news quiet late place station here live i h q holds there to joins =
     way_measured p start w news.world news.ready quiet late place station here live i q to there joins
-    (way_of w (identity_of (own station.system (suc i))) to joins)
+    (way_of w (port_identity_number (own station.system (suc i))) to joins)

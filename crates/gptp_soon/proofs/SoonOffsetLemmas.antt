@@ -19,7 +19,7 @@ use Rattle.gptp_system.specs.declared.answer.Answer.TheVariants as answers
 use Rattle.gptp_system.specs.State.{SystemState, clock, local_time}
 use Rattle.gptp_accuracy.specs.TimeError.{time_error_at}
 use Rattle.gptp_acts.proofs.SoundLemmas.{acts_sound}
-use Rattle.gptp_acts.specs.Acts.{Acts, Tells, at}
+use Rattle.gptp_acts.specs.Acts.{Acts, TellsHearing, at}
 use Rattle.gptp_acts.specs.Course.{WasDone}
 use Rattle.gptp_acts.specs.declared.done.Done.{Done}
 use Rattle.gptp_acts.specs.declared.done.Done.TheVariants.{Quiet, Heard}
@@ -30,9 +30,9 @@ use Rattle.gptp_acts.specs.World.{WorldState, port_id}
 use Rattle.gptp_timing.proofs.TreeLemmas.{way_ends_at_parent, way_leads_to}
 use Rattle.gptp_timing.specs.Follower.{from}
 use Rattle.gptp_timing.specs.Tree.{IsWayTo}
-use Rattle.gptp_kept.specs.Calm.{place_of}
-use Rattle.gptp_kept.specs.Exact.{IsAhead, IsErrorOf}
-use Rattle.gptp_kept.specs.Followers.{HasWay, follower_clock, follower_setting, parts_of}
+use Rattle.gptp_kept.specs.Calm.{clock_place}
+use Rattle.gptp_kept.specs.Exact.{IsAhead, IsWayError}
+use Rattle.gptp_kept.specs.Followers.{HasWay, follower_clock, follower_setting, follower_parts}
 use Rattle.gptp_kept.specs.Standing.{snapshot_of}
 use Rattle.gptp_kept.specs.Timed.{AllMeasureRight, CarriesTime, IsSettledFrom}
 use Rattle.gptp_kept.specs.TimedLaws.{IsRootOf}
@@ -47,8 +47,8 @@ use Rattle.gptp_soon.proofs.TimedNewsLemmas.{CanSettle, IsOldBy, IsTimed, can_la
 -- ---- at another time
 
 -- a system has the same way at another time
-error_then : (p : Params) (w : WorldState) (time number steps error : ℕ) → IsErrorOf p w number steps error
-    → IsErrorOf p (at time w) number steps error
+error_then : (p : Params) (w : WorldState) (time number steps error : ℕ) → IsWayError p w number steps error
+    → IsWayError p (at time w) number steps error
 error_then p w time number steps error way =
     record { way = way.way; phase = way.phase; leads = way.leads; is = way.is }
 
@@ -86,18 +86,18 @@ stood link direction w draws done w' sound k place place' station station' here 
     let act = Deliver link direction in
     let keeps = acts_keep act w draws done w' tt k in
     place_is w' (acts_sound act w draws done w' sound tt k).wired.clocks place' station' there
-    ∙ ap (place_of w'.stations) same ∙ keeps.places (clock station.system)
+    ∙ ap (clock_place w'.stations) same ∙ keeps.places (clock station.system)
     ∙ sym (place_is w sound.wired.clocks place station here)
 
 module _ (link : ℕ) (direction : Direction) (w w' : WorldState) (draws : List Draw) (number port : ℕ)
     (octets : List ℕ) (done : Done) (p : Pace) (settled steps error : ℕ) (ahead offset : ℤ) (s : SystemState)
     (k : Acts (Deliver link direction) w draws done w')
-    (tells : Tells (port_id number port) (Some answers.Used) octets done)
+    (tells : TellsHearing (port_id number port) (Some answers.Used) octets done)
     (message : FollowUp) (reads : Reads octets (messages.FollowUp message)) (shows : ShowsLive number w' s)
     (left : s.offset ≡ Some offset) (is : IsSettledFrom p settled p.params.threshold w)
     (right : AllMeasureRight p.params w) (carries : CarriesTime p.params settled p.params.threshold w)
     (late : settled + suc steps * (p.params.threshold + p.params.residence) ≤ w.time)
-    (near : IsNear (snapshot_of w) number) (way : IsErrorOf p.params w number (suc steps) error)
+    (near : IsNear (snapshot_of w) number) (way : IsWayError p.params w number (suc steps) error)
     (is_ahead : IsAhead w number w.time ahead) where
   followed : Follows w is_ahead.shows.place is_ahead.shows.station
   followed =
@@ -115,7 +115,7 @@ module _ (link : ℕ) (direction : Direction) (w w' : WorldState) (draws : List 
   has_way = record {
     way = way.way;
     phase = way.phase;
-    is = subst (λ n. IsWayTo (parts_of p.params w) (snapshot_of w) (suc steps) n way.way way.phase) (sym named_so)
+    is = subst (λ n. IsWayTo (follower_parts p.params w) (snapshot_of w) (suc steps) n way.way way.phase) (sym named_so)
         way.leads;
   }
 
@@ -138,19 +138,19 @@ module _ (link : ℕ) (direction : Direction) (w w' : WorldState) (draws : List 
   from_then : from (follower_setting p.params settled p.params.threshold followed.at w followed.follower steps has_way)
       ≤ w.time
   from_then =
-      let residence = (way_ends_at_parent.common (parts_of p.params w) (snapshot_of w) (suc steps) number way.way
+      let residence = (way_ends_at_parent.common (follower_parts p.params w) (snapshot_of w) (suc steps) number way.way
       way.phase way.leads).2 in
       subst (λ r. settled + suc steps * (p.params.threshold + r) ≤ w.time) (sym residence) late
 
   pub used_exactly : AreWithin error offset ahead
   used_exactly =
-      let told : Tells (port_id (follower_clock followed.at w followed.follower) port) (Some answers.Used) octets done =
-      subst (λ n. Tells (port_id n port) (Some answers.Used) octets done) (sym named_so) tells in
+      let told : TellsHearing (port_id (follower_clock followed.at w followed.follower) port) (Some answers.Used) octets done =
+      subst (λ n. TellsHearing (port_id n port) (Some answers.Used) octets done) (sym named_so) tells in
       let exact = offsets_are_exact p settled p.params.threshold link direction w draws done w' followed.at
       followed.follower steps port octets is_ahead.shows_root.station shows.station offset has_way k told
       (message, reads) is right carries from_then root there
       (ap (λ (x : SystemState). x.offset) (sym shows.state) ∙ left) in
-      let long = way_leads_to.long (parts_of p.params w) (snapshot_of w) (suc steps) number way.way way.phase way.leads
+      let long = way_leads_to.long (follower_parts p.params w) (snapshot_of w) (suc steps) number way.way way.phase way.leads
       in
       let own : is_ahead.own ≡ followed.follower.own.station.system =
       is_ahead.shows.state ∙ ap (λ (x : Station). x.system) (sym followed.own_is) in

@@ -13,12 +13,12 @@ use Rattle.gptp_acts.specs.declared.done.Done.{Done}
 use Rattle.gptp_acts.specs.Pending.{NothingBefore}
 use Rattle.gptp_acts.specs.World.{Channel, WorldState}
 use Rattle.gptp_kept.specs.Bounded.{IsBoundedWorld}
-use Rattle.gptp_kept.specs.Calm.{HaveQuietLinks, delay_in, greatest_delay, paths_with, step_with}
+use Rattle.gptp_kept.specs.Calm.{HaveQuietLinks, delay_in, greatest_channel_delay, paths_with, step_with}
 use Rattle.gptp_kept.specs.LegibleLaws.{SetsAnOctet}
 use Rattle.gptp_kept.specs.NewsWorld.{IsNews}
 use Rattle.gptp_kept.specs.SeenLaws.{IsNoChange}
 use Rattle.gptp_kept.specs.Settled.{Settled}
-use Rattle.gptp_kept.specs.Standing.{is_used, live_systems, snapshot_of}
+use Rattle.gptp_kept.specs.Standing.{channel_is_used, live_stations, snapshot_of}
 use Rattle.gptp_kept.specs.Timed.{AllMeasureRight, CarriesTime, IsSettledFrom}
 use Rattle.gptp_kept.proofs.BoundedLemmas.{bounded_by}
 use Rattle.gptp_kept.proofs.CalmKeptLemmas.{KeepsNetwork, acts_keep, delay_kept, links_quiet, same_snapshot}
@@ -36,15 +36,15 @@ use Rattle.gptp_soon.proofs.NewsMeasuredLemmas.{news_measured}
 
 -- the greatest delay of links in use is no more than what none of them exceeds
 used_within : (systems : List System) (channels : List Channel) (bound : ℕ)
-    → ((link : ℕ) (channel : Channel) → slice_get channels link ≡ Some channel → is_used systems channel ≡ true
+    → ((link : ℕ) (channel : Channel) → slice_get channels link ≡ Some channel → channel_is_used systems channel ≡ true
     → channel.bounds.max ≤ bound)
-    → greatest_delay systems channels ≤ bound
+    → greatest_channel_delay systems channels ≤ bound
 used_within systems [] bound each = omega arith
 used_within systems (first ∷ channels) bound each =
-    by (is_used systems first) refl (used_within systems channels bound (λ link. each (suc link)))
+    by (channel_is_used systems first) refl (used_within systems channels bound (λ link. each (suc link)))
   where
-    by : (used : Bool) → is_used systems first ≡ used → greatest_delay systems channels ≤ bound
-        → (if used then max first.bounds.max (greatest_delay systems channels) else greatest_delay systems channels)
+    by : (used : Bool) → channel_is_used systems first ≡ used → greatest_channel_delay systems channels ≤ bound
+        → (if used then max first.bounds.max (greatest_channel_delay systems channels) else greatest_channel_delay systems channels)
         ≤ bound
     by true is later = let one = each zero first refl is in omega (arith, one, later)
     by false is later = later
@@ -127,7 +127,7 @@ module _ (p : Pace) (m start settled : ℕ) where
     old = old;
     late = on;
     shown = shown;
-    short = used_within (live_systems w.stations) w.net.channels p.params.threshold
+    short = used_within (live_stations w.stations) w.net.channels p.params.threshold
         (λ link channel here used. let good = (can.quiet link channel here used).good in omega (arith, good));
     limit = news.pace.params.ranges.threshold;
   }

@@ -30,7 +30,7 @@ use Rattle.gptp_acts.specs.World.{WorldState, port_id}
 use Rattle.gptp_kept.specs.Calm.{paths_with, step_with}
 use Rattle.gptp_kept.specs.Claimed.{IsClaimed}
 use Rattle.gptp_kept.specs.Elsewhere.{IsOtherLink}
-use Rattle.gptp_kept.specs.Exact.{IsAhead, IsErrorOf}
+use Rattle.gptp_kept.specs.Exact.{IsAhead, IsWayError}
 use Rattle.gptp_kept.specs.LegibleLaws.{SetsAnOctet}
 use Rattle.gptp_kept.specs.LinkView.{LinkPlace}
 use Rattle.gptp_kept.specs.NewsCourse.{SettlesFrom, capable_from}
@@ -38,7 +38,7 @@ use Rattle.gptp_kept.specs.NewsWorld.{IsNews}
 use Rattle.gptp_kept.specs.SoundWorld.{IsGain, IsSoundWorld}
 use Rattle.gptp_kept.specs.Standing.{snapshot_of}
 use Rattle.gptp_kept.specs.Unanswered.{StandsUnanswered}
-use Rattle.gptp_reached.specs.Headline.{IsCalm, LeavesOffset}
+use Rattle.gptp_reached.specs.Headline.{WorldIsCalm, LeavesOffset}
 
 -- ---- times
 
@@ -65,7 +65,7 @@ abbrev pub AreExactFrom : Pace → ℕ → WorldState → ℕ → WorldState →
 AreExactFrom p settled w time w' done = (steps number error : ℕ) (offset ahead : ℤ)
     → settled + suc steps * (p.params.threshold + p.params.residence) ≤ time
     → LeavesOffset number offset w' done
-    → IsNear (snapshot_of w) number → IsErrorOf p.params w number (suc steps) error → IsAhead w number time ahead
+    → IsNear (snapshot_of w) number → IsWayError p.params w number (suc steps) error → IsAhead w number time ahead
     → AreWithin error offset ahead
 
 -- ---- laws
@@ -77,7 +77,7 @@ NewsAreExact {F} answers = (p : Pace) (start settled until m : ℕ) (told : List
     (fate drawn fate_after : F) (w now w' : WorldState) (done : Done)
     → IsNews p start w → w.time < settled → Advances answers until told fate drawn w now
     → WasDone answers timed drawn fate_after now w' done → timed.at ≤ 10 ^ 18
-    → IsCalm p now → IsSettledBy p m start settled now
+    → WorldIsCalm p now → IsSettledBy p m start settled now
     → AreExactFrom p settled now timed.at w' done
 
 -- such is a network that starts
@@ -86,7 +86,7 @@ StartsAreExact {F} answers = (n : NetworkState) (settled until m : ℕ) (told : 
     (fate begun drawn fate_after : F) (w now w' : WorldState) (done : Done)
     → IsNetwork n → Begun answers n fate begun w → Advances answers until told begun drawn w now
     → WasDone answers timed drawn fate_after now w' done → timed.at ≤ 10 ^ 18
-    → IsCalm (pace_of n) now → IsSettledBy (pace_of n) m (capable_from (pace_of n) now 0) settled now
+    → WorldIsCalm (pace_of n) now → IsSettledBy (pace_of n) m (capable_from (pace_of n) now 0) settled now
     → AreExactFrom (pace_of n) settled now timed.at w' done
 
 -- such is one in which a link comes up between live systems, where all that it holds is sound and it has been left
@@ -99,7 +99,7 @@ LinksUpAreExact {F} answers = (p : Pace) (number port time settled until m : ℕ
     → ((at : LinkPlace) → StandsUnanswered at between → IsOtherLink at (port_id number port) w)
     → Advances answers until told drawn later between now
     → WasDone answers timed later fate_after now w' done → timed.at ≤ 10 ^ 18
-    → IsCalm p now → IsSettledBy p m (capable_from p now time) settled now
+    → WorldIsCalm p now → IsSettledBy p m (capable_from p now time) settled now
     → AreExactFrom p settled now timed.at w' done
 
 -- and one in which anything else is gained, whenever that is
@@ -111,5 +111,5 @@ GainsAreExact {F} answers = (p : Pace) (change : Change) (time start settled unt
     → WasDone answers (record { at = time; act = Changing change }) fate drawn w between made
     → Advances answers until told drawn later between now
     → WasDone answers timed later fate_after now w' done → timed.at ≤ 10 ^ 18
-    → IsCalm p now → SettlesFrom p time start between → IsSettledBy p m start settled now
+    → WorldIsCalm p now → SettlesFrom p time start between → IsSettledBy p m start settled now
     → AreExactFrom p settled now timed.at w' done

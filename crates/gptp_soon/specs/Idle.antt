@@ -20,7 +20,7 @@ use Rattle.gptp_kept.specs.NewsCourse.{HasSettledBy}
 use Rattle.gptp_kept.specs.NewsWorld.{IsNews}
 use Rattle.gptp_kept.specs.SoundWorld.{IsDownAt}
 use Rattle.gptp_kept.specs.Standing.{snapshot_of}
-use Rattle.gptp_reached.specs.Headline.{IsCalm, IsSettled}
+use Rattle.gptp_reached.specs.Headline.{WorldIsCalm, IsSettled}
 
 -- a link at the port is up
 abbrev pub IsUpAt : PortId → WorldState → Type 0
@@ -59,5 +59,5 @@ IdlesStaySettled {F} answers = (p : Pace) (start time until m : ℕ) (change : C
     → IsClaimed p w → IsNews p start w → IsIdle change (at_time time w) → SetsAnOctet (Changing change)
     → WasDone answers (record { at = time; act = Changing change }) fate drawn w between done
     → Advanced answers until told drawn fate_after between w'
-    → IsCalm p w' → BoundsPaths (snapshot_of w') m → HasSettledBy p m start w'
+    → WorldIsCalm p w' → BoundsPaths (snapshot_of w') m → HasSettledBy p m start w'
     → IsSettled w'

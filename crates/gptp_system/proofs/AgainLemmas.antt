@@ -11,13 +11,13 @@ use Rattle.gptp_receipt.specs.declared.held.Held.{Held}
 use Rattle.gptp_receipt.specs.declared.held.Held.TheVariants as helds
 use Rattle.gptp_receipt.specs.declared.held.Heard.TheVariants as heards
 use Rattle.gptp_receipt.specs.declared.held.Reception.{Reception}
-use Rattle.gptp_receipt.specs.Held.{comparison, held_after as held_when_heard, message_vector, received, reception}
+use Rattle.gptp_receipt.specs.Held.{comparison, held_after_selection as held_when_heard, message_vector, received, reception}
 use Rattle.gptp_receipt.specs.Qualification.{Qualified}
 use Rattle.gptp_roles.specs.Choice.{path_vectors}
-use Rattle.gptp_roles.specs.Role.{each_from, held_after, is_master, role_of}
+use Rattle.gptp_roles.specs.Role.{each_from, held_after_selection, is_master, chosen_role}
 use Rattle.gptp_roles.proofs.RoleLemmas.{held_after-kept, held_after-master}
 use Rattle.gptp_system.specs.declared.sending.Sending.{Sending}
-use Rattle.gptp_system.specs.Announcing.{SaysAgain, compared, is_taken}
+use Rattle.gptp_system.specs.Announcing.{SaysAgain, compared, replaces_held}
 use Rattle.gptp_system.specs.Facts.{AreHeld, IsAtRest}
 use Rattle.gptp_system.specs.Selection.{Becomes, Selects, SelectsIf}
 use Rattle.gptp_system.specs.State.{SystemState, change_at, clock, held_at, number, on_held, own}
@@ -44,33 +44,33 @@ paths_still g (suc i) (h ∷ hs) says =
     (paths_still g i hs says)
 
 -- a port that kept what it held keeps it again
-keeps_still : (v : Vector) (c p : ℕ) (h h' : Held) → SaysStill h h' → held_after v c p h ≡ h
-    → held_after v c p h' ≡ h'
-keeps_still v c p h h' k stays = go (is_master (role_of v c p h)) refl
+keeps_still : (v : Vector) (c p : ℕ) (h h' : Held) → SaysStill h h' → held_after_selection v c p h ≡ h
+    → held_after_selection v c p h' ≡ h'
+keeps_still v c p h h' k stays = go (is_master (chosen_role v c p h)) refl
   where
-    go : (b : Bool) → is_master (role_of v c p h) ≡ b → held_after v c p h' ≡ h'
+    go : (b : Bool) → is_master (chosen_role v c p h) ≡ b → held_after_selection v c p h' ≡ h'
     go true master =
         let mine : helds.Mine v.root v.steps ≡ h = sym (held_after-master v c p h master) ∙ stays in
         absurd (none-some k.before (ap received mine ∙ k.was))
     go false other =
-        let same : role_of v c p h' ≡ role_of v c p h = rw (k.was, k.is, k.same) refl in
+        let same : chosen_role v c p h' ≡ chosen_role v c p h = rw (k.was, k.is, k.same) refl in
         held_after-kept v c p h' (ap is_master same ∙ other)
 
 -- so do all
 stay_still : (v : Vector) (c p : ℕ) (g : Held → Held) (i : ℕ) (hs : List Held)
-    → ((h : Held) → slice_get hs i ≡ Some h → SaysStill h (g h)) → hs ≡ each_from (held_after v c) p hs
-    → change_at g i hs ≡ each_from (held_after v c) p (change_at g i hs)
+    → ((h : Held) → slice_get hs i ≡ Some h → SaysStill h (g h)) → hs ≡ each_from (held_after_selection v c) p hs
+    → change_at g i hs ≡ each_from (held_after_selection v c) p (change_at g i hs)
 stay_still v c p g i [] says stays = refl
 stay_still v c p g zero (h ∷ hs) says stays =
-    let first : held_after v c p h ≡ h = cc in
-    let rest : hs ≡ each_from (held_after v c) (p + 1) hs = cc in
+    let first : held_after_selection v c p h ≡ h = cc in
+    let rest : hs ≡ each_from (held_after_selection v c) (p + 1) hs = cc in
     ap (λ (x : Held). x ∷ hs) (sym (keeps_still v c p h (g h) (says h refl) first))
-    ∙ ap (λ (xs : List Held). held_after v c p (g h) ∷ xs) rest
+    ∙ ap (λ (xs : List Held). held_after_selection v c p (g h) ∷ xs) rest
 stay_still v c p g (suc i) (h ∷ hs) says stays =
-    let first : h ≡ held_after v c p h = cc in
-    let rest : hs ≡ each_from (held_after v c) (p + 1) hs = cc in
+    let first : h ≡ held_after_selection v c p h = cc in
+    let rest : hs ≡ each_from (held_after_selection v c) (p + 1) hs = cc in
     ap (λ (x : Held). x ∷ change_at g i hs) first
-    ∙ ap (λ (xs : List Held). held_after v c p h ∷ xs) (stay_still v c (p + 1) g i hs says rest)
+    ∙ ap (λ (xs : List Held). held_after_selection v c p h ∷ xs) (stay_still v c (p + 1) g i hs says rest)
 
 still_rest : (p : ℕ) (g : Held → Held) (s : SystemState)
     → ((h : Held) → number s.held p ≡ Some h → SaysStill h (g h)) → IsAtRest s → IsAtRest (on_held p g s)
@@ -138,12 +138,12 @@ compared_rest p a now s says r =
 pub selects_again_or_not : (p : ℕ) (a : AnnounceView) (now : ℕ) (s s' : SystemState) (sends : List Sending)
     (again : Bool) → (again ≡ true → SaysAgain (held_at s p) (own s p) a) → Qualified a (clock s) → AreHeld s
     → IsAtRest s
-    → SelectsIf (is_taken (comparison (held_at s p) (own s p) a) && not again) now (compared p a now s) s' sends
-    → SelectsIf (is_taken (comparison (held_at s p) (own s p) a)) now (compared p a now s) s' sends
+    → SelectsIf (replaces_held (comparison (held_at s p) (own s p) a) && not again) now (compared p a now s) s' sends
+    → SelectsIf (replaces_held (comparison (held_at s p) (own s p) a)) now (compared p a now s) s' sends
 selects_again_or_not p a now s s' sends again says qualified held rest selects = go again refl
   where
     heard : Bool
-    heard = is_taken (comparison (held_at s p) (own s p) a)
+    heard = replaces_held (comparison (held_at s p) (own s p) a)
 
     left : (b : Bool) → (b && not false) ≡ b
     left true = refl
@@ -158,7 +158,7 @@ selects_again_or_not p a now s s' sends again says qualified held rest selects =
         subst (λ b. SelectsIf b now (compared p a now s) s' sends) (ap (λ b. heard && not b) isn't ∙ left heard) selects
     go true is =
         let taken : heard ≡ true =
-        ap is_taken (repeated (held_at s p) (own s p) a (said (held_at s p) (own s p) a (says is))) in
+        ap replaces_held (repeated (held_at s p) (own s p) a (said (held_at s p) (own s p) a (says is))) in
         let k : Becomes (compared p a now s) s' sends =
         subst (λ b. SelectsIf b now (compared p a now s) s' sends) (ap (λ b. heard && not b) is ∙ out heard) selects in
         let itself : Selects now (compared p a now s) (compared p a now s) [] =

@@ -4,9 +4,9 @@ use Rattle.std.specs.Prelude.{slice_set, slice_index_or}
 use Rattle.std.specs.List.{AllByRecursion}
 use Rattle.gptp_system.specs.declared.port.Port.{Port}
 use Rattle.gptp_system.specs.declared.sending.Sending.{Sending}
-use Rattle.gptp_system.specs.Ready.{IsPort}
+use Rattle.gptp_system.specs.Ready.{IsReadyPort}
 use Rattle.gptp_system.specs.Sends.{announcement}
-use Rattle.gptp_system.specs.Selection.{announced, all_announced, announcements}
+use Rattle.gptp_system.specs.Selection.{announced_again, all_announced, announcements}
 
 -- ports keep their places
 pub length-all_announced : (now : ℕ) (fs : List Bool) (qs : List Port) → length fs ≤ length qs
@@ -37,13 +37,13 @@ not_reached now (suc i) (f ∷ fs) (q ∷ qs) d past = not_reached now i fs qs d
 pub all_announced-more : (now i : ℕ) (fs : List Bool) (qs : List Port) (d : Port) → i < length fs
     → length fs ≤ length qs
     → slice_set (all_announced now (take i fs) qs) i
-    (if slice_index_or fs i false then announced now (slice_index_or qs i d) else slice_index_or qs i d)
+    (if slice_index_or fs i false then announced_again now (slice_index_or qs i d) else slice_index_or qs i d)
     ≡ all_announced now (take (suc i) fs) qs
 all_announced-more now i [] qs d within few = absurd (omega arith)
 all_announced-more now i (f ∷ fs) [] d within few = absurd (omega arith)
 all_announced-more now zero (f ∷ fs) (q ∷ qs) d within few = refl
 all_announced-more now (suc i) (f ∷ fs) (q ∷ qs) d within few =
-    ap (λ (rest : List Port). (if f then announced now q else q) ∷ rest)
+    ap (λ (rest : List Port). (if f then announced_again now q else q) ∷ rest)
     (all_announced-more now i fs qs d (omega arith) (omega arith))
 
 -- and its Announce, where it is marked
@@ -73,8 +73,8 @@ announcements-more clock root steps p (suc i) (false ∷ fs) (q ∷ qs) d within
     rw later at (announcements-more clock root steps (p + 1) i fs qs d (omega arith) (omega arith))
 
 -- what holds of each port holds of the one at a place
-pub port_at : (qs : List Port) (i : ℕ) (d : Port) → AllByRecursion IsPort qs → i < length qs
-    → IsPort (slice_index_or qs i d)
+pub port_at : (qs : List Port) (i : ℕ) (d : Port) → AllByRecursion IsReadyPort qs → i < length qs
+    → IsReadyPort (slice_index_or qs i d)
 port_at [] i d all within = absurd (omega arith)
 port_at (q ∷ qs) zero d all within = all.0
 port_at (q ∷ qs) (suc i) d all within = port_at qs i d all.1 (omega arith)

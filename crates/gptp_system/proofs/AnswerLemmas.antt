@@ -11,7 +11,7 @@ use Rattle.gptp_messages.proofs.GrammarLemmas.{never_both, one_reading}
 use Rattle.gptp_receipt.specs.declared.qualification.Why.{Why}
 use Rattle.gptp_receipt.specs.declared.qualification.Why.TheVariants as whys
 use Rattle.gptp_receipt.specs.Held.{comparison}
-use Rattle.gptp_receipt.specs.Qualification.{Fails, Qualified}
+use Rattle.gptp_receipt.specs.Qualification.{FailsTest, Qualified}
 use Rattle.gptp_correction.specs.declared.correction.Relayed.{Relayed}
 use Rattle.gptp_correction.specs.declared.sync_in.SyncInfo.{SyncInfo}
 use Rattle.gptp_pdelay.specs.Peer.{after_follow_up, after_interval, after_response, reset_peer}
@@ -23,9 +23,9 @@ use Rattle.gptp_setup.specs.declared.timer.Timer.TheVariants as timers
 use Rattle.gptp_system.specs.State.{SystemState, clock, due, held_at, is_capable_at, local_time, own, with_peer}
 use Rattle.gptp_system.specs.Selection.{SelectsIf}
 use Rattle.gptp_system.specs.Measuring.{answering_done, down, owed_at, owes, owing, responded}
-use Rattle.gptp_system.specs.Announcing.{HearsQualified, aged_at, compared, is_taken, with_priority}
+use Rattle.gptp_system.specs.Announcing.{HearsQualified, aged_at, compared, replaces_held, with_priority}
 use Rattle.gptp_system.specs.Lapse.{lapsed}
-use Rattle.gptp_system.specs.Syncing.{HearsFollowUpIf, HearsSyncIf, KeepsIf, KnowsBy, KnowsIf, RelaysBy, RelaysIf, SyncsIf, delay_at, is_followed, leads, own_time, rate_at, restarted, said_on, stopped, telling, told_by}
+use Rattle.gptp_system.specs.Syncing.{HearsFollowUpIf, HearsSyncIf, KeepsIf, KnowsBy, KnowsIf, RelaysBy, RelaysIf, SyncsIf, delay_at, is_followed, is_leading, own_time, root_rate_at, restarted, said_on, timer_stopped, telling, told_by}
 use Rattle.gptp_system.specs.Steps.{Expires as TimerExpires, HearsFrame, HearsMessage}
 use Rattle.gptp_system.specs.Input.{Input, IsTimely, Steps, PortUp, PortDown, Frame, Expires, Priority}
 use Rattle.gptp_system.specs.Facts.{AreShown, IsAtRest}
@@ -58,7 +58,7 @@ later_on s t u a b = record {
 later_restarted : (now : ℕ) (s : SystemState) → Later s (restarted now s)
 later_restarted now s = later_apart s s.sync_in s.known s.offset _ s.relay s.lapse
 
-later_stopped : (s : SystemState) → Later s (stopped s)
+later_stopped : (s : SystemState) → Later s (timer_stopped s)
 later_stopped s = later_apart s s.sync_in s.known s.offset s.sync None s.lapse
 
 telling_other : (told : Relayed) (s : SystemState) (sends : List Sending) → sends ≡ told_by told s → AreOther sends
@@ -103,7 +103,7 @@ hears_follow_up : (b : Bool) (p : ℕ) (m : FollowUp) (now : ℕ) (s s' : System
     → HearsFollowUpIf b p m now s s' sends answer → Concludes s now s' sends
 hears_follow_up false p m now s s' sends answer r k = becomes now s s s' sends r (later_itself s) k.becomes
 hears_follow_up true p m now s s' sends answer r k =
-    knows_if (said_on p m s) (delay_at s p) (rate_at s p) now s s' sends answer r k
+    knows_if (said_on p m s) (delay_at s p) (root_rate_at s p) now s s' sends answer r k
 
 syncs_if : (b : Bool) (now : ℕ) (s s' : SystemState) (sends : List Sending) → IsAtRest s → SyncsIf b now s s' sends
     → Concludes s now s' sends
@@ -117,11 +117,11 @@ syncs_if false now s s' sends r k = becomes now s (restarted now s) s' sends r (
 
 -- all Master ports tell time at the Relay timer
 relayed_on : (told : Relayed) (now : ℕ) (s s' : SystemState) (sends : List Sending) → IsAtRest s
-    → s' ≡ telling (stopped s) → sends ≡ told_by told s → Concludes s now s' sends
+    → s' ≡ telling (timer_stopped s) → sends ≡ told_by told s → Concludes s now s' sends
 relayed_on told now s s' sends r is sent =
     subst (λ x. Concludes s now x sends) (sym is)
-    (rests now s (telling (stopped s)) sends r
-    (later_on s (stopped s) (telling (stopped s)) (later_stopped s) (later_telling (stopped s)))
+    (rests now s (telling (timer_stopped s)) sends r
+    (later_on s (timer_stopped s) (telling (timer_stopped s)) (later_stopped s) (later_telling (timer_stopped s)))
     (telling_other told s sends sent))
 
 relays_by : (b : Bool) (info : SyncInfo) (now : ℕ) (s s' : SystemState) (sends : List Sending) → IsAtRest s
@@ -129,18 +129,18 @@ relays_by : (b : Bool) (info : SyncInfo) (now : ℕ) (s s' : SystemState) (sends
     → Concludes s now s' sends
 relays_by true info now s s' sends r k = relayed_on k.told now s s' sends r k.state k.sends_are
 relays_by false info now s s' sends r (inl k) = relayed_on _ now s s' sends r k.state k.sends_are
-relays_by false info now s s' sends r (inr k) = becomes now s (stopped s) s' sends r (later_stopped s) k.becomes
+relays_by false info now s s' sends r (inr k) = becomes now s (timer_stopped s) s' sends r (later_stopped s) k.becomes
 
 relays_if : (known : Option SyncInfo) (now : ℕ) (s s' : SystemState) (sends : List Sending) → IsAtRest s
     → RelaysIf known now s s' sends
     → Concludes s now s' sends
-relays_if None now s s' sends r k = becomes now s (stopped s) s' sends r (later_stopped s) k
+relays_if None now s s' sends r k = becomes now s (timer_stopped s) s' sends r (later_stopped s) k
 relays_if (Some info) now s s' sends r k = relays_by (has_sync_timeout s.params) info now s s' sends r k
 
 -- ---- Announces
 
 -- what fails a test isn't qualified
-not_qualified : (a : AnnounceView) (c : ℕ) (why : Why) → Fails a c why → Qualified a c → ⊥
+not_qualified : (a : AnnounceView) (c : ℕ) (why : Why) → FailsTest a c why → Qualified a c → ⊥
 not_qualified a c whys.OwnMessage fails k = k.foreign fails
 not_qualified a c whys.TooManySteps fails k = let near = k.near in absurd (omega arith)
 not_qualified a c whys.Loop fails k = k.no_loop fails
@@ -150,12 +150,12 @@ hears_qualified : (p : ℕ) (a : AnnounceView) (now : ℕ) (s s' : SystemState) 
     → AreShown s → IsAtRest s
     → HearsQualified p a now s s' sends answer → Reacts s (Hear p a) now s' sends
 hears_qualified p a now s s' sends answer shown r k =
-    go (is_taken (comparison (held_at s p) (own s p) a)) refl k.selects
+    go (replaces_held (comparison (held_at s p) (own s p) a)) refl k.selects
   where
     mids : Mids s (Hear p a) now (compared p a now s)
     mids = heard_mids p a now s shown k.on k.qualified
 
-    go : (b : Bool) → is_taken (comparison (held_at s p) (own s p) a) ≡ b
+    go : (b : Bool) → replaces_held (comparison (held_at s p) (own s p) a) ≡ b
         → SelectsIf b now (compared p a now s) s' sends
         → Reacts s (Hear p a) now s' sends
     go true is h =
@@ -269,7 +269,7 @@ expires (timers.Respond p) now t s s' sends shown r is past k =
     different : Answering ≡ Announcing → ⊥
     different e = cc
 expires timers.Sync now t s s' sends shown r is past k =
-    by_other (λ touch. touch ≡ Other) s now s' sends refl (syncs_if (leads s) now s s' sends r k)
+    by_other (λ touch. touch ≡ Other) s now s' sends refl (syncs_if (is_leading s) now s s' sends r k)
 expires timers.Relay now t s s' sends shown r is past k =
     by_other (λ touch. touch ≡ Other) s now s' sends refl (relays_if s.known now s s' sends r k)
 expires timers.Lapse now t s s' sends shown r is past k =

@@ -11,7 +11,7 @@ use Rattle.gptp_vector.specs.declared.port.PortId.{PortId}
 use Rattle.gptp_system.specs.declared.port.Port.{Port}
 use Rattle.gptp_system.specs.declared.sending.Sending.{Sending}
 use Rattle.gptp_system.specs.State.{is_mine}
-use Rattle.gptp_system.specs.Sends.{announcement, count, sends_up_to, with_send}
+use Rattle.gptp_system.specs.Sends.{announcement, count_such, sends_up_to, with_send}
 use Rattle.gptp_system.specs.Selection.{announcements}
 use Rattle.gptp_system.specs.Syncing.{follow_up_of, sync_of, syncs}
 use Rattle.gptp_system.proofs.EndLemmas.{from_announcements}
@@ -19,68 +19,68 @@ use Rattle.gptp_system.proofs.EndLemmas.{from_announcements}
 -- ---- any sends
 
 pub count-append : (such : Sending → Bool) (xs ys : List Sending)
-    → count such (xs ++ ys) ≡ count such xs + count such ys
+    → count_such such (xs ++ ys) ≡ count_such such xs + count_such such ys
 count-append such [] ys = omega arith
 count-append such (x ∷ xs) ys = go (such x) (count-append such xs ys)
   where
-    go : (b : Bool) → count such (xs ++ ys) ≡ count such xs + count such ys
-        → (if b then 1 + count such (xs ++ ys) else count such (xs ++ ys))
-        ≡ (if b then 1 + count such xs else count such xs) + count such ys
+    go : (b : Bool) → count_such such (xs ++ ys) ≡ count_such such xs + count_such such ys
+        → (if b then 1 + count_such such (xs ++ ys) else count_such such (xs ++ ys))
+        ≡ (if b then 1 + count_such such xs else count_such such xs) + count_such such ys
     go true ih = omega arith
     go false ih = ih
 
-pub count-length : (such : Sending → Bool) (xs : List Sending) → count such xs ≤ length xs
+pub count-length : (such : Sending → Bool) (xs : List Sending) → count_such such xs ≤ length xs
 count-length such [] = omega arith
 count-length such (x ∷ xs) = go (such x) (count-length such xs)
   where
-    go : (b : Bool) → count such xs ≤ length xs → (if b then 1 + count such xs else count such xs) ≤ suc (length xs)
+    go : (b : Bool) → count_such such xs ≤ length xs → (if b then 1 + count_such such xs else count_such such xs) ≤ suc (length xs)
     go true ih = omega arith
     go false ih = omega arith
 
 -- one is such
 pub count-first : (such : Sending → Bool) (x : Sending) (xs : List Sending) → such x ≡ true
-    → count such (x ∷ xs) ≡ 1 + count such xs
+    → count_such such (x ∷ xs) ≡ 1 + count_such such xs
 count-first such x xs is = rw is refl
 
 pub count-other : (such : Sending → Bool) (x : Sending) (xs : List Sending) → such x ≡ false
-    → count such (x ∷ xs) ≡ count such xs
+    → count_such such (x ∷ xs) ≡ count_such such xs
 count-other such x xs is = rw is refl
 
 -- none is such
 pub count-none : (such : Sending → Bool) (xs : List Sending) → ((x : Sending) → In x xs → such x ≡ false)
-    → count such xs ≡ 0
+    → count_such such xs ≡ 0
 count-none such [] none = refl
 count-none such (x ∷ xs) none =
     count-other such x xs (none x (inl refl)) ∙ count-none such xs (λ y member. none y (inr member))
 
 pub count-some : (such : Sending → Bool) (xs : List Sending) (x : Sending) → In x xs → such x ≡ true
-    → 1 ≤ count such xs
+    → 1 ≤ count_such such xs
 count-some such [] x member is = absurd member
 count-some such (y ∷ xs) x (inl here) is =
     let first = count-first such y xs (sym (ap such here) ∙ is) in omega arith
 count-some such (y ∷ xs) x (inr later) is = go (such y) (count-some such xs x later is)
   where
-    go : (b : Bool) → 1 ≤ count such xs → 1 ≤ (if b then 1 + count such xs else count such xs)
+    go : (b : Bool) → 1 ≤ count_such such xs → 1 ≤ (if b then 1 + count_such such xs else count_such such xs)
     go true ih = omega arith
     go false ih = ih
 
 -- one send more counts wherever it goes
 pub count-with_send : (such : Sending → Bool) (x : Sending) (xs : List Sending)
-    → count such (with_send x xs) ≡ count such (x ∷ xs)
+    → count_such such (with_send x xs) ≡ count_such such (x ∷ xs)
 count-with_send such x xs =
     let front = take (sends_up_to x.port xs) xs in
     let back = drop (sends_up_to x.port xs) xs in
     let one = count-append such front (x ∷ back) in
-    let all = ap (count such) (sym (take-append-drop (sends_up_to x.port xs) xs)) ∙ count-append such front back in
+    let all = ap (count_such such) (sym (take-append-drop (sends_up_to x.port xs) xs)) ∙ count-append such front back in
     go (such x) one all
   where
     go : (b : Bool)
-        → count such (with_send x xs)
-        ≡ count such (take (sends_up_to x.port xs) xs)
-        + (if b then 1 + count such (drop (sends_up_to x.port xs) xs) else count such (drop (sends_up_to x.port xs) xs))
-        → count such xs
-        ≡ count such (take (sends_up_to x.port xs) xs) + count such (drop (sends_up_to x.port xs) xs)
-        → count such (with_send x xs) ≡ (if b then 1 + count such xs else count such xs)
+        → count_such such (with_send x xs)
+        ≡ count_such such (take (sends_up_to x.port xs) xs)
+        + (if b then 1 + count_such such (drop (sends_up_to x.port xs) xs) else count_such such (drop (sends_up_to x.port xs) xs))
+        → count_such such xs
+        ≡ count_such such (take (sends_up_to x.port xs) xs) + count_such such (drop (sends_up_to x.port xs) xs)
+        → count_such such (with_send x xs) ≡ (if b then 1 + count_such such xs else count_such such xs)
     go true one all = omega arith
     go false one all = omega arith
 
@@ -98,7 +98,7 @@ IsOnlyAt such p = (x : Sending) → such x ≡ true → x.port ≡ p
 
 -- where all go at higher ports, none is such
 none_above : (such : Sending → Bool) (p : ℕ) → IsOnlyAt such p → (xs : List Sending)
-    → ((x : Sending) → In x xs → p + 1 ≤ x.port) → count such xs ≡ 0
+    → ((x : Sending) → In x xs → p + 1 ≤ x.port) → count_such such xs ≡ 0
 none_above such p only xs above =
     count-none such xs
     (λ x member.
@@ -135,7 +135,7 @@ announcements_length c root steps n (f ∷ fs) (q ∷ qs) = go f (announcements_
 
 -- each port announces once at most
 pub announcements_once : (such : Sending → Bool) (p : ℕ) → IsOnlyAt such p → (c root steps n : ℕ) (fs : List Bool)
-    (qs : List Port) → count such (announcements c root steps n fs qs) ≤ 1
+    (qs : List Port) → count_such such (announcements c root steps n fs qs) ≤ 1
 announcements_once such p only c root steps n [] qs = omega arith
 announcements_once such p only c root steps n (f ∷ fs) [] = omega arith
 announcements_once such p only c root steps n (f ∷ fs) (q ∷ qs) =
@@ -147,7 +147,7 @@ announcements_once such p only c root steps n (f ∷ fs) (q ∷ qs) =
     first : Sending
     first = announcement (record { clock = c; port = n }) root steps q
 
-    go : (b one : Bool) → such first ≡ one → count such rest ≤ 1 → count such (if b then first ∷ rest else rest) ≤ 1
+    go : (b one : Bool) → such first ≡ one → count_such such rest ≤ 1 → count_such such (if b then first ∷ rest else rest) ≤ 1
     go false one is ih = ih
     go true false is ih = let other = count-other such first rest is in omega arith
     go true true is ih =
@@ -206,8 +206,8 @@ syncs_length c log told n (h ∷ hs) (q ∷ qs) = go (is_mine h) (syncs_length c
 
 -- each port tells time once at most, by two messages of which this many are such
 pub syncs_once : (such : Sending → Bool) (p : ℕ) → IsOnlyAt such p → (log : ℤ) (told : Relayed) (k : ℕ)
-    → ((own : PortId) (q : Port) → count such (sync_of own log q ∷ follow_up_of own log told q ∷ []) ≤ k)
-    → (c n : ℕ) (hs : List Held) (qs : List Port) → count such (syncs c log told n hs qs) ≤ k
+    → ((own : PortId) (q : Port) → count_such such (sync_of own log q ∷ follow_up_of own log told q ∷ []) ≤ k)
+    → (c n : ℕ) (hs : List Held) (qs : List Port) → count_such such (syncs c log told n hs qs) ≤ k
 syncs_once such p only log told k few c n [] qs = omega arith
 syncs_once such p only log told k few c n (h ∷ hs) [] = omega arith
 syncs_once such p only log told k few c n (h ∷ hs) (q ∷ qs) =
@@ -225,10 +225,10 @@ syncs_once such p only log told k few c n (h ∷ hs) (q ∷ qs) =
     follow_up : Sending
     follow_up = follow_up_of own log told q
 
-    pair : count such (sync ∷ follow_up ∷ rest) ≡ count such (sync ∷ follow_up ∷ []) + count such rest
+    pair : count_such such (sync ∷ follow_up ∷ rest) ≡ count_such such (sync ∷ follow_up ∷ []) + count_such such rest
     pair = count-append such (sync ∷ follow_up ∷ []) rest
 
-    here : n ≡ p → count such (sync ∷ follow_up ∷ rest) ≤ k
+    here : n ≡ p → count_such such (sync ∷ follow_up ∷ rest) ≤ k
     here is =
         let none =
         none_above such p only rest
@@ -236,8 +236,8 @@ syncs_once such p only log told k few c n (h ∷ hs) (q ∷ qs) =
         let both = few own q in
         omega (arith, pair)
 
-    go : (b one two : Bool) → such sync ≡ one → such follow_up ≡ two → count such rest ≤ k
-        → count such (if b then sync ∷ follow_up ∷ rest else rest) ≤ k
+    go : (b one two : Bool) → such sync ≡ one → such follow_up ≡ two → count_such such rest ≤ k
+        → count_such such (if b then sync ∷ follow_up ∷ rest else rest) ≤ k
     go false one two first second ih = ih
     go true true two first second ih = here (only sync first)
     go true false true first second ih = here (only follow_up second)

@@ -1,4 +1,4 @@
--- Which changes of a state count which sends.
+-- Which changes of a state count_such which sends.
 use Rattle.std.proofs.Common.{◌≡◌, ◌≤◌, ℕ, zero, suc, ◌+◌, ℤ, Bool, true, false, List, [], ◌∷◌, Option, Some, None, slice_get, refl, sym, ap, subst, ◌∙◌, inl, inr, arith, eq-eqb, eqb-true}
 use Rattle.std.specs.Prelude.{if◌then◌else◌, ◌==◌, ◌&&◌}
 use Rattle.std.specs.Option.{option_map_or}
@@ -14,12 +14,12 @@ use Rattle.gptp_system.specs.declared.sending.Body.{Body}
 use Rattle.gptp_system.specs.declared.sending.Body.TheVariants as bodies
 use Rattle.gptp_system.specs.declared.sending.Sending.{Sending}
 use Rattle.gptp_system.specs.State.{SystemState, clock, is_mine, number, on_port, own}
-use Rattle.gptp_system.specs.Sends.{announcement, count, with_send}
-use Rattle.gptp_system.specs.Selection.{Selects, announced, announcements, choosing, fresh_ports}
+use Rattle.gptp_system.specs.Sends.{announcement, count_such, with_send}
+use Rattle.gptp_system.specs.Selection.{Selects, announced_again, announcements, choosing, fresh_ports}
 use Rattle.gptp_system.specs.Announcing.{announced_at, announcement_at}
 use Rattle.gptp_system.specs.Syncing.{follow_up_of, sync_of, syncs, telling, told_by}
-use Rattle.gptp_system.specs.Messages.{AllAre, Announcing, Kind, Telling, kind_of}
-use Rattle.gptp_system.specs.Counters.{AreCounted, Counts, announces_at, is_announce, is_sync, sequence_after, syncs_at}
+use Rattle.gptp_system.specs.Messages.{AllAre, Announcing, Kind, Telling, message_kind}
+use Rattle.gptp_system.specs.Counters.{AreCounted, CountsSent, announces_at, is_announce, is_sync, sequence_after, syncs_at}
 use Rattle.gptp_system.proofs.ChangedLemmas.{Changed, change-get, number-get}
 use Rattle.gptp_system.proofs.CountLemmas.{IsOnlyAt, announcements_once, count-none, count-some, count-with_send, syncs_once}
 use Rattle.gptp_system.proofs.EndLemmas.{announcement_sent, from_announcements}
@@ -29,7 +29,7 @@ use Rattle.gptp_system.proofs.SentLemmas.{announcements_announce}
 
 -- ---- kinds
 
-announces_only : (body : Body) (kind : Kind) → kind_of body ≡ kind → (kind ≡ Announcing → ⊥) → is_announce body ≡ false
+announces_only : (body : Body) (kind : Kind) → message_kind body ≡ kind → (kind ≡ Announcing → ⊥) → is_announce body ≡ false
 announces_only (bodies.Announce announce) kind is other = absurd (other (sym is))
 announces_only bodies.Sync kind is other = refl
 announces_only (bodies.FollowUp origin rate) kind is other = refl
@@ -37,7 +37,7 @@ announces_only bodies.PdelayReq kind is other = refl
 announces_only (bodies.PdelayResp stamp requester) kind is other = refl
 announces_only (bodies.PdelayRespFollowUp stamp requester) kind is other = refl
 
-tells_only : (body : Body) (kind : Kind) → kind_of body ≡ kind → (kind ≡ Telling → ⊥) → is_sync body ≡ false
+tells_only : (body : Body) (kind : Kind) → message_kind body ≡ kind → (kind ≡ Telling → ⊥) → is_sync body ≡ false
 tells_only (bodies.Announce announce) kind is other = refl
 tells_only bodies.Sync kind is other = absurd (other (sym is))
 tells_only (bodies.FollowUp origin rate) kind is other = refl
@@ -79,7 +79,7 @@ only_at such p x is = eqb-true x.port p (go (such x) is)
 
 -- port p sent nothing of these, and counts as before
 stays : (p : ℕ) (sends : List Sending) (q q' : Port) → announces_at p sends ≡ 0 → syncs_at p sends ≡ 0
-    → q'.announces ≡ q.announces → q'.syncs ≡ q.syncs → Counts p sends q q'
+    → q'.announces ≡ q.announces → q'.syncs ≡ q.syncs → CountsSent p sends q q'
 stays p sends q q' none_announced none_told announces syncs = record {
   announces = announces ∙ sym (ap (λ k. sequence_after k q.announces) none_announced);
   syncs = syncs ∙ sym (ap (λ k. sequence_after k q.syncs) none_told);
@@ -94,7 +94,7 @@ pub counted_on_port : (p : ℕ) (f : Port → Port) (s : SystemState) → ((q : 
 counted_on_port p f s announces syncs i q' there = go (change-get f p s.ports i q' there)
   where
     go : Changed f (p ≡ suc i) s.ports i q'
-        → (q : Port) × (slice_get s.ports i ≡ Some q) × Counts (suc i) [] q q'
+        → (q : Port) × (slice_get s.ports i ≡ Some q) × CountsSent (suc i) [] q q'
     go (q, was, inl (here, new)) = (
       q,
       was,
@@ -128,7 +128,7 @@ counted_then s t u sends a b i q' there =
     let (q, was, first) = a i p at in
     (q, was, record { announces = second.announces ∙ first.announces; syncs = second.syncs ∙ first.syncs })
 
--- sends that count as others do
+-- sends that count_such as others do
 pub counted_alike : (s s' : SystemState) (sends others : List Sending)
     → ((p : ℕ) → announces_at p others ≡ announces_at p sends) → ((p : ℕ) → syncs_at p others ≡ syncs_at p sends)
     → AreCounted s s' sends → AreCounted s s' others
@@ -159,14 +159,14 @@ counted_more s s' x sends quiet dumb a =
     ∙ passed (λ y. is_sync y.body && y.port == p) (not_first (is_sync x.body) (x.port == p) dumb))
     a
   where
-    passed : (such : Sending → Bool) → such x ≡ false → count such (x ∷ sends) ≡ count such sends
+    passed : (such : Sending → Bool) → such x ≡ false → count_such such (x ∷ sends) ≡ count_such such sends
     passed such off = rw off refl
 
 -- ---- Announces
 
 -- the port announces once
 pub announces_once : (p now : ℕ) (sends : List Sending) (q : Port) → announces_at p sends ≡ 1 → syncs_at p sends ≡ 0
-    → Counts p sends q (announced now q)
+    → CountsSent p sends q (announced_again now q)
 announces_once p now sends q once none = record {
   announces = sym (ap (λ k. sequence_after k q.announces) once);
   syncs = sym (ap (λ k. sequence_after k q.syncs) none);
@@ -221,12 +221,12 @@ selects_counted now t u sends k =
     go : AreCounted t (choosing k.vector now t) sent
     go i q' there = by (all_announced-get now fresh t.ports i q' there)
       where
-        by : Marked (announced now) (slice_get fresh i ≡ Some true) t.ports i q'
-            → (q : Port) × (slice_get t.ports i ≡ Some q) × Counts (suc i) sent q q'
+        by : Marked (announced_again now) (slice_get fresh i ≡ Some true) t.ports i q'
+            → (q : Port) × (slice_get t.ports i ≡ Some q) × CountsSent (suc i) sent q q'
         by (q, was, inl (marked, new)) = (
           q,
           was,
-          subst (Counts (suc i) sent q) (sym new)
+          subst (CountsSent (suc i) sent q) (sym new)
               (announces_once (suc i) now sent q (once i q marked was) (no_sync (suc i))),
         )
         by (q, was, inr (unmarked, old)) = (
@@ -238,7 +238,7 @@ selects_counted now t u sends k =
 
 -- the Announce timer's port announces once
 pub announced_counted : (p now : ℕ) (s : SystemState) → AreCounted s (announced_at p now s) (announcement_at p s)
-announced_counted p now s i q' there = go (change-get (announced now) p s.ports i q' there)
+announced_counted p now s i q' there = go (change-get (announced_again now) p s.ports i q' there)
   where
     sent : Option Port → List Sending
     sent o = option_map_or (λ (q : Port). announcement (own s p) s.root s.steps q ∷ []) o []
@@ -254,13 +254,13 @@ announced_counted p now s i q' there = go (change-get (announced now) p s.ports 
     never None other = refl
     never (Some q) other = let off : (p == suc i) ≡ false = grind (arith, nat_tests) in rw off refl
 
-    go : Changed (announced now) (p ≡ suc i) s.ports i q'
-        → (q : Port) × (slice_get s.ports i ≡ Some q) × Counts (suc i) (announcement_at p s) q q'
+    go : Changed (announced_again now) (p ≡ suc i) s.ports i q'
+        → (q : Port) × (slice_get s.ports i ≡ Some q) × CountsSent (suc i) (announcement_at p s) q q'
     go (q, was, inl (here, new)) =
         let stands = number-get s.ports p i q here was in (
           q,
           was,
-          subst (Counts (suc i) (announcement_at p s) q) (sym new)
+          subst (CountsSent (suc i) (announcement_at p s) q) (sym new)
               (announces_once (suc i) now (announcement_at p s) q
               (ap (λ o. announces_at (suc i) (sent o)) stands ∙ once q here) (no_sync (number s.ports p))),
         )
@@ -339,7 +339,7 @@ telling_counted told s i q' there = go (counted-get s.held s.ports i q' there)
         no_announces Telling telling_apart sent (syncs_tell (clock s) s.params.sync told 1 s.held s.ports) (suc i)
 
     pair : (own : PortId) (q : Port)
-        → count such (sync_of own s.params.sync q ∷ follow_up_of own s.params.sync told q ∷ []) ≤ 1
+        → count_such such (sync_of own s.params.sync q ∷ follow_up_of own s.params.sync told q ∷ []) ≤ 1
     pair own q = one (own.port == suc i)
       where
         one : (b : Bool) → (if b then 1 else 0) ≤ 1
@@ -372,7 +372,7 @@ telling_counted told s i q' there = go (counted-get s.held s.ports i q' there)
         ])
 
     go : Marked with_sync ((h : Held) × (slice_get s.held i ≡ Some h) × (is_mine h ≡ true)) s.ports i q'
-        → (q : Port) × (slice_get s.ports i ≡ Some q) × Counts (suc i) sent q q'
+        → (q : Port) × (slice_get s.ports i ≡ Some q) × CountsSent (suc i) sent q q'
     go (q, was, inl ((h, held, mine), new)) = (
       q,
       was,

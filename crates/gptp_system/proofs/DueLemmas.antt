@@ -9,7 +9,7 @@ use Rattle.gptp_setup.specs.declared.timer.Timer.{Timer}
 use Rattle.gptp_setup.specs.declared.timer.Timer.TheVariants as timers
 use Rattle.gptp_system.specs.State.{SystemState, age_due, announce_due, change, change_at, held_at, number, on_port}
 use Rattle.gptp_system.specs.Selection.{Selects, all_announced, choosing, fresh_ports}
-use Rattle.gptp_system.specs.Syncing.{counted, telling}
+use Rattle.gptp_system.specs.Syncing.{counted_by_rates, telling}
 use Rattle.gptp_system.specs.Reach.{Leaves, is_selected}
 use Rattle.gptp_system.proofs.PortLemmas.{all_announced-map, counted-map, with_sync}
 
@@ -135,16 +135,16 @@ selects_leaves touched covers now t u sends k = subst (Leaves touched t) (sym k.
 pub telling_leaves : (touched : Timer → Bool) (s : SystemState) → Leaves touched s (telling s)
 telling_leaves touched s (timers.Announce n) off =
     let g : Port → Option ℕ = λ q. announce_due q (held_at s n) in
-    same_number g (counted s.held s.ports) s.ports
+    same_number g (counted_by_rates s.held s.ports) s.ports
     (counted-map g (λ q. same_announce q (with_sync q) (held_at s n) refl) s.held s.ports) n
 telling_leaves touched s (timers.Age n) off =
     let g : Port → Option ℕ = λ q. age_due s.params s.largest (held_at s n) in
-    same_number g (counted s.held s.ports) s.ports (counted-map g (λ q. refl) s.held s.ports) n
+    same_number g (counted_by_rates s.held s.ports) s.ports (counted-map g (λ q. refl) s.held s.ports) n
 telling_leaves touched s (timers.Pdelay n) off =
-    same_number (λ (q : Port). q.pdelay) (counted s.held s.ports) s.ports
+    same_number (λ (q : Port). q.pdelay) (counted_by_rates s.held s.ports) s.ports
     (counted-map (λ (q : Port). q.pdelay) (λ q. refl) s.held s.ports) n
 telling_leaves touched s (timers.Respond n) off =
-    same_number (λ (q : Port). q.respond) (counted s.held s.ports) s.ports
+    same_number (λ (q : Port). q.respond) (counted_by_rates s.held s.ports) s.ports
     (counted-map (λ (q : Port). q.respond) (λ q. refl) s.held s.ports) n
 telling_leaves touched s timers.Sync off = refl
 telling_leaves touched s timers.Relay off = refl

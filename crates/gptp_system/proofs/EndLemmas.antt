@@ -10,15 +10,15 @@ use Rattle.gptp_receipt.specs.declared.held.Held.TheVariants as helds
 use Rattle.gptp_receipt.specs.Held.{received}
 use Rattle.gptp_roles.specs.declared.role.Role.{Role}
 use Rattle.gptp_roles.specs.declared.role.Role.TheVariants as roles
-use Rattle.gptp_roles.specs.Role.{announces_already, each_port, held_after, is_fresh, is_master, role_of}
+use Rattle.gptp_roles.specs.Role.{announces_already, each_port, held_after_selection, is_fresh, is_master, chosen_role}
 use Rattle.gptp_roles.proofs.RoleLemmas.{held_after-kept, held_after-master, master_is_lower}
 use Rattle.gptp_system.specs.declared.port.Port.{Port}
 use Rattle.gptp_system.specs.declared.sending.Sending.{Sending}
 use Rattle.gptp_system.specs.State.{SystemState, clock}
 use Rattle.gptp_system.specs.Sends.{announcement}
-use Rattle.gptp_system.specs.Selection.{Selects, announced, announcements, choosing, fresh_ports}
+use Rattle.gptp_system.specs.Selection.{Selects, announced_again, announcements, choosing, fresh_ports}
 use Rattle.gptp_system.specs.Facts.{IsAtRest}
-use Rattle.gptp_system.specs.Reacts.{IsAnnounce, IsKept, IsOwnAnnounce, PortEnds, Tells}
+use Rattle.gptp_system.specs.Reacts.{IsAnnounce, HoldsOrIsDisabled, IsOwnAnnounce, PortEnds, PortAnnounces}
 use Rattle.gptp_system.proofs.ChangedLemmas.{each_port-get}
 use Rattle.gptp_system.proofs.PortLemmas.{Marked, all_announced-get}
 
@@ -31,16 +31,16 @@ master_is roles.Slave e = absurd cc
 master_is roles.Passive e = absurd cc
 
 -- a port that isn't Master is Disabled or received
-not_master_kept : (v : Vector) (c n : ℕ) (h : Held) → is_master (role_of v c n h) ≡ false → IsKept h
+not_master_kept : (v : Vector) (c n : ℕ) (h : Held) → is_master (chosen_role v c n h) ≡ false → HoldsOrIsDisabled h
 not_master_kept v c n helds.Disabled other = inl refl
 not_master_kept v c n helds.Aged other = absurd cc
 not_master_kept v c n (helds.Mine root steps) other = absurd cc
 not_master_kept v c n (helds.Received r) other = inr (r, refl)
 
-master_on : (v : Vector) (c n : ℕ) (h : Held) → is_master (role_of v c n h) ≡ true → h ≢ helds.Disabled
-master_on v c n h master e = absurd (disabled (ap (λ x. is_master (role_of v c n x)) (sym e) ∙ master))
+master_on : (v : Vector) (c n : ℕ) (h : Held) → is_master (chosen_role v c n h) ≡ true → h ≢ helds.Disabled
+master_on v c n h master e = absurd (disabled (ap (λ x. is_master (chosen_role v c n x)) (sym e) ∙ master))
   where
-    disabled : is_master (role_of v c n helds.Disabled) ≡ true → ⊥
+    disabled : is_master (chosen_role v c n helds.Disabled) ≡ true → ⊥
     disabled is = cc
 
 -- a port that announces already is Mine with the chosen root and steps
@@ -56,7 +56,7 @@ already_mine v (helds.Mine root steps) is = go (root == v.root) (steps == v.step
     go true false same_root same_steps e = absurd cc
     go false b same_root same_steps e = absurd cc
 
-not_fresh_mine : (v : Vector) (c n : ℕ) (h : Held) → is_master (role_of v c n h) ≡ true → is_fresh v c n h ≡ false
+not_fresh_mine : (v : Vector) (c n : ℕ) (h : Held) → is_master (chosen_role v c n h) ≡ true → is_fresh v c n h ≡ false
     → h ≡ helds.Mine v.root v.steps
 not_fresh_mine v c n h master stale = already_mine v h (go (announces_already v h) (rw master at stale))
   where
@@ -66,15 +66,15 @@ not_fresh_mine v c n h master stale = already_mine v h (go (announces_already v 
 
 -- what a port holds after a choice, where a fresh one tells and any other lets its timer run
 pub chosen_ends : (v : Vector) (c n now : ℕ) (mid : Held) (q q' : Port) (sends : List Sending)
-    → ((is_fresh v c n mid ≡ true → Tells n now q q' sends) × (is_fresh v c n mid ≡ false → q'.announce ≡ q.announce))
-    → PortEnds c n now v.root v.steps mid (held_after v c n mid) q q' sends
+    → ((is_fresh v c n mid ≡ true → PortAnnounces n now q q' sends) × (is_fresh v c n mid ≡ false → q'.announce ≡ q.announce))
+    → PortEnds c n now v.root v.steps mid (held_after_selection v c n mid) q q' sends
 chosen_ends v c n now mid q q' sends (tells, stays) =
-    elim (cases_Bool (is_master (role_of v c n mid))) [
+    elim (cases_Bool (is_master (chosen_role v c n mid))) [
       | inr other ↦ inl (held_after-kept v c n mid other, not_master_kept v c n mid other)
       | inl master ↦ inr (record {
         mine = held_after-master v c n mid master;
         on = master_on v c n mid master;
-        is_lower = λ r is. master_is_lower v c n mid r is (master_is (role_of v c n mid) master);
+        is_lower = λ r is. master_is_lower v c n mid r is (master_is (chosen_role v c n mid) master);
         timing = elim (cases_Bool (is_fresh v c n mid)) [
           | inl fresh ↦ inr (tells fresh)
           | inr stale ↦ inl (not_fresh_mine v c n mid master stale, stays stale)
@@ -84,8 +84,8 @@ chosen_ends v c n now mid q q' sends (tells, stays) =
 
 -- a fresh port is Master
 pub fresh_mine : (v : Vector) (c n : ℕ) (h : Held) → is_fresh v c n h ≡ true
-    → held_after v c n h ≡ helds.Mine v.root v.steps
-fresh_mine v c n h fresh = held_after-master v c n h (go (is_master (role_of v c n h)) fresh)
+    → held_after_selection v c n h ≡ helds.Mine v.root v.steps
+fresh_mine v c n h fresh = held_after-master v c n h (go (is_master (chosen_role v c n h)) fresh)
   where
     go : (b : Bool) → (b && not (announces_already v h)) ≡ true → b ≡ true
     go true e = refl
@@ -209,7 +209,7 @@ choosing_concludes v now t = record { same_clock = refl; ports = ports; tells = 
     sent = announcements (clock t) v.root v.steps 1 (fresh_ports v t) t.ports
 
     tells_at : (i : ℕ) (q q' : Port) → slice_get (fresh_ports v t) i ≡ Some true → slice_get t.ports i ≡ Some q
-        → q' ≡ announced now q → Tells (suc i) now q q' sent
+        → q' ≡ announced_again now q → PortAnnounces (suc i) now q q' sent
     tells_at i q q' fresh there new =
         let number : 1 + i ≡ suc i = omega arith in
         record {
@@ -225,15 +225,15 @@ choosing_concludes v now t = record { same_clock = refl; ports = ports; tells = 
     ports : (i : ℕ) (h' : Held) (q' : Port) → slice_get (choosing v now t).held i ≡ Some h'
         → slice_get (choosing v now t).ports i ≡ Some q' → Ends t now (choosing v now t) sent i h' q'
     ports i h' q' stands there =
-        let (mid, held, is) = each_port-get (held_after v (clock t)) t.held i h' stands in
+        let (mid, held, is) = each_port-get (held_after_selection v (clock t)) t.held i h' stands in
         go mid held is (all_announced-get now (fresh_ports v t) t.ports i q' there)
       where
         flag : (mid : Held) → slice_get t.held i ≡ Some mid
             → slice_get (fresh_ports v t) i ≡ Some (is_fresh v (clock t) (suc i) mid)
         flag mid held = each_port-there (is_fresh v (clock t)) t.held i mid held
 
-        go : (mid : Held) → slice_get t.held i ≡ Some mid → h' ≡ held_after v (clock t) (suc i) mid
-            → Marked (announced now) (slice_get (fresh_ports v t) i ≡ Some true) t.ports i q'
+        go : (mid : Held) → slice_get t.held i ≡ Some mid → h' ≡ held_after_selection v (clock t) (suc i) mid
+            → Marked (announced_again now) (slice_get (fresh_ports v t) i ≡ Some true) t.ports i q'
             → Ends t now (choosing v now t) sent i h' q'
         go mid held is (q, was, inl (fresh, new)) = record {
           mid = mid;
@@ -272,14 +272,14 @@ choosing_concludes v now t = record { same_clock = refl; ports = ports; tells = 
           place = i;
           port = q;
           number_is = ap (λ (y : Sending). y.port) is ∙ number;
-          holds = each_port-there (held_after v (clock t)) t.held i h stands
+          holds = each_port-there (held_after_selection v (clock t)) t.held i h stands
               ∙ ap (λ y. Some y) (fresh_mine v (clock t) (suc i) h (sym flagged));
           is = is ∙ ap (λ m. announcement (record { clock = clock t; port = m }) v.root v.steps q) number;
           log = λ q' there'. names i q q' there (all_announced-get now (fresh_ports v t) t.ports i q' there');
         }
       where
         names : (i : ℕ) (q q' : Port) → slice_get t.ports i ≡ Some q
-            → Marked (announced now) (slice_get (fresh_ports v t) i ≡ Some true) t.ports i q'
+            → Marked (announced_again now) (slice_get (fresh_ports v t) i ≡ Some true) t.ports i q'
             → q'.log_interval ≡ q.log_interval
         names i q q' there (p, was, inl (fresh, new)) =
             ap (λ (y : Port). y.log_interval) new ∙ same_log p q (sym was ∙ there)
@@ -305,7 +305,7 @@ rest_concludes now s r = record { same_clock = refl; ports = ports; tells = λ x
       mid_there = stands;
       port_there = there;
       log = refl;
-      ends = elim (cases_Bool (is_master (role_of r.vector (clock s) (suc i) h))) [
+      ends = elim (cases_Bool (is_master (chosen_role r.vector (clock s) (suc i) h))) [
         | inr other ↦ inl (refl, not_master_kept r.vector (clock s) (suc i) h other)
         | inl master ↦ let mine = is_mine master in
             inr (record {
@@ -317,13 +317,13 @@ rest_concludes now s r = record { same_clock = refl; ports = ports; tells = λ x
       ];
     }
       where
-        same : h ≡ held_after r.vector (clock s) (suc i) h
+        same : h ≡ held_after_selection r.vector (clock s) (suc i) h
         same =
-            same_Some h (held_after r.vector (clock s) (suc i) h)
+            same_Some h (held_after_selection r.vector (clock s) (suc i) h)
             (sym stands ∙ ap (λ hs. slice_get hs i) r.stays
-            ∙ each_port-there (held_after r.vector (clock s)) s.held i h stands)
+            ∙ each_port-there (held_after_selection r.vector (clock s)) s.held i h stands)
 
-        is_mine : is_master (role_of r.vector (clock s) (suc i) h) ≡ true → h ≡ helds.Mine s.root s.steps
+        is_mine : is_master (chosen_role r.vector (clock s) (suc i) h) ≡ true → h ≡ helds.Mine s.root s.steps
         is_mine master = rw (r.root, r.steps) (same ∙ held_after-master r.vector (clock s) (suc i) h master)
 
         mine_on : helds.Mine s.root s.steps ≡ helds.Disabled → ⊥

@@ -7,7 +7,7 @@ use Rattle.gptp_receipt.specs.declared.held.Held.{Held}
 use Rattle.gptp_receipt.specs.declared.held.Held.TheVariants as helds
 use Rattle.gptp_receipt.specs.Held.{HoldsFor, received}
 use Rattle.gptp_roles.specs.Choice.{ArePlaced, IsChosen}
-use Rattle.gptp_roles.specs.Role.{held_after, is_master, role_of}
+use Rattle.gptp_roles.specs.Role.{held_after_selection, is_master, chosen_role}
 use Rattle.gptp_roles.specs.Selection.{clock_of}
 use Rattle.gptp_roles.proofs.EachLemmas.{length-each_from}
 use Rattle.gptp_roles.proofs.RestLemmas.{at_rest}
@@ -16,7 +16,7 @@ use Rattle.gptp_pdelay.specs.Peer.{is_capable}
 use Rattle.gptp_system.specs.declared.port.Port.{Port}
 use Rattle.gptp_system.specs.declared.sending.Sending.{Sending}
 use Rattle.gptp_system.specs.State.{SystemState, change, clock, number, on_port, own}
-use Rattle.gptp_system.specs.Selection.{Selects, announced, choosing, fresh_ports}
+use Rattle.gptp_system.specs.Selection.{Selects, announced_again, choosing, fresh_ports}
 use Rattle.gptp_system.specs.Facts.{AreHeld, AreShown, IsAtRest, IsShown, Keeps, intervals}
 use Rattle.gptp_system.proofs.ChangedLemmas.{Changed, change-get, change-map, each_port-get, number-get}
 use Rattle.gptp_system.proofs.PortLemmas.{Marked, all_announced-get, all_announced-map}
@@ -174,9 +174,9 @@ on_port_quiet p f s log same =
 -- ---- selection
 
 -- a port that isn't Disabled doesn't become so
-held_after-on : (v : Vector) (c p : ℕ) (h : Held) → h ≢ helds.Disabled → held_after v c p h ≢ helds.Disabled
+held_after-on : (v : Vector) (c p : ℕ) (h : Held) → h ≢ helds.Disabled → held_after_selection v c p h ≢ helds.Disabled
 held_after-on v c p h on =
-    elim (cases_Bool (is_master (role_of v c p h))) [
+    elim (cases_Bool (is_master (chosen_role v c p h))) [
       | inl master ↦ λ e. absurd (mine_on (sym (held_after-master v c p h master) ∙ e))
       | inr other ↦ λ e. on (sym (held_after-kept v c p h other) ∙ e)
     ]
@@ -184,9 +184,9 @@ held_after-on v c p h on =
     mine_on : helds.Mine v.root v.steps ≡ helds.Disabled → ⊥
     mine_on e = cc
 
-shown_after : (v : Vector) (c p : ℕ) (h : Held) (q : Port) → IsShown h q → IsShown (held_after v c p h) q
+shown_after : (v : Vector) (c p : ℕ) (h : Held) (q : Port) → IsShown h q → IsShown (held_after_selection v c p h) q
 shown_after v c p h q a = record {
-  off = λ e. ap (held_after v c p) (a.off e);
+  off = λ e. ap (held_after_selection v c p) (a.off e);
   on = λ e. held_after-on v c p h (a.on e);
 }
 
@@ -197,43 +197,43 @@ choosing_keeps v now s = record {
   phase = refl;
   drift = refl;
   same_clock = refl;
-  places = length-each_from (held_after v (clock s)) 1 s.held;
+  places = length-each_from (held_after_selection v (clock s)) 1 s.held;
   logs = all_announced-map (λ (q : Port). q.log_interval) now (λ q. refl) (fresh_ports v s) s.ports;
 }
 
 choosing_held : (v : Vector) (now : ℕ) (s : SystemState) → AreHeld s → AreHeld (choosing v now s)
 choosing_held v now s a i h' stands =
-    let (h, was, new) = each_port-get (held_after v (clock s)) s.held i h' stands in
+    let (h, was, new) = each_port-get (held_after_selection v (clock s)) s.held i h' stands in
     subst (HoldsFor (own s (suc i))) (sym new) (go h (a i h was) (received-held_after v (clock s) (suc i) h))
   where
     go : (h : Held) → HoldsFor (own s (suc i)) h
-        → ((received (held_after v (clock s) (suc i) h) ≡ received h)
-        ⊎ (received (held_after v (clock s) (suc i) h) ≡ None))
-        → HoldsFor (own s (suc i)) (held_after v (clock s) (suc i) h)
+        → ((received (held_after_selection v (clock s) (suc i) h) ≡ received h)
+        ⊎ (received (held_after_selection v (clock s) (suc i) h) ≡ None))
+        → HoldsFor (own s (suc i)) (held_after_selection v (clock s) (suc i) h)
     go h came (inl same) = λ r is. came r (sym same ∙ is)
     go h came (inr none) = λ r is. absurd (none-some r (sym none ∙ is))
 
 choosing_shown : (v : Vector) (now : ℕ) (s : SystemState) → AreShown s → AreShown (choosing v now s)
 choosing_shown v now s a = record {
-  places = length-each_from (held_after v (clock s)) 1 s.held ∙ a.places
+  places = length-each_from (held_after_selection v (clock s)) 1 s.held ∙ a.places
       ∙ sym (keeps_length s (choosing v now s) (choosing_keeps v now s));
   each = λ i h' q' stands there.
-      let (h, held, new) = each_port-get (held_after v (clock s)) s.held i h' stands in
+      let (h, held, new) = each_port-get (held_after_selection v (clock s)) s.held i h' stands in
       subst (λ x. IsShown x q') (sym new) (go i h q' held (all_announced-get now (fresh_ports v s) s.ports i q' there));
 }
   where
     go : (i : ℕ) (h : Held) (q' : Port) → slice_get s.held i ≡ Some h
-        → Marked (announced now) (slice_get (fresh_ports v s) i ≡ Some true) s.ports i q'
-        → IsShown (held_after v (clock s) (suc i) h) q'
+        → Marked (announced_again now) (slice_get (fresh_ports v s) i ≡ Some true) s.ports i q'
+        → IsShown (held_after_selection v (clock s) (suc i) h) q'
     go i h q' held (q, was, inl (fresh, new)) =
-        subst (IsShown (held_after v (clock s) (suc i) h)) (sym new)
+        subst (IsShown (held_after_selection v (clock s) (suc i) h)) (sym new)
         (announced_shown (shown_after v (clock s) (suc i) h q (a.each i h q held was)))
       where
-        announced_shown : IsShown (held_after v (clock s) (suc i) h) q
-            → IsShown (held_after v (clock s) (suc i) h) (announced now q)
+        announced_shown : IsShown (held_after_selection v (clock s) (suc i) h) q
+            → IsShown (held_after_selection v (clock s) (suc i) h) (announced_again now q)
         announced_shown b = record { off = b.off; on = b.on }
     go i h q' held (q, was, inr (other, old)) =
-        subst (IsShown (held_after v (clock s) (suc i) h)) (sym old)
+        subst (IsShown (held_after_selection v (clock s) (suc i) h)) (sym old)
         (shown_after v (clock s) (suc i) h q (a.each i h q held was))
 
 -- what the ports hold as received was received there

@@ -4,7 +4,7 @@ use Rattle.std.specs.Prelude.{◌==◌}
 use Rattle.std.specs.Option.{option_and_then}
 use Rattle.std.proofs.lemmas.Bool.Decides.{nat_tests}
 use Rattle.gptp_vector.specs.declared.vector.Vector.{Vector}
-use Rattle.gptp_vector.specs.Vector.{path_of, system_of}
+use Rattle.gptp_vector.specs.Vector.{path_of, system_vector}
 use Rattle.gptp_receipt.specs.declared.held.Held.{Held}
 use Rattle.gptp_receipt.specs.declared.held.Reception.{Reception}
 use Rattle.gptp_receipt.specs.Held.{received}
@@ -13,7 +13,7 @@ use Rattle.gptp_roles.specs.SystemTrace.{SlaveReceived, path_received, received_
 use Rattle.gptp_roles.proofs.ChoiceLemmas.{from_port}
 use Rattle.gptp_system.specs.State.{SystemState, clock}
 use Rattle.gptp_system.specs.Facts.{AreHeld, IsAtRest}
-use Rattle.gptp_system.specs.Follows.{FollowsItself, FollowsPort}
+use Rattle.gptp_system.specs.Follows.{SystemIsRoot, SystemFollowsPort}
 
 -- a path vector is that of what one port received
 abbrev FromPlace : Vector → List Held → Type 0
@@ -40,10 +40,10 @@ received_there : (hs : List Held) (i : ℕ) (h : Held) (r : Reception) → slice
     → received_at hs (suc i) ≡ Some r
 received_there hs i h r there holds = place_of hs i ∙ ap (option_and_then received) there ∙ holds
 
-pub follows : (s : SystemState) → AreHeld s → IsAtRest s → FollowsItself s ⊎ FollowsPort s
+pub follows : (s : SystemState) → AreHeld s → IsAtRest s → SystemIsRoot s ⊎ SystemFollowsPort s
 follows s a r = go r.is_chosen.member
   where
-    go : (r.vector ≡ system_of s.identity) ⊎ IsIn r.vector (path_vectors s.held) → FollowsItself s ⊎ FollowsPort s
+    go : (r.vector ≡ system_vector s.identity) ⊎ IsIn r.vector (path_vectors s.held) → SystemIsRoot s ⊎ SystemFollowsPort s
     go (inl own_one) =
         let slave : s.slave ≡ None = r.slave ∙ ap slave_port own_one in
         inl (record {
@@ -74,7 +74,7 @@ follows s a r = go r.is_chosen.member
 pub slave_received : (s : SystemState) → AreHeld s → IsAtRest s → SlaveReceived s.held s.slave
 slave_received s a r = go (follows s a r)
   where
-    go : FollowsItself s ⊎ FollowsPort s → SlaveReceived s.held s.slave
+    go : SystemIsRoot s ⊎ SystemFollowsPort s → SlaveReceived s.held s.slave
     go (inl k) = rw k.slave tt
     go (inr k) =
         rw k.slave (

@@ -21,10 +21,10 @@ use Rattle.gptp_setup.specs.Pace.{lapse_span}
 use Rattle.gptp_system.specs.State.{SystemState, clock, is_mine}
 use Rattle.gptp_system.specs.Input.{Input, IsTimely, Steps, PortUp, PortDown, Frame, Expires, Priority}
 use Rattle.gptp_system.specs.Facts.{AreShown, IsAtRest, Keeps}
-use Rattle.gptp_system.specs.Touch.{Touch, Hear, Tick, Grow, Enable, Disable, Other, IsSeenAs, Mid}
-use Rattle.gptp_system.specs.Reacts.{IsKept, PlaceReacts, PortEnds, Tells}
-use Rattle.gptp_system.specs.Measures.{IsPartAfter, Part, only_at, part_answered, part_asked, part_down, part_heard, part_of}
-use Rattle.gptp_system.specs.Times.{IsInTime, IsPortInTime, RunsOn, Waits, WaitsAnew}
+use Rattle.gptp_system.specs.Touch.{Touch, Hear, Tick, Grow, Enable, Disable, Other, IsSeenAs, PortHoldsInTouch}
+use Rattle.gptp_system.specs.Reacts.{HoldsOrIsDisabled, PlaceReacts, PortEnds, PortAnnounces}
+use Rattle.gptp_system.specs.Measures.{IsPartAfter, Part, only_at, part_answered, part_asked, part_down, part_heard, measure_at}
+use Rattle.gptp_system.specs.Times.{IsInTime, IsPortInTime, RunsOn, LapseRunsOn, WaitsAnew}
 use Rattle.gptp_system.proofs.AnswerLemmas.{steps_react}
 use Rattle.gptp_system.proofs.ReactLemmas.{Answers}
 use Rattle.gptp_system.proofs.MeasureLemmas.{steps_measure}
@@ -48,7 +48,7 @@ heard_is heards.Superior now h mid r at is = inr (inr (r, is, at))
 heard_is heards.Repeated now h mid r at is = inr (inr (r, is, at))
 heard_is heards.Inferior now h mid r at is = inl is
 
-pub mid_is : (c n : ℕ) (touch : Touch) (now : ℕ) (h mid : Held) → Mid c n touch now h mid → IsMid now h mid
+pub mid_is : (c n : ℕ) (touch : Touch) (now : ℕ) (h mid : Held) → PortHoldsInTouch c n touch now h mid → IsMid now h mid
 mid_is c n (Hear p a) now h mid (inl (here, on, inl (qualified, is))) =
     let own : PortId = record { clock = c; port = n } in
     heard_is (comparison h own a) now h mid (reception a own now) refl is
@@ -80,7 +80,7 @@ mid_received now h mid r (inr (inl (none, other))) got = absurd (none-some r (sy
 mid_received now h mid r (inr (inr (x, is, at))) got =
     inr (sym (ap (λ (y : Reception). y.at) (same_Some x r (sym (ap received is) ∙ got))) ∙ at)
 
-pub kept_other : (h : Held) → IsKept h → is_mine h ≡ false
+pub kept_other : (h : Held) → HoldsOrIsDisabled h → is_mine h ≡ false
 kept_other helds.Disabled k = refl
 kept_other helds.Aged k = refl
 kept_other (helds.Received r) k = refl
@@ -181,13 +181,13 @@ stays_in_time input now s s' sends answer calm shown rest k step = record {
     relay t (inl before) = rw kept.params (k.relay t before)
     relay t (inr new) = rw (kept.params, new) (exactly (now + s.params.residence) (now + s.params.residence) refl)
 
-    lapse : (t : ℕ) → Waits s s' t ⊎ WaitsAnew s now t → t ≤ now + lapse_span s'.params
+    lapse : (t : ℕ) → LapseRunsOn s s' t ⊎ WaitsAnew s now t → t ≤ now + lapse_span s'.params
     lapse t (inl on) = rw kept.params (k.lapse t on.before)
     lapse t (inr anew) =
         rw (kept.params, anew.moment) (exactly (now + lapse_span s.params) (now + lapse_span s.params) refl)
 
     place : (i : ℕ) (h' : Held) (q' : Port) → PlaceReacts s reacts.touch now s' sends i h' q'
-        → ((q : Port) × (slice_get s.ports i ≡ Some q) × IsPartAfter s now input (suc i) (part_of q) (part_of q'))
+        → ((q : Port) × (slice_get s.ports i ≡ Some q) × IsPartAfter s now input (suc i) (measure_at q) (measure_at q'))
         → IsPortInTime s'.params now h' q'
     place i h' q' r (q, was, measured) = record {
       announce = λ mine. announce mine r.reacts.after;
@@ -202,9 +202,9 @@ stays_in_time input now s s' sends answer calm shown rest k step = record {
         old : IsPortInTime s.params now r.held q
         old = k.each i r.held q r.held_there was
 
-        part : PartInTime s now (part_of q')
+        part : PartInTime s now (measure_at q')
         part =
-            part_in_time s now input (suc i) (part_of q) (part_of q') (record {
+            part_in_time s now input (suc i) (measure_at q) (measure_at q') (record {
               pdelay =
                   old.pdelay;
               respond = old.respond;
@@ -220,7 +220,7 @@ stays_in_time input now s s' sends answer calm shown rest k step = record {
         announce mine (inr m) = timed m.timing
           where
             timed : ((r.reacts.mid ≡ helds.Mine s'.root s'.steps) × (q'.announce ≡ r.port.announce))
-                ⊎ Tells (suc i) now r.port q' sends → q'.announce ≤ now + interval_of q'.log_interval
+                ⊎ PortAnnounces (suc i) now r.port q' sends → q'.announce ≤ now + interval_of q'.log_interval
             timed (inl (was_mine, same)) =
                 let held_mine : is_mine r.held ≡ true =
                 ap is_mine (sym (mid_mine now r.held r.reacts.mid middle (ap is_mine was_mine)))

@@ -15,10 +15,10 @@ use Rattle.gptp_roles.specs.Choice.{slave_port}
 use Rattle.gptp_setup.specs.declared.setup.Params.{Params}
 use Rattle.gptp_setup.specs.Pace.{has_sync_timeout, lapse_span}
 use Rattle.gptp_system.specs.State.{SystemState, can_lead, change, clock, held_at, lapse_of, on_held, own}
-use Rattle.gptp_system.specs.Selection.{follows_on, lapse_after, same_port}
+use Rattle.gptp_system.specs.Selection.{follows_on, lapse_after, same_number}
 use Rattle.gptp_system.specs.Lapse.{dropped, lapsed}
 use Rattle.gptp_system.specs.Times.{WaitsAnew}
-use Rattle.gptp_system.specs.Touch.{Touch, Grow, Other, IsLapseSeenAs, Mid}
+use Rattle.gptp_system.specs.Touch.{Touch, Grow, Other, IsLapseSeenAs, PortHoldsInTouch}
 use Rattle.gptp_system.proofs.ChangedLemmas.{Changed, change-get, number-get}
 use Rattle.gptp_system.proofs.FactLemmas.{Touched}
 use Rattle.gptp_system.proofs.MidLemmas.{Mids}
@@ -46,7 +46,7 @@ lapse_off params root None now off = refl
 lapse_off params root (Some p) now off = let none : has_sync_timeout params ≡ false = rw off refl in rw none refl
 
 -- the same is followed
-same_port_is : (a b : Option ℕ) → same_port a b ≡ true → a ≡ b
+same_port_is : (a b : Option ℕ) → same_number a b ≡ true → a ≡ b
 same_port_is None None is = refl
 same_port_is None (Some q) is = absurd cc
 same_port_is (Some p) None is = absurd cc
@@ -54,9 +54,9 @@ same_port_is (Some p) (Some q) is = ap (λ n. Some n) (eqb-true p q is)
 
 pub followed : (v : Vector) (s : SystemState) → follows_on v s ≡ true
     → (v.root ≡ s.root) × (slave_port v ≡ s.slave)
-followed v s is = go (v.root == s.root) (same_port (slave_port v) s.slave) refl refl is
+followed v s is = go (v.root == s.root) (same_number (slave_port v) s.slave) refl refl is
   where
-    go : (a b : Bool) → (v.root == s.root) ≡ a → same_port (slave_port v) s.slave ≡ b → (a && b) ≡ true
+    go : (a b : Bool) → (v.root == s.root) ≡ a → same_number (slave_port v) s.slave ≡ b → (a && b) ≡ true
         → (v.root ≡ s.root) × (slave_port v ≡ s.slave)
     go true true root slave on = (eqb-true v.root s.root root, same_port_is (slave_port v) s.slave slave)
     go true false root slave on = absurd cc
@@ -151,8 +151,8 @@ length-lapsed s = (lapsed_touches s).kept.places
 -- what it is to the ports
 dropped_mids : (p now : ℕ) (s : SystemState) (touch : Touch)
     → ((i : ℕ) (h : Held) → p ≡ suc i → received (held_at s p) ≡ received h
-    → Mid (clock s) (suc i) touch now h (dropped h))
-    → ((i : ℕ) (h : Held) → p ≢ suc i → Mid (clock s) (suc i) touch now h h)
+    → PortHoldsInTouch (clock s) (suc i) touch now h (dropped h))
+    → ((i : ℕ) (h : Held) → p ≢ suc i → PortHoldsInTouch (clock s) (suc i) touch now h h)
     → Mids s touch now (lapsed_at (Some p) s)
 dropped_mids p now s touch here_is elsewhere_is = record {
   same_clock = refl;
@@ -161,7 +161,7 @@ dropped_mids p now s touch here_is elsewhere_is = record {
 }
   where
     at : (i : ℕ) (mid : Held) → Changed dropped (p ≡ suc i) s.held i mid
-        → (h : Held) × (slice_get s.held i ≡ Some h) × Mid (clock s) (suc i) touch now h mid
+        → (h : Held) × (slice_get s.held i ≡ Some h) × PortHoldsInTouch (clock s) (suc i) touch now h mid
     at i mid (h, was, inl (here, new)) =
         let holds : held_at s p ≡ h =
         ap (λ x. option_map_or (λ y. y) x helds.Disabled) (number-get s.held p i h here was) in

@@ -14,13 +14,13 @@ use Rattle.gptp_setup.specs.declared.timer.Timer.{Timer}
 use Rattle.gptp_setup.specs.declared.timer.Timer.TheVariants as timers
 use Rattle.gptp_system.specs.declared.touched.Touched.{Touched}
 use Rattle.gptp_system.specs.declared.touched.Touched.TheVariants as touches
-use Rattle.gptp_system.specs.Announcing.{answer_to_heard, compared, is_taken, HearsQualified}
+use Rattle.gptp_system.specs.Announcing.{answer_to_heard, compared, replaces_held, HearsQualified}
 use Rattle.gptp_system.specs.Input.{Input, Frame, Expires}
 use Rattle.gptp_system.specs.Measuring.{is_turned, TurnsIf}
 use Rattle.gptp_system.specs.Reach.{is_selected, is_touched, is_touched_by, same_timer, stops_at, Leaves}
 use Rattle.gptp_system.specs.Selection.{SelectsIf}
 use Rattle.gptp_system.specs.State.{SystemState, held_at, number, own}
-use Rattle.gptp_system.specs.Steps.{Expires as TimerExpires, HearsMessage, IsPortOf, IsTimerOf}
+use Rattle.gptp_system.specs.Steps.{Expires as TimerExpires, HearsMessage, HasPortNumber, IsTimerOf}
 use Rattle.gptp_system.specs.Touched.{asking_touches, holds, message_touches, selected_if, takes_place, timer_touches, IsTouchedOf, Touches}
 use Rattle.gptp_system.proofs.CalmLemmas.{calm_peer}
 use Rattle.gptp_system.proofs.ReachLemmas.{hears_message, steps_reach}
@@ -41,7 +41,7 @@ selected_own : (selects : Bool) (s : SystemState) → IsTouchedOf s (selected_if
 selected_own true s = tt
 selected_own false s = tt
 
-message_own : (p : ℕ) (m : Message) (s : SystemState) (answer : Answer) → IsPortOf s p
+message_own : (p : ℕ) (m : Message) (s : SystemState) (answer : Answer) → HasPortNumber s p
     → IsTouchedOf s (message_touches s p m answer)
 message_own p (messages.Sync head) s answer of = tt
 message_own p (messages.PdelayReq head) s answer of = of
@@ -62,12 +62,12 @@ turned_leaves false p step now s s' sends selected k =
 -- an Announce that isn't taken leaves all timers
 heard_leaves : (heard : Heard) (p : ℕ) (a : AnnounceView) (now : ℕ) (s s' : SystemState) (sends : List Sending)
     → comparison (held_at s p) (own s p) a ≡ heard → Leaves is_selected s s'
-    → SelectsIf (is_taken heard) now (compared p a now s) s' sends
+    → SelectsIf (replaces_held heard) now (compared p a now s) s' sends
     → Leaves (holds (selected_if (takes_place (answer_to_heard heard)))) s s'
 heard_leaves heards.Superior p a now s s' sends is selected k = selected
 heard_leaves heards.Repeated p a now s s' sends is selected k = selected
 heard_leaves heards.Inferior p a now s s' sends is selected k =
-    unchanged (holds touches.Nothing) s s' (k.state ∙ compared_same p a now s (ap is_taken is))
+    unchanged (holds touches.Nothing) s s' (k.state ∙ compared_same p a now s (ap replaces_held is))
 
 qualified_leaves : (p : ℕ) (a : AnnounceView) (now : ℕ) (s s' : SystemState) (sends : List Sending) (answer : Answer)
     → Leaves is_selected s s' → HearsQualified p a now s s' sends answer
@@ -94,7 +94,7 @@ message_leaves p (messages.Announce a) now s s' sends answer (inr (inr k)) leave
     qualified_leaves p a now s s' sends answer leaves k
 
 pub message_touches_these : (p : ℕ) (octets : List ℕ) (m : Message) (now : ℕ) (s s' : SystemState)
-    (sends : List Sending) (answer : Answer) (touched : Touched) → IsPortOf s p
+    (sends : List Sending) (answer : Answer) (touched : Touched) → HasPortNumber s p
     → HearsMessage p m now s s' sends answer → touched ≡ message_touches s p m answer
     → Touches (Frame p octets) touched s s'
 message_touches_these p octets m now s s' sends answer touched of k are =

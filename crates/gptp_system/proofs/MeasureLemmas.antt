@@ -18,16 +18,16 @@ use Rattle.gptp_setup.specs.declared.timer.Timer.{Timer}
 use Rattle.gptp_setup.specs.declared.timer.Timer.TheVariants as timers
 use Rattle.gptp_setup.specs.Intervals.{interval_of}
 use Rattle.gptp_system.specs.State.{SystemState, held_at, is_capable_at, local_time, number, on_port, own, with_peer}
-use Rattle.gptp_system.specs.Selection.{Becomes, Selects, SelectsIf, announced, choosing, fresh_ports}
+use Rattle.gptp_system.specs.Selection.{Becomes, Selects, SelectsIf, announced_again, choosing, fresh_ports}
 use Rattle.gptp_system.specs.Measuring.{Turns, TurnsAndAsks, TurnsIf, answering_done, asking, down, is_turned, owes, owing, silenced, turned}
-use Rattle.gptp_system.specs.Announcing.{aged_at, announced_at, compared, is_taken, with_priority}
+use Rattle.gptp_system.specs.Announcing.{aged_at, announced_at, compared, replaces_held, with_priority}
 use Rattle.gptp_setup.specs.Pace.{has_sync_timeout}
 use Rattle.gptp_system.specs.Lapse.{lapsed}
-use Rattle.gptp_system.specs.Syncing.{HearsFollowUpIf, HearsSyncIf, KeepsIf, KnowsBy, KnowsIf, RelaysBy, RelaysIf, SyncsIf, delay_at, forgetting, is_followed, keeping, knowing, leads, offset_of, rate_at, refreshing, restarted, said_on, stopped, telling}
+use Rattle.gptp_system.specs.Syncing.{HearsFollowUpIf, HearsSyncIf, KeepsIf, KnowsBy, KnowsIf, RelaysBy, RelaysIf, SyncsIf, delay_at, forgetting, is_followed, keeping, knowing, is_leading, offset_of, root_rate_at, refreshing, restarted, said_on, timer_stopped, telling}
 use Rattle.gptp_system.specs.Steps.{Expires as TimerExpires, HearsFrame, HearsMessage}
 use Rattle.gptp_system.specs.Input.{Input, Steps, PortUp, PortDown, Frame, Expires, Priority}
 use Rattle.gptp_system.specs.Facts.{Keeps}
-use Rattle.gptp_system.specs.Measures.{Measures, Part, only_at, part_answered, part_asked, part_down, part_heard, part_of, part_owing, part_stepped}
+use Rattle.gptp_system.specs.Measures.{MeasuresAtEachPlace, Part, only_at, part_answered, part_asked, part_down, part_heard, measure_at, part_owing, part_stepped}
 use Rattle.gptp_system.proofs.ChangedLemmas.{Changed, change-get}
 use Rattle.gptp_system.proofs.PortLemmas.{Marked, all_announced-get, counted-get, with_sync}
 use Rattle.gptp_system.proofs.StepLemmas.{turns as turns_steady}
@@ -35,7 +35,7 @@ use Rattle.gptp_system.proofs.StepLemmas.{turns as turns_steady}
 -- the part of each port becomes this
 abbrev pub Parts : (ℕ → Part → Part) → SystemState → SystemState → Type 0
 Parts f s s' = (i : ℕ) (q' : Port) → slice_get s'.ports i ≡ Some q'
-    → (q : Port) × (slice_get s.ports i ≡ Some q) × (part_of q' ≡ f (suc i) (part_of q))
+    → (q : Port) × (slice_get s.ports i ≡ Some q) × (measure_at q' ≡ f (suc i) (measure_at q))
 
 -- every part stays
 abbrev pub Still : SystemState → SystemState → Type 0
@@ -51,18 +51,18 @@ parts_on f g s t u a b i q' there =
     (q, was, second ∙ ap (g (suc i)) first)
 
 on_port_parts : (p : ℕ) (F : Port → Port) (f : Part → Part) (s : SystemState)
-    → ((q : Port) → part_of (F q) ≡ f (part_of q))
+    → ((q : Port) → measure_at (F q) ≡ f (measure_at q))
     → Parts (only_at p f) s (on_port p F s)
 on_port_parts p F f s same i q' there = go (change-get F p s.ports i q' there)
   where
     go : Changed F (p ≡ suc i) s.ports i q'
-        → (q : Port) × (slice_get s.ports i ≡ Some q) × (part_of q' ≡ only_at p f (suc i) (part_of q))
+        → (q : Port) × (slice_get s.ports i ≡ Some q) × (measure_at q' ≡ only_at p f (suc i) (measure_at q))
     go (q, was, inl (here, new)) =
         let at : (suc i == p) ≡ true = eq-eqb (suc i) p (sym here) in
-        (q, was, rw at (ap part_of new ∙ same q))
+        (q, was, rw at (ap measure_at new ∙ same q))
     go (q, was, inr (elsewhere, old)) =
         let off : (suc i == p) ≡ false = grind (arith, nat_tests) in
-        (q, was, rw off (ap part_of old))
+        (q, was, rw off (ap measure_at old))
 
 selects_parts : (now : ℕ) (t u : SystemState) (sends : List Sending) → Selects now t u sends → Still t u
 selects_parts now t u sends k = subst (Still t) (sym k.state) ports
@@ -70,18 +70,18 @@ selects_parts now t u sends k = subst (Still t) (sym k.state) ports
     ports : Still t (choosing k.vector now t)
     ports i q' there = go (all_announced-get now (fresh_ports k.vector t) t.ports i q' there)
       where
-        go : Marked (announced now) (slice_get (fresh_ports k.vector t) i ≡ Some true) t.ports i q'
-            → (q : Port) × (slice_get t.ports i ≡ Some q) × (part_of q' ≡ part_of q)
-        go (q, was, inl (fresh, new)) = (q, was, ap part_of new)
-        go (q, was, inr (stale, old)) = (q, was, ap part_of old)
+        go : Marked (announced_again now) (slice_get (fresh_ports k.vector t) i ≡ Some true) t.ports i q'
+            → (q : Port) × (slice_get t.ports i ≡ Some q) × (measure_at q' ≡ measure_at q)
+        go (q, was, inl (fresh, new)) = (q, was, ap measure_at new)
+        go (q, was, inr (stale, old)) = (q, was, ap measure_at old)
 
 telling_parts : (s : SystemState) → Still s (telling s)
 telling_parts s i q' there = go _ (counted-get s.held s.ports i q' there)
   where
     go : (mark : Type 0) → Marked with_sync mark s.ports i q'
-        → (q : Port) × (slice_get s.ports i ≡ Some q) × (part_of q' ≡ part_of q)
-    go mark (q, was, inl (mine, new)) = (q, was, ap part_of new)
-    go mark (q, was, inr (other, old)) = (q, was, ap part_of old)
+        → (q : Port) × (slice_get s.ports i ≡ Some q) × (measure_at q' ≡ measure_at q)
+    go mark (q, was, inl (mine, new)) = (q, was, ap measure_at new)
+    go mark (q, was, inr (other, old)) = (q, was, ap measure_at old)
 
 becomes : (f : ℕ → Part → Part) (s t s' : SystemState) (sends : List Sending) → Parts f s t → Becomes t s' sends
     → Parts f s s'
@@ -117,7 +117,7 @@ turns_and_asks : (p : ℕ) (step : PeerState → PeerState) (now : ℕ) (s s' : 
     → TurnsAndAsks p step now s s' sends → Parts (only_at p (part_asked s now step)) s s'
 turns_and_asks p step now s s' sends k i q' there =
     let (q, was, is) = both i q' there in
-    (q, was, is ∙ only_twice p (part_stepped step) ask (suc i) (part_of q))
+    (q, was, is ∙ only_twice p (part_stepped step) ask (suc i) (measure_at q))
   where
     kept : Keeps s k.between
     kept = (turns_steady p step now s k.between k.first k.turns).sound.kept
@@ -126,7 +126,7 @@ turns_and_asks p step now s s' sends k i q' there =
     ask x = part_asked s now (λ y. y) x
 
     asks_same : (q : Port)
-        → part_of (asking (local_time k.between now) (now + interval_of k.between.params.pdelay) q) ≡ ask (part_of q)
+        → measure_at (asking (local_time k.between now) (now + interval_of k.between.params.pdelay) q) ≡ ask (measure_at q)
     asks_same q = rw (kept.phase, kept.drift, kept.params) refl
 
     both : Parts (λ n x. only_at p ask n (only_at p (part_stepped step) n x)) s s'
@@ -151,7 +151,7 @@ hears_announce : (p : ℕ) (a : AnnounceView) (now : ℕ) (s s' : SystemState) (
 hears_announce p a now s s' sends answer (inl k) = becomes (λ n x. x) s s s' sends (still_ports s s refl) k.becomes
 hears_announce p a now s s' sends answer (inr (inl k)) =
     becomes (λ n x. x) s s s' sends (still_ports s s refl) k.becomes
-hears_announce p a now s s' sends answer (inr (inr k)) = go (is_taken (comparison (held_at s p) (own s p) a)) k.selects
+hears_announce p a now s s' sends answer (inr (inr k)) = go (replaces_held (comparison (held_at s p) (own s p) a)) k.selects
   where
     go : (b : Bool) → SelectsIf b now (compared p a now s) s' sends → Still s s'
     go true h = selects_parts now (compared p a now s) s' sends h
@@ -190,7 +190,7 @@ hears_follow_up : (b : Bool) (p : ℕ) (m : FollowUp) (now : ℕ) (s s' : System
     → HearsFollowUpIf b p m now s s' sends answer → Still s s'
 hears_follow_up false p m now s s' sends answer k = becomes (λ n x. x) s s s' sends (still_ports s s refl) k.becomes
 hears_follow_up true p m now s s' sends answer k =
-    knows_if (said_on p m s) (delay_at s p) (rate_at s p) now s s' sends answer k
+    knows_if (said_on p m s) (delay_at s p) (root_rate_at s p) now s s' sends answer k
 
 tells_on : (s t s' : SystemState) → Still s t → s' ≡ telling t → Still s s'
 tells_on s t s' still is =
@@ -203,14 +203,14 @@ syncs_if false now s s' sends k =
 
 relays_by : (b : Bool) (info : SyncInfo) (now : ℕ) (s s' : SystemState) (sends : List Sending)
     → RelaysBy b info now s s' sends → Still s s'
-relays_by true info now s s' sends k = tells_on s (stopped s) s' (still_ports s (stopped s) refl) k.state
-relays_by false info now s s' sends (inl k) = tells_on s (stopped s) s' (still_ports s (stopped s) refl) k.state
+relays_by true info now s s' sends k = tells_on s (timer_stopped s) s' (still_ports s (timer_stopped s) refl) k.state
+relays_by false info now s s' sends (inl k) = tells_on s (timer_stopped s) s' (still_ports s (timer_stopped s) refl) k.state
 relays_by false info now s s' sends (inr k) =
-    becomes (λ n x. x) s (stopped s) s' sends (still_ports s (stopped s) refl) k.becomes
+    becomes (λ n x. x) s (timer_stopped s) s' sends (still_ports s (timer_stopped s) refl) k.becomes
 
 relays_if : (known : Option SyncInfo) (now : ℕ) (s s' : SystemState) (sends : List Sending)
     → RelaysIf known now s s' sends → Still s s'
-relays_if None now s s' sends k = becomes (λ n x. x) s (stopped s) s' sends (still_ports s (stopped s) refl) k
+relays_if None now s s' sends k = becomes (λ n x. x) s (timer_stopped s) s' sends (still_ports s (timer_stopped s) refl) k
 relays_if (Some info) now s s' sends k = relays_by (has_sync_timeout s.params) info now s s' sends k
 
 -- ---- all steps
@@ -226,7 +226,7 @@ only_nothing p n x = go (n == p)
 still_heard : (p : ℕ) (s s' : SystemState) → Still s s' → Parts (only_at p (λ y. y)) s s'
 still_heard p s s' still i q' there =
     let (q, was, is) = still i q' there in
-    (q, was, is ∙ only_nothing p (suc i) (part_of q))
+    (q, was, is ∙ only_nothing p (suc i) (measure_at q))
 
 hears_message : (p : ℕ) (m : Message) (now : ℕ) (s s' : SystemState) (sends : List Sending) (answer : Answer)
     → HearsMessage p m now s s' sends answer → Parts (only_at p (part_heard s now m)) s s'
@@ -255,7 +255,7 @@ hears_message p (messages.Announce a) now s s' sends answer k =
     still_heard p s s' (hears_announce p a now s s' sends answer k)
 
 hears_frame : (p : ℕ) (octets : List ℕ) (now : ℕ) (s s' : SystemState) (sends : List Sending) (answer : Answer)
-    → HearsFrame p octets now s s' sends answer → Measures s now (Frame p octets) s'
+    → HearsFrame p octets now s s' sends answer → MeasuresAtEachPlace s now (Frame p octets) s'
 hears_frame p octets now s s' sends answer (inl k) i q' there =
     let (q, was, is) = hears_message p k.message now s s' sends answer k.hears i q' there in
     (q, was, inl (k.message, k.reads, is))
@@ -264,26 +264,26 @@ hears_frame p octets now s s' sends answer (inr k) i q' there =
     (q, was, inr ((λ m reads. never_both octets m k.refused reads k.refuses), is))
 
 expires : (timer : Timer) (now : ℕ) (s s' : SystemState) (sends : List Sending) → TimerExpires timer now s s' sends
-    → Measures s now (Expires timer) s'
+    → MeasuresAtEachPlace s now (Expires timer) s'
 expires (timers.Announce p) now s s' sends k = subst (Still s) (sym k.state) announced_parts
   where
     announced_parts : Still s (announced_at p now s)
-    announced_parts i q' there = go (change-get (announced now) p s.ports i q' there)
+    announced_parts i q' there = go (change-get (announced_again now) p s.ports i q' there)
       where
-        go : Changed (announced now) (p ≡ suc i) s.ports i q'
-            → (q : Port) × (slice_get s.ports i ≡ Some q) × (part_of q' ≡ part_of q)
-        go (q, was, inl (here, new)) = (q, was, ap part_of new)
-        go (q, was, inr (elsewhere, old)) = (q, was, ap part_of old)
+        go : Changed (announced_again now) (p ≡ suc i) s.ports i q'
+            → (q : Port) × (slice_get s.ports i ≡ Some q) × (measure_at q' ≡ measure_at q)
+        go (q, was, inl (here, new)) = (q, was, ap measure_at new)
+        go (q, was, inr (elsewhere, old)) = (q, was, ap measure_at old)
 expires (timers.Age p) now s s' sends k = selects_parts now (aged_at p now s) s' sends k
 expires (timers.Pdelay p) now s s' sends k = turns_and_asks p after_interval now s s' sends k
 expires (timers.Respond p) now s s' sends k =
     subst (Parts (only_at p part_answered) s) (sym k.state) (on_port_parts p answering_done part_answered s (λ q. refl))
-expires timers.Sync now s s' sends k = syncs_if (leads s) now s s' sends k
+expires timers.Sync now s s' sends k = syncs_if (is_leading s) now s s' sends k
 expires timers.Relay now s s' sends k = relays_if s.known now s s' sends k
 expires timers.Lapse now s s' sends k = selects_parts now (lapsed s) s' sends k
 
 pub steps_measure : (input : Input) (now : ℕ) (s s' : SystemState) (sends : List Sending) (answer : Answer)
-    → Steps input now s s' sends answer → Measures s now input s'
+    → Steps input now s s' sends answer → MeasuresAtEachPlace s now input s'
 steps_measure (PortUp p) now s s' sends answer k = turns_and_asks p reset_peer now s s' sends k
 steps_measure (PortDown p) now s s' sends answer k = goes_down p now s s' sends k
 steps_measure (Frame p octets) now s s' sends answer k = hears_frame p octets now s s' sends answer k

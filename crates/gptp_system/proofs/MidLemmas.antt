@@ -20,8 +20,8 @@ use Rattle.gptp_system.specs.State.{SystemState, age_due, clock, due, held_at, i
 use Rattle.gptp_system.specs.Measuring.{down, held_if, held_turned, is_turned, silenced, turned}
 use Rattle.gptp_system.specs.Announcing.{aged_at, aged_by, compared, with_priority}
 use Rattle.gptp_system.specs.Facts.{AreShown, IsShown}
-use Rattle.gptp_system.specs.Touch.{Touch, Hear, Tick, Grow, Enable, Disable, Other, IsTurn, Mid}
-use Rattle.gptp_system.specs.Reacts.{IsAnnounce, IsOwnAnnounce, PlaceReacts, PortEnds, Reacts, Tells}
+use Rattle.gptp_system.specs.Touch.{Touch, Hear, Tick, Grow, Enable, Disable, Other, IsTurn, PortHoldsInTouch}
+use Rattle.gptp_system.specs.Reacts.{IsAnnounce, IsOwnAnnounce, PlaceReacts, PortEnds, Reacts, PortAnnounces}
 use Rattle.gptp_system.proofs.ChangedLemmas.{Changed, change-get, number-get}
 use Rattle.gptp_system.proofs.EndLemmas.{Concludes, Ends}
 use Rattle.gptp_system.proofs.TouchedLemmas.{priority_clock}
@@ -49,7 +49,7 @@ on_port_goes_on p f s log announce i q' there = go (change-get f p s.ports i q' 
 pub record Mids (s : SystemState) (touch : Touch) (now : ℕ) (t : SystemState) : Type 0 where
   pub same_clock : clock t ≡ clock s
   pub held : (i : ℕ) (mid : Held) → slice_get t.held i ≡ Some mid
-      → (h : Held) × (slice_get s.held i ≡ Some h) × Mid (clock s) (suc i) touch now h mid
+      → (h : Held) × (slice_get s.held i ≡ Some h) × PortHoldsInTouch (clock s) (suc i) touch now h mid
   pub ports : (i : ℕ) (q' : Port) → slice_get t.ports i ≡ Some q' → GoesOn s.ports i q'
 
 pub other_mids : (s : SystemState) (now : ℕ) → Mids s Other now s
@@ -99,7 +99,7 @@ heard_mids p a now s shown on qualified = record {
     f h = held_after (comparison h (own s p) a) h (reception a (own s p) now)
 
     go : (i : ℕ) (mid : Held) → Changed f (p ≡ suc i) s.held i mid
-        → (h : Held) × (slice_get s.held i ≡ Some h) × Mid (clock s) (suc i) (Hear p a) now h mid
+        → (h : Held) × (slice_get s.held i ≡ Some h) × PortHoldsInTouch (clock s) (suc i) (Hear p a) now h mid
     go i mid (h, was, inl (here, new)) =
         let (q, there, capable) = capable_port s p on in
         let showing = shown.each i h q was (number-place s.ports p i q here there) in
@@ -119,7 +119,7 @@ unheard_mids p a now s shown on unqualified = record {
 }
   where
     go : (i : ℕ) (mid : Held) → slice_get s.held i ≡ Some mid → Dec (suc i ≡ p)
-        → Mid (clock s) (suc i) (Hear p a) now mid mid
+        → PortHoldsInTouch (clock s) (suc i) (Hear p a) now mid mid
     go i mid there (yes here) =
         let (q, stands, capable) = capable_port s p on in
         let showing = shown.each i mid q there (number-place s.ports p i q (sym here) stands) in
@@ -153,7 +153,7 @@ aged_mids p now t s is past = record {
     held_due (Some q) e = e
 
     at : (i : ℕ) (mid : Held) → Changed ages (p ≡ suc i) s.held i mid
-        → (h : Held) × (slice_get s.held i ≡ Some h) × Mid (clock s) (suc i) (Grow p) now h mid
+        → (h : Held) × (slice_get s.held i ≡ Some h) × PortHoldsInTouch (clock s) (suc i) (Grow p) now h mid
     at i mid (h, was, inl (here, new)) =
         let holds : held_at s p ≡ h =
         ap (λ x. option_map_or (λ y. y) x helds.Disabled) (number-get s.held p i h here was) in
@@ -198,17 +198,17 @@ turned_mids p step now s shown is = go (number s.ports p) refl is
       where
         here_mid : (n : ℕ) (h mid : Held) (b : Bool) → is_capable (step q.peer) ≡ b → n ≡ p → IsShown h q
             → mid ≡ held_if b
-            → Mid (clock s) n (turn_of p b) now h mid
+            → PortHoldsInTouch (clock s) n (turn_of p b) now h mid
         here_mid n h mid true on same showing new = inl (same, showing.off (turned_from step q e on), new)
         here_mid n h mid false off same showing new = inl (same, new)
 
-        other_mid : (n : ℕ) (h mid : Held) (b : Bool) → (n ≢ p) → mid ≡ h → Mid (clock s) n (turn_of p b) now h mid
+        other_mid : (n : ℕ) (h mid : Held) (b : Bool) → (n ≢ p) → mid ≡ h → PortHoldsInTouch (clock s) n (turn_of p b) now h mid
         other_mid n h mid true elsewhere old = inr (elsewhere, old)
         other_mid n h mid false elsewhere old = inr (elsewhere, old)
 
         at : (i : ℕ) (mid : Held) → Changed (held_turned step (number s.ports p)) (p ≡ suc i) s.held i mid
             → (h : Held) × (slice_get s.held i ≡ Some h)
-            × Mid (clock s) (suc i) (turn_of p (is_capable (step q.peer))) now h mid
+            × PortHoldsInTouch (clock s) (suc i) (turn_of p (is_capable (step q.peer))) now h mid
         at i mid (h, was, inl (here, new)) = (
           h,
           was,
@@ -227,7 +227,7 @@ down_mids p now s = record {
 }
   where
     at : (i : ℕ) (mid : Held) → Changed (λ h. helds.Disabled) (p ≡ suc i) s.held i mid
-        → (h : Held) × (slice_get s.held i ≡ Some h) × Mid (clock s) (suc i) (Disable p) now h mid
+        → (h : Held) × (slice_get s.held i ≡ Some h) × PortHoldsInTouch (clock s) (suc i) (Disable p) now h mid
     at i mid (h, was, inl (here, new)) = (h, was, inl (sym here, new))
     at i mid (h, was, inr (elsewhere, old)) = (h, was, inr ((λ x. elsewhere (sym x)), old))
 
@@ -273,8 +273,8 @@ concludes_on t now u s' sends more c l m = record {
         rw (l.root, l.steps)
         (inr (record { mine = k.mine; on = k.on; is_lower = k.is_lower; timing = timing k.timing }))
       where
-        timing : (((mid ≡ helds.Mine u.root u.steps) × (p.announce ≡ q.announce)) ⊎ Tells n now q p sends)
-            → ((mid ≡ helds.Mine u.root u.steps) × (q'.announce ≡ q.announce)) ⊎ Tells n now q q' more
+        timing : (((mid ≡ helds.Mine u.root u.steps) × (p.announce ≡ q.announce)) ⊎ PortAnnounces n now q p sends)
+            → ((mid ≡ helds.Mine u.root u.steps) × (q'.announce ≡ q.announce)) ⊎ PortAnnounces n now q q' more
         timing (inl (mine, same)) = inl (mine, announce ∙ same)
         timing (inr k) =
             let (x, member, number, is) = k.sent in
@@ -313,8 +313,8 @@ joined s touch now t s' sends m c =
           timing = timing k.timing;
         })
       where
-        timing : (((mid ≡ helds.Mine s'.root s'.steps) × (q'.announce ≡ p.announce)) ⊎ Tells n now p q' sends)
-            → ((mid ≡ helds.Mine s'.root s'.steps) × (q'.announce ≡ q.announce)) ⊎ Tells n now q q' sends
+        timing : (((mid ≡ helds.Mine s'.root s'.steps) × (q'.announce ≡ p.announce)) ⊎ PortAnnounces n now p q' sends)
+            → ((mid ≡ helds.Mine s'.root s'.steps) × (q'.announce ≡ q.announce)) ⊎ PortAnnounces n now q q' sends
         timing (inl (mine, same)) = inl (mine, same ∙ announce)
         timing (inr k) = inr (record { sent = k.sent; timer = k.timer ∙ ap (λ l. now + interval_of l) log })
 

@@ -24,14 +24,14 @@ use Rattle.gptp_setup.specs.Intervals.{interval_of}
 use Rattle.gptp_setup.specs.Pace.{has_sync_timeout}
 use Rattle.gptp_system.specs.State.{SystemState, held_at, is_capable_at, local_time, number, on_port, own, with_peer}
 use Rattle.gptp_system.specs.Sends.{with_send}
-use Rattle.gptp_system.specs.Selection.{Becomes, Selects, SelectsIf, announced}
+use Rattle.gptp_system.specs.Selection.{Becomes, Selects, SelectsIf, announced_again}
 use Rattle.gptp_system.specs.Measuring.{responded, Turns, TurnsAndAsks, TurnsIf, answering_done, asking, down, is_turned, owed_at, owes, owing, request_of, silenced, turned}
-use Rattle.gptp_system.specs.Announcing.{aged_at, announced_at, compared, is_taken, with_priority}
+use Rattle.gptp_system.specs.Announcing.{aged_at, announced_at, compared, replaces_held, with_priority}
 use Rattle.gptp_system.specs.Lapse.{lapsed}
-use Rattle.gptp_system.specs.Syncing.{HearsFollowUpIf, HearsSyncIf, KeepsIf, KnowsBy, KnowsIf, RelaysBy, RelaysIf, SyncsIf, delay_at, is_followed, leads, own_time, rate_at, restarted, said_on, stopped, telling, told_by}
+use Rattle.gptp_system.specs.Syncing.{HearsFollowUpIf, HearsSyncIf, KeepsIf, KnowsBy, KnowsIf, RelaysBy, RelaysIf, SyncsIf, delay_at, is_followed, is_leading, own_time, root_rate_at, restarted, said_on, timer_stopped, telling, told_by}
 use Rattle.gptp_system.specs.Steps.{Expires as TimerExpires, HearsFrame, HearsMessage}
 use Rattle.gptp_system.specs.Input.{Input, Steps, PortUp, PortDown, Frame, Expires, Priority}
-use Rattle.gptp_system.specs.Reach.{AreAt, AreAtPorts, IsWithin, Leaves, asking_reach, is_of_time, is_selected, is_touched, is_touched_asking, is_touched_by, reach, same_timer, stops_at, timer_reach, type_reach}
+use Rattle.gptp_system.specs.Reach.{AreAt, AreAtPorts, SendsWithin, Leaves, asking_reach, is_of_time, is_selected, is_touched, is_touched_asking, is_touched_by, reach, same_timer, stops_at, timer_reach, type_reach}
 use Rattle.gptp_system.proofs.ChangedLemmas.{change-length}
 use Rattle.gptp_system.proofs.DueLemmas.{CoversSelection, Spares, leaves_on, on_port_leaves, selects_leaves, telling_leaves}
 use Rattle.gptp_system.specs.Counters.{AreCounted}
@@ -46,7 +46,7 @@ use Rattle.gptp_system.proofs.CalmLemmas.{Calm, calm_apart, calm_held, calm_on, 
 
 -- a step sends within this reach, leaves the timers that aren't touched, and counts what it sends
 pub record Goes (r : Reach) (touched : Timer → Bool) (s s' : SystemState) (sends : List Sending) : Type 0 where
-  pub within : IsWithin r (length s.ports) sends
+  pub within : SendsWithin r (length s.ports) sends
   pub leaves : Leaves touched s s'
   pub counts : AreCounted s s' sends
 
@@ -122,7 +122,7 @@ turns_and_asks : (stops : Bool) (p : ℕ) (step : PeerState → PeerState) (now 
     (sends : List Sending) → is_turned step (number s.ports p) ≡ stops → TurnsAndAsks p step now s s' sends
     → Goes (asking_reach stops p) (is_touched_asking stops p) s s' sends
 turns_and_asks stops p step now s s' sends is k = record {
-  within = subst (IsWithin (asking_reach stops p) (length s.ports)) (sym k.sends_are)
+  within = subst (SendsWithin (asking_reach stops p) (length s.ports)) (sym k.sends_are)
       (sent stops (subst (λ b. TurnsIf b p step now s k.between k.first) is k.turns) is);
   leaves = leaves_on touched s k.between s' first.leaves asked.leaves;
   counts = subst (AreCounted s s') (sym k.sends_are)
@@ -156,7 +156,7 @@ turns_and_asks stops p step now s s' sends is k = record {
         spares (λ q. refl) (λ q. refl))
 
     sent : (b : Bool) → TurnsIf b p step now s k.between k.first → is_turned step (number s.ports p) ≡ b
-        → IsWithin (asking_reach b p) (length s.ports) (with_send (request_of p k.between) k.first)
+        → SendsWithin (asking_reach b p) (length s.ports) (with_send (request_of p k.between) k.first)
     sent true h on =
         let (least, most) = turned_there step p s.ports on in
         one_more (request_of p k.between) (length s.ports) k.first least most
@@ -217,7 +217,7 @@ hears_announce : (p : ℕ) (a : AnnounceView) (now : ℕ) (s s' : SystemState) (
     → HearsMessage p (messages.Announce a) now s s' sends answer → Goes reaches.All is_selected s s' sends
 hears_announce p a now s s' sends answer (inl k) = rests reaches.All is_selected s s' sends k.becomes
 hears_announce p a now s s' sends answer (inr (inl k)) = rests reaches.All is_selected s s' sends k.becomes
-hears_announce p a now s s' sends answer (inr (inr k)) = go (is_taken (comparison (held_at s p) (own s p) a)) k.selects
+hears_announce p a now s s' sends answer (inr (inr k)) = go (replaces_held (comparison (held_at s p) (own s p) a)) k.selects
   where
     go : (b : Bool) → SelectsIf b now (compared p a now s) s' sends → Goes reaches.All is_selected s s' sends
     go true h =
@@ -272,13 +272,13 @@ hears_follow_up : (b : Bool) (p : ℕ) (m : FollowUp) (now : ℕ) (s s' : System
 hears_follow_up false p m now s s' sends answer k =
     rests reaches.Nothing is_of_time s s' sends k.becomes
 hears_follow_up true p m now s s' sends answer k =
-    knows_if (said_on p m s) (delay_at s p) (rate_at s p) now s s' sends answer k
+    knows_if (said_on p m s) (delay_at s p) (root_rate_at s p) now s s' sends answer k
 
 restarted_calm : (now : ℕ) (s : SystemState) → Calm (same_timer timers.Sync) s (restarted now s)
 restarted_calm now s =
     calm_apart (same_timer timers.Sync) s _ refl refl refl refl (λ off. absurd cc) (λ off. refl) (λ off. refl)
 
-stopped_calm : (s : SystemState) → Calm (same_timer timers.Relay) s (stopped s)
+stopped_calm : (s : SystemState) → Calm (same_timer timers.Relay) s (timer_stopped s)
 stopped_calm s =
     calm_apart (same_timer timers.Relay) s _ refl refl refl refl (λ off. refl) (λ off. absurd cc) (λ off. refl)
 
@@ -304,16 +304,16 @@ syncs_if false now s s' sends k =
 relays_by : (b : Bool) (info : SyncInfo) (now : ℕ) (s s' : SystemState) (sends : List Sending)
     → RelaysBy b info now s s' sends → Goes reaches.All (same_timer timers.Relay) s s' sends
 relays_by true info now s s' sends k =
-    tells (same_timer timers.Relay) k.told s (stopped s) s' sends (stopped_calm s) refl k.state k.sends_are
+    tells (same_timer timers.Relay) k.told s (timer_stopped s) s' sends (stopped_calm s) refl k.state k.sends_are
 relays_by false info now s s' sends (inl k) =
-    tells (same_timer timers.Relay) _ s (stopped s) s' sends (stopped_calm s) refl k.state k.sends_are
+    tells (same_timer timers.Relay) _ s (timer_stopped s) s' sends (stopped_calm s) refl k.state k.sends_are
 relays_by false info now s s' sends (inr k) =
-    becomes reaches.All (same_timer timers.Relay) s (stopped s) s' sends (stopped_calm s) k.becomes
+    becomes reaches.All (same_timer timers.Relay) s (timer_stopped s) s' sends (stopped_calm s) k.becomes
 
 relays_if : (known : Option SyncInfo) (now : ℕ) (s s' : SystemState) (sends : List Sending)
     → RelaysIf known now s s' sends → Goes reaches.All (same_timer timers.Relay) s s' sends
 relays_if None now s s' sends k =
-    becomes reaches.All (same_timer timers.Relay) s (stopped s) s' sends (stopped_calm s) k
+    becomes reaches.All (same_timer timers.Relay) s (timer_stopped s) s' sends (stopped_calm s) k
 relays_if (Some info) now s s' sends k = relays_by (has_sync_timeout s.params) info now s s' sends k
 
 -- ---- frames
@@ -365,7 +365,7 @@ expires : (timer : Timer) (now : ℕ) (s s' : SystemState) (sends : List Sending
 expires (timers.Announce p) now s s' sends k = record {
   within = subst (AreAt p) (sym k.sends_are) (announcement_few p s);
   leaves = subst (Leaves (same_timer (timers.Announce p)) s) (sym k.state)
-      (on_port_leaves (same_timer (timers.Announce p)) p (announced now)
+      (on_port_leaves (same_timer (timers.Announce p)) p (announced_again now)
       (record {
         announce = λ off q. absurd (itself_touched p off);
         pdelay = λ off q. refl;
@@ -394,7 +394,7 @@ expires (timers.Respond p) now s s' sends k = record {
       (responds_answer (owed_at s p) p now s sends k.responds)
       (counted_on_port p answering_done s (λ q. refl) (λ q. refl)));
 }
-expires timers.Sync now s s' sends k = syncs_if (leads s) now s s' sends k
+expires timers.Sync now s s' sends k = syncs_if (is_leading s) now s s' sends k
 expires timers.Relay now s s' sends k = relays_if s.known now s s' sends k
 expires timers.Lapse now s s' sends k =
     selects is_selected no_cover now s (lapsed s) s' sends (lapsed_calm is_selected no_cover s) refl k

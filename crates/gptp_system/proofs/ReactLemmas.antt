@@ -15,16 +15,16 @@ use Rattle.gptp_setup.specs.declared.timer.Timer.TheVariants as timers
 use Rattle.gptp_setup.specs.Intervals.{interval_of}
 use Rattle.gptp_system.specs.State.{SystemState, announce_due, clock, due, held_at, local_time, number, on_port, own, with_peer}
 use Rattle.gptp_system.specs.Sends.{announcement, with_send}
-use Rattle.gptp_system.specs.Selection.{Becomes, announced}
+use Rattle.gptp_system.specs.Selection.{Becomes, announced_again}
 use Rattle.gptp_system.specs.Measuring.{Turns, TurnsAndAsks, TurnsIf, asking, is_turned, request_of, turned}
 use Rattle.gptp_system.specs.Announcing.{AnnounceExpires, announced_at, announcement_at}
 use Rattle.gptp_system.specs.Syncing.{telling}
 use Rattle.gptp_system.specs.Facts.{AreShown, IsAtRest}
 use Rattle.gptp_system.specs.Touch.{Touch, Other, IsTurn}
-use Rattle.gptp_system.specs.Reacts.{IsAnnounce, IsKept, IsOwnAnnounce, PortEnds, Reacts, Tells}
+use Rattle.gptp_system.specs.Reacts.{IsAnnounce, HoldsOrIsDisabled, IsOwnAnnounce, PortEnds, Reacts, PortAnnounces}
 use Rattle.gptp_system.proofs.ChangedLemmas.{Changed, change-get}
 use Rattle.gptp_system.proofs.PortLemmas.{Marked, counted-get, with_sync}
-use Rattle.gptp_system.specs.Messages.{AllAre, Announcing, Asking, Kind, kind_of}
+use Rattle.gptp_system.specs.Messages.{AllAre, Announcing, Asking, Kind, message_kind}
 use Rattle.gptp_system.proofs.SendLemmas.{with_send-among, with_send-from}
 use Rattle.gptp_system.proofs.EndLemmas.{Concludes, Ends, rest_concludes, selects_concludes}
 use Rattle.gptp_system.proofs.MidLemmas.{GoesOn, Later, Mids, SendsMore, concludes_on, joined, on_port_goes_on, other_mids, turned_mids}
@@ -39,7 +39,7 @@ pub none_other : (sends : List Sending) → sends ≡ [] → AreOther sends
 none_other sends none x member announce = absurd (subst (In x) none member)
 
 pub kind_other : (kind : Kind) (sends : List Sending) → (kind ≡ Announcing → ⊥) → AllAre kind sends → AreOther sends
-kind_other kind sends other all x member (announce, is) = other (sym (all x member) ∙ ap kind_of is)
+kind_other kind sends other all x member (announce, is) = other (sym (all x member) ∙ ap message_kind is)
 
 from_none : (sends : List Sending) → AreOther sends → SendsMore [] sends
 from_none sends other =
@@ -136,7 +136,7 @@ request_other p s sends = record {
 }
   where
     go : (x : Sending) → IsAnnounce x.body → (x ≡ request_of p s) ⊎ In x sends → In x sends
-    go x (announce, is) (inl here) = absurd (asks (sym (ap (λ (y : Sending). kind_of y.body) here) ∙ ap kind_of is))
+    go x (announce, is) (inl here) = absurd (asks (sym (ap (λ (y : Sending). message_kind y.body) here) ∙ ap message_kind is))
       where
         asks : Asking ≡ Announcing → ⊥
         asks e = cc
@@ -193,7 +193,7 @@ held_there : (o : Option Held) (root steps : ℕ) → option_map_or (λ h. h) o 
 held_there None root steps e = absurd cc
 held_there (Some h) root steps e = ap (λ x. Some x) e
 
-not_kept : (h : Held) (root steps : ℕ) → h ≡ helds.Mine root steps → IsKept h → ⊥
+not_kept : (h : Held) (root steps : ℕ) → h ≡ helds.Mine root steps → HoldsOrIsDisabled h → ⊥
 not_kept h root steps mine (inl off) = absurd (let both = sym mine ∙ off in cc)
 not_kept h root steps mine (inr (r, is)) = absurd (none-some r (ap received (sym mine) ∙ is))
 
@@ -241,9 +241,9 @@ announce_expires (suc j) now t s s' sends r is k =
         ports : (i : ℕ) (h' : Held) (q' : Port) → slice_get s.held i ≡ Some h'
             → slice_get (announced_at (suc j) now s).ports i ≡ Some q'
             → Ends s now (announced_at (suc j) now s) (x ∷ []) i h' q'
-        ports i h' q' stands new = go (change-get (announced now) (suc j) s.ports i q' new)
+        ports i h' q' stands new = go (change-get (announced_again now) (suc j) s.ports i q' new)
           where
-            go : Changed (announced now) (suc j ≡ suc i) s.ports i q'
+            go : Changed (announced_again now) (suc j ≡ suc i) s.ports i q'
                 → Ends s now (announced_at (suc j) now s) (x ∷ []) i h' q'
             go (p, was, inl (here, new)) =
                 let place : j ≡ i = omega arith in
@@ -285,9 +285,9 @@ announce_expires (suc j) now t s s' sends r is k =
                 still mid a b same (inr m) =
                     inr (record { mine = m.mine; on = m.on; is_lower = m.is_lower; timing = timing m.timing })
                   where
-                    timing : (((mid ≡ helds.Mine s.root s.steps) × (b.announce ≡ a.announce)) ⊎ Tells
+                    timing : (((mid ≡ helds.Mine s.root s.steps) × (b.announce ≡ a.announce)) ⊎ PortAnnounces
                         (suc i) now a b [])
-                        → ((mid ≡ helds.Mine s.root s.steps) × (q'.announce ≡ a.announce)) ⊎ Tells (suc i) now a q'
+                        → ((mid ≡ helds.Mine s.root s.steps) × (q'.announce ≡ a.announce)) ⊎ PortAnnounces (suc i) now a q'
                         (x ∷ [])
                     timing (inl (mine, before)) = inl (mine, same ∙ before)
                     timing (inr told) = absurd told.sent.1
@@ -299,12 +299,12 @@ announce_expires (suc j) now t s s' sends r is k =
           number_is = ap (λ (z : Sending). z.port) here;
           holds = held_mine;
           is = here;
-          log = λ q' new. names q' (change-get (announced now) (suc j) s.ports j q' new);
+          log = λ q' new. names q' (change-get (announced_again now) (suc j) s.ports j q' new);
         }
           where
-            names : (q' : Port) → Changed (announced now) (suc j ≡ suc j) s.ports j q'
+            names : (q' : Port) → Changed (announced_again now) (suc j ≡ suc j) s.ports j q'
                 → q'.log_interval ≡ q.log_interval
             names q' (p, was, inl (same, new)) =
-                ap (λ (z : Port). z.log_interval) (new ∙ ap (announced now) (same_Some p q (sym was ∙ there)))
+                ap (λ (z : Port). z.log_interval) (new ∙ ap (announced_again now) (same_Some p q (sym was ∙ there)))
             names q' (p, was, inr (elsewhere, old)) = absurd (elsewhere refl)
         tells y (inr later) announce = absurd later

@@ -11,10 +11,10 @@ use Rattle.gptp_receipt.specs.declared.held.Heard.{Heard}
 use Rattle.gptp_receipt.specs.declared.held.Heard.TheVariants as heards
 use Rattle.gptp_receipt.specs.declared.held.Reception.{Reception}
 use Rattle.gptp_receipt.specs.Held.{received, reception, comparison, aged, is_due}
-use Rattle.gptp_receipt.specs.Held.{held_after as heard_after}
+use Rattle.gptp_receipt.specs.Held.{held_after_selection as heard_after}
 use Rattle.gptp_receipt.specs.Qualification.{Qualified}
 use Rattle.gptp_roles.specs.Choice.{ArePlaced, IsPlaced}
-use Rattle.gptp_roles.specs.Role.{each_from, held_after, is_fresh, is_master, role_of}
+use Rattle.gptp_roles.specs.Role.{each_from, held_after_selection, is_fresh, is_master, chosen_role}
 use Rattle.gptp_roles.proofs.EachLemmas.{length-each_from}
 use Rattle.std.specs.Prelude.{map}
 use Rattle.std.specs.List.{range_with_len}
@@ -30,8 +30,8 @@ use Rattle.gptp_receipt.specs.Span.{span_of}
 use Rattle.gptp_system.specs.Announcing.{aged_by}
 use Rattle.gptp_system.specs.Lapse.{dropped, lapsed}
 use Rattle.gptp_system.specs.State.{SystemState, clock, change, change_at}
-use Rattle.gptp_system.specs.Selection.{announced, all_announced, fresh_ports, choosing, Selects}
-use Rattle.gptp_system.specs.Ready.{IsReady, IsRecent, IsPort}
+use Rattle.gptp_system.specs.Selection.{announced_again, all_announced, fresh_ports, choosing, Selects}
+use Rattle.gptp_system.specs.Ready.{IsReady, IsRecent, IsReadyPort}
 use Rattle.gptp_system.proofs.ChangedLemmas.{change-length}
 use Rattle.gptp_system.proofs.LapseLemmas.{lapse_stays_off}
 use Rattle.gptp_system.proofs.PlaceLemmas.{all_change}
@@ -39,24 +39,24 @@ use Rattle.gptp_system.proofs.AnnouncementLemmas.{length-all_announced}
 use Rattle.gptp_system.proofs.StartLemmas.{length-all_disabled, length-new_ports}
 
 -- what a port holds after selection was received before, or is its own
-recent_after : (v : Vector) (clock p : ℕ) (h : Held) (b : Bool) → is_master (role_of v clock p h) ≡ b → IsRecent h
-    → IsRecent (held_after v clock p h)
+recent_after : (v : Vector) (clock p : ℕ) (h : Held) (b : Bool) → is_master (chosen_role v clock p h) ≡ b → IsRecent h
+    → IsRecent (held_after_selection v clock p h)
 recent_after v clock p h true is recent = rw is (λ r none. absurd cc)
 recent_after v clock p h false is recent = rw is recent
 
 all_recent_after : (v : Vector) (clock p : ℕ) (hs : List Held) → AllByRecursion IsRecent hs
-    → AllByRecursion IsRecent (each_from (held_after v clock) p hs)
+    → AllByRecursion IsRecent (each_from (held_after_selection v clock) p hs)
 all_recent_after v clock p [] all = tt
 all_recent_after v clock p (h ∷ hs) all =
-    (recent_after v clock p h (is_master (role_of v clock p h)) refl all.0, all_recent_after v clock (p + 1) hs all.1)
+    (recent_after v clock p h (is_master (chosen_role v clock p h)) refl all.0, all_recent_after v clock (p + 1) hs all.1)
 
 -- announcing changes neither interval nor what is owed
-pub port_announced : (now : ℕ) (f : Bool) (q : Port) → IsPort q → IsPort (if f then announced now q else q)
+pub port_announced : (now : ℕ) (f : Bool) (q : Port) → IsReadyPort q → IsReadyPort (if f then announced_again now q else q)
 port_announced now true q is = record { log_interval = is.log_interval; waiting = is.waiting }
 port_announced now false q is = is
 
-all_ports_announced : (now : ℕ) (fs : List Bool) (qs : List Port) → AllByRecursion IsPort qs
-    → AllByRecursion IsPort (all_announced now fs qs)
+all_ports_announced : (now : ℕ) (fs : List Bool) (qs : List Port) → AllByRecursion IsReadyPort qs
+    → AllByRecursion IsReadyPort (all_announced now fs qs)
 all_ports_announced now [] qs all = all
 all_ports_announced now (f ∷ fs) [] all = tt
 all_ports_announced now (f ∷ fs) (q ∷ qs) all = (port_announced now f q all.0, all_ports_announced now fs qs all.1)
@@ -66,7 +66,7 @@ pub selects_ready : (now : ℕ) (s s' : SystemState) (sends : List Sending) → 
     → Selects now s s' sends → IsReady s'
 selects_ready now s s' sends ready placed selects =
     let v = selects.vector in
-    let helds-length = length-each_from (held_after v (clock s)) 1 s.held in
+    let helds-length = length-each_from (held_after_selection v (clock s)) 1 s.held in
     let flags-length = length-each_from (is_fresh v (clock s)) 1 s.held in
     let few : length (fresh_ports v s) ≤ length s.ports = omega (arith, flags-length, ready.places) in
     let ports-length = length-all_announced now (fresh_ports v s) s.ports few in
@@ -217,7 +217,7 @@ lapsed_ready s ready = go s.slave
 -- ---- one port changes beside what it holds
 
 pub ports_ready : (s : SystemState) (p : ℕ) (f : Port → Port) (ports : List Port) → IsReady s
-    → ((q : Port) → IsPort q → IsPort (f q))
+    → ((q : Port) → IsReadyPort q → IsReadyPort (f q))
     → ports ≡ change f p s.ports → IsReady (record s { ports = ports })
 ports_ready s p f ports ready keeps is =
     let size = change-length f p s.ports in
@@ -230,7 +230,7 @@ ports_ready s p f ports ready keeps is =
       few = omega (arith, size, ready.few);
       placed = ready.placed;
       recent = ready.recent;
-      ports = all_change IsPort f p s.ports keeps ready.ports;
+      ports = all_change IsReadyPort f p s.ports keeps ready.ports;
       lapses = ready.lapses;
     })
 
@@ -238,7 +238,7 @@ ports_ready s p f ports ready keeps is =
 
 new_ports_are : (clock : ℕ) (params : Params) (largest : ℤ) (n : ℕ) (logs : List ℤ)
     → AllByRecursion (IsLogUpTo largest) logs
-    → AllByRecursion IsPort (new_ports clock params n logs)
+    → AllByRecursion IsReadyPort (new_ports clock params n logs)
 new_ports_are clock params largest n [] all = tt
 new_ports_are clock params largest n (log ∷ logs) all = (
   record { log_interval = all.0.within; waiting = λ owed none. absurd cc },

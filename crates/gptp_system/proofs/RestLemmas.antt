@@ -4,19 +4,19 @@ use Rattle.std.specs.Prelude.{◌==◌, if◌then◌else◌}
 use Rattle.std.specs.List.{AllByRecursion}
 use Rattle.std.proofs.lemmas.Option.{none-some}
 use Rattle.gptp_vector.specs.declared.vector.Vector.{Vector}
-use Rattle.gptp_vector.specs.Vector.{system_of}
+use Rattle.gptp_vector.specs.Vector.{system_vector}
 use Rattle.gptp_receipt.specs.declared.held.Held.{Held}
 use Rattle.gptp_receipt.specs.declared.held.Held.TheVariants as helds
 use Rattle.gptp_receipt.specs.Held.{HoldsFor}
 use Rattle.gptp_roles.specs.Choice.{path_vectors, slave_port}
-use Rattle.gptp_roles.specs.Role.{each_from, each_port, held_after, is_fresh}
+use Rattle.gptp_roles.specs.Role.{each_from, each_port, held_after_selection, is_fresh}
 use Rattle.gptp_roles.proofs.ChoiceLemmas.{least_alone, one_least}
 use Rattle.gptp_roles.proofs.RestLemmas.{at_rest}
 use Rattle.gptp_pdelay.specs.Peer.{is_capable}
 use Rattle.gptp_system.specs.declared.port.Port.{Port}
 use Rattle.gptp_system.specs.declared.sending.Sending.{Sending}
 use Rattle.gptp_system.specs.State.{SystemState, clock, lapse_of, own}
-use Rattle.gptp_system.specs.Selection.{Selects, all_announced, announcements, choosing, follows_on, fresh_ports, kept_if, lapse_after, same_port}
+use Rattle.gptp_system.specs.Selection.{Selects, all_announced, announcements, choosing, follows_on, fresh_ports, kept_if, lapse_after, same_number}
 use Rattle.gptp_system.specs.Facts.{AreHeld, AreShown, IsAtRest, IsNew}
 use Rattle.gptp_system.proofs.FactLemmas.{are_placed}
 
@@ -40,14 +40,14 @@ none_fresh s a r =
     let again = at_rest s.identity s.held r.vector (are_placed s a) r.is_chosen in
     subst (λ hs. AllByRecursion (λ b. b ≡ false) (each_port (is_fresh r.vector (clock s)) hs)) (sym r.stays) again.fresh
 
-same_itself : (o : Option ℕ) → same_port o o ≡ true
+same_itself : (o : Option ℕ) → same_number o o ≡ true
 same_itself None = refl
 same_itself (Some p) = eq-eqb p p refl
 
 follows_itself : (s : SystemState) (r : IsAtRest s) → follows_on r.vector s ≡ true
 follows_itself s r =
     let root : (r.vector.root == s.root) ≡ true = eq-eqb r.vector.root s.root (sym r.root) in
-    let slave : same_port (slave_port r.vector) s.slave ≡ true = ap (same_port (slave_port r.vector)) r.slave
+    let slave : same_number (slave_port r.vector) s.slave ≡ true = ap (same_number (slave_port r.vector)) r.slave
     ∙ same_itself (slave_port r.vector) in
     rw (root, slave) refl
 
@@ -91,7 +91,7 @@ pub selects_again : (now : ℕ) (s s' : SystemState) (sends : List Sending) → 
 selects_again now s s' sends a r k = (state, silent)
   where
     one : k.vector ≡ r.vector
-    one = one_least (system_of s.identity ∷ path_vectors s.held) k.vector r.vector k.is_chosen r.is_chosen
+    one = one_least (system_vector s.identity ∷ path_vectors s.held) k.vector r.vector k.is_chosen r.is_chosen
 
     state : s' ≡ s
     state = k.state ∙ ap (λ v. choosing v now s) one ∙ choosing_same now s a r
@@ -119,7 +119,7 @@ no_paths (h ∷ hs) silent = rw (silent 0 h refl) (no_paths hs (λ i g there. si
 
 silent_stays : (v : Vector) (c n : ℕ) (hs : List Held)
     → ((i : ℕ) (h : Held) → slice_get hs i ≡ Some h → h ≡ helds.Disabled)
-    → hs ≡ each_from (held_after v c) n hs
+    → hs ≡ each_from (held_after_selection v c) n hs
 silent_stays v c n [] silent = refl
 silent_stays v c n (h ∷ hs) silent =
     rw (silent 0 h refl)
@@ -128,9 +128,9 @@ silent_stays v c n (h ∷ hs) silent =
 -- a new system is its own root
 pub new_rest : (s : SystemState) → IsNew s → IsAtRest s
 new_rest s k = record {
-  vector = system_of s.identity;
-  is_chosen = rw (no_paths s.held k.silent) (least_alone (system_of s.identity));
-  stays = silent_stays (system_of s.identity) (clock s) 1 s.held k.silent;
+  vector = system_vector s.identity;
+  is_chosen = rw (no_paths s.held k.silent) (least_alone (system_vector s.identity));
+  stays = silent_stays (system_vector s.identity) (clock s) 1 s.held k.silent;
   root = k.root;
   steps = k.steps;
   slave = k.slave;

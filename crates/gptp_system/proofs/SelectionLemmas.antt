@@ -9,7 +9,7 @@ use Rattle.gptp_roles.specs.Selection.{IsSelection}
 use Rattle.gptp_system.specs.declared.port.Port.{Port}
 use Rattle.gptp_system.specs.declared.sending.Sending.{Sending}
 use Rattle.gptp_system.specs.State.{SystemState, clock, lapse_of}
-use Rattle.gptp_system.specs.Selection.{all_announced, announcements, follows_on, same_port, kept_if, Selects}
+use Rattle.gptp_system.specs.Selection.{all_announced, announcements, follows_on, same_number, kept_if, Selects}
 
 -- what a system has kept of the time that came, where it followed on or not, and when it lapses
 pub record Keeps (now root : ℕ) (slave : Option ℕ) (same : Bool) (s : SystemState) (sync_in : Option KeptSync)
@@ -26,7 +26,7 @@ pub took_over : (now : ℕ) (s : SystemState) (t : Selected) (held : List Held) 
     → IsSelection s.identity s.held t held
     → ports ≡ all_announced now t.fresh.items s.ports
     → sends ≡ announcements (clock s) t.root t.steps 1 t.fresh.items s.ports
-    → same ≡ (t.root == s.root && same_port t.slave s.slave)
+    → same ≡ (t.root == s.root && same_number t.slave s.slave)
     → Keeps now t.root t.slave same s sync_in known offset relay lapse
     → Selects now s
     (record s {
@@ -46,8 +46,8 @@ took_over now s t held ports sync_in known offset relay lapse sends same selecti
     let v = selection.chosen in
     let ports-after = ports-are ∙ ap (λ fresh. all_announced now fresh s.ports) selection.fresh in
     let follows : same ≡ follows_on v s =
-    same-is ∙ ap (λ root. root == s.root && same_port t.slave s.slave) selection.root
-    ∙ ap (λ slave. v.root == s.root && same_port slave s.slave) selection.slave in
+    same-is ∙ ap (λ root. root == s.root && same_number t.slave s.slave) selection.root
+    ∙ ap (λ slave. v.root == s.root && same_number slave s.slave) selection.slave in
     let sync_in-after = keeps.sync_in_is ∙ ap (λ b. kept_if b s.sync_in) follows in
     let known-after = keeps.known_is ∙ ap (λ b. kept_if b s.known) follows in
     let offset-after = keeps.offset_is ∙ ap (λ b. kept_if b s.offset) follows in

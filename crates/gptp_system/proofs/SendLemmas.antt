@@ -9,10 +9,10 @@ use Rattle.gptp_receipt.specs.declared.held.Held.{Held}
 use Rattle.gptp_system.specs.declared.port.Port.{Port}
 use Rattle.gptp_system.specs.declared.sending.Sending.{Sending}
 use Rattle.gptp_system.specs.State.{SystemState, is_mine, own}
-use Rattle.gptp_system.specs.Sends.{response, response_follow_up, sends_up_to, with_send}
+use Rattle.gptp_system.specs.Sends.{pdelay_response, response_follow_up, sends_up_to, with_send}
 use Rattle.gptp_system.specs.Measuring.{RespondsIf}
 use Rattle.gptp_system.specs.Syncing.{follow_up_of, sync_of, syncs}
-use Rattle.gptp_system.specs.Messages.{AllAre, Answering, Telling, kind_of}
+use Rattle.gptp_system.specs.Messages.{AllAre, Answering, Telling, message_kind}
 
 -- ---- members
 
@@ -67,8 +67,8 @@ syncs_tell clock log told p (h ∷ hs) (q ∷ qs) x member =
     rest : List Sending
     rest = syncs clock log told (p + 1) hs qs
 
-    go : (b : Bool) → (In x rest → kind_of x.body ≡ Telling) → In x (if b then sync ∷ follow_up ∷ rest else rest)
-        → kind_of x.body ≡ Telling
+    go : (b : Bool) → (In x rest → message_kind x.body ≡ Telling) → In x (if b then sync ∷ follow_up ∷ rest else rest)
+        → message_kind x.body ≡ Telling
     go true ih (inl here) = rw here refl
     go true ih (inr (inl here)) = rw here refl
     go true ih (inr (inr later)) = ih later
@@ -81,12 +81,12 @@ responds_answer None p now s sends none x member = absurd (subst (In x) none mem
 responds_answer (Some owed) p now s sends k x member = go (subst (In x) k.sends_are member)
   where
     first : Sending
-    first = response (own s p) owed k.came k.came-rest
+    first = pdelay_response (own s p) owed k.came k.came-rest
 
     second : Sending
     second = response_follow_up (own s p) owed k.went k.went-rest
 
-    go : In x (first ∷ second ∷ []) → kind_of x.body ≡ Answering
+    go : In x (first ∷ second ∷ []) → message_kind x.body ≡ Answering
     go (inl here) = rw here refl
     go (inr (inl here)) = rw here refl
     go (inr (inr later)) = absurd later

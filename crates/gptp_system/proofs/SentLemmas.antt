@@ -23,14 +23,14 @@ use Rattle.gptp_system.specs.State.{SystemState, clock, due, held_at, is_capable
 use Rattle.gptp_system.specs.Sends.{announcement, with_send}
 use Rattle.gptp_system.specs.Selection.{Selects, SelectsIf, announcements, fresh_ports}
 use Rattle.gptp_system.specs.Measuring.{Turns, TurnsAndAsks, TurnsIf, is_turned, request_of}
-use Rattle.gptp_system.specs.Announcing.{announcement_at, compared, is_taken}
+use Rattle.gptp_system.specs.Announcing.{announcement_at, compared, replaces_held}
 use Rattle.gptp_setup.specs.Pace.{has_sync_timeout}
-use Rattle.gptp_system.specs.Syncing.{HearsFollowUpIf, HearsSyncIf, KeepsIf, KnowsBy, KnowsIf, RelaysBy, RelaysIf, SyncsIf, delay_at, is_followed, leads, own_time, rate_at, said_on, told_by}
+use Rattle.gptp_system.specs.Syncing.{HearsFollowUpIf, HearsSyncIf, KeepsIf, KnowsBy, KnowsIf, RelaysBy, RelaysIf, SyncsIf, delay_at, is_followed, is_leading, own_time, root_rate_at, said_on, told_by}
 use Rattle.gptp_system.specs.Steps.{Expires as TimerExpires, HearsFrame, HearsMessage}
 use Rattle.gptp_system.specs.Input.{Input, IsTimely, Steps, PortUp, PortDown, Frame, Expires, Priority}
 use Rattle.gptp_system.specs.Facts.{Keeps}
-use Rattle.gptp_system.specs.Measures.{Part, only_at, part_of, part_stepped}
-use Rattle.gptp_system.specs.Messages.{AllAre, Announcing, AreSent, AsksOnce, Kind, Telling, kind_of}
+use Rattle.gptp_system.specs.Measures.{Part, only_at, measure_at, part_stepped}
+use Rattle.gptp_system.specs.Messages.{AllAre, Announcing, AreSent, AsksOnce, Kind, Telling, message_kind}
 use Rattle.gptp_system.proofs.FactLemmas.{keeps_length}
 use Rattle.gptp_system.proofs.StepLemmas.{turns as turns_steady}
 use Rattle.gptp_system.proofs.MeasureLemmas.{turns as turns_parts}
@@ -53,8 +53,8 @@ announcements_announce c root steps n (f ∷ fs) (q ∷ qs) x member =
     rest : List Sending
     rest = announcements c root steps (n + 1) fs qs
 
-    go : (b : Bool) → (In x rest → kind_of x.body ≡ Announcing) → In x (if b then first ∷ rest else rest)
-        → kind_of x.body ≡ Announcing
+    go : (b : Bool) → (In x rest → message_kind x.body ≡ Announcing) → In x (if b then first ∷ rest else rest)
+        → message_kind x.body ≡ Announcing
     go true ih (inl here) = rw here refl
     go true ih (inr later) = ih later
     go false ih later = ih later
@@ -106,11 +106,11 @@ next_kept (suc i) step now s t sends q same there k =
     go stands = by (turns_parts (suc i) step now s t sends k i (get_or t.ports i q) stands)
       where
         by : ((p : Port) × (slice_get s.ports i ≡ Some p) ×
-            (part_of (get_or t.ports i q) ≡ only_at (suc i) (part_stepped step) (suc i) (part_of p)))
+            (measure_at (get_or t.ports i q) ≡ only_at (suc i) (part_stepped step) (suc i) (measure_at p)))
             → request_of (suc i) t ≡ request_of (suc i) s
         by (p, was, is) =
             let next : (get_or t.ports i q).peer.next ≡ p.peer.next =
-            ap (λ (x : Part). x.peer.next) is ∙ only_next (suc i) (suc i) step same (part_of p) in
+            ap (λ (x : Part). x.peer.next) is ∙ only_next (suc i) (suc i) step same (measure_at p) in
             let after : option_map_or (λ (x : Port). x.peer.next) (slice_get t.ports i) 0 ≡
             (get_or t.ports i q).peer.next =
             ap (λ o. option_map_or (λ (x : Port). x.peer.next) o 0) stands in
@@ -188,7 +188,7 @@ hears_follow_up : (b : Bool) (p : ℕ) (m : FollowUp) (now : ℕ) (s s' : System
     → HearsFollowUpIf b p m now s s' sends answer → AllAre Announcing sends
 hears_follow_up false p m now s s' sends answer k = silent_all Announcing sends k.becomes.silent
 hears_follow_up true p m now s s' sends answer k =
-    knows_if (said_on p m s) (delay_at s p) (rate_at s p) now s s' sends answer k
+    knows_if (said_on p m s) (delay_at s p) (root_rate_at s p) now s s' sends answer k
 
 -- ---- all steps
 
@@ -197,7 +197,7 @@ hears_announce : (p : ℕ) (a : AnnounceView) (now : ℕ) (s s' : SystemState) (
 hears_announce p a now s s' sends answer (inl k) = silent_all Announcing sends k.becomes.silent
 hears_announce p a now s s' sends answer (inr (inl k)) = silent_all Announcing sends k.becomes.silent
 hears_announce p a now s s' sends answer (inr (inr k)) =
-    selects_if (is_taken (comparison (held_at s p) (own s p) a)) now (compared p a now s) s' sends k.selects
+    selects_if (replaces_held (comparison (held_at s p) (own s p) a)) now (compared p a now s) s' sends k.selects
 
 hears_message : (p : ℕ) (m : Message) (now : ℕ) (s s' : SystemState) (sends : List Sending) (answer : Answer)
     → HearsMessage p m now s s' sends answer → AllAre Announcing sends
@@ -245,7 +245,7 @@ expires (timers.Pdelay p) now t s s' sends is k =
     let (q, there) = port_there p t s is in
     asks_once p after_interval now s s' sends q interval_next there k
 expires (timers.Respond p) now t s s' sends is k = k.responds
-expires timers.Sync now t s s' sends is k = syncs_if (leads s) now s s' sends k
+expires timers.Sync now t s s' sends is k = syncs_if (is_leading s) now s s' sends k
 expires timers.Relay now t s s' sends is k = relays_if s.known now s s' sends k
 expires timers.Lapse now t s s' sends is k = selects now _ s' sends k
 

@@ -15,7 +15,7 @@ use Rattle.gptp_setup.specs.declared.timer.Timer.TheVariants as timers
 use Rattle.gptp_setup.specs.Intervals.{AreIntervals, IsLog, IsLogUpTo, interval_of}
 use Rattle.gptp_setup.specs.Pace.{span_by}
 use Rattle.gptp_system.specs.State.{SystemState, age_due, announce_due, due, held_at, is_mine, number}
-use Rattle.gptp_system.specs.Ready.{IsPort, IsReady}
+use Rattle.gptp_system.specs.Ready.{IsReadyPort, IsReady}
 use Rattle.gptp_system.specs.Start.{all_disabled, new_port, started}
 use Rattle.gptp_system.specs.Times.{IsInTime, IsPortInTime}
 use Rattle.gptp_setup.proofs.IntervalLemmas.{interval_most}
@@ -43,7 +43,7 @@ module _ (s : SystemState) (now : ℕ) (ready : IsReady s) (k : IsInTime s now) 
       (same, k.each i (held_at s (suc i)) q same there)
 
   interval_few : (i : ℕ) (q : Port) → slice_get s.ports i ≡ Some q → interval_of q.log_interval ≤ 16000000000
-  interval_few i q there = interval_most q.log_interval (all_at IsPort s.ports i q ready.ports there).log_interval
+  interval_few i q there = interval_most q.log_interval (all_at IsReadyPort s.ports i q ready.ports there).log_interval
 
   age_few : (i : ℕ) (q : Port) → slice_get s.ports i ≡ Some q → (t : ℕ)
       → age_due s.params s.largest (held_at s (suc i)) ≡ Some t → t ≤ now + 160000000000

@@ -23,14 +23,14 @@ use Rattle.gptp_setup.proofs.PaceLemmas.{lapse_positive, span_within}
 use Rattle.gptp_system.specs.State.{SystemState, age_due, announce_due, clock, due, held_at, is_mine, number}
 use Rattle.gptp_system.specs.Input.{Input, IsTimely, Steps, PortUp, PortDown, Frame, Expires, Priority}
 use Rattle.gptp_system.specs.Facts.{AreShown, IsAtRest, Keeps}
-use Rattle.gptp_system.specs.Selection.{announced, follows_on}
+use Rattle.gptp_system.specs.Selection.{announced_again, follows_on}
 use Rattle.gptp_system.specs.Announcing.{announced_at}
 use Rattle.gptp_system.specs.Lapse.{lapsed}
-use Rattle.gptp_system.specs.Syncing.{RelaysBy, RelaysIf, SyncsIf, leads}
-use Rattle.gptp_system.specs.Touch.{IsSeenAs, Mid, Touch, Grow}
-use Rattle.gptp_system.specs.Reacts.{PlaceReacts, PortEnds, Tells}
-use Rattle.gptp_system.specs.Measures.{IsPartAfter, Part, only_at, part_answered, part_asked, part_down, part_heard, part_of, Measures}
-use Rattle.gptp_system.specs.Times.{RunsOn, Waits, WaitsAnew}
+use Rattle.gptp_system.specs.Syncing.{RelaysBy, RelaysIf, SyncsIf, is_leading}
+use Rattle.gptp_system.specs.Touch.{IsSeenAs, PortHoldsInTouch, Touch, Grow}
+use Rattle.gptp_system.specs.Reacts.{PlaceReacts, PortEnds, PortAnnounces}
+use Rattle.gptp_system.specs.Measures.{IsPartAfter, Part, only_at, part_answered, part_asked, part_down, part_heard, measure_at, MeasuresAtEachPlace}
+use Rattle.gptp_system.specs.Times.{RunsOn, LapseRunsOn, WaitsAnew}
 use Rattle.gptp_setup.specs.declared.setup.Params.{Params}
 use Rattle.gptp_correction.specs.declared.sync_in.SyncInfo.{SyncInfo}
 use Rattle.gptp_system.proofs.ChangedLemmas.{Changed, change-get}
@@ -168,7 +168,7 @@ port_runs s s' touch now sends i h' q' kept params largest logs r t = (announces
             absurd (let both = sym (ap is_mine same ∙ kept_other r.reacts.mid still) ∙ (mine_due q' h' t e).0 in cc)
         by (inr m) = timed m.timing
           where
-            timed : ((r.reacts.mid ≡ helds.Mine s'.root s'.steps) × (q'.announce ≡ r.port.announce)) ⊎ Tells
+            timed : ((r.reacts.mid ≡ helds.Mine s'.root s'.steps) × (q'.announce ≡ r.port.announce)) ⊎ PortAnnounces
                 (suc i) now r.port q' sends
                 → (due (timers.Announce (suc i)) s ≡ Some t) ⊎ (now < t)
             timed (inl (mine, same)) =
@@ -256,7 +256,7 @@ started_later input now s s' sends answer params largest logs calm shown rest st
     kept : Keeps s s'
     kept = (steps_sound input now s s' sends answer step).kept
 
-    measured : Measures s now input s'
+    measured : MeasuresAtEachPlace s now input s'
     measured = steps_measure input now s s' sends answer step
 
     at_place : (i : ℕ) (h' : Held) (q' : Port) → slice_get s'.held i ≡ Some h' → slice_get s'.ports i ≡ Some q'
@@ -279,7 +279,7 @@ started_later input now s s' sends answer params largest logs calm shown rest st
     relay t (inl before) = inl before
     relay t (inr new) = let positive = params.residence-least in inr (omega arith)
 
-    lapse : (t : ℕ) → Waits s s' t ⊎ WaitsAnew s now t → (due timers.Lapse s ≡ Some t) ⊎ (now < t)
+    lapse : (t : ℕ) → LapseRunsOn s s' t ⊎ WaitsAnew s now t → (due timers.Lapse s ≡ Some t) ⊎ (now < t)
     lapse t (inl on) = inl on.before
     lapse t (inr anew) = inr (anew_later s now t params anew)
 
@@ -306,22 +306,22 @@ started_later input now s s' sends answer params largest logs calm shown rest st
         let (i, q', number_is, there, e) = at_number (λ (q : Port). q.pdelay) s'.ports p t is in
         let (q, was, after) = measured i q' there in
         subst (λ n. (due (timers.Pdelay n) s ≡ Some t) ⊎ (now < t)) (sym number_is)
-        (rw was ((part_runs s params now input (suc i) (part_of q) (part_of q') after).pdelay t e))
+        (rw was ((part_runs s params now input (suc i) (measure_at q) (measure_at q') after).pdelay t e))
     go (timers.Respond p) t is =
         let (i, q', number_is, there, e) = at_number (λ (q : Port). q.respond) s'.ports p t is in
         let (q, was, after) = measured i q' there in
         subst (λ n. (due (timers.Respond n) s ≡ Some t) ⊎ (now < t)) (sym number_is)
-        (rw was ((part_runs s params now input (suc i) (part_of q) (part_of q') after).respond t e))
+        (rw was ((part_runs s params now input (suc i) (measure_at q) (measure_at q') after).respond t e))
 
 -- ---- a timer that ran out
 
--- a port that announced does so one interval later
+-- a port that announced_again does so one interval later
 announced_later : (p now : ℕ) (s : SystemState) (i : ℕ) (q' : Port) (t : ℕ)
     → ((i : ℕ) (q : Port) → slice_get s.ports i ≡ Some q → IsLog q.log_interval)
     → p ≡ suc i → slice_get (announced_at p now s).ports i ≡ Some q' → q'.announce ≡ t → now < t
-announced_later p now s i q' t logs here there is = go (change-get (announced now) p s.ports i q' there)
+announced_later p now s i q' t logs here there is = go (change-get (announced_again now) p s.ports i q' there)
   where
-    go : Changed (announced now) (p ≡ suc i) s.ports i q' → now < t
+    go : Changed (announced_again now) (p ≡ suc i) s.ports i q' → now < t
     go (q, was, inl (same, new)) =
         let positive = interval_positive q.log_interval (logs i q was) in
         let sum : now + interval_of q.log_interval ≡ t = sym (ap (λ (x : Port). x.announce) new) ∙ is in
@@ -333,14 +333,14 @@ aged_off : (s s' : SystemState) (touch : Touch) (p now : ℕ) (sends : List Send
     → touch ≡ Grow p → p ≡ suc i → PlaceReacts s touch now s' sends i h' q' → received h' ≡ None
 aged_off s s' touch p now sends i h' q' grows here r = ends r.reacts.after
   where
-    aged : Mid (clock s) (suc i) (Grow p) now r.held r.reacts.mid → received r.reacts.mid ≡ None
+    aged : PortHoldsInTouch (clock s) (suc i) (Grow p) now r.held r.reacts.mid → received r.reacts.mid ≡ None
     aged (inl (same, is)) = ap received is
     aged (inr (elsewhere, is)) = absurd (elsewhere (sym here))
 
     ends : PortEnds (clock s) (suc i) now s'.root s'.steps r.reacts.mid h' r.port q' sends → received h' ≡ None
     ends (inl (same, still)) =
         ap received same
-        ∙ aged (subst (λ x. Mid (clock s) (suc i) x now r.held r.reacts.mid) grows r.reacts.before)
+        ∙ aged (subst (λ x. PortHoldsInTouch (clock s) (suc i) x now r.held r.reacts.mid) grows r.reacts.before)
     ends (inr m) = ap received m.mine
 
 -- what becomes of the part of a port
@@ -389,8 +389,8 @@ ran_out_later (timers.Age p) now s s' sends answer params logs timely shown rest
 ran_out_later (timers.Pdelay p) now s s' sends answer params logs timely shown rest k t is =
     let (i, q', here, there, e) = at_number (λ (q : Port). q.pdelay) s'.ports p t is in
     let (q, was, after) = steps_measure (Expires (timers.Pdelay p)) now s s' sends answer k i q' there in
-    let new : part_of q' ≡ part_asked s now after_interval (part_of q) =
-    only_here p (suc i) (part_asked s now after_interval) (part_of q) (part_of q') here after in
+    let new : measure_at q' ≡ part_asked s now after_interval (measure_at q) =
+    only_here p (suc i) (part_asked s now after_interval) (measure_at q) (measure_at q') here after in
     let positive = interval_positive s.params.pdelay params.pdelay in
     let sum : now + interval_of s.params.pdelay ≡ t =
     same_Some (now + interval_of s.params.pdelay) t (sym (ap (λ (x : Part). x.pdelay) new) ∙ e) in
@@ -398,13 +398,13 @@ ran_out_later (timers.Pdelay p) now s s' sends answer params logs timely shown r
 ran_out_later (timers.Respond p) now s s' sends answer params logs timely shown rest k t is =
     let (i, q', here, there, e) = at_number (λ (q : Port). q.respond) s'.ports p t is in
     let (q, was, after) = steps_measure (Expires (timers.Respond p)) now s s' sends answer k i q' there in
-    let new : part_of q' ≡ part_answered (part_of q) =
-    only_here p (suc i) part_answered (part_of q) (part_of q') here after in
+    let new : measure_at q' ≡ part_answered (measure_at q) =
+    only_here p (suc i) part_answered (measure_at q) (measure_at q') here after in
     absurd (none-some t (sym (ap (λ (x : Part). x.respond) new) ∙ e))
 ran_out_later timers.Sync now s s' sends answer params logs timely shown rest k t is =
     let positive = interval_positive s.params.sync params.sync in
     let sum : now + interval_of s.params.sync ≡ t =
-    sym (sync_restarts (leads s) now s s' sends k) ∙ same_Some s'.sync t is in
+    sym (sync_restarts (is_leading s) now s s' sends k) ∙ same_Some s'.sync t is in
     omega arith
 ran_out_later timers.Relay now s s' sends answer params logs timely shown rest k t is =
     absurd (none-some t (sym (relay_stops s.known now s s' sends k) ∙ is))

@@ -20,10 +20,10 @@ use Rattle.gptp_setup.specs.declared.timer.Timer.TheVariants as timers
 use Rattle.gptp_setup.specs.Intervals.{interval_of}
 use Rattle.gptp_setup.specs.Pace.{has_sync_timeout}
 use Rattle.gptp_system.specs.State.{SystemState, held_at, is_capable_at, local_time, number, on_port, own, with_peer}
-use Rattle.gptp_system.specs.Selection.{Becomes, SelectsIf, announced}
+use Rattle.gptp_system.specs.Selection.{Becomes, SelectsIf, announced_again}
 use Rattle.gptp_system.specs.Measuring.{GoesDown, Turns, TurnsAndAsks, TurnsIf, answering_done, asking, down, is_turned, owes, owing, turned}
-use Rattle.gptp_system.specs.Announcing.{HearsQualified, aged_at, compared, is_taken, with_priority}
-use Rattle.gptp_system.specs.Syncing.{HearsFollowUpIf, HearsSyncIf, KeepsIf, KnowsBy, KnowsIf, RelaysBy, RelaysIf, SyncsIf, counted, delay_at, is_followed, leads, rate_at, restarted, said_on, stopped, telling}
+use Rattle.gptp_system.specs.Announcing.{HearsQualified, aged_at, compared, replaces_held, with_priority}
+use Rattle.gptp_system.specs.Syncing.{HearsFollowUpIf, HearsSyncIf, KeepsIf, KnowsBy, KnowsIf, RelaysBy, RelaysIf, SyncsIf, counted_by_rates, delay_at, is_followed, is_leading, root_rate_at, restarted, said_on, timer_stopped, telling}
 use Rattle.gptp_system.specs.Lapse.{lapsed}
 use Rattle.gptp_system.specs.Steps.{Expires as TimerExpires, HearsFrame, HearsMessage}
 use Rattle.gptp_system.specs.Input.{Input, Steps, PortUp, PortDown, Frame, Expires, Priority}
@@ -77,7 +77,7 @@ itself s = apart_steady s s.sync_in s.known s.offset s.sync s.relay s.lapse
 
 telling_quiet : (s : SystemState) → Quiet s (telling s)
 telling_quiet s =
-    ports_quiet s (counted s.held s.ports)
+    ports_quiet s (counted_by_rates s.held s.ports)
     (counted-map (λ (q : Port). q.log_interval) (λ q. refl) s.held s.ports)
     (λ i q' there. go _ i q' (counted-get s.held s.ports i q' there))
   where
@@ -138,9 +138,9 @@ response_capable m t4 p = go (answered_by m t4 p.own p.progress)
 
 hears_qualified : (p : ℕ) (a : AnnounceView) (now : ℕ) (s s' : SystemState) (sends : List Sending) (answer : Answer)
     → HearsQualified p a now s s' sends answer → Steady s s'
-hears_qualified p a now s s' sends answer k = go (is_taken (comparison (held_at s p) (own s p) a)) refl k.selects
+hears_qualified p a now s s' sends answer k = go (replaces_held (comparison (held_at s p) (own s p) a)) refl k.selects
   where
-    go : (b : Bool) → is_taken (comparison (held_at s p) (own s p) a) ≡ b
+    go : (b : Bool) → replaces_held (comparison (held_at s p) (own s p) a) ≡ b
         → SelectsIf b now (compared p a now s) s' sends → Steady s s'
     go true is h = selects_steady now s (compared p a now s) s' sends (compared_touches p a now s k.qualified) refl h
     go false is h =
@@ -187,7 +187,7 @@ hears_follow_up : (b : Bool) (p : ℕ) (m : FollowUp) (now : ℕ) (s s' : System
     → HearsFollowUpIf b p m now s s' sends answer → Steady s s'
 hears_follow_up false p m now s s' sends answer k = becomes s s s' sends (itself s) k.becomes
 hears_follow_up true p m now s s' sends answer k =
-    knows_if (said_on p m s) (delay_at s p) (rate_at s p) now s s' sends answer k
+    knows_if (said_on p m s) (delay_at s p) (root_rate_at s p) now s s' sends answer k
 
 restarted_steady : (now : ℕ) (s : SystemState) → Steady s (restarted now s)
 restarted_steady now s = apart_steady s s.sync_in s.known s.offset _ s.relay s.lapse
@@ -199,24 +199,24 @@ syncs_if true now s s' sends k =
     (telling_steady (restarted now s)))
 syncs_if false now s s' sends k = becomes s (restarted now s) s' sends (restarted_steady now s) k
 
-stopped_steady : (s : SystemState) → Steady s (stopped s)
+stopped_steady : (s : SystemState) → Steady s (timer_stopped s)
 stopped_steady s = apart_steady s s.sync_in s.known s.offset s.sync None s.lapse
 
 -- all Master ports tell time at the Relay timer
-relayed_steady : (s s' : SystemState) → s' ≡ telling (stopped s) → Steady s s'
+relayed_steady : (s s' : SystemState) → s' ≡ telling (timer_stopped s) → Steady s s'
 relayed_steady s s' is =
     subst (Steady s) (sym is)
-    (steady_on s (stopped s) (telling (stopped s)) (stopped_steady s) (telling_steady (stopped s)))
+    (steady_on s (timer_stopped s) (telling (timer_stopped s)) (stopped_steady s) (telling_steady (timer_stopped s)))
 
 relays_by : (b : Bool) (info : SyncInfo) (now : ℕ) (s s' : SystemState) (sends : List Sending)
     → RelaysBy b info now s s' sends → Steady s s'
 relays_by true info now s s' sends k = relayed_steady s s' k.state
 relays_by false info now s s' sends (inl k) = relayed_steady s s' k.state
-relays_by false info now s s' sends (inr k) = becomes s (stopped s) s' sends (stopped_steady s) k.becomes
+relays_by false info now s s' sends (inr k) = becomes s (timer_stopped s) s' sends (stopped_steady s) k.becomes
 
 relays_if : (known : Option SyncInfo) (now : ℕ) (s s' : SystemState) (sends : List Sending)
     → RelaysIf known now s s' sends → Steady s s'
-relays_if None now s s' sends k = becomes s (stopped s) s' sends (stopped_steady s) k
+relays_if None now s s' sends k = becomes s (timer_stopped s) s' sends (stopped_steady s) k
 relays_if (Some info) now s s' sends k = relays_by (has_sync_timeout s.params) info now s s' sends k
 
 -- ---- all steps
@@ -246,12 +246,12 @@ hears_frame p octets now s s' sends answer (inr k) = becomes s s s' sends (itsel
 expires : (timer : Timer) (now : ℕ) (s s' : SystemState) (sends : List Sending)
     → TimerExpires timer now s s' sends → Steady s s'
 expires (timers.Announce p) now s s' sends k =
-    subst (Steady s) (sym k.state) (port_steady p (announced now) s (λ q. refl) (λ q there. refl))
+    subst (Steady s) (sym k.state) (port_steady p (announced_again now) s (λ q. refl) (λ q there. refl))
 expires (timers.Age p) now s s' sends k = selects_steady now s (aged_at p now s) s' sends (aged_touches p now s) refl k
 expires (timers.Pdelay p) now s s' sends k = turns_and_asks p after_interval now s s' sends k
 expires (timers.Respond p) now s s' sends k =
     subst (Steady s) (sym k.state) (port_steady p answering_done s (λ q. refl) (λ q there. refl))
-expires timers.Sync now s s' sends k = syncs_if (leads s) now s s' sends k
+expires timers.Sync now s s' sends k = syncs_if (is_leading s) now s s' sends k
 expires timers.Relay now s s' sends k = relays_if s.known now s s' sends k
 expires timers.Lapse now s s' sends k = selects_steady now s (lapsed s) s' sends (lapsed_touches s) refl k
 

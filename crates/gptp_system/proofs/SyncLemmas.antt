@@ -11,12 +11,12 @@ use Rattle.gptp_system.specs.declared.answer.Answer.{Answer}
 use Rattle.gptp_system.specs.declared.port.Port.{Port}
 use Rattle.gptp_system.specs.declared.sending.Sending.{Sending}
 use Rattle.gptp_setup.specs.Pace.{has_sync_timeout}
-use Rattle.gptp_system.specs.Ready.{IsPort, IsReady}
+use Rattle.gptp_system.specs.Ready.{IsReadyPort, IsReady}
 use Rattle.gptp_system.specs.State.{SystemState, is_capable_at, is_mine}
-use Rattle.gptp_system.specs.Syncing.{counting, counted, sync_of, follow_up_of, syncs, telling, delay_at, rate_at, said_on, offset_of, HearsFollowUp, IsOffset, KnowsBy, OffsetFits}
+use Rattle.gptp_system.specs.Syncing.{counting, counted_by_rates, sync_of, follow_up_of, syncs, telling, delay_at, root_rate_at, said_on, offset_of, HearsFollowUp, IsOffset, KnowsBy, OffsetFits}
 
 -- ports keep their places
-pub length-counted : (hs : List Held) (qs : List Port) → length hs ≤ length qs → length (counted hs qs) ≡ length qs
+pub length-counted : (hs : List Held) (qs : List Port) → length hs ≤ length qs → length (counted_by_rates hs qs) ≡ length qs
 length-counted [] qs few = refl
 length-counted (h ∷ hs) [] few = refl
 length-counted (h ∷ hs) (q ∷ qs) few =
@@ -38,7 +38,7 @@ length-syncs clock log told p (h ∷ hs) (q ∷ qs) =
 
 -- a port that isn't reached stays
 pub not_reached : (i : ℕ) (hs : List Held) (qs : List Port) (d : Port) → length hs ≤ i
-    → slice_index_or (counted hs qs) i d ≡ slice_index_or qs i d
+    → slice_index_or (counted_by_rates hs qs) i d ≡ slice_index_or qs i d
 not_reached i [] qs d past = refl
 not_reached i (h ∷ hs) [] d past = refl
 not_reached zero (h ∷ hs) (q ∷ qs) d past = absurd (omega arith)
@@ -47,9 +47,9 @@ not_reached (suc i) (h ∷ hs) (q ∷ qs) d past = not_reached i hs qs d (omega 
 -- one port more
 pub counted-more : (i : ℕ) (hs : List Held) (qs : List Port) (h : Held) (d : Port) → i < length hs
     → h ≡ slice_index_or hs i h → length hs ≤ length qs
-    → slice_set (counted (take i hs) qs) i
+    → slice_set (counted_by_rates (take i hs) qs) i
     (if is_mine h then counting (slice_index_or qs i d) else slice_index_or qs i d)
-    ≡ counted (take (suc i) hs) qs
+    ≡ counted_by_rates (take (suc i) hs) qs
 counted-more i [] qs h d within here few = absurd (omega arith)
 counted-more i (g ∷ hs) [] h d within here few = absurd (omega arith)
 counted-more zero (g ∷ hs) (q ∷ qs) h d within here few = let same : h ≡ g = here in rw same refl
@@ -88,12 +88,12 @@ syncs-more clock log told p (suc i) (g ∷ hs) (q ∷ qs) h d within here few =
     in_front (is_mine g) _ _ _ _ _ (rw later at ih)
 
 -- counting changes neither interval nor what is owed
-port_counted : (b : Bool) (q : Port) → IsPort q → IsPort (if b then counting q else q)
+port_counted : (b : Bool) (q : Port) → IsReadyPort q → IsReadyPort (if b then counting q else q)
 port_counted true q is = record { log_interval = is.log_interval; waiting = is.waiting }
 port_counted false q is = is
 
-all_ports_counted : (hs : List Held) (qs : List Port) → AllByRecursion IsPort qs
-    → AllByRecursion IsPort (counted hs qs)
+all_ports_counted : (hs : List Held) (qs : List Port) → AllByRecursion IsReadyPort qs
+    → AllByRecursion IsReadyPort (counted_by_rates hs qs)
 all_ports_counted [] qs all = all
 all_ports_counted (h ∷ hs) [] all = tt
 all_ports_counted (h ∷ hs) (q ∷ qs) all = (port_counted (is_mine h) q all.0, all_ports_counted hs qs all.1)
@@ -120,7 +120,7 @@ telling_ready s ready =
 pub follows : (p : ℕ) (m : FollowUp) (now : ℕ) (s s' : SystemState) (answer : Answer) (info : SyncInfo)
     → is_capable_at s p ≡ true
     → said_on p m s ≡ Some info
-    → KnowsBy (has_sync_timeout s.params) info (delay_at s p) (rate_at s p) now s s' [] answer
+    → KnowsBy (has_sync_timeout s.params) info (delay_at s p) (root_rate_at s p) now s s' [] answer
     → HearsFollowUp p m now s s' [] answer
 follows p m now s s' answer info capable said becomes = rw (capable, said) becomes
 

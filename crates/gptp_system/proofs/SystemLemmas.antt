@@ -18,7 +18,7 @@ use Rattle.gptp_system.specs.Input.{Input, Steps}
 use Rattle.gptp_system.specs.Ready.{IsReady}
 use Rattle.gptp_system.specs.Start.{started}
 use Rattle.gptp_system.specs.State.{SystemState, number, held_at, is_capable_at}
-use Rattle.gptp_system.specs.Steps.{IsPortOf, IsUp}
+use Rattle.gptp_system.specs.Steps.{HasPortNumber, IsUp}
 use Rattle.gptp_system.proofs.StartLemmas.{disabled_at, length-all_disabled, length-new_ports, new_port_at}
 use Rattle.gptp_system.proofs.RestLemmas.{new_held, new_rest, new_shown}
 use Rattle.gptp_system.proofs.StepLemmas.{steps_sound}
@@ -75,7 +75,7 @@ within [] f (suc i) some = absurd cc
 within (x ∷ xs) f (suc zero) some = (omega arith, omega arith)
 within (x ∷ xs) f (suc (suc i)) some = let ih = within xs f (suc i) some in (omega arith, omega arith)
 
-pub up_is_port : (s : SystemState) (p : ℕ) → IsUp s p → IsPortOf s p
+pub up_is_port : (s : SystemState) (p : ℕ) → IsUp s p → HasPortNumber s p
 up_is_port s p up =
     let is = within s.ports (λ (q : Port). q.pdelay) p up in record { least = is.0; most = is.1 }
 

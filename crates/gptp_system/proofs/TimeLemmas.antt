@@ -20,19 +20,19 @@ use Rattle.gptp_setup.specs.Pace.{has_sync_timeout, lapse_span}
 use Rattle.gptp_system.specs.State.{SystemState, held_at, is_capable_at, number, own, with_peer}
 use Rattle.gptp_system.specs.Selection.{Becomes, Selects, SelectsIf, follows_on, kept_if}
 use Rattle.gptp_system.specs.Measuring.{Turns, TurnsAndAsks, TurnsIf, down, is_turned, turned}
-use Rattle.gptp_system.specs.Announcing.{aged_at, compared, is_taken, with_priority}
+use Rattle.gptp_system.specs.Announcing.{aged_at, compared, replaces_held, with_priority}
 use Rattle.gptp_system.specs.Lapse.{lapsed}
-use Rattle.gptp_system.specs.Syncing.{HearsFollowUpIf, HearsSyncIf, KeepsIf, KnowsBy, KnowsIf, RelaysBy, RelaysIf, SyncsIf, delay_at, is_followed, leads, rate_at, restarted, said_on, stopped}
+use Rattle.gptp_system.specs.Syncing.{HearsFollowUpIf, HearsSyncIf, KeepsIf, KnowsBy, KnowsIf, RelaysBy, RelaysIf, SyncsIf, delay_at, is_followed, is_leading, root_rate_at, restarted, said_on, timer_stopped}
 use Rattle.gptp_system.specs.Steps.{Expires as TimerExpires, HearsFrame, HearsMessage}
 use Rattle.gptp_system.specs.Input.{Input, Steps, PortUp, PortDown, Frame, Expires, Priority}
-use Rattle.gptp_system.specs.Times.{RunsOn, Waits, WaitsAnew}
+use Rattle.gptp_system.specs.Times.{RunsOn, LapseRunsOn, WaitsAnew}
 use Rattle.gptp_system.proofs.LapseLemmas.{followed, lapse_begins, lapse_chosen}
 
 -- ---- the timers of the system
 
 -- the Lapse timer runs as it did, and the same is followed
 waits : (s : SystemState) (now : ℕ) (s' : SystemState) → s'.lapse ≡ s.lapse → s'.root ≡ s.root → s'.slave ≡ s.slave
-    → (t : ℕ) → s'.lapse ≡ Some t → Waits s s' t ⊎ WaitsAnew s now t
+    → (t : ℕ) → s'.lapse ≡ Some t → LapseRunsOn s s' t ⊎ WaitsAnew s now t
 waits s now s' lapse root slave t is = inl (record { before = sym lapse ∙ is; root = root; slave = slave })
 
 same_runs : (s : SystemState) (now : ℕ) (s' : SystemState) → s'.sync ≡ s.sync → s'.relay ≡ s.relay
@@ -65,7 +65,7 @@ selects s now t u sends params sync relay lapse root slave k = record {
     kept false moment is = absurd (none-some moment is)
 
     chosen : (moment : ℕ) → ((follows_on k.vector t ≡ true) × (t.lapse ≡ Some moment)) ⊎ WaitsAnew t now moment
-        → Waits s u moment ⊎ WaitsAnew s now moment
+        → LapseRunsOn s u moment ⊎ WaitsAnew s now moment
     chosen moment (inl (same, was)) =
         let (same_root, same_slave) = followed k.vector t same in
         inl (record {
@@ -97,8 +97,8 @@ turns_and_asks p step now s s' sends k =
     subst (RunsOn s now) (sym k.state)
     (record { sync = before.sync; relay = before.relay; lapse = λ t is. still _ t (before.lapse t is) refl refl })
   where
-    still : (u : SystemState) (t : ℕ) → Waits s k.between t ⊎ WaitsAnew s now t → u.root ≡ k.between.root
-        → u.slave ≡ k.between.slave → Waits s u t ⊎ WaitsAnew s now t
+    still : (u : SystemState) (t : ℕ) → LapseRunsOn s k.between t ⊎ WaitsAnew s now t → u.root ≡ k.between.root
+        → u.slave ≡ k.between.slave → LapseRunsOn s u t ⊎ WaitsAnew s now t
     still u t (inl on) root slave =
         inl (record { before = on.before; root = root ∙ on.root; slave = slave ∙ on.slave })
     still u t (inr anew) root slave = inr anew
@@ -151,7 +151,7 @@ hears_follow_up : (b : Bool) (p : ℕ) (m : FollowUp) (now : ℕ) (s s' : System
     → HearsFollowUpIf b p m now s s' sends answer → RunsOn s now s'
 hears_follow_up false p m now s s' sends answer k = rests s now s' sends k.becomes
 hears_follow_up true p m now s s' sends answer k =
-    knows_if (said_on p m s) (delay_at s p) (rate_at s p) now s s' sends answer k
+    knows_if (said_on p m s) (delay_at s p) (root_rate_at s p) now s s' sends answer k
 
 restarted_runs : (now : ℕ) (s s' : SystemState) → s'.sync ≡ now + interval_of s.params.sync → s'.relay ≡ s.relay
     → s'.lapse ≡ s.lapse → s'.root ≡ s.root → s'.slave ≡ s.slave → RunsOn s now s'
@@ -182,12 +182,12 @@ relays_by true info now s s' sends k =
 relays_by false info now s s' sends (inl k) =
     subst (RunsOn s now) (sym k.state) (stopped_runs now s _ refl refl refl refl refl)
 relays_by false info now s s' sends (inr k) =
-    becomes s now (stopped s) s' sends (stopped_runs now s _ refl refl refl refl refl) k.becomes
+    becomes s now (timer_stopped s) s' sends (stopped_runs now s _ refl refl refl refl refl) k.becomes
 
 relays_if : (known : Option SyncInfo) (now : ℕ) (s s' : SystemState) (sends : List Sending)
     → RelaysIf known now s s' sends → RunsOn s now s'
 relays_if None now s s' sends k =
-    becomes s now (stopped s) s' sends (stopped_runs now s _ refl refl refl refl refl) k
+    becomes s now (timer_stopped s) s' sends (stopped_runs now s _ refl refl refl refl refl) k
 relays_if (Some info) now s s' sends k = relays_by (has_sync_timeout s.params) info now s s' sends k
 
 hears_announce : (p : ℕ) (a : AnnounceView) (now : ℕ) (s s' : SystemState) (sends : List Sending) (answer : Answer)
@@ -195,7 +195,7 @@ hears_announce : (p : ℕ) (a : AnnounceView) (now : ℕ) (s s' : SystemState) (
 hears_announce p a now s s' sends answer (inl k) = rests s now s' sends k.becomes
 hears_announce p a now s s' sends answer (inr (inl k)) =
     rests s now s' sends k.becomes
-hears_announce p a now s s' sends answer (inr (inr k)) = go (is_taken (comparison (held_at s p) (own s p) a)) k.selects
+hears_announce p a now s s' sends answer (inr (inr k)) = go (replaces_held (comparison (held_at s p) (own s p) a)) k.selects
   where
     go : (b : Bool) → SelectsIf b now (compared p a now s) s' sends → RunsOn s now s'
     go true h = selects s now (compared p a now s) s' sends refl refl refl (λ m is. is) refl refl h
@@ -231,7 +231,7 @@ expires (timers.Age p) now s s' sends k =
 expires (timers.Pdelay p) now s s' sends k = turns_and_asks p after_interval now s s' sends k
 expires (timers.Respond p) now s s' sends k =
     subst (RunsOn s now) (sym k.state) (same_runs s now _ refl refl refl refl refl)
-expires timers.Sync now s s' sends k = syncs_if (leads s) now s s' sends k
+expires timers.Sync now s s' sends k = syncs_if (is_leading s) now s s' sends k
 expires timers.Relay now s s' sends k = relays_if s.known now s s' sends k
 expires timers.Lapse now s s' sends k =
     selects s now (lapsed s) s' sends refl refl refl (λ m none. absurd (none-some m none)) refl refl k

@@ -7,7 +7,7 @@ use Rattle.gptp_system.specs.declared.port.Port.{Port}
 use Rattle.gptp_setup.specs.declared.timer.Timer.{Timer}
 use Rattle.gptp_setup.specs.declared.timer.Timer.TheVariants as timers
 use Rattle.gptp_system.specs.State.{SystemState, age_due, announce_due, due, held_at, number}
-use Rattle.gptp_system.specs.Steps.{IsDue, IsPortOf, IsTimerOf}
+use Rattle.gptp_system.specs.Steps.{IsDue, HasPortNumber, IsTimerOf}
 
 pub moment_of : (o : Option ℕ) (now : ℕ) → IsSomeAnd o (λ t. t ≤ now) → (t : ℕ) × (o ≡ Some t) × (t ≤ now)
 moment_of None now is = absurd is
@@ -18,22 +18,22 @@ stands [] i within = absurd (omega arith)
 stands (x ∷ xs) zero within = (x, refl)
 stands (x ∷ xs) (suc i) within = stands xs i (omega arith)
 
-pub port_stands : (s : SystemState) (p : ℕ) → IsPortOf s p → (q : Port) × (number s.ports p ≡ Some q)
+pub port_stands : (s : SystemState) (p : ℕ) → HasPortNumber s p → (q : Port) × (number s.ports p ≡ Some q)
 port_stands s zero is = let least = is.least in absurd (omega arith)
 port_stands s (suc i) is = let most = is.most in stands s.ports i (omega arith)
 
 -- ---- a timer
 
-number_within : (s : SystemState) (p : ℕ) (q : Port) → number s.ports p ≡ Some q → IsPortOf s p
+number_within : (s : SystemState) (p : ℕ) (q : Port) → number s.ports p ≡ Some q → HasPortNumber s p
 number_within s zero q here = absurd (none-some q here)
 number_within s (suc i) q here =
     let within = slice_get_within s.ports i q here in record { least = omega arith; most = omega arith }
 
 port_due : (runs : Port → Option ℕ) (s : SystemState) (p time : ℕ) → option_and_then runs (number s.ports p) ≡ Some time
-    → IsPortOf s p
+    → HasPortNumber s p
 port_due runs s p time is = by (number s.ports p) refl
   where
-    by : (here : Option Port) → number s.ports p ≡ here → IsPortOf s p
+    by : (here : Option Port) → number s.ports p ≡ here → HasPortNumber s p
     by None none = let never : None ≡ Some time = rw none at is in absurd (none-some time never)
     by (Some q) here = number_within s p q here
 

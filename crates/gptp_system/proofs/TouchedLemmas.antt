@@ -17,7 +17,7 @@ use Rattle.gptp_pdelay.specs.Peer.{PeerState, is_capable}
 use Rattle.gptp_system.specs.declared.port.Port.{Port}
 use Rattle.gptp_system.specs.State.{SystemState, change, clock, held_at, number, on_held, on_port, own}
 use Rattle.gptp_system.specs.Measuring.{down, held_if, held_turned, is_turned, silenced, turned}
-use Rattle.gptp_system.specs.Announcing.{aged_at, aged_by, compared, is_taken, with_priority}
+use Rattle.gptp_system.specs.Announcing.{aged_at, aged_by, compared, replaces_held, with_priority}
 use Rattle.gptp_system.specs.Facts.{AreHeld, AreShown, IsShown, Keeps}
 use Rattle.gptp_system.proofs.ChangedLemmas.{Changed, change-get, change-length, change-map, change-same, number-get}
 use Rattle.gptp_system.proofs.FactLemmas.{Touched}
@@ -136,13 +136,13 @@ compared_touches p a now s k =
     (λ h on. heard_on (comparison h (own s p) a) h (reception a (own s p) now) on)
 
 -- an Announce that isn't taken changes nothing
-not_taken : (heard : Heard) (h : Held) (r : Reception) → is_taken heard ≡ false → held_after heard h r ≡ h
+not_taken : (heard : Heard) (h : Held) (r : Reception) → replaces_held heard ≡ false → held_after heard h r ≡ h
 not_taken heards.Superior h r e = absurd cc
 not_taken heards.Repeated h r e = absurd cc
 not_taken heards.Inferior h r e = refl
 
 pub compared_same : (p : ℕ) (a : AnnounceView) (now : ℕ) (s : SystemState)
-    → is_taken (comparison (held_at s p) (own s p) a) ≡ false → compared p a now s ≡ s
+    → replaces_held (comparison (held_at s p) (own s p) a) ≡ false → compared p a now s ≡ s
 compared_same p a now s other =
     ap (λ (hs : List Held). put hs)
     (change-same (λ h. held_after (comparison h (own s p) a) h (reception a (own s p) now)) p s.held same)
@@ -155,7 +155,7 @@ compared_same p a now s other =
     same h stands =
         let here : held_at s p ≡ h = ap (λ o. option_map_or (λ x. x) o helds.Disabled) stands in
         not_taken (comparison h (own s p) a) h (reception a (own s p) now)
-        (sym (ap (λ x. is_taken (comparison x (own s p) a)) here) ∙ other)
+        (sym (ap (λ x. replaces_held (comparison x (own s p) a)) here) ∙ other)
 
 -- ---- ageing
 

@@ -10,12 +10,12 @@ use Rattle.gptp_system.specs.declared.reach.Reach.{Reach}
 use Rattle.gptp_system.specs.declared.reach.Reach.TheVariants as reaches
 use Rattle.gptp_system.specs.declared.sending.Sending.{Sending}
 use Rattle.gptp_system.specs.State.{SystemState, clock, number, own}
-use Rattle.gptp_system.specs.Sends.{announcement, response, response_follow_up, with_send}
+use Rattle.gptp_system.specs.Sends.{announcement, pdelay_response, response_follow_up, with_send}
 use Rattle.gptp_system.specs.Selection.{Selects, announcements, fresh_ports}
 use Rattle.gptp_system.specs.Measuring.{RespondsIf}
 use Rattle.gptp_system.specs.Announcing.{announcement_at}
 use Rattle.gptp_system.specs.Syncing.{follow_up_of, sync_of, told_by}
-use Rattle.gptp_system.specs.Reach.{AreAt, AreAtPorts, IsWithin, sends_at}
+use Rattle.gptp_system.specs.Reach.{AreAt, AreAtPorts, SendsWithin, count_sends_at}
 use Rattle.gptp_system.proofs.CountLemmas.{IsOnlyAt, announcements_length, announcements_once, announcements_ports, count-length, count-with_send, length-with_send, syncs_length, syncs_once, syncs_ports}
 use Rattle.gptp_system.proofs.SendLemmas.{with_send-from}
 
@@ -23,7 +23,7 @@ use Rattle.gptp_system.proofs.SendLemmas.{with_send-from}
 pub record AreFew (last : ℕ) (sends : List Sending) : Type 0 where
   pub least : (x : Sending) → In x sends → 1 ≤ x.port
   pub most : (x : Sending) → In x sends → x.port ≤ last
-  pub each : (p : ℕ) → sends_at p sends ≤ 1
+  pub each : (p : ℕ) → count_sends_at p sends ≤ 1
   pub few : length sends ≤ last
 
 at_port : (p : ℕ) → IsOnlyAt (λ x. x.port == p) p
@@ -37,7 +37,7 @@ at_ports last sends a = record {
   few = let few = a.few in omega arith;
 }
 
-nothing : (r : Reach) (ports : ℕ) → IsWithin r ports []
+nothing : (r : Reach) (ports : ℕ) → SendsWithin r ports []
 nothing reaches.Nothing ports = refl
 nothing (reaches.Port p) ports = record { port = λ x member. absurd member; few = omega arith }
 nothing reaches.All ports = record {
@@ -47,8 +47,8 @@ nothing reaches.All ports = record {
   few = omega arith;
 }
 
-pub silent : (r : Reach) (ports : ℕ) (sends : List Sending) → sends ≡ [] → IsWithin r ports sends
-silent r ports sends none = subst (IsWithin r ports) (sym none) (nothing r ports)
+pub silent : (r : Reach) (ports : ℕ) (sends : List Sending) → sends ≡ [] → SendsWithin r ports sends
+silent r ports sends none = subst (SendsWithin r ports) (sym none) (nothing r ports)
 
 -- a selection announces once at most at each port
 pub selects_few : (now : ℕ) (t u : SystemState) (sends : List Sending) → Selects now t u sends
@@ -100,8 +100,8 @@ one_more x last sends least most a = record {
     from P first others y (inr later) = others y later
 
     each : (p : ℕ) (b : Bool)
-        → sends_at p (with_send x sends) ≡ (if b then 1 + sends_at p sends else sends_at p sends)
-        → sends_at p sends ≤ 1 → sends_at p (with_send x sends) ≤ 2
+        → count_sends_at p (with_send x sends) ≡ (if b then 1 + count_sends_at p sends else count_sends_at p sends)
+        → count_sends_at p sends ≤ 1 → count_sends_at p (with_send x sends) ≤ 2
     each p true is few = omega arith
     each p false is few = omega arith
 
@@ -113,7 +113,7 @@ responds_few None p now s sends none = silent (reaches.Port p) 0 sends none
 responds_few (Some owed) p now s sends k = subst (AreAt p) (sym k.sends_are) (record { port = both; few = omega arith })
   where
     both : (x : Sending)
-        → In x (response (own s p) owed k.came k.came-rest
+        → In x (pdelay_response (own s p) owed k.came k.came-rest
         ∷ response_follow_up (own s p) owed k.went k.went-rest ∷ [])
         → x.port ≡ p
     both x (inl here) = ap (λ (y : Sending). y.port) here

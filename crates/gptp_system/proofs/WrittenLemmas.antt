@@ -9,7 +9,7 @@ use Rattle.gptp_receipt.specs.Held.{received}
 use Rattle.gptp_roles.specs.Choice.{ArePlaced}
 use Rattle.gptp_system.specs.declared.port.Port.{Port}
 use Rattle.gptp_system.specs.declared.state.State.{State}
-use Rattle.gptp_system.specs.Ready.{IsPort, IsReady, IsRecent, state_of}
+use Rattle.gptp_system.specs.Ready.{IsReadyPort, IsReady, IsRecent, state_of}
 use Rattle.gptp_system.specs.State.{SystemState, number, change_at, change, on_port, on_held}
 use Rattle.gptp_system.proofs.ChangedLemmas.{change-length}
 use Rattle.gptp_system.proofs.PlaceLemmas.{all_change, change_is, number_is}
@@ -69,7 +69,7 @@ held_written s f p i xs d y least most items place value =
 -- ---- a state that is ready stays so
 
 -- where the port does
-pub port_ready : (p : ℕ) (f : Port → Port) (s : SystemState) → ((q : Port) → IsPort q → IsPort (f q)) → IsReady s
+pub port_ready : (p : ℕ) (f : Port → Port) (s : SystemState) → ((q : Port) → IsReadyPort q → IsReadyPort (f q)) → IsReady s
     → IsReady (on_port p f s)
 port_ready p f s keeps ready =
     let kept = change-length f p s.ports in
@@ -82,7 +82,7 @@ port_ready p f s keeps ready =
       few = omega (arith, kept, ready.few);
       placed = ready.placed;
       recent = ready.recent;
-      ports = all_change IsPort f p s.ports keeps ready.ports;
+      ports = all_change IsReadyPort f p s.ports keeps ready.ports;
       lapses = ready.lapses;
     }
 

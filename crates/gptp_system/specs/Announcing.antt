@@ -19,7 +19,7 @@ use Rattle.gptp_system.specs.declared.port.Port.{Port}
 use Rattle.gptp_system.specs.declared.sending.Sending.{Sending}
 use Rattle.gptp_system.specs.State.{SystemState, number, clock, own, held_at, is_capable_at, on_port, on_held}
 use Rattle.gptp_system.specs.Sends.{announcement}
-use Rattle.gptp_system.specs.Selection.{announced, Selects, SelectsIf, Becomes}
+use Rattle.gptp_system.specs.Selection.{announced_again, Selects, SelectsIf, Becomes}
 
 -- how it is answered why an Announce isn't taken for heard, and what it is to the port otherwise
 abbrev pub answer_to_why : Why → Answer
@@ -34,9 +34,9 @@ answer_to_heard heards.Repeated = answers.Repeated
 answer_to_heard heards.Inferior = answers.Inferior
 
 -- what is heard takes the place of what was held
-abbrev pub is_taken : Heard → Bool
-is_taken heards.Inferior = false
-is_taken _ = true
+abbrev pub replaces_held : Heard → Bool
+replaces_held heards.Inferior = false
+replaces_held _ = true
 
 -- it says what the port received last: the same vector from the same port
 abbrev pub SaysAgain : Held → PortId → AnnounceView → Type 0
@@ -67,7 +67,7 @@ pub record HearsQualified (p : ℕ) (a : AnnounceView) (now : ℕ) (s s' : Syste
     (answer : Answer) : Type 0 where
   pub on : is_capable_at s p ≡ true
   pub qualified : Qualified a (clock s)
-  pub selects : SelectsIf (is_taken (comparison (held_at s p) (own s p) a)) now (compared p a now s) s' sends
+  pub selects : SelectsIf (replaces_held (comparison (held_at s p) (own s p) a)) now (compared p a now s) s' sends
   pub answer_is : answer ≡ answer_to_heard (comparison (held_at s p) (own s p) a)
 
 -- ---- timers
@@ -84,7 +84,7 @@ AgeExpires p now s s' sends = Selects now (aged_at p now s) s' sends
 
 -- a Master port announces again
 abbrev pub announced_at : ℕ → ℕ → SystemState → SystemState
-announced_at p now s = on_port p (announced now) s
+announced_at p now s = on_port p (announced_again now) s
 
 abbrev pub announcement_at : ℕ → SystemState → List Sending
 announcement_at p s =

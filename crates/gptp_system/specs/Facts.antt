@@ -5,7 +5,7 @@ use Rattle.gptp_receipt.specs.declared.held.Held.{Held}
 use Rattle.gptp_receipt.specs.declared.held.Held.TheVariants as helds
 use Rattle.gptp_receipt.specs.Held.{HoldsFor}
 use Rattle.gptp_roles.specs.Choice.{IsChosen, slave_port}
-use Rattle.gptp_roles.specs.Role.{each_port, held_after}
+use Rattle.gptp_roles.specs.Role.{each_port, held_after_selection}
 use Rattle.gptp_pdelay.specs.Peer.{is_capable}
 use Rattle.gptp_system.specs.declared.port.Port.{Port}
 use Rattle.gptp_system.specs.Ready.{IsReady}
@@ -16,7 +16,7 @@ use Rattle.gptp_system.specs.State.{SystemState, clock, own}
 pub record IsAtRest (s : SystemState) : Type 0 where
   pub vector : Vector
   pub is_chosen : IsChosen s.identity s.held vector
-  pub stays : s.held ≡ each_port (held_after vector (clock s)) s.held
+  pub stays : s.held ≡ each_port (held_after_selection vector (clock s)) s.held
   pub root : s.root ≡ vector.root
   pub steps : s.steps ≡ vector.steps
   pub slave : s.slave ≡ slave_port vector

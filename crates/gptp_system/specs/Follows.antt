@@ -6,14 +6,14 @@ use Rattle.gptp_receipt.specs.Held.{received}
 use Rattle.gptp_system.specs.State.{SystemState, clock, trace}
 
 -- its own root
-pub record FollowsItself (s : SystemState) : Type 0 where
+pub record SystemIsRoot (s : SystemState) : Type 0 where
   pub root : s.root ≡ s.identity
   pub steps : s.steps ≡ 0
   pub slave : s.slave ≡ None
   pub path : trace s ≡ clock s ∷ []
 
 -- the root that a port received, one step further
-pub record FollowsPort (s : SystemState) : Type 0 where
+pub record SystemFollowsPort (s : SystemState) : Type 0 where
   pub place : ℕ
   pub held : Held
   pub reception : Reception

@@ -8,7 +8,7 @@ use Rattle.gptp_setup.specs.declared.timer.Timer.{Timer}
 use Rattle.gptp_system.specs.State.{SystemState}
 use Rattle.gptp_system.specs.Measuring.{ComesUp, GoesDown}
 use Rattle.gptp_system.specs.Announcing.{ChangesPriority}
-use Rattle.gptp_system.specs.Steps.{Expires as TimerExpires, HearsFrame, IsDue, IsPortOf, IsUp}
+use Rattle.gptp_system.specs.Steps.{Expires as TimerExpires, HearsFrame, IsDue, HasPortNumber, IsUp}
 
 -- the link of a port comes up or goes down, a port hears a frame, a timer expires, or priority1 is set
 pub data Input : Type 0 where
@@ -37,8 +37,8 @@ Steps (Priority value) now s s' sends answer = ChangesPriority value now s s' se
 -- when a system is given an input: a port is one of its own, a frame comes where the link is up, and a timer expires
 -- when it is due
 abbrev pub IsTimely : SystemState → ℕ → Input → Type 0
-IsTimely s now (PortUp p) = IsPortOf s p
-IsTimely s now (PortDown p) = IsPortOf s p
+IsTimely s now (PortUp p) = HasPortNumber s p
+IsTimely s now (PortDown p) = HasPortNumber s p
 IsTimely s now (Frame p octets) = IsUp s p
 IsTimely s now (Expires timer) = IsDue s timer now
 IsTimely s now (Priority value) = ⊤

@@ -13,12 +13,12 @@ use Rattle.gptp_system.specs.Selection.{Selects}
 use Rattle.gptp_system.specs.Input.{Input, IsTimely, Steps, Expires, Priority}
 use Rattle.gptp_system.specs.Touch.{Touch, IsSeenAs}
 use Rattle.gptp_system.specs.Reacts.{Reacts}
-use Rattle.gptp_system.specs.Follows.{FollowsItself, FollowsPort}
-use Rattle.gptp_system.specs.Measures.{Measures}
+use Rattle.gptp_system.specs.Follows.{SystemIsRoot, SystemFollowsPort}
+use Rattle.gptp_system.specs.Measures.{MeasuresAtEachPlace}
 use Rattle.gptp_system.specs.Messages.{AreSent}
 use Rattle.gptp_system.specs.Times.{IsInTime, RunsOn}
 use Rattle.gptp_system.specs.Counters.{AreCounted}
-use Rattle.gptp_system.specs.Reach.{IsWithin, Leaves, is_touched, reach}
+use Rattle.gptp_system.specs.Reach.{SendsWithin, Leaves, is_touched, reach}
 use Rattle.gptp_system.specs.Ready.{IsReady}
 use Rattle.gptp_system.specs.Start.{started}
 use Rattle.gptp_system.specs.Facts.{AreHeld, AreShown, IsAtRest, IsNew, Keeps}
@@ -81,7 +81,7 @@ ReactsLaw = (input : Input) (now : ℕ) (s s' : SystemState) (sends : List Sendi
 
 -- a system at rest follows itself or what a port received
 abbrev pub FollowsLaw : Type 0
-FollowsLaw = (s : SystemState) → AreHeld s → IsAtRest s → FollowsItself s ⊎ FollowsPort s
+FollowsLaw = (s : SystemState) → AreHeld s → IsAtRest s → SystemIsRoot s ⊎ SystemFollowsPort s
 
 -- so its trace may be asked for
 abbrev pub TraceLaw : Type 0
@@ -91,7 +91,7 @@ TraceLaw = (s : SystemState) → AreHeld s → IsAtRest s → SlaveReceived s.he
 abbrev pub MeasuresLaw : Type 0
 MeasuresLaw = (input : Input) (now : ℕ) (s s' : SystemState) (sends : List Sending) (answer : Answer)
     → Steps input now s s' sends answer
-    → Measures s now input s'
+    → MeasuresAtEachPlace s now input s'
 
 -- every step sends the messages of its input
 abbrev pub SendsLaw : Type 0
@@ -143,7 +143,7 @@ SpanLaw = (s : SystemState) (now : ℕ) → IsReady s → IsInTime s now
 abbrev pub ReachLaw : Type 0
 ReachLaw = (input : Input) (now : ℕ) (s s' : SystemState) (sends : List Sending) (answer : Answer)
     → Steps input now s s' sends answer
-    → IsWithin (reach input s) (length s.ports) sends
+    → SendsWithin (reach input s) (length s.ports) sends
 
 -- and leaves the timers that its input can't change
 abbrev pub LeavesLaw : Type 0

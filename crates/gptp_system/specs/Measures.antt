@@ -19,8 +19,8 @@ pub record Part : Type 0 where
   pub pdelay : Option ℕ
   pub respond : Option ℕ
 
-abbrev pub part_of : Port → Part
-part_of q = record { peer = q.peer; pdelay = q.pdelay; respond = q.respond }
+abbrev pub measure_at : Port → Part
+measure_at q = record { peer = q.peer; pdelay = q.pdelay; respond = q.respond }
 
 -- the measuring takes a step
 abbrev pub part_stepped : (PeerState → PeerState) → Part → Part
@@ -78,6 +78,6 @@ IsPartAfter s now (Expires timers.Lapse) n x x' = x' ≡ x
 IsPartAfter s now (Priority value) n x x' = x' ≡ x
 
 -- so it is at every place, from the new state back to the old one
-abbrev pub Measures : SystemState → ℕ → Input → SystemState → Type 0
-Measures s now input s' = (i : ℕ) (q' : Port) → slice_get s'.ports i ≡ Some q'
-    → (q : Port) × (slice_get s.ports i ≡ Some q) × IsPartAfter s now input (suc i) (part_of q) (part_of q')
+abbrev pub MeasuresAtEachPlace : SystemState → ℕ → Input → SystemState → Type 0
+MeasuresAtEachPlace s now input s' = (i : ℕ) (q' : Port) → slice_get s'.ports i ≡ Some q'
+    → (q : Port) × (slice_get s.ports i ≡ Some q) × IsPartAfter s now input (suc i) (measure_at q) (measure_at q')

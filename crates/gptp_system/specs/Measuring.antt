@@ -19,7 +19,7 @@ use Rattle.gptp_system.specs.declared.port.Port.{Port}
 use Rattle.gptp_system.specs.declared.sending.Sending.{Sending}
 use Rattle.gptp_setup.specs.Intervals.{interval_of}
 use Rattle.gptp_system.specs.State.{SystemState, number, is_capable_at, own, local_time, on_port, on_held, with_peer}
-use Rattle.gptp_system.specs.Sends.{request, response, response_follow_up, with_send}
+use Rattle.gptp_system.specs.Sends.{pdelay_request, pdelay_response, response_follow_up, with_send}
 use Rattle.gptp_system.specs.Selection.{Selects, Becomes}
 
 -- a port that becomes asCapable has heard nothing; one that stops being so takes no part
@@ -56,31 +56,31 @@ abbrev pub SettlesIf : Bool → ℕ → ℕ → SystemState → SystemState → 
 SettlesIf true p now s s' sends = Selects now (settled p s) s' sends
 SettlesIf false p now s s' sends = Becomes s s' sends
 
--- the port asks its neighbour, and again one interval later
+-- the port port_asks its neighbour, and again one interval later
 abbrev pub asking : ℤ → ℕ → Port → Port
 asking t1 due q = record q { peer = requested t1 q.peer; pdelay = Some due }
 
-abbrev pub asks : ℕ → ℕ → SystemState → SystemState
-asks p now s = on_port p (asking (local_time s now) (now + interval_of s.params.pdelay)) s
+abbrev pub port_asks : ℕ → ℕ → SystemState → SystemState
+port_asks p now s = on_port p (asking (local_time s now) (now + interval_of s.params.pdelay)) s
 
--- the request has the next sequence number of the port
+-- the pdelay_request has the next sequence number of the port
 abbrev pub request_of : ℕ → SystemState → Sending
 request_of p s =
-    request (own s p) s.params.pdelay (option_map_or (λ (q : Port). q.peer.next) (number s.ports p) 0)
+    pdelay_request (own s p) s.params.pdelay (option_map_or (λ (q : Port). q.peer.next) (number s.ports p) 0)
 
--- The measuring takes a step, and then the port asks: its request goes behind what the step sends on this port and the
+-- The measuring takes a step, and then the port port_asks: its pdelay_request goes behind what the step sends on this port and the
 -- lower ones.
 pub record TurnsAndAsks (p : ℕ) (step : PeerState → PeerState) (now : ℕ) (s s' : SystemState)
     (sends : List Sending) : Type 0 where
   pub between : SystemState
   pub first : List Sending
   pub turns : Turns p step now s between first
-  pub state : s' ≡ asks p now between
+  pub state : s' ≡ port_asks p now between
   pub sends_are : sends ≡ with_send (request_of p between) first
 
 -- ---- the link of a port comes up or goes down
 
--- the port begins anew, and asks
+-- the port begins anew, and port_asks
 abbrev pub ComesUp : ℕ → ℕ → SystemState → SystemState → List Sending → Type 0
 ComesUp p now s s' sends = TurnsAndAsks p reset_peer now s s' sends
 
@@ -96,7 +96,7 @@ GoesDown p now s s' sends = Selects now (down p s) s' sends
 
 -- ---- timers
 
--- an interval of requests ends: an open request is lost, and the next one goes
+-- an interval of requests ends: an open pdelay_request is lost, and the next one goes
 abbrev pub PdelayExpires : ℕ → ℕ → SystemState → SystemState → List Sending → Type 0
 PdelayExpires p now s s' sends = TurnsAndAsks p after_interval now s s' sends
 
@@ -107,7 +107,7 @@ answering_done q = record q { peer = answered q.peer; respond = None }
 abbrev pub responded : ℕ → SystemState → SystemState
 responded p s = on_port p answering_done s
 
--- the two responses: the time that the request came at, and the local time now
+-- the two responses: the time that the pdelay_request came at, and the local time now
 pub record Responds (p now : ℕ) (s : SystemState) (owed : Owed) (sends : List Sending) : Type 0 where
   pub came : Timestamp
   pub came-rest : ℕ
@@ -115,7 +115,7 @@ pub record Responds (p now : ℕ) (s : SystemState) (owed : Owed) (sends : List 
   pub went-rest : ℕ
   pub came_is : IsSplit owed.t2 came came-rest
   pub went_is : IsSplit (local_time s now) went went-rest
-  pub sends_are : sends ≡ response (own s p) owed came came-rest ∷ response_follow_up (own s p) owed went went-rest ∷ []
+  pub sends_are : sends ≡ pdelay_response (own s p) owed came came-rest ∷ response_follow_up (own s p) owed went went-rest ∷ []
 
 abbrev pub RespondsIf : Option Owed → ℕ → ℕ → SystemState → List Sending → Type 0
 RespondsIf None p now s sends = sends ≡ []
@@ -131,7 +131,7 @@ pub record RespondExpires (p now : ℕ) (s s' : SystemState) (sends : List Sendi
 
 -- ---- messages
 
--- a request is answered one turnaround later, in place of an older one
+-- a pdelay_request is answered one turnaround later, in place of an older one
 abbrev pub owing : Owed → ℕ → Port → Port
 owing owed due q = record q { peer = answering owed q.peer; respond = Some due }
 
@@ -146,9 +146,9 @@ pub record HearsRequest (p : ℕ) (head : Head) (now : ℕ) (s s' : SystemState)
   pub answer_is : answer ≡ answers.Used
 
 -- what the measuring makes of a message
-abbrev pub answer_of : Step → Answer
-answer_of steps.Ignored = answers.Ignored
-answer_of _ = answers.Used
+abbrev pub measuring_answer : Step → Answer
+measuring_answer steps.Ignored = answers.Ignored
+measuring_answer _ = answers.Used
 
 abbrev pub step_at : (PeerState → Step) → Option Port → Step
 step_at f q = option_map_or (λ (q : Port). f q.peer) q steps.Ignored
@@ -156,9 +156,9 @@ step_at f q = option_map_or (λ (q : Port). f q.peer) q steps.Ignored
 pub record HearsResponse (p : ℕ) (m : PdelayResp) (now : ℕ) (s s' : SystemState) (sends : List Sending)
     (answer : Answer) : Type 0 where
   pub becomes : Becomes (with_peer p (after_response m (local_time s now)) s) s' sends
-  pub answer_is : answer ≡ answer_of (step_at (response_step m (local_time s now)) (number s.ports p))
+  pub answer_is : answer ≡ measuring_answer (step_at (response_step m (local_time s now)) (number s.ports p))
 
 pub record HearsResponseFollowUp (p : ℕ) (m : PdelayRespFollowUp) (now : ℕ) (s s' : SystemState)
     (sends : List Sending) (answer : Answer) : Type 0 where
   pub turns : Turns p (after_follow_up m) now s s' sends
-  pub answer_is : answer ≡ answer_of (step_at (follow_up_step m) (number s.ports p))
+  pub answer_is : answer ≡ measuring_answer (step_at (follow_up_step m) (number s.ports p))

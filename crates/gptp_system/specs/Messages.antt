@@ -14,17 +14,17 @@ use Rattle.gptp_system.specs.Input.{Input, PortUp, PortDown, Frame, Expires, Pri
 pub data Kind : Type 0 where
   Announcing Telling Asking Answering : Kind
 
-abbrev pub kind_of : Body → Kind
-kind_of (bodies.Announce announce) = Announcing
-kind_of bodies.Sync = Telling
-kind_of (bodies.FollowUp origin rate) = Telling
-kind_of bodies.PdelayReq = Asking
-kind_of (bodies.PdelayResp stamp requester) = Answering
-kind_of (bodies.PdelayRespFollowUp stamp requester) = Answering
+abbrev pub message_kind : Body → Kind
+message_kind (bodies.Announce announce) = Announcing
+message_kind bodies.Sync = Telling
+message_kind (bodies.FollowUp origin rate) = Telling
+message_kind bodies.PdelayReq = Asking
+message_kind (bodies.PdelayResp stamp requester) = Answering
+message_kind (bodies.PdelayRespFollowUp stamp requester) = Answering
 
 -- all serve this
 abbrev pub AllAre : Kind → List Sending → Type 0
-AllAre kind sends = (x : Sending) → In x sends → kind_of x.body ≡ kind
+AllAre kind sends = (x : Sending) → In x sends → message_kind x.body ≡ kind
 
 -- one request of this port goes, and else Announces alone
 pub record AsksOnce (s : SystemState) (p : ℕ) (sends : List Sending) : Type 0 where

@@ -10,7 +10,7 @@ use Rattle.gptp_system.specs.declared.sending.Sending.{Sending}
 use Rattle.gptp_setup.specs.declared.timer.Timer.{Timer}
 use Rattle.gptp_setup.specs.declared.timer.Timer.TheVariants as timers
 use Rattle.gptp_system.specs.State.{SystemState, due, is_capable_at, number}
-use Rattle.gptp_system.specs.Sends.{count}
+use Rattle.gptp_system.specs.Sends.{count_such}
 use Rattle.gptp_system.specs.Measuring.{is_turned}
 use Rattle.gptp_system.specs.Input.{Input, PortUp, PortDown, Frame, Expires, Priority}
 
@@ -55,8 +55,8 @@ reach (Expires timer) s = timer_reach timer s
 reach (Priority value) s = reaches.All
 
 -- how many of the sends go at this port
-abbrev pub sends_at : ℕ → List Sending → ℕ
-sends_at p sends = count (λ (x : Sending). x.port == p) sends
+abbrev pub count_sends_at : ℕ → List Sending → ℕ
+count_sends_at p sends = count_such (λ (x : Sending). x.port == p) sends
 
 -- at most two sends, both at this port
 pub record AreAt (p : ℕ) (sends : List Sending) : Type 0 where
@@ -67,14 +67,14 @@ pub record AreAt (p : ℕ) (sends : List Sending) : Type 0 where
 pub record AreAtPorts (last : ℕ) (sends : List Sending) : Type 0 where
   pub least : (x : Sending) → In x sends → 1 ≤ x.port
   pub most : (x : Sending) → In x sends → x.port ≤ last
-  pub each : (p : ℕ) → sends_at p sends ≤ 2
+  pub each : (p : ℕ) → count_sends_at p sends ≤ 2
   pub few : length sends ≤ 2 * last
 
 -- a system with this many ports sends within a reach
-abbrev pub IsWithin : Reach → ℕ → List Sending → Type 0
-IsWithin reaches.Nothing ports sends = sends ≡ []
-IsWithin (reaches.Port p) ports sends = AreAt p sends
-IsWithin reaches.All ports sends = AreAtPorts ports sends
+abbrev pub SendsWithin : Reach → ℕ → List Sending → Type 0
+SendsWithin reaches.Nothing ports sends = sends ≡ []
+SendsWithin (reaches.Port p) ports sends = AreAt p sends
+SendsWithin reaches.All ports sends = AreAtPorts ports sends
 
 -- ---- timers
 

@@ -14,20 +14,20 @@ use Rattle.gptp_system.specs.declared.sending.Sending.{Sending}
 use Rattle.gptp_setup.specs.Intervals.{interval_of}
 use Rattle.gptp_system.specs.State.{SystemState, clock, own}
 use Rattle.gptp_system.specs.Sends.{announcement}
-use Rattle.gptp_system.specs.Touch.{Touch, Mid}
+use Rattle.gptp_system.specs.Touch.{Touch, PortHoldsInTouch}
 
 -- the message is an Announce
 abbrev pub IsAnnounce : Body → Type 0
 IsAnnounce body = (announce : AnnounceBody) × (body ≡ bodies.Announce announce)
 
 -- port n announces, and does so again one announce interval later (10.3.16)
-pub record Tells (n now : ℕ) (q q' : Port) (sends : List Sending) : Type 0 where
+pub record PortAnnounces (n now : ℕ) (q q' : Port) (sends : List Sending) : Type 0 where
   pub sent : (x : Sending) × In x sends × (x.port ≡ n) × IsAnnounce x.body
   pub timer : q'.announce ≡ now + interval_of q.log_interval
 
 -- a port that isn't Master is Disabled or holds what it received
-abbrev pub IsKept : Held → Type 0
-IsKept h = (h ≡ helds.Disabled) ⊎ ((r : Reception) × (received h ≡ Some r))
+abbrev pub HoldsOrIsDisabled : Held → Type 0
+HoldsOrIsDisabled h = (h ≡ helds.Disabled) ⊎ ((r : Reception) × (received h ≡ Some r))
 
 -- A Master port holds the own root and steps; its master vector is lower than what it had received (10.3.13). It
 -- announces at once where either is new to it; where neither is, it may do so or leave its timer alone.
@@ -35,12 +35,12 @@ pub record IsMaster (clock n now root steps : ℕ) (mid h' : Held) (q q' : Port)
   pub mine : h' ≡ helds.Mine root steps
   pub on : mid ≢ helds.Disabled
   pub is_lower : (r : Reception) → received mid ≡ Some r → lower (master_of root steps clock n) r.vector ≡ true
-  pub timing : ((mid ≡ helds.Mine root steps) × (q'.announce ≡ q.announce)) ⊎ Tells n now q q' sends
+  pub timing : ((mid ≡ helds.Mine root steps) × (q'.announce ≡ q.announce)) ⊎ PortAnnounces n now q q' sends
 
 -- what a port that holds `mid` after the touch holds in the end
 abbrev pub PortEnds : ℕ → ℕ → ℕ → ℕ → ℕ → Held → Held → Port → Port → List Sending → Type 0
 PortEnds clock n now root steps mid h' q q' sends =
-    ((h' ≡ mid) × IsKept mid) ⊎ IsMaster clock n now root steps mid h' q q' sends
+    ((h' ≡ mid) × HoldsOrIsDisabled mid) ⊎ IsMaster clock n now root steps mid h' q q' sends
 
 -- the part of one port
 pub record PortReacts (clock n : ℕ) (touch : Touch) (now root steps : ℕ) (h h' : Held) (q q' : Port)
@@ -48,7 +48,7 @@ pub record PortReacts (clock n : ℕ) (touch : Touch) (now root steps : ℕ) (h 
     : Type 0 where
   pub log : q'.log_interval ≡ q.log_interval
   pub mid : Held
-  pub before : Mid clock n touch now h mid
+  pub before : PortHoldsInTouch clock n touch now h mid
   pub after : PortEnds clock n now root steps mid h' q q' sends
 
 -- the part of the port at this place, from the new state back to the old one

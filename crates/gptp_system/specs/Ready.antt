@@ -39,7 +39,7 @@ abbrev pub IsRecent : Held → Type 0
 IsRecent h = ForSome (received h) (λ (r : Reception). IsMoment r.at)
 
 -- a port announces at an interval within the limits, and what it owes came at a time that a clock shows
-pub record IsPort (q : Port) : Type 0 where
+pub record IsReadyPort (q : Port) : Type 0 where
   pub log_interval : IsLog q.log_interval
   pub waiting : ForSome q.peer.waiting (λ (owed : Answer). IsTime owed.t2)
 
@@ -52,5 +52,5 @@ pub record IsReady (s : SystemState) : Type 0 where
   pub few : length s.ports ≤ 16
   pub placed : ArePlaced 1 s.held
   pub recent : AllByRecursion IsRecent s.held
-  pub ports : AllByRecursion IsPort s.ports
+  pub ports : AllByRecursion IsReadyPort s.ports
   pub lapses : s.params.sync_timeout ≡ 0 → s.lapse ≡ None

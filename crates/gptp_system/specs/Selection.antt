@@ -3,7 +3,7 @@ use Rattle.std.specs.Prelude.{◌≡◌, ℕ, ◌+◌, ◌==◌, Bool, true, fal
 use Rattle.std.specs.Prelude.{None}
 use Rattle.gptp_vector.specs.declared.vector.Vector.{Vector}
 use Rattle.gptp_roles.specs.Choice.{IsChosen, slave_port}
-use Rattle.gptp_roles.specs.Role.{each_port, held_after, is_fresh}
+use Rattle.gptp_roles.specs.Role.{each_port, held_after_selection, is_fresh}
 use Rattle.gptp_system.specs.declared.port.Port.{Port}
 use Rattle.gptp_system.specs.declared.sending.Sending.{Sending}
 use Rattle.gptp_setup.specs.Intervals.{interval_of}
@@ -11,14 +11,14 @@ use Rattle.gptp_system.specs.State.{SystemState, clock, lapse_of}
 use Rattle.gptp_system.specs.Sends.{announcement, next_sequence}
 
 -- a port that announces does so again one announce interval later
-abbrev pub announced : ℕ → Port → Port
-announced now q = record q { announce = now + interval_of q.log_interval; announces = next_sequence q.announces }
+abbrev pub announced_again : ℕ → Port → Port
+announced_again now q = record q { announce = now + interval_of q.log_interval; announces = next_sequence q.announces }
 
 -- the ports that are marked announce
 abbrev pub all_announced : ℕ → List Bool → List Port → List Port
 all_announced now [] qs = qs
 all_announced now (f ∷ fs) [] = []
-all_announced now (f ∷ fs) (q ∷ qs) = (if f then announced now q else q) ∷ all_announced now fs qs
+all_announced now (f ∷ fs) (q ∷ qs) = (if f then announced_again now q else q) ∷ all_announced now fs qs
 
 -- and these are their Announces, the first port having this number
 abbrev pub announcements : ℕ → ℕ → ℕ → ℕ → List Bool → List Port → List Sending
@@ -34,14 +34,14 @@ abbrev pub fresh_ports : Vector → SystemState → List Bool
 fresh_ports v s = each_port (is_fresh v (clock s)) s.held
 
 -- two port numbers, or none and none
-abbrev pub same_port : Option ℕ → Option ℕ → Bool
-same_port None None = true
-same_port (Some p) (Some q) = p == q
-same_port _ _ = false
+abbrev pub same_number : Option ℕ → Option ℕ → Bool
+same_number None None = true
+same_number (Some p) (Some q) = p == q
+same_number _ _ = false
 
 -- the system follows the same root by the same port
 abbrev pub follows_on : Vector → SystemState → Bool
-follows_on v s = v.root == s.root && same_port (slave_port v) s.slave
+follows_on v s = v.root == s.root && same_number (slave_port v) s.slave
 
 -- what is known stays known in that case alone
 abbrev pub kept_if : {X : Type 0} → Bool → Option X → Option X
@@ -55,7 +55,7 @@ lapse_after v now s = if follows_on v s then s.lapse else lapse_of s.params v.ro
 -- came over another way is forgotten.
 abbrev pub choosing : Vector → ℕ → SystemState → SystemState
 choosing v now s = record s {
-  held = each_port (held_after v (clock s)) s.held;
+  held = each_port (held_after_selection v (clock s)) s.held;
   ports = all_announced now (fresh_ports v s) s.ports;
   root = v.root;
   steps = v.steps;

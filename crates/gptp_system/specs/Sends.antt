@@ -38,8 +38,8 @@ announcement own root steps q = record {
 }
 
 -- the Pdelay_Req of a port (11.4.5)
-abbrev pub request : PortId → ℤ → ℕ → Sending
-request own log_interval sequence = record {
+abbrev pub pdelay_request : PortId → ℤ → ℕ → Sending
+pdelay_request own log_interval sequence = record {
   port = own.port;
   head = head_from own sequence (pos 0) log_interval false;
   body = bodies.PdelayReq;
@@ -49,15 +49,15 @@ request own log_interval sequence = record {
 abbrev pub no_interval : ℤ
 no_interval = pos 0x7F
 
--- the Pdelay_Resp to a request: when it came, the part below a nanosecond as correctionField (11.4.6; profile)
-abbrev pub response : PortId → Answer → Timestamp → ℕ → Sending
-response own answer stamp rest = record {
+-- the Pdelay_Resp to a pdelay_request: when it came, the part below a nanosecond as correctionField (11.4.6; profile)
+abbrev pub pdelay_response : PortId → Answer → Timestamp → ℕ → Sending
+pdelay_response own answer stamp rest = record {
   port = own.port;
   head = head_from own answer.sequence (pos rest) no_interval true;
   body = bodies.PdelayResp stamp answer.requester;
 }
 
--- and the Pdelay_Resp_Follow_Up: when the response went (11.4.7)
+-- and the Pdelay_Resp_Follow_Up: when the pdelay_response went (11.4.7)
 abbrev pub response_follow_up : PortId → Answer → Timestamp → ℕ → Sending
 response_follow_up own answer stamp rest = record {
   port = own.port;
@@ -75,6 +75,6 @@ abbrev pub with_send : Sending → List Sending → List Sending
 with_send x xs = take (sends_up_to x.port xs) xs ++ x ∷ drop (sends_up_to x.port xs) xs
 
 -- how many of the sends are such
-abbrev pub count : (Sending → Bool) → List Sending → ℕ
-count such [] = 0
-count such (x ∷ xs) = if such x then 1 + count such xs else count such xs
+abbrev pub count_such : (Sending → Bool) → List Sending → ℕ
+count_such such [] = 0
+count_such such (x ∷ xs) = if such x then 1 + count_such such xs else count_such such xs

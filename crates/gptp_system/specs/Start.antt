@@ -58,15 +58,15 @@ started setup now = record {
 }
 
 -- what a port that received is for the synchronization tree: the Slave, or silent
-abbrev pub role_of_received : Bool → Role
-role_of_received is_slave = if is_slave then roles.Slave else roles.Passive
+abbrev pub sync_role_of_received : Bool → Role
+sync_role_of_received is_slave = if is_slave then roles.Slave else roles.Passive
 
 -- the role of a port that holds this
 abbrev pub role_by : Bool → Held → Role
 role_by is_slave helds.Disabled = roles.Disabled
 role_by is_slave helds.Aged = roles.Master
 role_by is_slave (helds.Mine root steps) = roles.Master
-role_by is_slave (helds.Received r) = role_of_received is_slave
+role_by is_slave (helds.Received r) = sync_role_of_received is_slave
 
 -- the role of a port of a system at rest (10.3.6)
 abbrev pub role_at : SystemState → ℕ → Role

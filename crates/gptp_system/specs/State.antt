@@ -84,12 +84,12 @@ abbrev pub trace : SystemState → List ℕ
 trace s = system_trace (clock s) s.held s.slave
 
 -- the port that what is held came from
-abbrev pub source_of : Held → Option PortId
-source_of h = option_map (λ (r : Reception). r.vector.source) (received h)
+abbrev pub held_source : Held → Option PortId
+held_source h = option_map (λ (r : Reception). r.vector.source) (received h)
 
 -- the Slave port, if there is one, and the port that it follows (parentPortIdentity, IEEE 1588-2019, 8.2.3.2)
 abbrev pub parent : SystemState → Option (ℕ × PortId)
-parent s = option_and_then (λ p. option_map (λ source. (p, source)) (source_of (held_at s p))) s.slave
+parent s = option_and_then (λ p. option_map (λ source. (p, source)) (held_source (held_at s p))) s.slave
 
 -- ---- timers
 

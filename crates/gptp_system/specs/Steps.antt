@@ -3,7 +3,7 @@ use Rattle.std.specs.Prelude.{◌≡◌, ◌⊎◌, ◌≤◌, ℕ, ⊤, List, l
 use Rattle.gptp_messages.specs.declared.message.Message.{Message}
 use Rattle.gptp_messages.specs.declared.message.Message.TheVariants as messages
 use Rattle.gptp_messages.specs.declared.refused.Refused.{Refused}
-use Rattle.gptp_messages.specs.Grammar.{Reads, Refuses}
+use Rattle.gptp_messages.specs.Grammar.{Reads, RefusesFrame}
 use Rattle.gptp_system.specs.declared.answer.Answer.{Answer}
 use Rattle.gptp_system.specs.declared.answer.Answer.TheVariants as answers
 use Rattle.gptp_system.specs.declared.sending.Sending.{Sending}
@@ -37,7 +37,7 @@ pub record HearsReadable (p : ℕ) (frame : List ℕ) (now : ℕ) (s s' : System
 -- a frame that is no message changes nothing
 pub record HearsUnreadable (frame : List ℕ) (s s' : SystemState) (sends : List Sending) (answer : Answer) : Type 0 where
   pub refused : Refused
-  pub refuses : Refuses frame refused
+  pub refuses : RefusesFrame frame refused
   pub becomes : Becomes s s' sends
   pub answer_is : answer ≡ answers.Refused refused
 
@@ -56,16 +56,16 @@ Expires timers.Relay now s s' sends = RelayExpires now s s' sends
 Expires timers.Lapse now s s' sends = LapseExpires now s s' sends
 
 -- the number is that of a port
-pub record IsPortOf (s : SystemState) (p : ℕ) : Type 0 where
+pub record HasPortNumber (s : SystemState) (p : ℕ) : Type 0 where
   pub least : 1 ≤ p
   pub most : p ≤ length s.ports
 
 -- the port of a timer that has one is a port of the system
 abbrev pub IsTimerOf : SystemState → Timer → Type 0
-IsTimerOf s (timers.Announce p) = IsPortOf s p
-IsTimerOf s (timers.Age p) = IsPortOf s p
-IsTimerOf s (timers.Pdelay p) = IsPortOf s p
-IsTimerOf s (timers.Respond p) = IsPortOf s p
+IsTimerOf s (timers.Announce p) = HasPortNumber s p
+IsTimerOf s (timers.Age p) = HasPortNumber s p
+IsTimerOf s (timers.Pdelay p) = HasPortNumber s p
+IsTimerOf s (timers.Respond p) = HasPortNumber s p
 IsTimerOf s timers.Sync = ⊤
 IsTimerOf s timers.Relay = ⊤
 IsTimerOf s timers.Lapse = ⊤

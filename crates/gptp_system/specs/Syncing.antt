@@ -60,14 +60,14 @@ syncs clock log_interval told p (h ∷ hs) (q ∷ qs) =
 abbrev pub counting : Port → Port
 counting q = record q { syncs = next_sequence q.syncs }
 
-abbrev pub counted : List Held → List Port → List Port
-counted [] qs = qs
-counted (h ∷ hs) [] = []
-counted (h ∷ hs) (q ∷ qs) = (if is_mine h then counting q else q) ∷ counted hs qs
+abbrev pub counted_by_rates : List Held → List Port → List Port
+counted_by_rates [] qs = qs
+counted_by_rates (h ∷ hs) [] = []
+counted_by_rates (h ∷ hs) (q ∷ qs) = (if is_mine h then counting q else q) ∷ counted_by_rates hs qs
 
 -- all Master ports tell this time
 abbrev pub telling : SystemState → SystemState
-telling s = record s { ports = counted s.held s.ports }
+telling s = record s { ports = counted_by_rates s.held s.ports }
 
 abbrev pub told_by : Relayed → SystemState → List Sending
 told_by told s = syncs (clock s) s.params.sync told 1 s.held s.ports
@@ -86,8 +86,8 @@ pub record IsOwnTime (time : ℤ) (told : Relayed) : Type 0 where
 -- ---- the Sync timer
 
 -- the system is its own root, and may be grandmaster
-abbrev pub leads : SystemState → Bool
-leads s = s.root == s.identity && can_lead s.identity
+abbrev pub is_leading : SystemState → Bool
+is_leading s = s.root == s.identity && can_lead s.identity
 
 -- the timer runs on
 abbrev pub restarted : ℕ → SystemState → SystemState
@@ -105,7 +105,7 @@ SyncsIf true now s s' sends = LeadsTime now s s' sends
 SyncsIf false now s s' sends = Becomes (restarted now s) s' sends
 
 abbrev pub SyncExpires : ℕ → SystemState → SystemState → List Sending → Type 0
-SyncExpires now s s' sends = SyncsIf (leads s) now s s' sends
+SyncExpires now s s' sends = SyncsIf (is_leading s) now s s' sends
 
 -- ---- a Sync
 
@@ -138,12 +138,12 @@ pub record IsIgnored (s s' : SystemState) (sends : List Sending) (answer : Answe
   pub becomes : Becomes s s' sends
   pub answer_is : answer ≡ answers.Ignored
 
-pub record IsKept (head : Head) (now : ℕ) (s s' : SystemState) (sends : List Sending) (answer : Answer) : Type 0 where
+pub record IsKeptSync (head : Head) (now : ℕ) (s s' : SystemState) (sends : List Sending) (answer : Answer) : Type 0 where
   pub becomes : Becomes (keeping head now s) s' sends
   pub answer_is : answer ≡ answers.Used
 
 abbrev pub KeepsIf : Bool → Head → ℕ → SystemState → SystemState → List Sending → Answer → Type 0
-KeepsIf true head now s s' sends answer = IsKept head now s s' sends answer
+KeepsIf true head now s s' sends answer = IsKeptSync head now s s' sends answer
 KeepsIf false head now s s' sends answer = IsIgnored s s' sends answer
 
 abbrev pub HearsSyncIf : Bool → ℕ → Head → ℕ → SystemState → SystemState → List Sending → Answer → Type 0
@@ -159,8 +159,8 @@ HearsSync p head now s s' sends answer = HearsSyncIf (is_capable_at s p) p head 
 abbrev pub delay_at : SystemState → ℕ → ℤ
 delay_at s p = option_map_or (λ (q : Port). option_map_or (λ d. d) (delay_of q.peer) (pos 0)) (number s.ports p) (pos 0)
 
-abbrev pub rate_at : SystemState → ℕ → ℤ
-rate_at s p = option_map_or (λ (q : Port). rate_of_peer q.peer) (number s.ports p) (pos 0)
+abbrev pub root_rate_at : SystemState → ℕ → ℤ
+root_rate_at s p = option_map_or (λ (q : Port). rate_of_peer q.peer) (number s.ports p) (pos 0)
 
 -- what a Follow_Up and the Sync that is kept say together, on the Slave port
 abbrev pub said_on : ℕ → FollowUp → SystemState → Option SyncInfo
@@ -191,7 +191,7 @@ abbrev pub forgetting : SystemState → SystemState
 forgetting s = record s { sync_in = None; known = None; offset = None }
 
 -- the numbers fit: the offset is known
-pub record IsKnown (info : SyncInfo) (delay rate : ℤ) (now : ℕ) (s s' : SystemState) (sends : List Sending)
+pub record OffsetIsKnown (info : SyncInfo) (delay rate : ℤ) (now : ℕ) (s s' : SystemState) (sends : List Sending)
     (answer : Answer) : Type 0 where
   pub fits : OffsetFits info delay rate
   pub becomes : Becomes (knowing info (offset_of info delay rate) now s) s' sends
@@ -230,7 +230,7 @@ pub record IsRefreshed (info : SyncInfo) (delay rate : ℤ) (now : ℕ) (s s' : 
 abbrev pub KnowsBy : Bool → SyncInfo → ℤ → ℤ → ℕ → SystemState → SystemState → List Sending → Answer → Type 0
 KnowsBy true info delay rate now s s' sends answer = IsRefreshed info delay rate now s s' sends answer
 KnowsBy false info delay rate now s s' sends answer =
-    IsKnown info delay rate now s s' sends answer ⊎ IsForgotten info delay rate s s' sends answer
+    OffsetIsKnown info delay rate now s s' sends answer ⊎ IsForgotten info delay rate s s' sends answer
 
 abbrev pub KnowsIf : Option SyncInfo → ℤ → ℤ → ℕ → SystemState → SystemState → List Sending → Answer → Type 0
 KnowsIf None delay rate now s s' sends answer = IsIgnored s s' sends answer
@@ -240,22 +240,22 @@ KnowsIf (Some info) delay rate now s s' sends answer =
 abbrev pub HearsFollowUpIf : Bool → ℕ → FollowUp → ℕ → SystemState → SystemState → List Sending → Answer → Type 0
 HearsFollowUpIf false p m now s s' sends answer = IsOff s s' sends answer
 HearsFollowUpIf true p m now s s' sends answer =
-    KnowsIf (said_on p m s) (delay_at s p) (rate_at s p) now s s' sends answer
+    KnowsIf (said_on p m s) (delay_at s p) (root_rate_at s p) now s s' sends answer
 
 abbrev pub HearsFollowUp : ℕ → FollowUp → ℕ → SystemState → SystemState → List Sending → Answer → Type 0
 HearsFollowUp p m now s s' sends answer = HearsFollowUpIf (is_capable_at s p) p m now s s' sends answer
 
 -- ---- the Relay timer
 
-abbrev pub stopped : SystemState → SystemState
-stopped s = record s { relay = None }
+abbrev pub timer_stopped : SystemState → SystemState
+timer_stopped s = record s { relay = None }
 
 -- the delay and the neighbour's rate of the Slave port as they are now
 abbrev pub slave_delay : SystemState → ℤ
 slave_delay s = option_map_or (delay_at s) s.slave (pos 0)
 
 abbrev pub slave_rate : SystemState → ℤ
-slave_rate s = option_map_or (rate_at s) s.slave (pos 0)
+slave_rate s = option_map_or (root_rate_at s) s.slave (pos 0)
 
 -- the hop of this bridge, by these
 abbrev pub hop_of : SyncInfo → ℕ → SystemState → Hop
@@ -267,21 +267,21 @@ HopFits info now s = BridgeFits (hop_of info now s) (carried_on (carried info) (
 -- the time is sent on
 pub record IsRelayed (info : SyncInfo) (now : ℕ) (s s' : SystemState) (sends : List Sending) : Type 0 where
   pub fits : HopFits info now s
-  pub state : s' ≡ telling (stopped s)
+  pub state : s' ≡ telling (timer_stopped s)
   pub sends_are : sends ≡ told_by (relayed info (hop_of info now s)) s
 
 -- a number doesn't fit, and nothing is sent
 pub record IsDropped (info : SyncInfo) (now : ℕ) (s s' : SystemState) (sends : List Sending) : Type 0 where
   pub unfit : HopFits info now s → ⊥
-  pub becomes : Becomes (stopped s) s' sends
+  pub becomes : Becomes (timer_stopped s) s' sends
 
 -- what came, unchanged
 abbrev pub as_received : SyncInfo → Relayed
 as_received info = record { origin = info.origin; correction = info.correction; rate = info.rate }
 
 -- what is told by a sum of rates held at its limits: what came, where a number doesn't fit all the same (profile)
-abbrev pub IsTold : SyncInfo → ℕ → SystemState → Relayed → Type 0
-IsTold info now s told =
+abbrev pub IsToldAtLimits : SyncInfo → ℕ → SystemState → Relayed → Type 0
+IsToldAtLimits info now s told =
     let held = held_sum info (slave_rate s) in
     (HopFits held now s × (told ≡ relayed held (hop_of held now s)))
     ⊎ ((HopFits held now s → ⊥) × (told ≡ as_received info))
@@ -289,8 +289,8 @@ IsTold info now s told =
 -- where the network has a syncReceiptTimeout time is sent on in any case
 pub record IsSentOn (info : SyncInfo) (now : ℕ) (s s' : SystemState) (sends : List Sending) : Type 0 where
   pub told : Relayed
-  pub told_is : IsTold info now s told
-  pub state : s' ≡ telling (stopped s)
+  pub told_is : IsToldAtLimits info now s told
+  pub state : s' ≡ telling (timer_stopped s)
   pub sends_are : sends ≡ told_by told s
 
 abbrev pub RelaysBy : Bool → SyncInfo → ℕ → SystemState → SystemState → List Sending → Type 0
@@ -298,7 +298,7 @@ RelaysBy true info now s s' sends = IsSentOn info now s s' sends
 RelaysBy false info now s s' sends = IsRelayed info now s s' sends ⊎ IsDropped info now s s' sends
 
 abbrev pub RelaysIf : Option SyncInfo → ℕ → SystemState → SystemState → List Sending → Type 0
-RelaysIf None now s s' sends = Becomes (stopped s) s' sends
+RelaysIf None now s s' sends = Becomes (timer_stopped s) s' sends
 RelaysIf (Some info) now s s' sends = RelaysBy (has_sync_timeout s.params) info now s s' sends
 
 abbrev pub RelayExpires : ℕ → SystemState → SystemState → List Sending → Type 0

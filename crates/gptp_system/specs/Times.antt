@@ -27,7 +27,7 @@ pub record IsInTime (s : SystemState) (now : ℕ) : Type 0 where
   pub lapse : (t : ℕ) → s.lapse ≡ Some t → t ≤ now + lapse_span s.params
 
 -- the Lapse timer runs on, while the same root is followed by the same port
-pub record Waits (s s' : SystemState) (t : ℕ) : Type 0 where
+pub record LapseRunsOn (s s' : SystemState) (t : ℕ) : Type 0 where
   pub before : s.lapse ≡ Some t
   pub root : s'.root ≡ s.root
   pub slave : s'.slave ≡ s.slave
@@ -41,4 +41,4 @@ pub record WaitsAnew (s : SystemState) (now t : ℕ) : Type 0 where
 pub record RunsOn (s : SystemState) (now : ℕ) (s' : SystemState) : Type 0 where
   pub sync : (s'.sync ≡ s.sync) ⊎ (s'.sync ≡ now + interval_of s.params.sync)
   pub relay : (t : ℕ) → s'.relay ≡ Some t → (s.relay ≡ Some t) ⊎ (t ≡ now + s.params.residence)
-  pub lapse : (t : ℕ) → s'.lapse ≡ Some t → Waits s s' t ⊎ WaitsAnew s now t
+  pub lapse : (t : ℕ) → s'.lapse ≡ Some t → LapseRunsOn s s' t ⊎ WaitsAnew s now t

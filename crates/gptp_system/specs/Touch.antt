@@ -27,15 +27,15 @@ HeardAs own a now h mid =
     ⊎ ((Qualified a own.clock → ⊥) × (mid ≡ h))
 
 -- a port of the system with this clock and with the number n, which held h, holds `mid` after the touch
-abbrev pub Mid : ℕ → ℕ → Touch → ℕ → Held → Held → Type 0
-Mid clock n (Hear p a) now h mid =
+abbrev pub PortHoldsInTouch : ℕ → ℕ → Touch → ℕ → Held → Held → Type 0
+PortHoldsInTouch clock n (Hear p a) now h mid =
     ((n ≡ p) × (h ≢ helds.Disabled) × HeardAs (record { clock = clock; port = n }) a now h mid) ⊎ ((n ≢ p) × (mid ≡ h))
-Mid clock n (Tick p) now h mid = mid ≡ h
-Mid clock n (Grow p) now h mid = ((n ≡ p) × (mid ≡ helds.Aged)) ⊎ ((n ≢ p) × (mid ≡ h))
-Mid clock n (Enable p) now h mid =
+PortHoldsInTouch clock n (Tick p) now h mid = mid ≡ h
+PortHoldsInTouch clock n (Grow p) now h mid = ((n ≡ p) × (mid ≡ helds.Aged)) ⊎ ((n ≢ p) × (mid ≡ h))
+PortHoldsInTouch clock n (Enable p) now h mid =
     ((n ≡ p) × (h ≡ helds.Disabled) × (mid ≡ helds.Aged)) ⊎ ((n ≢ p) × (mid ≡ h))
-Mid clock n (Disable p) now h mid = ((n ≡ p) × (mid ≡ helds.Disabled)) ⊎ ((n ≢ p) × (mid ≡ h))
-Mid clock n Other now h mid = mid ≡ h
+PortHoldsInTouch clock n (Disable p) now h mid = ((n ≡ p) × (mid ≡ helds.Disabled)) ⊎ ((n ≢ p) × (mid ≡ h))
+PortHoldsInTouch clock n Other now h mid = mid ≡ h
 
 -- the measuring of a port makes it asCapable, or ends that, or does neither
 abbrev pub IsTurn : ℕ → Touch → Type 0

@@ -5,10 +5,10 @@ ghost use Rattle.std.specs.Option.{option_map_or};
 ghost use Rattle.std.specs.List.{AllByRecursion};
 ghost use Rattle.gptp_receipt.specs.Held.{comparison, held_after, reception};
 ghost use Rattle.gptp_receipt.specs.Qualification.{Qualified};
-ghost use Rattle.gptp_system.specs.Announcing.{aged_by, answer_to_heard, answer_to_why, is_taken, SaysAgain};
+ghost use Rattle.gptp_system.specs.Announcing.{aged_by, answer_to_heard, answer_to_why, replaces_held, SaysAgain};
 ghost use Rattle.gptp_setup.specs.Intervals.{AreParams, IsLog, IsMoment};
-ghost use Rattle.gptp_system.specs.Ready.{IsPort, IsRecent};
-ghost use Rattle.gptp_system.specs.Selection.{announced};
+ghost use Rattle.gptp_system.specs.Ready.{IsReadyPort, IsRecent};
+ghost use Rattle.gptp_system.specs.Selection.{announced_again};
 ghost use Rattle.gptp_system.specs.Sends.{announcement};
 ghost use Rattle.gptp_system.specs.State.{change, number};
 
@@ -47,7 +47,7 @@ fn answer_to_heard(heard: Heard) -> Answer
 
 /// Whether what was heard took the place of what was held.
 fn is_taken(heard: Heard) -> bool
-    ensures { result ≡ is_taken heard }
+    ensures { result ≡ replaces_held heard }
 {
     match heard {
         Heard::Inferior => false,
@@ -76,7 +76,7 @@ fn says_again(held: &Held, own: PortId, announce: &AnnounceView<'_>) -> bool
 /// Whether selection can change anything after an Announce: it took the place of what was held, and says something
 /// else.
 fn can_change(heard: Heard, again: bool) -> bool
-    ensures { result ≡ (is_taken heard && not again) }
+    ensures { result ≡ (replaces_held heard && not again) }
 {
     is_taken(heard) && !again
 }
@@ -131,10 +131,10 @@ fn announce_at(
     requires least { 1 ≤ own.port }
     requires most { own.port ≤ length ports.old }
     requires few { length ports.old ≤ 16 }
-    requires ports { AllByRecursion IsPort ports.old }
+    requires ports { AllByRecursion IsReadyPort ports.old }
     requires moment { IsMoment now }
     requires empty { outbox.old.items ≡ [] }
-    ensures ports { ports.new ≡ change (announced now) own.port ports.old }
+    ensures ports { ports.new ≡ change (announced_again now) own.port ports.old }
     ensures sends { outbox.new.items
         ≡ option_map_or (λ q. announcement own root steps q ∷ []) (number ports.old own.port) [] }
 {

@@ -56,14 +56,14 @@ impl State {
     ghost use Rattle.gptp_setup.specs.Intervals.{IsMoment};
     ghost use Rattle.gptp_system.specs.Ready.{IsReady, state_of};
     ghost use Rattle.gptp_system.specs.State.{held_at, is_capable_at};
-    ghost use Rattle.gptp_system.specs.Steps.{Expires, HearsFrame, HearsMessage, IsPortOf, IsTimerOf};
+    ghost use Rattle.gptp_system.specs.Steps.{Expires, HearsFrame, HearsMessage, HasPortNumber, IsTimerOf};
     ghost use Rattle.gptp_system.specs.Touched.{message_touches, timer_touches, Touches};
 
     /// A port hears a message.
     fn hear(&mut self, port: u8, message: &Message<'_>, now: u64, outbox: &mut Outbox) -> Stepped
         requires ready { IsReady (state_of self.old) }
         requires moment { IsMoment now }
-        requires port { IsPortOf (state_of self.old) port }
+        requires port { HasPortNumber (state_of self.old) port }
         requires shown { is_capable_at (state_of self.old) port ≡ true → held_at (state_of self.old) port ≢ Disabled }
         requires held { AreHeld (state_of self.old) }
         requires rest { IsAtRest (state_of self.old) }
@@ -107,7 +107,7 @@ impl State {
     fn hear_frame(&mut self, port: u8, frame: &[u8], now: u64, outbox: &mut Outbox) -> Stepped
         requires ready { IsReady (state_of self.old) }
         requires moment { IsMoment now }
-        requires port { IsPortOf (state_of self.old) port }
+        requires port { HasPortNumber (state_of self.old) port }
         requires shown { is_capable_at (state_of self.old) port ≡ true → held_at (state_of self.old) port ≢ Disabled }
         requires held { AreHeld (state_of self.old) }
         requires rest { IsAtRest (state_of self.old) }

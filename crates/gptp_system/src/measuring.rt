@@ -5,8 +5,8 @@ ghost use Rattle.gptp_pdelay.specs.Clock.{IsTime};
 ghost use Rattle.gptp_pdelay.specs.declared.answer.Answer.{Answer as Owed};
 ghost use Rattle.gptp_pdelay.specs.Peer.{after_follow_up, after_interval, after_response, changes_capability, follow_up_step, reset_peer, response_step};
 ghost use Rattle.gptp_scaled.specs.Stamp.{IsSplit};
-ghost use Rattle.gptp_system.specs.Measuring.{answer_of, answering_done, asking, held_if, owing, silenced};
-ghost use Rattle.gptp_system.specs.Sends.{request, response, response_follow_up};
+ghost use Rattle.gptp_system.specs.Measuring.{measuring_answer, answering_done, asking, held_if, owing, silenced};
+ghost use Rattle.gptp_system.specs.Sends.{pdelay_request, pdelay_response, response_follow_up};
 
 use crate::answer::Answer;
 use crate::port::Port;
@@ -43,7 +43,7 @@ fn end_interval(port: &mut Port) -> bool
 /// A follow-up comes: whether the port becomes asCapable by it, or stops being so, and what became of it.
 fn follow_up(port: &mut Port, message: &PdelayRespFollowUp) -> (bool, Answer)
     ensures changed { result.0 ≡ changes_capability port.old.peer (after_follow_up message.now port.old.peer) }
-    ensures answer { result.1 ≡ answer_of (follow_up_step message.now port.old.peer) }
+    ensures answer { result.1 ≡ measuring_answer (follow_up_step message.now port.old.peer) }
     ensures port { port.new ≡ record port.old { peer = after_follow_up message.now port.old.peer } }
 {
     match port.peer.on_follow_up(message) {
@@ -56,7 +56,7 @@ fn follow_up(port: &mut Port, message: &PdelayRespFollowUp) -> (bool, Answer)
 /// A response comes at this local time: what became of it.
 fn response(port: &mut Port, message: &PdelayResp, t4: ScaledNs) -> Answer
     requires { IsTime t4 }
-    ensures answer { result ≡ answer_of (response_step message.now t4 port.old.peer) }
+    ensures answer { result ≡ measuring_answer (response_step message.now t4 port.old.peer) }
     ensures port { port.new ≡ record port.old { peer = after_response message.now t4 port.old.peer } }
 {
     match port.peer.on_response(message, t4) {
@@ -114,7 +114,7 @@ fn hold(held: &mut Held, capable: bool)
 /// The Pdelay_Req of a port.
 fn request(own: PortId, log_interval: i8, sequence: u16) -> Sending
     requires { own.port ≤ 255 }
-    ensures { result ≡ request own log_interval sequence }
+    ensures { result ≡ pdelay_request own log_interval sequence }
 {
     Sending {
         port: own.port as u8,
@@ -132,7 +132,7 @@ fn request(own: PortId, log_interval: i8, sequence: u16) -> Sending
 /// The Pdelay_Resp of a port: when the request came.
 fn response_to(own: PortId, owed: &Owed, time: (Stamp, u16)) -> Sending
     requires { own.port ≤ 255 }
-    ensures { result ≡ response own owed.now time.0 time.1 }
+    ensures { result ≡ pdelay_response own owed.now time.0 time.1 }
 {
     let (stamp, rest) = time;
     Sending {
@@ -185,7 +185,7 @@ impl State {
     ghost use Rattle.std.specs.Prelude.{◌≡◌, ◌≤◌, ◌<◌, length, []};
     ghost use Rattle.arrayvec.specs.ArrayVec.{array_vec_len};
     ghost use Rattle.gptp_setup.specs.Intervals.{IsMoment};
-    ghost use Rattle.gptp_system.specs.Measuring.{ComesUp, GoesDown, PdelayExpires, RespondExpires, Responds, HearsRequest, HearsResponse, HearsResponseFollowUp, SettlesIf, asks, is_turned, request_of};
+    ghost use Rattle.gptp_system.specs.Measuring.{ComesUp, GoesDown, PdelayExpires, RespondExpires, Responds, HearsRequest, HearsResponse, HearsResponseFollowUp, SettlesIf, port_asks, is_turned, request_of};
     ghost use Rattle.gptp_system.specs.Reach.{stops_at};
     ghost use Rattle.gptp_system.specs.Ready.{IsReady, state_of};
     ghost use Rattle.gptp_system.specs.State.{number};
@@ -221,7 +221,7 @@ impl State {
         requires least { 1 ≤ port }
         requires most { port ≤ length (state_of self.old).ports }
         requires room { array_vec_len outbox.old < 64 }
-        ensures state { state_of self.new ≡ asks port now (state_of self.old) }
+        ensures state { state_of self.new ≡ port_asks port now (state_of self.old) }
         ensures sends { outbox.new.items ≡ with_send (request_of port (state_of self.old)) outbox.old.items }
         ensures ready { IsReady (state_of self.new) }
     {

@@ -4,8 +4,8 @@ ghost use Rattle.std.specs.Prelude.{◌≡◌, ◌==◌, ◌&&◌, ◌+◌, ◌*
 ghost use Rattle.std.specs.List.{AllByRecursion};
 ghost use Rattle.arrayvec.specs.ArrayVec.{array_vec_len};
 ghost use Rattle.gptp_setup.specs.Intervals.{IsLog, IsMoment};
-ghost use Rattle.gptp_system.specs.Ready.{IsPort};
-ghost use Rattle.gptp_system.specs.Selection.{all_announced, announced, announcements, kept_if, same_port};
+ghost use Rattle.gptp_system.specs.Ready.{IsReadyPort};
+ghost use Rattle.gptp_system.specs.Selection.{all_announced, announced_again, announcements, kept_if, same_number};
 ghost use Rattle.gptp_system.specs.Sends.{announcement};
 
 use crate::lapse::lapse_after;
@@ -60,7 +60,7 @@ pub(crate) fn announce(
     requires number { own.port ≤ 255 }
     requires moment { IsMoment now }
     requires room { array_vec_len outbox.old < 64 }
-    ensures port { port.new ≡ announced now port.old }
+    ensures port { port.new ≡ announced_again now port.old }
     ensures sends { outbox.new.items ≡ outbox.old.items ++ announcement own root steps port.old ∷ [] }
 {
     push(outbox, announcement(own, root, steps, port));
@@ -82,7 +82,7 @@ fn announce_if(
     requires number { own.port ≤ 255 }
     requires moment { IsMoment now }
     requires room { array_vec_len outbox.old < 64 }
-    ensures port { port.new ≡ (if fresh then announced now port.old else port.old) }
+    ensures port { port.new ≡ (if fresh then announced_again now port.old else port.old) }
     ensures sends { outbox.new.items ≡ outbox.old.items
         ++ (if fresh then announcement own root steps port.old ∷ [] else []) }
 {
@@ -103,7 +103,7 @@ fn announce_fresh(
 )
     requires flags { length fresh.now ≡ length ports.old }
     requires few { length ports.old ≤ 16 }
-    requires ports { AllByRecursion IsPort ports.old }
+    requires ports { AllByRecursion IsReadyPort ports.old }
     requires moment { IsMoment now }
     requires empty { outbox.old.items ≡ [] }
     ensures ports { ports.new ≡ all_announced now fresh.now ports.old }
@@ -139,7 +139,7 @@ fn forget_unless(same: bool, sync_in: &mut SyncIn)
 
 /// Whether the system follows the same root by the same port.
 fn follows_on(root: Identity, slave: Option<u8>, selected: &Selected) -> bool
-    ensures { result ≡ (selected.now.root == root && same_port selected.now.slave slave) }
+    ensures { result ≡ (selected.now.root == root && same_number selected.now.slave slave) }
 {
     selected.root == root && selected.slave == slave
 }

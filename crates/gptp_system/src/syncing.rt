@@ -9,7 +9,7 @@ ghost use Rattle.gptp_pdelay.specs.Clock.{IsTime};
 ghost use Rattle.gptp_pdelay.specs.Peer.{delay_of, rate_of_peer};
 ghost use Rattle.gptp_system.specs.declared.port.Port.{Port};
 ghost use Rattle.gptp_system.specs.State.{can_lead, is_mine, number};
-ghost use Rattle.gptp_system.specs.Syncing.{as_received, came_from, counted, counting, follow_up_of, offset_of, sync_of, syncs, IsOffset, IsOwnTime, OffsetFits};
+ghost use Rattle.gptp_system.specs.Syncing.{as_received, came_from, counted_by_rates, counting, follow_up_of, offset_of, sync_of, syncs, IsOffset, IsOwnTime, OffsetFits};
 
 use crate::answer::Answer;
 use crate::lapse::lapse_of;
@@ -128,7 +128,7 @@ fn tell_all(
     requires places { length held.now ≡ length ports.old }
     requires few { length ports.old ≤ 16 }
     requires empty { outbox.old.items ≡ [] }
-    ensures ports { ports.new ≡ counted held.now ports.old }
+    ensures ports { ports.new ≡ counted_by_rates held.now ports.old }
     ensures sends { outbox.new.items ≡ syncs clock log_interval told.now 1 held.now ports.old }
 {
     let mut number = 0;
@@ -250,8 +250,8 @@ impl State {
     ghost use Rattle.gptp_setup.specs.Intervals.{IsMoment};
     ghost use Rattle.gptp_setup.specs.Pace.{has_sync_timeout};
     ghost use Rattle.gptp_system.specs.Ready.{IsReady, state_of};
-    ghost use Rattle.gptp_system.specs.Syncing.{is_followed, is_slave_at, leads, slave_delay, slave_rate, telling, told_by, HearsFollowUp, HearsSync, IsDropped, IsForgotten};
-    ghost use Rattle.gptp_system.specs.Syncing.{IsKnown, IsRefreshed, IsRelayed, IsSentOn, IsTold, KnowsBy, RelayExpires, SyncExpires};
+    ghost use Rattle.gptp_system.specs.Syncing.{is_followed, is_slave_at, is_leading, slave_delay, slave_rate, telling, told_by, HearsFollowUp, HearsSync, IsDropped, IsForgotten};
+    ghost use Rattle.gptp_system.specs.Syncing.{OffsetIsKnown, IsRefreshed, IsRelayed, IsSentOn, IsToldAtLimits, KnowsBy, RelayExpires, SyncExpires};
 
     /// All Master ports tell a time.
     fn tell(&mut self, told: &Relayed, outbox: &mut Outbox)
@@ -331,7 +331,7 @@ impl State {
     fn know(&mut self, info: SyncInfo, delay: ScaledNs, rate: Rate, now: u64) -> Answer
         requires ready { IsReady (state_of self.old) }
         requires moment { IsMoment now }
-        ensures step { IsKnown info delay rate now (state_of self.old) (state_of self.new) [] result
+        ensures step { OffsetIsKnown info delay rate now (state_of self.old) (state_of self.new) [] result
             ⊎ IsForgotten info delay rate (state_of self.old) (state_of self.new) [] result }
         ensures ready { IsReady (state_of self.new) }
     {
@@ -445,7 +445,7 @@ impl State {
     fn told_of(&self, info: &SyncInfo, now: u64) -> Relayed
         requires ready { IsReady (state_of self.now) }
         requires moment { IsMoment now }
-        ensures { IsTold info.now now (state_of self.now) result }
+        ensures { IsToldAtLimits info.now now (state_of self.now) result }
     {
         let rate = self.slave_rate();
         let egress = self.local_time(now);

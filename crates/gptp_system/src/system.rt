@@ -43,7 +43,7 @@ impl System {
     ghost use Rattle.gptp_system.specs.Reach.{frame_reach, timer_reach};
     ghost use Rattle.gptp_system.specs.Start.{role_at, started};
     ghost use Rattle.gptp_system.specs.State.{due, is_capable_at, local_time, number, parent, trace};
-    ghost use Rattle.gptp_system.specs.Steps.{Expires, HearsFrame, IsDue, IsPortOf, IsTimerOf, IsUp};
+    ghost use Rattle.gptp_system.specs.Steps.{Expires, HearsFrame, IsDue, HasPortNumber, IsTimerOf, IsUp};
     ghost use Rattle.gptp_system.specs.Touched.{Touches};
 
     /// A system as it starts at `now`, in ns: its own root, with all ports Disabled until their links come up, each of
@@ -108,7 +108,7 @@ impl System {
     /// The link of a port comes up: the port measures it from the beginning, and asks at once.
     pub fn port_up(&mut self, port: u8, now: u64, outbox: &mut Outbox)
         requires moment { IsMoment now }
-        requires port { IsPortOf self.old port }
+        requires port { HasPortNumber self.old port }
         requires empty { outbox.old.items ≡ [] }
         ensures { ComesUp port now self.old self.new outbox.new.items }
     {
@@ -118,7 +118,7 @@ impl System {
     /// The link of a port goes down: its timers stop, and it takes no part.
     pub fn port_down(&mut self, port: u8, now: u64, outbox: &mut Outbox)
         requires moment { IsMoment now }
-        requires port { IsPortOf self.old port }
+        requires port { HasPortNumber self.old port }
         requires empty { outbox.old.items ≡ [] }
         ensures { GoesDown port now self.old self.new outbox.new.items }
     {
@@ -184,7 +184,7 @@ impl System {
 
     /// The role of a port (IEEE 802.1AS-2020, 10.3.6).
     pub fn role(&self, port: u8) -> Role
-        requires { IsPortOf self.now port }
+        requires { HasPortNumber self.now port }
         ensures { result ≡ role_at self.now port }
     {
         self.state.role(port)
@@ -192,7 +192,7 @@ impl System {
 
     /// Whether a port is asCapable (IEEE 802.1AS-2020, 11.2.2).
     pub fn capable(&self, port: u8) -> bool
-        requires { IsPortOf self.now port }
+        requires { HasPortNumber self.now port }
         ensures { result ≡ is_capable_at self.now port }
     {
         self.state.is_capable(port)
@@ -200,7 +200,7 @@ impl System {
 
     /// The meanLinkDelay of a port, in 2^-16 ns, where it was measured since its link came up or was lost.
     pub fn delay(&self, port: u8) -> Option<ScaledNs>
-        requires { IsPortOf self.now port }
+        requires { HasPortNumber self.now port }
         ensures { result ≡ option_and_then (λ q. delay_of q.peer) (number self.now.ports port) }
     {
         self.state.delay(port)

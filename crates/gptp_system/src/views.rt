@@ -6,7 +6,7 @@ ghost use Rattle.std.specs.Option.{option_and_then, option_map_or};
 ghost use Rattle.gptp_setup.specs.Intervals.{AreParams, IsLog};
 ghost use Rattle.gptp_system.specs.Ready.{IsRecent};
 ghost use Rattle.gptp_system.specs.Start.{role_by};
-ghost use Rattle.gptp_system.specs.State.{age_due, announce_due, number, source_of};
+ghost use Rattle.gptp_system.specs.State.{age_due, announce_due, number, held_source};
 
 use crate::port::Port;
 use crate::state::State;
@@ -87,7 +87,7 @@ fn age_at(params: &Params, largest: i8, held: &[Held], port: u8) -> Option<u64>
 
 /// The port that what is held came from.
 fn source_of(held: &Held) -> Option<PortId>
-    ensures { result ≡ source_of held.now }
+    ensures { result ≡ held_source held.now }
 {
     match held {
         Held::Received(reception) => Some(reception.vector.source),

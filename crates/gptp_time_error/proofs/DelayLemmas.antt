@@ -3,7 +3,7 @@ use Rattle.std.proofs.Common.{◌≡◌, ◌⊎◌, inl, inr, ℕ, Bool, true, f
 use Rattle.gptp_lists.specs.Members.{In}
 use Rattle.gptp_vector.specs.declared.port.PortId.{PortId}
 use Rattle.gptp_links.specs.declared.bounds.Bounds.{Bounds}
-use Rattle.gptp_plan.specs.Change.{is_at, link_acted, link_after, link_changed, with_bounds, with_up}
+use Rattle.gptp_plan.specs.Change.{is_at, link_acted, link_after, link_changed, member_with_bounds, with_up}
 use Rattle.gptp_plan.specs.Network.{NetworkState, IsEnd, same_port}
 use Rattle.gptp_plan.specs.declared.change.Act.{Act}
 use Rattle.gptp_plan.specs.declared.change.Act.TheVariants as acts
@@ -30,7 +30,7 @@ alike_up false up v w h = h
 
 -- and so do both where they get other bounds
 set_alike : (test : Bool) (least greatest loss : ℕ) (v w : Wire) → AreAlike v w
-    → AreAlike (cond test (with_bounds least greatest loss v) v) (cond test (with_bounds least greatest loss w) w)
+    → AreAlike (cond test (member_with_bounds least greatest loss v) v) (cond test (member_with_bounds least greatest loss w) w)
 set_alike true least greatest loss v w h = record {
   a = h.a;
   b = h.b;
@@ -87,8 +87,8 @@ changed_ends (changes.LinkUp clock port) w = by (is_at clock port w)
     by false = record { a = refl; b = refl; bounds = refl }
 changed_ends (changes.LinkSet clock port least greatest loss) w = by (is_at clock port w)
   where
-    by : (test : Bool) → AreAlike (cond test (with_bounds least greatest loss w) w)
-        (unbroken w.a w.b (cond test (with_bounds least greatest loss w) w).bounds)
+    by : (test : Bool) → AreAlike (cond test (member_with_bounds least greatest loss w) w)
+        (unbroken w.a w.b (cond test (member_with_bounds least greatest loss w) w).bounds)
     by true = record { a = refl; b = refl; bounds = refl }
     by false = record { a = refl; b = refl; bounds = refl }
 changed_ends (changes.Fail clock) w = record { a = refl; b = refl; bounds = refl }

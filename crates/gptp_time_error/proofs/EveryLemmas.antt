@@ -19,11 +19,11 @@ use Rattle.gptp_network.specs.Snapshot.{StandsAfter, events_by}
 use Rattle.gptp_network.proofs.ExistenceLemmas.{snapshot_exists}
 use Rattle.gptp_network.proofs.LawLemmas.{within_limits}
 use Rattle.gptp_network.proofs.MeantLemmas.{meant_document, meant_well}
-use Rattle.gptp_accuracy.specs.TimeError.{Link, Way, time_error}
+use Rattle.gptp_accuracy.specs.TimeError.{WayLink, Way, time_error}
 use Rattle.gptp_accuracy.specs.WayLaws.{longer}
-use Rattle.gptp_time_error.specs.AccuracyText.{accuracy_lines, is_exceeded}
+use Rattle.gptp_time_error.specs.AccuracyText.{accuracy_lines, error_is_exceeded}
 use Rattle.gptp_time_error.specs.Laws.{EachIsExact}
-use Rattle.gptp_time_error.specs.TimeErrors.{AreTimeErrors, IsErrorOf, IsExact, IsFrom, exact_from, is_capable}
+use Rattle.gptp_time_error.specs.TimeErrors.{AreTimeErrors, IsErrorOf, IsExact, IsFrom, exact_from, root_is_capable}
 use Rattle.gptp_time_error.specs.Ways.{HasDrift, IsLinkTo, IsWay, root_way}
 use Rattle.gptp_time_error.specs.declared.errors.SystemError.{SystemError}
 use Rattle.gptp_time_error.specs.declared.errors.TimeErrors.{TimeErrors}
@@ -60,7 +60,7 @@ module _ (n : NetworkState) (events : List Timed) (g : Snapshot) (stands : Stand
       let (wire, there, end) = wire_stands n events g stands (port_of v parent.own_port)
       (port_of parent.clock parent.port) joins in
       let (drift, has) = drift_exists v live in
-      let last : Link = record {
+      let last : WayLink = record {
         least = (link_after events wire).bounds.min;
         most = (link_after events wire).bounds.max;
         drift = drift;
@@ -73,7 +73,7 @@ module _ (n : NetworkState) (events : List Timed) (g : Snapshot) (stands : Stand
 
   -- ---- errors
 
-  by_capable : (v root h : ℕ) (far capable : Bool) → IsCalm n events → h < 255 → is_capable root ≡ capable
+  by_capable : (v root h : ℕ) (far capable : Bool) → IsCalm n events → h < 255 → root_is_capable root ≡ capable
       → ((w : Way) × IsWay n events g h v w) → (e : Option ℕ) × IsErrorOf n events g (said v root h far e) e
   by_capable v root h far true calm near is (w, way) = (Some (time_error w), (calm, near, is, (w, way, refl)))
   by_capable v root h far false calm near is (w, way) = (None, inr (inr is))
@@ -83,7 +83,7 @@ module _ (n : NetworkState) (events : List Timed) (g : Snapshot) (stands : Stand
   error_exists v root h far (no restless) near way = (None, inl restless)
   error_exists v root h far (yes calm) (no over) way = (None, inr (inl (omega (arith, over))))
   error_exists v root h far (yes calm) (yes near) way =
-      by_capable v root h far (is_capable root) calm near refl way
+      by_capable v root h far (root_is_capable root) calm near refl way
 
   exact_exists : (v : ℕ) → In v (clocks g) → (s : SystemError) × IsExact n events g s × (s.clock ≡ v)
   exact_exists v live = by (dec_lt h 255)
@@ -194,6 +194,6 @@ each_is_exact text d until most means =
     let (g, stands) = snapshot_exists d until network in
     let (t, are) = errors_exist d until g network stands (meant_well text d until g means stands) in (
       accuracy_lines most t,
-      is_exceeded most t.systems.items,
+      error_is_exceeded most t.systems.items,
       record { errors = t; are = are; shown = refl; exceeded_is = refl },
     )

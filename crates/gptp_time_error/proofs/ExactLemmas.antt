@@ -14,7 +14,7 @@ use Rattle.gptp_plan.specs.declared.change.Timed.{Timed}
 use Rattle.gptp_checker.proofs.PlaceLemmas.{AreLinesFor, lines_of_passed}
 use Rattle.gptp_accuracy.specs.TimeError.{Way, time_error}
 use Rattle.gptp_time_error.specs.Passing.{IsDoneAt}
-use Rattle.gptp_time_error.specs.TimeErrors.{AreEntries, AreExact, IsEntry, IsErrorOf, IsFrom, IsSystemOf, is_capable}
+use Rattle.gptp_time_error.specs.TimeErrors.{AreEntries, AreExact, IsEntry, IsErrorOf, IsFrom, IsSystemOf, root_is_capable}
 use Rattle.gptp_time_error.specs.Ways.{IsWay}
 use Rattle.gptp_time_error.specs.declared.errors.SystemError.{SystemError}
 use Rattle.gptp_time_error.specs.declared.sums.Sums.{Sums}
@@ -69,7 +69,7 @@ module _ (n : NetworkState) (events : List Timed) (g : Snapshot) (lines : List S
 
   error_by : (s : SystemError) (line : SystemLine) (place : ℕ) (to : Sums) → slice_get lines place ≡ Some line
       → slice_get sums place ≡ Some to → (calm : Bool) → IsSystemOf calm line to s → (from : Option ℕ)
-      → IsFrom n events g from → (far : Bool) → line.far ≡ far → (capable : Bool) → is_capable line.root ≡ capable
+      → IsFrom n events g from → (far : Bool) → line.far ≡ far → (capable : Bool) → root_is_capable line.root ≡ capable
       → IsErrorOf n events g s (if is_some from && (not far && capable) then Some to.error else None)
   error_by s line place to there stands calm is None (inl from) far is_far capable known = absurd (none_some from.1)
   error_by s line place to there stands calm is None (inr from) far is_far capable known = inl from.0
@@ -77,14 +77,14 @@ module _ (n : NetworkState) (events : List Timed) (g : Snapshot) (lines : List S
       let above = (choice.settled line (In-slice_get line lines place there)).far is_far in
       inr (inl (omega (arith, is.steps, above)))
   error_by s line place to there stands calm is (Some t) from false is_far false known =
-      inr (inr (ap is_capable is.root ∙ known))
+      inr (inr (ap root_is_capable is.root ∙ known))
   error_by s line place to there stands calm is (Some t) (inr from) false is_far true known =
       absurd (none_some (sym from.1))
   error_by s line place to there stands calm is (Some t) (inl from) false is_far true known =
       let below = (choice.settled line (In-slice_get line lines place there)).near is_far in (
         from.0,
         omega (arith, is.steps, below),
-        ap is_capable is.root ∙ known,
+        ap root_is_capable is.root ∙ known,
         summed_error s line place to there stands is.clock is.steps is_far,
       )
 
@@ -94,7 +94,7 @@ module _ (n : NetworkState) (events : List Timed) (g : Snapshot) (lines : List S
   error_is from s is_from e =
       subst (IsErrorOf n events g s) (sym e.is.error)
       (error_by s e.line e.place e.to e.there e.summed (is_some from) e.is
-      from is_from e.line.far refl (is_capable e.line.root) refl)
+      from is_from e.line.far refl (root_is_capable e.line.root) refl)
 
 -- the systems by their lines
 pub are_exact : (n : NetworkState) (events : List Timed) (g : Snapshot) (lines : List SystemLine) (sums : List Sums)

@@ -11,8 +11,8 @@ use Rattle.gptp_pdelay.specs.Measured.{clock_rate}
 use Rattle.gptp_pdelay.proofs.MeasurementLemmas.{clock_counts}
 use Rattle.gptp_setup.specs.Intervals.{IsLog, interval_of}
 use Rattle.gptp_setup.specs.declared.setup.Params.{Params}
-use Rattle.gptp_accuracy.specs.TimeError.{Link, hop_error}
-use Rattle.gptp_time_error.specs.Sums.{AreWithin, IsLinkWithin, rates_error_of}
+use Rattle.gptp_accuracy.specs.TimeError.{WayLink, hop_error}
+use Rattle.gptp_time_error.specs.Sums.{SumsAreWithin, IsLinkWithin, rates_error_of}
 use Rattle.gptp_time_error.specs.declared.sums.Sums.{Sums}
 use Rattle.gptp_time_error.proofs.SumLemmas.{IsBehind, gain_high, gain_low, stay_within}
 
@@ -51,7 +51,7 @@ quotient_back a b x y u q h k ex ey eu eq =
     ap (back w128) is ∙ to_z-of_z w128 f (omega (arith, ints, gain_low a b h k, gain_high a b h k))
 
 -- the sum of `rates_error`
-pub unlike_back : (s : Sums) (rate true : ℤ) (unlike : ℕ) → AreWithin 511 s → rate ≡ back w64 s.rate
+pub unlike_back : (s : Sums) (rate true : ℤ) (unlike : ℕ) → SumsAreWithin 511 s → rate ≡ back w64 s.rate
     → true ≡ floor_div ((pos (clock_rate (back w32 s.root_drift)) -ℤ pos (clock_rate (back w32 s.drift))) *ℤ unit)
     (pos (clock_rate (back w32 s.drift)))
     → neg_ℤ (pos 450000000) ≤ℤ true → true ≤ℤ pos 450000000
@@ -73,7 +73,7 @@ unlike_back s rate true unlike within e f low high g =
     ap (λ n. s.rate_error + n) (is ∙ ap (λ z. unsigned_abs (s.rate -ℤ z)) true_is)
 
 -- what `behind` is made of
-pub record IsMade (p : Params) (s : Sums) (l : Link) (interval rate_error hop rates wait : ℕ) (steady rate : ℤ) : Type 0
+pub record IsMade (p : Params) (s : Sums) (l : WayLink) (interval rate_error hop rates wait : ℕ) (steady rate : ℤ) : Type 0
   where
     pub interval_is : interval ≡ interval_of (back w8 p.pdelay)
     pub rate_error_is : rate_error ≡ ceil_div (2202000000000 * (l.most - l.least)) interval + 4
@@ -84,8 +84,8 @@ pub record IsMade (p : Params) (s : Sums) (l : Link) (interval rate_error hop ra
     pub rates_is : rates ≡ rates_error_of s
     pub wait_is : wait ≡ ceil_div ((p.residence + s.jitter + l.most) * rates) 33550000
 
-module _ (p : Params) (s : Sums) (l : Link) (interval rate_error hop rates wait : ℕ) (steady rate : ℤ)
-    (log : IsLog p.pdelay) (within : AreWithin 511 s) (link : IsLinkWithin l)
+module _ (p : Params) (s : Sums) (l : WayLink) (interval rate_error hop rates wait : ℕ) (steady rate : ℤ)
+    (log : IsLog p.pdelay) (within : SumsAreWithin 511 s) (link : IsLinkWithin l)
     (made : IsMade p s l interval rate_error hop rates wait steady rate) where
   -- the sums that it gives
   abbrev pub given : Sums
@@ -131,8 +131,8 @@ module _ (p : Params) (s : Sums) (l : Link) (interval rate_error hop rates wait 
             ∙ ap (λ n. ceil_div ((p.residence + s.jitter + l.most) * n) 33550000) made.rates_is);
       }
 
-  pub given_within : (links : ℕ) → AreWithin links s → rate_error ≤ 600000000000000 → hop ≤ 2000000000000000
-      → wait ≤ 400000000000000000000 → AreWithin (suc links) given
+  pub given_within : (links : ℕ) → SumsAreWithin links s → rate_error ≤ 600000000000000 → hop ≤ 2000000000000000
+      → wait ≤ 400000000000000000000 → SumsAreWithin (suc links) given
   given_within links so_far most few long =
       stay_within links s given so_far rate_error hop wait steady (drift_back s.root_drift within.root_drift)
       (subst IsDrift (sym (drift_back l.drift link.drift)) link.drift) (omega (arith, link.short)) refl most rate_back

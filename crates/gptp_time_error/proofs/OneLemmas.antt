@@ -12,7 +12,7 @@ use Rattle.gptp_network.specs.Document.{DocumentState}
 use Rattle.gptp_network.specs.Snapshot.{events_by}
 use Rattle.gptp_network.proofs.LawLemmas.{one_snapshot}
 use Rattle.gptp_accuracy.specs.TimeError.{time_error}
-use Rattle.gptp_time_error.specs.AccuracyText.{is_exceeded, system_line, time_line, verdict_lines}
+use Rattle.gptp_time_error.specs.AccuracyText.{error_is_exceeded, system_line, accuracy_time_line, accuracy_verdict_lines}
 use Rattle.gptp_time_error.specs.Laws.{OneAccuracy}
 use Rattle.gptp_time_error.specs.TimeErrors.{AreExact, AreTimeErrors, IsErrorOf, IsExact, IsFrom}
 use Rattle.gptp_time_error.specs.declared.errors.SystemError.{SystemError}
@@ -110,10 +110,10 @@ pub one_accuracy : OneAccuracy
 one_accuracy d until most lines others one other network a b =
     let (time, from, systems) =
     errors_once d until a.errors b.errors (one_each d.network network) a.are b.are in
-    let shown : List SystemError → List (List ℕ) = λ ss. map system_line ss ++ verdict_lines most ss in (
+    let shown : List SystemError → List (List ℕ) = λ ss. map system_line ss ++ accuracy_verdict_lines most ss in (
       a.shown
-          ∙ ap₂ (λ (t : ℕ) (f : Option ℕ). time_line t f ∷ shown a.errors.systems.items) time from
-          ∙ ap (λ ss. time_line b.errors.time b.errors.from ∷ shown ss) systems
+          ∙ ap₂ (λ (t : ℕ) (f : Option ℕ). accuracy_time_line t f ∷ shown a.errors.systems.items) time from
+          ∙ ap (λ ss. accuracy_time_line b.errors.time b.errors.from ∷ shown ss) systems
           ∙ sym b.shown,
-      a.exceeded_is ∙ ap (is_exceeded most) systems ∙ sym b.exceeded_is,
+      a.exceeded_is ∙ ap (error_is_exceeded most) systems ∙ sym b.exceeded_is,
     )

@@ -26,7 +26,7 @@ use Rattle.gptp_network.specs.Snapshot.{StandsAfter}
 use Rattle.gptp_network.specs.SnapshotTables.{HasClock}
 use Rattle.gptp_network.proofs.SnapshotLemmas.{In-permutation}
 use Rattle.gptp_checker.proofs.PlaceLemmas.{passed_at}
-use Rattle.gptp_accuracy.specs.TimeError.{Link, Way}
+use Rattle.gptp_accuracy.specs.TimeError.{WayLink, Way}
 use Rattle.gptp_accuracy.specs.WayLaws.{longer}
 use Rattle.gptp_time_error.specs.Passing.{AreBySteps, ArePlaces, IsDoneAt, IsParentDone, IsSummedUp}
 use Rattle.gptp_time_error.specs.Sums.{AreSummed}
@@ -221,7 +221,7 @@ line_link n events g line l stands settled bare some =
 -- what is summed up for a parent serves the line
 module _ (n : NetworkState) (events : List Timed) (g : Snapshot) (line : SystemLine) (l : ParentLink) (steps : ℕ)
     (next : suc steps ≡ line.steps) where
-  pub summed_next : (before : Sums) (to : Sums) (last : Link) → IsSummedUp n events g l.clock steps before
+  pub summed_next : (before : Sums) (to : Sums) (last : WayLink) → IsSummedUp n events g l.clock steps before
       → IsParent g line.clock l → HasDelays n events line.clock l.own_port last.least last.most
       → HasDrift n line.clock last.drift
       → ((w : Way) → AreSummed steps n.params w before → AreSummed (suc steps) n.params (longer w last) to)

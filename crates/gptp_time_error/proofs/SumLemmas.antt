@@ -12,11 +12,11 @@ use Rattle.gptp_pdelay.specs.Measured.{clock_rate}
 use Rattle.gptp_correction.specs.Sum.{sum_below}
 use Rattle.gptp_setup.specs.Intervals.{IsLog, interval_of}
 use Rattle.gptp_setup.specs.declared.setup.Params.{Params}
-use Rattle.gptp_accuracy.specs.TimeError.{Link, Way, clock_at, drift_at, hop_error, hop_error_at, jitter_at, link_at, rate_error_at, rates_error_at, steady_rate_at, time_error, time_error_at, total_below, wait_error_at}
+use Rattle.gptp_accuracy.specs.TimeError.{WayLink, Way, clock_at, drift_at, hop_error, hop_error_at, jitter_at, link_at, rate_error_at, rates_error_at, steady_rate_at, time_error, time_error_at, total_below, wait_error_at}
 use Rattle.gptp_accuracy.specs.WayLaws.{longer}
 use Rattle.gptp_accuracy.proofs.LongerLemmas.{clock_same, link_last, link_same, longer_length, parents_error_stays, rate_error_same, rates_same, steady_same, sum_same, total_same}
 use Rattle.gptp_accuracy.proofs.WayLemmas.{time_error_goes_by_hops}
-use Rattle.gptp_time_error.specs.Sums.{AreSumsOf, AreWithin, IsTimedBy, rates_error_of}
+use Rattle.gptp_time_error.specs.Sums.{AreSumsOf, SumsAreWithin, IsTimedBy, rates_error_of}
 use Rattle.gptp_time_error.specs.declared.sums.Sums.{Sums}
 
 whole : (z : ℤ) → pos 0 ≤ℤ z → z ≡ pos (unsigned_abs z)
@@ -55,7 +55,7 @@ interval_long (negsuc (suc (suc (suc zero)))) k = omega arith
 interval_long (negsuc (suc (suc (suc (suc n))))) k = let low = k.low in absurd (omega (arith, ints))
 
 -- the sums behind one link more, by those before it
-pub record IsBehind (p : Params) (s : Sums) (l : Link) (t : Sums) : Type 0 where
+pub record IsBehind (p : Params) (s : Sums) (l : WayLink) (t : Sums) : Type 0 where
   pub root_drift : t.root_drift ≡ s.root_drift
   pub drift : t.drift ≡ l.drift
   pub jitter : t.jitter ≡ l.most - l.least
@@ -72,13 +72,13 @@ no_gain n =
     ap (λ z. floor_div z (pos n)) none ∙ ap pos (zero-div n)
 
 -- a way that is one link longer has that link at its end
-longer_last : (w : Way) (l : Link) → link_at (longer w l) (length w.links) ≡ l
+longer_last : (w : Way) (l : WayLink) → link_at (longer w l) (length w.links) ≡ l
 longer_last w l = link_last w l (length w.links) refl
 
-module _ (p : Params) (w : Way) (l : Link) (s : Sums) (timed : IsTimedBy p w) (sums : AreSumsOf w s) where
+module _ (p : Params) (w : Way) (l : WayLink) (s : Sums) (timed : IsTimedBy p w) (sums : AreSumsOf w s) where
   hop_is : hop_error_at (longer w l) (length w.links) ≡ hop_error (l.most - l.least) l.most p.turnaround
   hop_is =
-      ap (λ (k : Link). hop_error (k.most - k.least) k.most w.turnaround) (longer_last w l)
+      ap (λ (k : WayLink). hop_error (k.most - k.least) k.most w.turnaround) (longer_last w l)
       ∙ ap (hop_error (l.most - l.least) l.most) timed.turnaround
 
   rate_error_is : total_below (length (longer w l).links) (rate_error_at (longer w l))
@@ -90,7 +90,7 @@ module _ (p : Params) (w : Way) (l : Link) (s : Sums) (timed : IsTimedBy p w) (s
       ∙ sym sums.rate_error in
       let here : rate_error_at (longer w l) (length w.links)
       ≡ ceil_div (2202000000000 * (l.most - l.least)) (interval_of p.pdelay) + 4 =
-      ap (λ (k : Link). ceil_div (2202000000000 * (k.most - k.least)) w.interval + 4) (longer_last w l)
+      ap (λ (k : WayLink). ceil_div (2202000000000 * (k.most - k.least)) w.interval + 4) (longer_last w l)
       ∙ ap (λ i. ceil_div (2202000000000 * (l.most - l.least)) i + 4) timed.interval in
       split ∙ ap (λ n. n + rate_error_at (longer w l) (length w.links)) before ∙ ap (λ n. s.rate_error + n) here
 
@@ -99,7 +99,7 @@ module _ (p : Params) (w : Way) (l : Link) (s : Sums) (timed : IsTimedBy p w) (s
   steady_is =
       ap (λ n. rate_of (pos n) (pos (clock_at (longer w l) (suc (length w.links)))))
       (clock_same w l (length w.links) (omega arith) ∙ ap clock_rate (sym sums.drift))
-      ∙ ap (λ (k : Link). rate_of (pos (clock_rate s.drift)) (pos (clock_rate k.drift))) (longer_last w l)
+      ∙ ap (λ (k : WayLink). rate_of (pos (clock_rate s.drift)) (pos (clock_rate k.drift))) (longer_last w l)
 
   rate_sum_is : sum_below (length (longer w l).links) (steady_rate_at (longer w l))
       ≡ s.rate +ℤ rate_of (pos (clock_rate s.drift)) (pos (clock_rate l.drift))
@@ -163,7 +163,7 @@ module _ (p : Params) (w : Way) (l : Link) (s : Sums) (timed : IsTimedBy p w) (s
       let hop : hop_error_at (longer w l) (suc i) ≡ hop_error (l.most - l.least) l.most p.turnaround =
       ap (λ n. hop_error_at (longer w l) n) (sym e) ∙ hop_is in
       let jitter : jitter_at (longer w l) i ≡ s.jitter =
-      ap (λ (k : Link). k.most - k.least) (link_same w l i (omega (arith, e)))
+      ap (λ (k : WayLink). k.most - k.least) (link_same w l i (omega (arith, e)))
       ∙ ap (jitter_at w) (before_last i (length w.links) e) ∙ sym sums.jitter in
       let last : link_at (longer w l) (suc i) ≡ l = ap (link_at (longer w l)) (sym e) ∙ (longer_last w l) in
       let rates : rates_error_at (longer w l) i ≡ rates_error_of s =
@@ -174,7 +174,7 @@ module _ (p : Params) (w : Way) (l : Link) (s : Sums) (timed : IsTimedBy p w) (s
       * rates_error_at (longer w l) i) 33550000) timed.residence
       ∙ ap (λ n. ceil_div ((p.residence + n + (link_at (longer w l) (suc i)).most)
       * rates_error_at (longer w l) i) 33550000) jitter
-      ∙ ap (λ (k : Link). ceil_div ((p.residence + s.jitter + k.most) * rates_error_at (longer w l) i) 33550000) last
+      ∙ ap (λ (k : WayLink). ceil_div ((p.residence + s.jitter + k.most) * rates_error_at (longer w l) i) 33550000) last
       ∙ ap (λ n. ceil_div ((p.residence + s.jitter + l.most) * n) 33550000) rates in
       split ∙ parts before hop wait
     where
@@ -189,9 +189,9 @@ module _ (p : Params) (w : Way) (l : Link) (s : Sums) (timed : IsTimedBy p w) (s
   sums_behind t is = record {
     root_drift = is.root_drift ∙ sums.root_drift;
     drift = is.drift
-        ∙ sym (ap (drift_at (longer w l)) (longer_length w l) ∙ ap (λ (k : Link). k.drift) (longer_last w l));
+        ∙ sym (ap (drift_at (longer w l)) (longer_length w l) ∙ ap (λ (k : WayLink). k.drift) (longer_last w l));
     jitter = is.jitter
-        ∙ sym (ap (jitter_at (longer w l)) last_place ∙ ap (λ (k : Link). k.most - k.least) (longer_last w l));
+        ∙ sym (ap (jitter_at (longer w l)) last_place ∙ ap (λ (k : WayLink). k.most - k.least) (longer_last w l));
     rate_error = is.rate_error ∙ sym rate_error_is;
     rate = is.rate ∙ sym rate_sum_is;
     error = is.error ∙ sym (error_is (length w.links) refl);
@@ -201,11 +201,11 @@ module _ (p : Params) (w : Way) (l : Link) (s : Sums) (timed : IsTimedBy p w) (s
       last_place = omega (arith, longer_length w l)
 
 -- sums within the limits stay so behind a link within them
-module _ (links : ℕ) (s t : Sums) (within : AreWithin links s) where
+module _ (links : ℕ) (s t : Sums) (within : SumsAreWithin links s) where
   pub stay_within : (rate_error hop wait : ℕ) (rate : ℤ) → t.root_drift ≡ s.root_drift → IsDrift t.drift
       → t.jitter ≤ 16000000000 → t.rate_error ≡ s.rate_error + rate_error → rate_error ≤ 600000000000000
       → t.rate ≡ s.rate +ℤ rate → IsNeighborRate rate → t.error ≡ s.error + hop + wait → hop ≤ 2000000000000000
-      → wait ≤ 400000000000000000000 → AreWithin (suc links) t
+      → wait ≤ 400000000000000000000 → SumsAreWithin (suc links) t
   stay_within rate_error hop wait rate root drift jitter e most f near g few long = record {
     root_drift = subst IsDrift (sym root) within.root_drift;
     drift = drift;
@@ -217,7 +217,7 @@ module _ (links : ℕ) (s t : Sums) (within : AreWithin links s) where
   }
 
 -- no more links than these
-pub within_more : (links : ℕ) (s : Sums) → links ≤ 511 → AreWithin links s → AreWithin 511 s
+pub within_more : (links : ℕ) (s : Sums) → links ≤ 511 → SumsAreWithin links s → SumsAreWithin 511 s
 within_more links s few within = record {
   root_drift = within.root_drift;
   drift = within.drift;

@@ -15,7 +15,7 @@ use Rattle.gptp_plan.specs.declared.network.Member.{Member}
 use Rattle.gptp_plan.specs.declared.network.Wire.{Wire}
 use Rattle.gptp_roles.specs.Selection.{clock_of}
 use Rattle.gptp_vector.specs.declared.port.PortId.{PortId}
-use Rattle.gptp_accuracy.specs.TimeError.{Link, Way, drift_at}
+use Rattle.gptp_accuracy.specs.TimeError.{WayLink, Way, drift_at}
 use Rattle.gptp_accuracy.specs.WayLaws.{IsDocumented, longer}
 use Rattle.gptp_accuracy.proofs.LongerLemmas.{documented_longer, longer_length}
 use Rattle.gptp_time_error.specs.Laws.{OneWay, WaysAreDocumented}
@@ -67,7 +67,7 @@ module _ (n : NetworkState) (network : HasOneEach n) where
         other.end in
         same_Some one.wire other.wire (sym at ∙ ap (slice_get n.links) place ∙ there)
 
-    one_link : (clock : ℕ) (parent : ParentLink) (k l : Link) → IsLinkTo n events clock parent k
+    one_link : (clock : ℕ) (parent : ParentLink) (k l : WayLink) → IsLinkTo n events clock parent k
         → IsLinkTo n events clock parent l → k ≡ l
     one_link clock parent k l one other =
         let same = one_wire clock parent.own_port k.least k.most l.least l.most one.delays other.delays in

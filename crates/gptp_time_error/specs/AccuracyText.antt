@@ -18,9 +18,9 @@ abbrev pub error_text : ℕ → List ℕ
 error_text error = thousandths_text (ceil_div (1000 * error) 65536)
 
 -- the time, and from when on the errors hold
-abbrev pub time_line : ℕ → Option ℕ → List ℕ
-time_line time (Some from) = codes "time " ++ decimal time ++ codes " calm yes from " ++ decimal from
-time_line time None = codes "time " ++ decimal time ++ codes " calm no"
+abbrev pub accuracy_time_line : ℕ → Option ℕ → List ℕ
+accuracy_time_line time (Some from) = codes "time " ++ decimal time ++ codes " calm yes from " ++ decimal from
+accuracy_time_line time None = codes "time " ++ decimal time ++ codes " calm no"
 
 -- the word for how far a root is, by whether the system is too far to follow it
 abbrev pub steps_word : Bool → List ℕ
@@ -34,33 +34,33 @@ system_line s =
     ++ steps_word s.far ++ codes " " ++ decimal s.steps ++ codes " error " ++ or_none error_text s.error
 
 -- a time error is above so many ns, or there is none
-abbrev pub is_above : ℕ → Option ℕ → Bool
-is_above most None = true
-is_above most (Some error) = nat_lt (65536 * most) error
+abbrev pub error_is_above : ℕ → Option ℕ → Bool
+error_is_above most None = true
+error_is_above most (Some error) = nat_lt (65536 * most) error
 
 -- the first system whose time error is above so many ns, or that has none
 abbrev pub first_above : ℕ → List SystemError → Option ℕ
 first_above most [] = None
-first_above most (s ∷ systems) = if is_above most s.error then Some s.clock else first_above most systems
+first_above most (s ∷ systems) = if error_is_above most s.error then Some s.clock else first_above most systems
 
-abbrev pub verdict_line : Option ℕ → List ℕ
-verdict_line None = codes "within"
-verdict_line (Some clock) = codes "exceeded " ++ clock_text clock
+abbrev pub accuracy_verdict_line : Option ℕ → List ℕ
+accuracy_verdict_line None = codes "within"
+accuracy_verdict_line (Some clock) = codes "exceeded " ++ clock_text clock
 
 -- the last line, where a greatest error is given
-abbrev pub verdict_lines : Option ℕ → List SystemError → List (List ℕ)
-verdict_lines None systems = []
-verdict_lines (Some most) systems = verdict_line (first_above most systems) ∷ []
+abbrev pub accuracy_verdict_lines : Option ℕ → List SystemError → List (List ℕ)
+accuracy_verdict_lines None systems = []
+accuracy_verdict_lines (Some most) systems = accuracy_verdict_line (first_above most systems) ∷ []
 
 -- a greatest error is given, and some system has a greater one, or none
-abbrev pub is_exceeded : Option ℕ → List SystemError → Bool
-is_exceeded None systems = false
-is_exceeded (Some most) systems = is_some (first_above most systems)
+abbrev pub error_is_exceeded : Option ℕ → List SystemError → Bool
+error_is_exceeded None systems = false
+error_is_exceeded (Some most) systems = is_some (first_above most systems)
 
 -- the time, the systems by rising clock, and the last line
 abbrev pub accuracy_lines : Option ℕ → TimeErrors → List (List ℕ)
 accuracy_lines most t =
-    time_line t.time t.from ∷ map system_line t.systems.items ++ verdict_lines most t.systems.items
+    accuracy_time_line t.time t.from ∷ map system_line t.systems.items ++ accuracy_verdict_lines most t.systems.items
 
 -- The lines for a document at a time, with the greatest error that is given, and whether it is exceeded.
 pub record AccuracyText (d : DocumentState) (until : ℕ) (most : Option ℕ) (lines : List (List ℕ)) (exceeded : Bool)
@@ -68,4 +68,4 @@ pub record AccuracyText (d : DocumentState) (until : ℕ) (most : Option ℕ) (l
   pub errors : TimeErrors
   pub are : AreTimeErrors d until errors
   pub shown : lines ≡ accuracy_lines most errors
-  pub exceeded_is : exceeded ≡ is_exceeded most errors.systems.items
+  pub exceeded_is : exceeded ≡ error_is_exceeded most errors.systems.items

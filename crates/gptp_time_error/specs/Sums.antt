@@ -7,13 +7,13 @@ use Rattle.gptp_pdelay.specs.Measured.{clock_rate}
 use Rattle.gptp_correction.specs.Sum.{sum_below}
 use Rattle.gptp_setup.specs.Intervals.{interval_of}
 use Rattle.gptp_setup.specs.declared.setup.Params.{Params}
-use Rattle.gptp_accuracy.specs.TimeError.{Link, Way, drift_at, jitter_at, rate_error_at, steady_rate_at, time_error, total_below}
-use Rattle.gptp_time_error.specs.declared.sums.Link.{Link as SummedLink}
+use Rattle.gptp_accuracy.specs.TimeError.{WayLink, Way, drift_at, jitter_at, rate_error_at, steady_rate_at, time_error, total_below}
+use Rattle.gptp_time_error.specs.declared.sums.Link.{WayLink as SummedLink}
 use Rattle.gptp_time_error.specs.declared.sums.Sums.{Sums}
 
 -- a link as gptp_accuracy has it
-abbrev pub link_of : SummedLink → Link
-link_of l = record { least = l.least; most = l.most; drift = l.drift }
+abbrev pub way_link : SummedLink → WayLink
+way_link l = record { least = l.least; most = l.most; drift = l.drift }
 
 -- these are the sums of a way
 pub record AreSumsOf (w : Way) (s : Sums) : Type 0 where
@@ -31,7 +31,7 @@ pub record IsTimedBy (p : Params) (w : Way) : Type 0 where
   pub residence : w.residence ≡ p.residence
 
 -- the delays and the drift of a link are within the limits (profile)
-pub record IsLinkWithin (l : Link) : Type 0 where
+pub record IsLinkWithin (l : WayLink) : Type 0 where
   pub ordered : l.least ≤ l.most
   pub short : l.most ≤ 16000000000
   pub drift : IsDrift l.drift
@@ -45,7 +45,7 @@ rates_error_of s =
 
 -- Sums over so many links within the limits: each has a rate error below 6 * 10^14, a neighbour rate within 200 parts
 -- in a million and a time error below 5 * 10^20.
-pub record AreWithin (links : ℕ) (s : Sums) : Type 0 where
+pub record SumsAreWithin (links : ℕ) (s : Sums) : Type 0 where
   pub root_drift : IsDrift s.root_drift
   pub drift : IsDrift s.drift
   pub jitter : s.jitter ≤ 16000000000
@@ -58,4 +58,4 @@ pub record AreWithin (links : ℕ) (s : Sums) : Type 0 where
 pub record AreSummed (links : ℕ) (p : Params) (w : Way) (s : Sums) : Type 0 where
   pub timed : IsTimedBy p w
   pub sums : AreSumsOf w s
-  pub within : AreWithin links s
+  pub within : SumsAreWithin links s

@@ -20,8 +20,8 @@ use Rattle.gptp_time_error.specs.declared.errors.TimeErrors.{TimeErrors}
 use Rattle.gptp_time_error.specs.declared.sums.Sums.{Sums}
 
 -- a root can be grandmaster where its priority1 is below 255 (IEEE 802.1AS-2020, 8.6.2.1)
-abbrev pub is_capable : ℕ → Bool
-is_capable root = nat_lt (root / 2 ^ 104) 255
+abbrev pub root_is_capable : ℕ → Bool
+root_is_capable root = nat_lt (root / 2 ^ 104) 255
 
 -- From when on the errors hold after these events, where the network is calm then: it has settled, and what each system
 -- uses has come down the settled tree, at most a threshold and a residence for each system of a path.
@@ -38,14 +38,14 @@ IsFrom n events g from =
 -- The time error of a system that follows this root over so many steps: that of its way. There is none where the
 -- network isn't calm, the system is far, or its root can't be grandmaster.
 abbrev pub IsErrorOf : NetworkState → List Timed → Snapshot → SystemError → Option ℕ → Type 0
-IsErrorOf n events g s (Some error) = IsCalm n events × (s.steps < 255) × (is_capable s.root ≡ true)
+IsErrorOf n events g s (Some error) = IsCalm n events × (s.steps < 255) × (root_is_capable s.root ≡ true)
     × ((w : Way) × IsWay n events g s.steps s.clock w × (error ≡ time_error w))
 IsErrorOf n events g s None =
-    (IsCalm n events → ⊥) ⊎ ((255 ≤ s.steps) ⊎ (is_capable s.root ≡ false))
+    (IsCalm n events → ⊥) ⊎ ((255 ≤ s.steps) ⊎ (root_is_capable s.root ≡ false))
 
 -- the same, as it is worked out
-abbrev pub error_of : Bool → Bool → ℕ → ℕ → Option ℕ
-error_of calm far root error = if calm && (not far && is_capable root) then Some error else None
+abbrev pub system_error : Bool → Bool → ℕ → ℕ → Option ℕ
+system_error calm far root error = if calm && (not far && root_is_capable root) then Some error else None
 
 -- the system of a line, with the error that its sums give
 pub record IsSystemOf (calm : Bool) (line : SystemLine) (to : Sums) (s : SystemError) : Type 0 where
@@ -53,7 +53,7 @@ pub record IsSystemOf (calm : Bool) (line : SystemLine) (to : Sums) (s : SystemE
   pub root : s.root ≡ line.root
   pub steps : s.steps ≡ line.steps
   pub far : s.far ≡ line.far
-  pub error : s.error ≡ error_of calm line.far line.root to.error
+  pub error : s.error ≡ system_error calm line.far line.root to.error
 
 -- an entry is that of some line and the sums at its place
 pub record IsEntry (calm : Bool) (lines : List SystemLine) (sums : List Sums) (s : SystemError) : Type 0 where

@@ -14,7 +14,7 @@ use Rattle.gptp_plan.specs.Network.{NetworkState, IsEnd}
 use Rattle.gptp_plan.specs.declared.change.Timed.{Timed}
 use Rattle.gptp_plan.specs.declared.network.Member.{Member}
 use Rattle.gptp_plan.specs.declared.network.Wire.{Wire}
-use Rattle.gptp_accuracy.specs.TimeError.{Link, Way}
+use Rattle.gptp_accuracy.specs.TimeError.{WayLink, Way}
 use Rattle.gptp_accuracy.specs.WayLaws.{longer}
 
 -- the system with this clock has this drift
@@ -37,7 +37,7 @@ pub record HasDelays (n : NetworkState) (events : List Timed) (clock port least 
   pub most_is : most ≡ (link_after events wire).bounds.max
 
 -- the last link of the way to a system: it is at the own port by which the system follows its parent
-pub record IsLinkTo (n : NetworkState) (events : List Timed) (clock : ℕ) (parent : ParentLink) (l : Link) : Type 0 where
+pub record IsLinkTo (n : NetworkState) (events : List Timed) (clock : ℕ) (parent : ParentLink) (l : WayLink) : Type 0 where
   pub delays : HasDelays n events clock parent.own_port l.least l.most
   pub drift : HasDrift n clock l.drift
 
@@ -57,5 +57,5 @@ abbrev pub IsWay : NetworkState → List Timed → Snapshot → ℕ → ℕ → 
 IsWay n events g zero clock w =
     IsDistance g clock 0 × ((drift : ℤ) × HasDrift n clock drift × (w ≡ root_way n.params drift))
 IsWay n events g (suc steps) clock w =
-    (parent : ParentLink) × (above : Way) × (l : Link) × IsParent g clock parent
+    (parent : ParentLink) × (above : Way) × (l : WayLink) × IsParent g clock parent
     × IsWay n events g steps parent.clock above × IsLinkTo n events clock parent l × (w ≡ longer above l)

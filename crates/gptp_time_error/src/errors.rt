@@ -8,7 +8,7 @@ ghost use Rattle.gptp_plan.specs.Calm.{last_change};
 ghost use Rattle.gptp_network.specs.Events.{AreInOrder};
 ghost use Rattle.gptp_network.specs.Snapshot.{StandsAfter, events_by};
 ghost use Rattle.gptp_certificate_text.specs.Certificate.{line_of};
-ghost use Rattle.gptp_time_error.specs.TimeErrors.{AreEntries, AreTimeErrors, IsFrom, IsSystemOf, error_of, exact_from};
+ghost use Rattle.gptp_time_error.specs.TimeErrors.{AreEntries, AreTimeErrors, IsFrom, IsSystemOf, system_error, exact_from};
 
 use crate::sums::Sums;
 use crate::ways::sums_of_all;
@@ -97,7 +97,7 @@ fn holds_from_if_calm(network: &Network, events: &[Timed], snapshot: &Snapshot) 
 
 /// The time error of the system of a line, by what was summed up on the way to it.
 fn error_of(calm: bool, line: &SystemLine, to: &Sums) -> Option<u128>
-    ensures { result ≡ error_of calm line.now.far line.now.root to.now.error }
+    ensures { result ≡ system_error calm line.now.far line.now.root to.now.error }
 {
     if calm && !line.far && line.root.capable() {
         Some(to.error)

@@ -119,7 +119,7 @@ impl Sums {
     ghost use Rattle.gptp_setup.specs.declared.setup.Params.{Params as Settings};
     ghost use Rattle.gptp_accuracy.specs.TimeError.{Way};
     ghost use Rattle.gptp_accuracy.specs.WayLaws.{longer};
-    ghost use Rattle.gptp_time_error.specs.Sums.{AreSummed, AreWithin, IsLinkWithin, link_of, rates_error_of};
+    ghost use Rattle.gptp_time_error.specs.Sums.{AreSummed, SumsAreWithin, IsLinkWithin, way_link, rates_error_of};
     ghost use Rattle.gptp_time_error.specs.Ways.{root_way};
 
     /// The sums at a root.
@@ -138,7 +138,7 @@ impl Sums {
 
     /// The error of the rate so far, in units of 2^-41.
     fn rates_error(&self) -> u128
-        requires { AreWithin 511 self.now }
+        requires { SumsAreWithin 511 self.now }
         ensures error { result ≡ rates_error_of self.now }
         ensures bound { result ≤ 400000000000000000 }
     {
@@ -149,10 +149,10 @@ impl Sums {
     /// The sums behind one link more.
     pub fn behind(&self, link: &Link, params: &Params) -> Self
         requires params { AreParams params.now }
-        requires sums { AreWithin 511 self.now }
-        requires link { IsLinkWithin (link_of link.now) }
+        requires sums { SumsAreWithin 511 self.now }
+        requires link { IsLinkWithin (way_link link.now) }
         ensures { (w : Way) (links : ℕ) → AreSummed links params.now w self.now
-            → AreSummed (suc links) params.now (longer w (link_of link.now)) result }
+            → AreSummed (suc links) params.now (longer w (way_link link.now)) result }
     {
         let jitter = link.most - link.least;
         let waited = params.residence + self.jitter + link.most;

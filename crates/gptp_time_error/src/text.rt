@@ -3,8 +3,8 @@
 ghost use Rattle.std.specs.Prelude.{◌≡◌, ◌*◌, ◌++◌, ◌∷◌, [], map, IfOk, OnOk, string_bytes};
 ghost use Rattle.gptp_pdelay.specs.GoodLink.{ceil_div};
 ghost use Rattle.gptp_spelling.specs.Lines.{text_of};
-ghost use Rattle.gptp_time_error.specs.AccuracyText.{accuracy_lines, first_above, is_above, is_exceeded, steps_word};
-ghost use Rattle.gptp_time_error.specs.AccuracyText.{system_line, time_line, verdict_line, verdict_lines};
+ghost use Rattle.gptp_time_error.specs.AccuracyText.{accuracy_lines, first_above, error_is_above, error_is_exceeded, steps_word};
+ghost use Rattle.gptp_time_error.specs.AccuracyText.{system_line, accuracy_time_line, accuracy_verdict_line, accuracy_verdict_lines};
 
 use crate::errors::{SystemError, TimeErrors};
 use gptp_spelling::{ClockDigits, IdentityDigits};
@@ -64,7 +64,7 @@ impl fmt::Display for ErrorInNs {
 
 /// The line of the time.
 fn write_time(text: &mut String, time: u64, from: Option<u64>) -> Result<(), AllocError>
-    ensures { OnOk result (string_bytes text.new ≡ string_bytes text.old ++ (time_line time from ++ 10 ∷ [])) }
+    ensures { OnOk result (string_bytes text.new ≡ string_bytes text.old ++ (accuracy_time_line time from ++ 10 ∷ [])) }
 {
     match from {
         Some(from) => writeln!(text, "time {time} calm yes from {from}"),
@@ -106,7 +106,7 @@ fn write_systems(text: &mut String, systems: &[SystemError]) -> Result<(), Alloc
 
 /// Whether a time error, in units of 2^-16 ns, is above so many ns, or there is none.
 fn is_above(most: u64, error: Option<u128>) -> bool
-    ensures { result ≡ is_above most error }
+    ensures { result ≡ error_is_above most error }
 {
     match error {
         Some(error) => 65_536 * u128::from(most) < error,
@@ -128,7 +128,7 @@ fn first_above(most: u64, systems: &[SystemError]) -> Option<ClockId>
 
 /// The line of a verdict: the system that exceeds the greatest error, or none.
 fn write_verdict(text: &mut String, exceeds: Option<ClockId>) -> Result<(), AllocError>
-    ensures { OnOk result (string_bytes text.new ≡ string_bytes text.old ++ (verdict_line exceeds ++ 10 ∷ [])) }
+    ensures { OnOk result (string_bytes text.new ≡ string_bytes text.old ++ (accuracy_verdict_line exceeds ++ 10 ∷ [])) }
 {
     match exceeds {
         Some(clock) => writeln!(text, "exceeded {}", ClockDigits(clock)),
@@ -143,8 +143,8 @@ fn write_verdict_if_asked(
     systems: &[SystemError],
 ) -> Result<bool, AllocError>
     ensures text { OnOk result
-        (string_bytes text.new ≡ string_bytes text.old ++ text_of (verdict_lines most systems.now)) }
-    ensures exceeded { IfOk result (λ exceeded. exceeded ≡ is_exceeded most systems.now) }
+        (string_bytes text.new ≡ string_bytes text.old ++ text_of (accuracy_verdict_lines most systems.now)) }
+    ensures exceeded { IfOk result (λ exceeded. exceeded ≡ error_is_exceeded most systems.now) }
 {
     match most {
         Some(most) => {
@@ -166,7 +166,7 @@ pub fn write_accuracy(
 ) -> Result<bool, AllocError>
     ensures text { OnOk result
         (string_bytes text.new ≡ string_bytes text.old ++ text_of (accuracy_lines most errors.now)) }
-    ensures exceeded { IfOk result (λ exceeded. exceeded ≡ is_exceeded most errors.now.systems.items) }
+    ensures exceeded { IfOk result (λ exceeded. exceeded ≡ error_is_exceeded most errors.now.systems.items) }
 {
     write_time(text, errors.time, errors.from)?;
     write_systems(text, &errors.systems)?;

@@ -4,7 +4,7 @@ use Rattle.std.proofs.lemmas.Option.{same_Some}
 use Rattle.gptp_acts.specs.declared.done.Done.{Done}
 use Rattle.gptp_acts.specs.declared.done.Done.TheVariants.{Heard, Quiet}
 use Rattle.gptp_acts.specs.declared.station.Station.{Station}
-use Rattle.gptp_acts.specs.Act.{Calls, Delivers, Expires, Hears}
+use Rattle.gptp_acts.specs.Act.{Calls, Delivers, TimerRunsOut, Hears}
 use Rattle.gptp_acts.specs.Acts.{AnySystem, AtSystem, Delivery}
 use Rattle.gptp_acts.specs.World.{Channel, WorldState, receiver}
 use Rattle.gptp_links.specs.Fate.{Draw}
@@ -31,7 +31,7 @@ called place input w draws answer w' station name here named calls other apart =
 
 -- an expiry
 pub expiry_others : (name : ℕ) (timer : Timer) (w : WorldState) (draws : List Draw) (w' : WorldState)
-    → AtSystem name w (λ place station. Expires place timer w draws w') → OthersStay name w w'
+    → AtSystem name w (λ place station. TimerRunsOut place timer w draws w') → OthersStay name w w'
 expiry_others name timer w draws w' at =
     called at.place _ _ draws at.so.answer w' at.station name at.is.here at.is.named at.so.calls
 

@@ -9,11 +9,11 @@ use Rattle.gptp_world.specs.Transitions.{Transition}
 use Rattle.gptp_system.specs.State.{SystemState}
 use Rattle.gptp_timeline.specs.Changes.{change_lines}
 use Rattle.gptp_timeline.specs.Measures.{one_at}
-use Rattle.gptp_timeline.specs.Receipts.{error_of, offset_line, received_by}
+use Rattle.gptp_timeline.specs.Receipts.{offset_error, offset_line, received_by}
 use Rattle.gptp_timeline.specs.Shown.{live_system, shown}
 use Rattle.gptp_timeline.specs.Stretch.{at_of, error_at, error_in, is_event, receives, waits}
-use Rattle.gptp_timeline.specs.Timeline.{all_changes, receipt_lines}
-use Rattle.gptp_timeline.specs.Watch.{counts_from, error_after, one_lines, own_look, place_from, placed_lines, receipt_lines_if, receipt_lines_of, see_one, see_placed, see_receipt_if, see_receipt_of, see_system, system_lines, taken, unless, WatchState}
+use Rattle.gptp_timeline.specs.Timeline.{all_changes, stretch_receipt_lines}
+use Rattle.gptp_timeline.specs.Watch.{counts_from, error_after, one_lines, own_look, place_from, placed_lines, receipt_lines_if, receipt_lines_of, see_one, see_placed, see_receipt_if, see_receipt_of, see_system, watched_lines, taken, unless, WatchState}
 use Rattle.gptp_timeline.specs.declared.watched.Watched.{Watched}
 use Rattle.gptp_timeline.proofs.OwnLemmas.{own_taken, TakesOne}
 use Rattle.gptp_timeline.proofs.ReceiptLemmas.{nothing_received, received as received_one}
@@ -100,8 +100,8 @@ module _ (summary offsets : Bool) (from : Option ℕ) (names : List ℕ) (rising
       own = ap (λ r. option_map_or (λ c. c == clock) r false) it ∙ grind (arith, nat_tests)
 
       error_is : (live : Option SystemState) → live_system clock t.after ≡ live
-          → error_at clock t ≡ option_and_then (λ s. error_of (at_of t) s t.after) live
-      error_is live is = ap (option_and_then (λ s. error_of (at_of t) s t.after)) is
+          → error_at clock t ≡ option_and_then (λ s. offset_error (at_of t) s t.after) live
+      error_is live is = ap (option_and_then (λ s. offset_error (at_of t) s t.after)) is
 
       worst : (e : Option ℤ) → error_at clock t ≡ e
           → error_in t ≡ option_map (λ e. one_at clock (unsigned_abs e)) e
@@ -134,8 +134,8 @@ module _ (summary offsets : Bool) (from : Option ℕ) (names : List ℕ) (rising
       by (Some s) is =
           subst behind_it (sym (ap (λ l. see_receipt_of (at_of t) t.after i l (looked_at true o)) is))
           (received_one summary offsets from names rising begun errors ts t (looked_at true o) i clock
-          (error_of (at_of t) s t.after) (takes o true tracks own) member own quiet (error_is (Some s) is)
-          (worst (error_of (at_of t) s t.after) (error_is (Some s) is)))
+          (offset_error (at_of t) s t.after) (takes o true tracks own) member own quiet (error_is (Some s) is)
+          (worst (offset_error (at_of t) s t.after) (error_is (Some s) is)))
 
   -- ---- its lines
 
@@ -149,16 +149,16 @@ module _ (summary offsets : Bool) (from : Option ℕ) (names : List ℕ) (rising
       ∙ no_change_lines (at_of t) n (shown n t.before))
 
   receipt_told : (live : Option SystemState) → live_system clock t.after ≡ live
-      → receipt_lines_of (at_of t) t.after clock live ≡ receipt_lines clock t live
+      → receipt_lines_of (at_of t) t.after clock live ≡ stretch_receipt_lines clock t live
   receipt_told None is = refl
   receipt_told (Some s) is =
       ap (λ e. offset_line (at_of t) clock s.offset e ∷ [])
-      (sym (ap (option_and_then (λ x. error_of (at_of t) x t.after)) is))
+      (sym (ap (option_and_then (λ x. offset_error (at_of t) x t.after)) is))
 
   pub own_lines : (o : WatchState) (received : Bool) → Tracks summary offsets from names begun errors ts t.before o
-      → system_lines (at_of t) t.after clock received o
+      → watched_lines (at_of t) t.after clock received o
       ≡ unless summary (all_changes names t)
-      ++ (if received then unless (not offsets) (receipt_lines clock t (live_system clock t.after)) else [])
+      ++ (if received then unless (not offsets) (stretch_receipt_lines clock t (live_system clock t.after)) else [])
   own_lines o received tracks =
       ap (λ p. placed_lines (at_of t) t.after clock received p o)
       (kept_place names rising clock i member (waits ts begun) errors t.before o.systems tracks.stands)

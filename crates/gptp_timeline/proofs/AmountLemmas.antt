@@ -2,10 +2,10 @@
 use Rattle.std.proofs.Common.{◌≡◌, ℕ, ◌+◌, ◌*◌, ◌/◌, ◌%◌, arith}
 use Rattle.std.specs.Int.{div_ceil}
 use Rattle.gptp_pdelay.specs.GoodLink.{ceil_div}
-use Rattle.gptp_timeline.specs.Amounts.{nearest}
+use Rattle.gptp_timeline.specs.Amounts.{nearest_thousandth}
 
 -- whole nanoseconds and the rest, apart
-pub apart : (amount : ℕ) → amount / 65536 * 1000 + (amount % 65536 * 1000 + 32768) / 65536 ≡ nearest amount
+pub apart : (amount : ℕ) → amount / 65536 * 1000 + (amount % 65536 * 1000 + 32768) / 65536 ≡ nearest_thousandth amount
 apart amount = omega arith
 
 pub rounded_up : (amount : ℕ)

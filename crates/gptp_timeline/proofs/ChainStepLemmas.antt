@@ -5,7 +5,7 @@ use Rattle.std.proofs.lemmas.Bool.Decides.{nat_tests}
 use Rattle.std.proofs.lemmas.Option.{none-some, same_Some}
 use Rattle.gptp_acts.specs.declared.done.Done.{Done}
 use Rattle.gptp_acts.specs.declared.done.Done.TheVariants.{Heard, Quiet}
-use Rattle.gptp_acts.specs.Act.{Expires}
+use Rattle.gptp_acts.specs.Act.{TimerRunsOut}
 use Rattle.gptp_acts.specs.Acts.{AnySystem, at, Acts}
 use Rattle.gptp_graph.specs.Order.{IsRising}
 use Rattle.gptp_links.specs.Fate.{Draw}
@@ -17,10 +17,10 @@ use Rattle.gptp_plan.specs.declared.change.Act.TheVariants.{Change as Changing, 
 use Rattle.gptp_world.specs.Transitions.{Transition}
 use Rattle.gptp_system.specs.declared.answer.Answer.{Answer}
 use Rattle.gptp_timeline.specs.EventLine.{event_line}
-use Rattle.gptp_timeline.specs.Receipts.{received_by, receiver}
+use Rattle.gptp_timeline.specs.Receipts.{received_by, receiver_clock}
 use Rattle.gptp_timeline.specs.Stretch.{at_of, is_change, is_event, receives}
 use Rattle.gptp_timeline.specs.Timeline.{all_changes, event_lines, offset_lines}
-use Rattle.gptp_timeline.specs.Watch.{event_look, lines_all, see_act, see_system, seen_lines, system_lines, unless, WatchState}
+use Rattle.gptp_timeline.specs.Watch.{event_look, lines_all, see_act, see_system, seen_lines, watched_lines, unless, WatchState}
 use Rattle.gptp_timeline.specs.declared.timeline.TimelineOptions.{TimelineOptions}
 use Rattle.gptp_timeline.proofs.ActLemmas.{delivery_others, delivery_stands, expiry_others, OthersStay}
 use Rattle.gptp_timeline.proofs.ActStepLemmas.{own_lines, own_step, receipt_step}
@@ -70,7 +70,7 @@ module _ (options : TimelineOptions) (from : Option ℕ) (names : List ℕ) (ris
       → received_by t.told.done ≡ None
       → Tracks options.summary options.offsets from names begun (errors_next from t errors) (ts ++ t ∷ []) t.after
       (see_system (at_of t) t.after clock false o)
-      × (system_lines (at_of t) t.after clock false o
+      × (watched_lines (at_of t) t.after clock false o
       ≡ unless options.summary (all_changes names t) ++ unless (not options.offsets) [])
   own_quiet clock i member act others nobody = (
     own_step options.summary options.offsets from names rising begun errors ts t clock i member act others
@@ -86,7 +86,7 @@ module _ (options : TimelineOptions) (from : Option ℕ) (names : List ℕ) (ris
       → received_by t.told.done ≡ Some clock
       → Tracks options.summary options.offsets from names begun (errors_next from t errors) (ts ++ t ∷ []) t.after
       (see_system (at_of t) t.after clock true o)
-      × (system_lines (at_of t) t.after clock true o
+      × (watched_lines (at_of t) t.after clock true o
       ≡ unless options.summary (all_changes names t) ++ unless (not options.offsets) (offset_lines t (Some clock)))
   own_receipt clock i member act others it = (
     receipt_step options.summary options.offsets from names rising begun errors ts t clock i member act others
@@ -101,7 +101,7 @@ module _ (options : TimelineOptions) (from : Option ℕ) (names : List ℕ) (ris
       → (received ≡ Some clock) ⊎ (received ≡ None)
       → Tracks options.summary options.offsets from names begun (errors_next from t errors) (ts ++ t ∷ []) t.after
       (see_system (at_of t) t.after clock (is_some received) o)
-      × (system_lines (at_of t) t.after clock (is_some received) o
+      × (watched_lines (at_of t) t.after clock (is_some received) o
       ≡ unless options.summary (all_changes names t) ++ unless (not options.offsets) (offset_lines t received))
   own_stepped clock i received member act others is (inl it) =
       rw it (own_receipt clock i member act others (is ∙ it))
@@ -117,12 +117,12 @@ module _ (options : TimelineOptions) (from : Option ℕ) (names : List ℕ) (ris
       (one_named names (at (at_of t) t.before) clock AnySystem
       (same_named names t.before (at (at_of t) t.before) refl named)
       (delivery_stands link direction (Heard clock port answer frame) (at (at_of t) t.before) draws t.after d)) in
-      own_stepped clock i (receiver clock answer frame.items) member (ap is_change act_is)
+      own_stepped clock i (receiver_clock clock answer frame.items) member (ap is_change act_is)
       (delivery_others link direction (Heard clock port answer frame) (at (at_of t) t.before) draws t.after d)
       (ap received_by done_is) (receiver_is clock answer frame.items)
   done_step (Expire clock timer) done draws named act_is done_is (quiet, stands) =
       let (i, member) = slice_get-In clock names (one_named names (at (at_of t) t.before) clock
-      (λ place station. Expires place timer (at (at_of t) t.before) draws t.after)
+      (λ place station. TimerRunsOut place timer (at (at_of t) t.before) draws t.after)
       (same_named names t.before (at (at_of t) t.before) refl named) stands) in
       subst (Stepped (Expire clock timer)) (sym quiet)
       (own_quiet clock i member (ap is_change act_is)
@@ -143,7 +143,7 @@ module _ (names : List ℕ) (t : Transition) (named : AreNamed names t.before) w
       ap (λ r. option_map_or (λ c. c == name) r false) is ∙ test
 
   receiver_named : (clock : ℕ) (answer : Option Answer) (octets : List ℕ) → In clock names → (c : ℕ)
-      → receiver clock answer octets ≡ Some c → In c names
+      → receiver_clock clock answer octets ≡ Some c → In c names
   receiver_named clock answer octets among c it = elim (receiver_is clock answer octets) [
     | inl own ↦ subst (λ n. In n names) (same_Some clock c (sym own ∙ it)) among
     | inr none ↦ absurd (none-some c (sym none ∙ it))
@@ -154,7 +154,7 @@ module _ (names : List ℕ) (t : Transition) (named : AreNamed names t.before) w
       → receives name t ≡ false
   strangers (Deliver link direction) Quiet draws is d = absurd d.told
   strangers (Deliver link direction) (Heard clock port answer frame) draws is d =
-      none_receives (receiver clock answer frame.items) (ap received_by is)
+      none_receives (receiver_clock clock answer frame.items) (ap received_by is)
       (receiver_named clock answer frame.items (one_named names (at (at_of t) t.before) clock AnySystem
       (same_named names t.before (at (at_of t) t.before) refl named)
       (delivery_stands link direction (Heard clock port answer frame) (at (at_of t) t.before) draws t.after d)))

@@ -8,7 +8,7 @@ use Rattle.std.proofs.lemmas.Bool.Decides.{nat_tests}
 use Rattle.std.proofs.lemmas.List.Elements.{filter-append, filter_map-append}
 use Rattle.gptp_lists.specs.Members.{In}
 use Rattle.gptp_world.specs.Transitions.{Transition}
-use Rattle.gptp_timeline.specs.Laws.{IsWithin}
+use Rattle.gptp_timeline.specs.Laws.{ErrorIsWithin}
 use Rattle.gptp_timeline.specs.Measures.{better_if, greatest, greatest_from, one_at}
 use Rattle.gptp_timeline.specs.Receipts.{received_by}
 use Rattle.gptp_timeline.specs.Stretch.{at_of, counts_for, error_at, error_from, error_in, receives}
@@ -106,7 +106,7 @@ module _ (name from bound : ℕ) where
   IsBelow g = g.amount ≤ bound
 
   -- where the errors of the receipts of a system are, so are those that count for the greatest of them
-  counted_within : (ts : List Transition) → ((t : Transition) → In t ts → IsWithin name from bound t)
+  counted_within : (ts : List Transition) → ((t : Transition) → In t ts → ErrorIsWithin name from bound t)
       → AllByRecursion IsBelow (filter_map error_in (filter (counts_for name (Some from)) ts))
   counted_within [] each = tt
   counted_within (t ∷ ts) each =
@@ -136,7 +136,7 @@ module _ (name from bound : ℕ) where
           (one (error_at name t) refl late own))
           all)
 
-  pub errors_within : (ts : List Transition) → ((t : Transition) → In t ts → IsWithin name from bound t)
+  pub errors_within : (ts : List Transition) → ((t : Transition) → In t ts → ErrorIsWithin name from bound t)
       → IfSome (error_from name (Some from) ts) (λ amount. amount ≤ bound)
   errors_within ts each =
       amount (greatest (filter_map error_in (filter (counts_for name (Some from)) ts)))

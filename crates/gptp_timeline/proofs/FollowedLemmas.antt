@@ -23,7 +23,7 @@ use Rattle.gptp_report.specs.Transitions.{Courses}
 use Rattle.gptp_system.specs.State.{SystemState}
 use Rattle.gptp_world.specs.Transitions.{Transition}
 use Rattle.gptp_timeline.specs.Each.{Each}
-use Rattle.gptp_timeline.specs.Laws.{AreRoots, Follow, IsRootOf}
+use Rattle.gptp_timeline.specs.Laws.{AreRoots, Follow, IsShownRoot}
 use Rattle.gptp_timeline.specs.Shown.{live_system, shown}
 use Rattle.gptp_timeline.specs.Stretch.{roots_of}
 use Rattle.gptp_timeline.specs.Timeline.{AllPass, now_of, Passage, TimelineOf}
@@ -132,7 +132,7 @@ module _ {F : Type 0} (answers : Bounds → ℕ → F → Option ℕ → F → T
   root_settles : (events : List Timed) (g : Snapshot) (w : WorldState) (name : ℕ) (s : SystemState)
       → StandsAfter d.network events g → Keeps answers d playable names events w
       → (IsNear (snapshot_of w) name → IsAtRest (snapshot_of w) s) → live_system name w ≡ Some s
-      → IsRootOf g name s.root
+      → IsShownRoot g name s.root
   root_settles events g w name s stands keeps rests is near =
       let alike = alike_after answers d playable names events g w stands keeps in
       let rest = rests (near_alike g (snapshot_of w) (turned (snapshot_of w) g alike) name near) in
@@ -142,7 +142,7 @@ module _ {F : Type 0} (answers : Bounds → ℕ → F → Option ℕ → F → T
 
   -- and these are the systems of its snapshot
   live_names : (events : List Timed) (g : Snapshot) (w : WorldState) → StandsAfter d.network events g
-      → Keeps answers d playable names events w → AreLive w (IsRootOf g) names (clocks g)
+      → Keeps answers d playable names events w → AreLive w (IsShownRoot g) names (clocks g)
   live_names events g w stands keeps =
       let alike = alike_after answers d playable names events g w stands keeps in
       let back = turned (snapshot_of w) g alike in
@@ -189,7 +189,7 @@ module _ {F : Type 0} (answers : Bounds → ℕ → F → Option ℕ → F → T
       let settled : b.from + bound ≤ p.after.time = omega (arith, is, time, late) in
       let last = last_past b.from events (past_both b.from b.before b.left b.is_left.past) in
       let spans = subst (λ es. bound ≡ span_after answers d playable names es span.snapshot) are span.is in
-      each_root p.after (IsRootOf g) names (clocks g) (live_names events g p.after stands at_end)
+      each_root p.after (IsShownRoot g) names (clocks g) (live_names events g p.after stands at_end)
       (λ name s lives. root_settles events g p.after name s stands at_end
       (λ near. rests answers d playable names events b.from bound span.snapshot calm stood last spans p.after at_end
       settled name near s lives) lives)

@@ -9,7 +9,7 @@ use Rattle.gptp_acts.specs.declared.done.Done.{Done}
 use Rattle.gptp_acts.specs.declared.done.Done.TheVariants.{Heard, Quiet}
 use Rattle.gptp_acts.specs.Views.{ShowsLive}
 use Rattle.gptp_acts.specs.World.{WorldState}
-use Rattle.gptp_acts.specs.World.{receiver as to}
+use Rattle.gptp_acts.specs.World.{receiver_clock as to}
 use Rattle.gptp_kept.specs.Exact.{IsExactInTime, IsHeardExact}
 use Rattle.gptp_kept.specs.TimedLaws.{AreFollowUp}
 use Rattle.gptp_links.specs.Fate.{Draw}
@@ -25,24 +25,24 @@ use Rattle.gptp_system.specs.declared.answer.Answer.{Answer}
 use Rattle.gptp_system.specs.declared.answer.Answer.TheVariants as answers
 use Rattle.gptp_system.specs.Input.{Frame as FrameHeard, Steps}
 use Rattle.gptp_system.specs.State.{SystemState}
-use Rattle.gptp_timeline.specs.Receipts.{is_follow_up, received_by, receiver}
+use Rattle.gptp_timeline.specs.Receipts.{is_follow_up, received_by, receiver_clock}
 
 -- ---- what is told of a frame
 
 -- the system with this clock receives time by a frame that was answered so
 pub record IsReceipt (clock : ℕ) (answer : Option Answer) (octets : List ℕ) : Type 0 where
-  pub is : receiver clock answer octets ≡ Some clock
+  pub is : receiver_clock clock answer octets ≡ Some clock
   pub used : answer ≡ Some answers.Used
   pub follow_up : is_follow_up octets ≡ true
 
 -- it does, or nobody does
 receipt_or_none : (clock : ℕ) (answer : Option Answer) (octets : List ℕ)
-    → IsReceipt clock answer octets ⊎ (receiver clock answer octets ≡ None)
+    → IsReceipt clock answer octets ⊎ (receiver_clock clock answer octets ≡ None)
 receipt_or_none clock None octets = inr refl
 receipt_or_none clock (Some answers.Used) octets = by (is_follow_up octets) refl
   where
     by : (t : Bool) → is_follow_up octets ≡ t
-        → IsReceipt clock (Some answers.Used) octets ⊎ (receiver clock (Some answers.Used) octets ≡ None)
+        → IsReceipt clock (Some answers.Used) octets ⊎ (receiver_clock clock (Some answers.Used) octets ≡ None)
     by true test = inl (record { is = rw test refl; used = refl; follow_up = test })
     by false test = inr (rw test refl)
 receipt_or_none clock (Some answers.Disabled) octets = inr refl
@@ -58,7 +58,7 @@ receipt_or_none clock (Some answers.Long) octets = inr refl
 
 -- who receives time by a delivery is who heard the frame
 pub receiver_is : (clock : ℕ) (answer : Option Answer) (octets : List ℕ)
-    → (receiver clock answer octets ≡ Some clock) ⊎ (receiver clock answer octets ≡ None)
+    → (receiver_clock clock answer octets ≡ Some clock) ⊎ (receiver_clock clock answer octets ≡ None)
 receiver_is clock answer octets = elim (receipt_or_none clock answer octets) [
   | inl receipt ↦ inl receipt.is
   | inr none ↦ inr none
@@ -66,15 +66,15 @@ receiver_is clock answer octets = elim (receipt_or_none clock answer octets) [
 
 -- a system that receives time by a frame is the one that it reached
 pub receipt_of : (name clock : ℕ) (answer : Option Answer) (octets : List ℕ)
-    → option_map_or (λ c. c == name) (receiver clock answer octets) false ≡ true
+    → option_map_or (λ c. c == name) (receiver_clock clock answer octets) false ≡ true
     → IsReceipt clock answer octets × (clock ≡ name)
 receipt_of name clock answer octets own = by (receipt_or_none clock answer octets)
   where
-    test : (received : Option ℕ) → receiver clock answer octets ≡ received
+    test : (received : Option ℕ) → receiver_clock clock answer octets ≡ received
         → option_map_or (λ c. c == name) received false ≡ true
     test received is = sym (ap (λ r. option_map_or (λ c. c == name) r false) is) ∙ own
 
-    by : IsReceipt clock answer octets ⊎ (receiver clock answer octets ≡ None)
+    by : IsReceipt clock answer octets ⊎ (receiver_clock clock answer octets ≡ None)
         → IsReceipt clock answer octets × (clock ≡ name)
     by (inl receipt) = let same : clock == name ≡ true = test (Some clock) receipt.is in
         (receipt, grind (arith, nat_tests))

@@ -14,7 +14,7 @@ use Rattle.gptp_lists.proofs.MemberLemmas.{In-map, In-slice_get}
 use Rattle.gptp_plan.specs.declared.change.Act.{Act}
 use Rattle.gptp_system.specs.State.{clock}
 use Rattle.gptp_kept.proofs.NameLemmas.{clock_of_station, clocks_rise, In-rising}
-use Rattle.gptp_timeline.specs.Watch.{RisesByClock, unseen}
+use Rattle.gptp_timeline.specs.Watch.{WatchedRise, unseen}
 use Rattle.gptp_timeline.specs.declared.watched.Watched.{Watched}
 
 -- ---- what is kept of systems
@@ -24,7 +24,7 @@ unseen_clocks : (names : List ℕ) → map (λ (x : Watched). x.clock) (map unse
 unseen_clocks [] = refl
 unseen_clocks (n ∷ ns) = ap (λ rest. n ∷ rest) (unseen_clocks ns)
 
-pub unseen_rise : (w : WorldState) → HaveOwnClocks w → RisesByClock (map unseen (rising_clocks w))
+pub unseen_rise : (w : WorldState) → HaveOwnClocks w → WatchedRise (map unseen (rising_clocks w))
 unseen_rise w own = subst IsRising (sym (unseen_clocks (rising_clocks w))) (clocks_rise w own)
 
 -- ---- the names of systems

@@ -24,8 +24,8 @@ use Rattle.gptp_timeline.specs.Passing.{watch_before}
 use Rattle.gptp_timeline.specs.Shown.{is_expecting, live_among, shown, shown_of}
 use Rattle.gptp_timeline.specs.Stretch.{at_of, counted, ended, error_from, roots_of, shown_of_all, under_way, waits}
 use Rattle.gptp_timeline.specs.StretchText.{after_line, ended_stretch, error_among, system_accuracy, wait_of}
-use Rattle.gptp_timeline.specs.Timeline.{Passage, accuracy_at, accuracy_lines, act_lines, end_lines, ended_of, exact_time, is_begun, kept_accuracy, kept_accuracy_at, none_waits, start_lines, stretch_of}
-use Rattle.gptp_timeline.specs.Watch.{WatchState, begun, event_look, lines_all, see_act, see_all, seen_lines, tells_changes, unless, unseen, without_error}
+use Rattle.gptp_timeline.specs.Timeline.{Passage, accuracy_at, timeline_accuracy_lines, act_lines, end_lines, ended_of, exact_time, is_begun, kept_accuracy, kept_accuracy_at, none_waits, start_lines, stretch_of}
+use Rattle.gptp_timeline.specs.Watch.{WatchState, watch_begun, event_look, lines_all, see_act, see_all, seen_lines, tells_changes, unless, unseen, without_error}
 use Rattle.gptp_timeline.specs.declared.counts.Counts.{Counts}
 use Rattle.gptp_timeline.specs.declared.measures.Greatest.{Greatest}
 use Rattle.gptp_timeline.specs.declared.measures.Measures.{Measures}
@@ -148,7 +148,7 @@ ended_with s roots = record { stretch = s; roots = roots }
 
 accuracy_kept : (ts : List Transition) (kept : List Watched) (errors : Option TimeErrors)
     → ((clock : ℕ) → error_among kept clock ≡ error_from clock (exact_time errors) ts)
-    → kept_accuracy kept errors ≡ accuracy_lines ts errors
+    → kept_accuracy kept errors ≡ timeline_accuracy_lines ts errors
 accuracy_kept ts kept None are = refl
 accuracy_kept ts kept (Some t) are = by t.from are
   where
@@ -163,7 +163,7 @@ module _ (options : TimelineOptions) (names : List ℕ) (since : ℕ → Option 
   -- ---- a stretch begins
 
   pub stretch_begins : (from : Option ℕ) (w : WorldState) (o : WatchState) → Rests options names since w o
-      → Observes options names since from [] w (begun from o)
+      → Observes options names since from [] w (watch_begun from o)
   stretch_begins from w o rests = record {
     named = rests.named;
     tracks = record {
@@ -326,7 +326,7 @@ module _ (options : TimelineOptions) (names : List ℕ) (since : ℕ → Option 
         ap (λ xs. error_among xs clock) observes.tracks.stands.are
         ∙ kept_error now errors p.after clock names (observes.others clock)
 
-    pub end_told : end_lines plan o ≡ after_line (stretch_of names since p) ∷ accuracy_lines p.acts p.errors
+    pub end_told : end_lines plan o ≡ after_line (stretch_of names since p) ∷ timeline_accuracy_lines p.acts p.errors
     end_told =
         ap (λ (s : Stretch). after_line s ∷ kept_accuracy o.systems plan.errors) stretch_ended
         ∙ ap (λ ls. after_line (stretch_of names since p) ∷ ls)

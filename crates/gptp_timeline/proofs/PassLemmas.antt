@@ -18,11 +18,11 @@ use Rattle.gptp_report.proofs.RunLemmas.{made_if_stays, passed_stays}
 use Rattle.gptp_spelling.specs.Lines.{text_of}
 use Rattle.gptp_timeline.specs.Ends.{EndState}
 use Rattle.gptp_timeline.specs.LastTwo.{all_kept, end_in, end_of, kept_after, none_kept}
-use Rattle.gptp_timeline.specs.Passing.{first_time, IsSeen, IsSeenSoFar, StopsSeen}
+use Rattle.gptp_timeline.specs.Passing.{first_time, StretchIsSeen, IsSeenSoFar, StopsSeen}
 use Rattle.gptp_timeline.specs.Stretch.{roots_of, shown_of_all, waits}
 use Rattle.gptp_timeline.specs.StretchText.{after_line, ended_stretch}
-use Rattle.gptp_timeline.specs.Timeline.{act_lines, all_lines, AllPass, AreErrorsIf, end_before, end_lines, ended_of, exact_time, is_begun, kept_accuracy, IsPassage, IsPlan, later_than, none_waits, now_of, Passage, passage_lines, SomePass}
-use Rattle.gptp_timeline.specs.Watch.{begun, tells_changes, WatchState}
+use Rattle.gptp_timeline.specs.Timeline.{act_lines, all_lines, AllPass, AreErrorsIf, end_before, end_lines, ended_of, exact_time, is_begun, kept_accuracy, IsPassage, IsTimelinePlan, later_than, none_waits, now_of, Passage, passage_lines, SomePass}
+use Rattle.gptp_timeline.specs.Watch.{watch_begun, tells_changes, WatchState}
 use Rattle.gptp_timeline.specs.declared.ends.Kept.{Kept}
 use Rattle.gptp_timeline.specs.declared.measures.Measures.{Measures}
 use Rattle.gptp_timeline.specs.declared.stretch.Stretch.{Stretch}
@@ -261,7 +261,7 @@ passage_of plan now acts after = record {
 
 module _ {F : Type 0} (answers : Bounds → ℕ → F → Option ℕ → F → Type 0) (exact : Bool) (d : DocumentState)
     (until from to : ℕ) (left : List Timed) (to_is : to ≡ end_before until (later_than from left)) (plan : Plan)
-    (known : IsPlan exact d from to (is_begun (now_of from left)) plan) where
+    (known : IsTimelinePlan exact d from to (is_begun (now_of from left)) plan) where
   pub is_passage : (fate fate_after : F) (w w' : WorldState) (acts : List Transition)
       → Courses answers plan.to (now_of from left) acts fate fate_after w w'
       → IsPassage answers exact d until from left fate fate_after w (passage_of plan (now_of from left) acts w')
@@ -282,15 +282,15 @@ module _ {F : Type 0} (answers : Bounds → ℕ → F → Option ℕ → F → T
 
 -- an observer sees them, for which the stretch began
 module _ {F : Type 0} (answers : Bounds → ℕ → F → Option ℕ → F → Type 0) (plan : Plan) (now : List Timed) (fate : F)
-    (w : WorldState) (o mid : WatchState) (mid_is : mid ≡ begun (exact_time plan.errors) o)
+    (w : WorldState) (o mid : WatchState) (mid_is : mid ≡ watch_begun (exact_time plan.errors) o)
     (due : events_by plan.to now ≡ now) (ts : List Transition) (o_after : WatchState) (So : List ℕ → Type 0)
     (observed : Observed tells_changes ts mid o_after So) where
-  tells : Tells tells_changes ts (begun (exact_time plan.errors) o) o_after observed.lines
+  tells : Tells tells_changes ts (watch_begun (exact_time plan.errors) o) o_after observed.lines
   tells = subst (λ b. Tells tells_changes ts b o_after observed.lines) mid_is observed.are
 
   pub sees_all : (fate_after : F) (w' : WorldState)
       → Courses answers plan.to (events_by plan.to now) ts fate fate_after w w'
-      → IsSeen answers plan now fate fate_after w w' o o_after observed.lines
+      → StretchIsSeen answers plan now fate fate_after w w' o o_after observed.lines
   sees_all fate_after w' courses = record {
     acts = ts;
     courses = subst (λ es. Courses answers plan.to es ts fate fate_after w w') due courses;
@@ -310,12 +310,12 @@ module _ {F : Type 0} (answers : Bounds → ℕ → F → Option ℕ → F → T
 module _ {F : Type 0} (answers : Bounds → ℕ → F → Option ℕ → F → Type 0) (options : TimelineOptions) (names : List ℕ)
     (since : ℕ → Option ℕ) (plan : Plan) (now : List Timed) (fate : F) (w : WorldState) (o : WatchState)
     (rests : Rests options names since w o) where
-  begins : Observes options names since (exact_time plan.errors) [] w (begun (exact_time plan.errors) o)
+  begins : Observes options names since (exact_time plan.errors) [] w (watch_begun (exact_time plan.errors) o)
   begins = stretch_begins options names since (exact_time plan.errors) w o rests
 
   -- to the end of the stretch
   module _ (fate_after : F) (w' : WorldState) (o_after : WatchState) (told : List (List ℕ))
-      (seen : IsSeen answers plan now fate fate_after w w' o o_after told)
+      (seen : StretchIsSeen answers plan now fate fate_after w w' o o_after told)
       (is_begun_is : plan.begins_with_event ≡ is_begun now) where
     abbrev seen_passage : Passage
     seen_passage = passage_of plan now seen.acts w'
@@ -326,7 +326,7 @@ module _ {F : Type 0} (answers : Bounds → ℕ → F → Option ℕ → F → T
     observes : Observes options names since (exact_time plan.errors) seen.acts w' o_after
     observes =
         stretch_passes options names since answers (exact_time plan.errors) plan.to now seen.acts fate w
-        (begun (exact_time plan.errors) o) o_after told begins seen.tells fate_after w' seen.courses
+        (watch_begun (exact_time plan.errors) o) o_after told begins seen.tells fate_after w' seen.courses
 
     pub seen_end : end_of plan o_after ≡ end_in names since (passage_of plan now seen.acts w')
     seen_end = end_is options names since plan seen_passage of_plan o_after observes
@@ -336,7 +336,7 @@ module _ {F : Type 0} (answers : Bounds → ℕ → F → Option ℕ → F → T
     seen_lines =
         ap (λ front. front ++ end_lines plan o_after)
         (stretch_told options names since answers (exact_time plan.errors) plan.to now seen.acts fate w
-        (begun (exact_time plan.errors) o) o_after told begins seen.tells fate_after w' seen.courses)
+        (watch_begun (exact_time plan.errors) o) o_after told begins seen.tells fate_after w' seen.courses)
         ∙ ap (λ rest. flat_map (act_lines options names) seen.acts ++ rest)
         (end_told options names since plan seen_passage of_plan o_after observes)
 
@@ -348,7 +348,7 @@ module _ {F : Type 0} (answers : Bounds → ℕ → F → Option ℕ → F → T
       → told ≡ flat_map (act_lines options names) some.acts
   seen_so_far told some =
       broken_told options names since answers (exact_time plan.errors) plan.to now some.acts fate w
-      (begun (exact_time plan.errors) o) some.o_after told begins some.tells some.courses
+      (watch_begun (exact_time plan.errors) o) some.o_after told begins some.tells some.courses
 
 -- ---- all stretches before an observer
 
@@ -383,8 +383,8 @@ module _ {F : Type 0} (answers : Bounds → ℕ → F → Option ℕ → F → T
 
     -- it passed
     module _ (plan : Plan) (next : F) (after : WorldState) (o_after : WatchState) (told : List (List ℕ))
-        (verdict : Kept) (known : IsPlan exact d from to (is_begun (now_of from left)) plan)
-        (seen : IsSeen answers plan (now_of from left) drawn next between after o o_after told)
+        (verdict : Kept) (known : IsTimelinePlan exact d from to (is_begun (now_of from left)) plan)
+        (seen : StretchIsSeen answers plan (now_of from left) drawn next between after o o_after told)
         (verdict_is : verdict ≡ kept_after options.limits (end_of plan o_after) kept)
         (so : Second (text_of (told ++ end_lines plan o_after))) where
       abbrev passed : Passage

@@ -11,7 +11,7 @@ use Rattle.std.specs.declared.cmp.Ordering.TheVariants.{Equal}
 use Rattle.gptp_lists.proofs.MemberLemmas.{In-slice_get}
 use Rattle.gptp_network.proofs.SearchLemmas.{comparisons_rise, found, missing, same_place}
 use Rattle.gptp_timeline.specs.StretchText.{error_among}
-use Rattle.gptp_timeline.specs.Watch.{place_from, RisesByClock, without_error}
+use Rattle.gptp_timeline.specs.Watch.{place_from, WatchedRise, without_error}
 use Rattle.gptp_timeline.specs.declared.watched.Watched.{Watched}
 
 abbrev pub clock_of_watched : Watched → ℕ
@@ -78,7 +78,7 @@ error_none clock (y ∷ ys) none =
 
 -- ---- a search by clock
 
-module _ (systems : List Watched) (clock : ℕ) (rising : RisesByClock systems) where
+module _ (systems : List Watched) (clock : ℕ) (rising : WatchedRise systems) where
   -- it ends where the system stands
   pub searched : (r : Result ℕ ℕ) → IsSearchInRange r (length systems)
       → IsBinarySearchResult (λ x. nat_cmp (clock_of_watched x) clock) systems r

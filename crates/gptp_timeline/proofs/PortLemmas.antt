@@ -3,7 +3,7 @@ use Rattle.std.proofs.Common.{◌≡◌, ℕ, zero, suc, ◌+◌, ◌&&◌, Bool
 use Rattle.std.specs.List.{range_with_len}
 use Rattle.std.proofs.lemmas.List.FromFn.{map-range_with_len_more}
 use Rattle.gptp_timeline.specs.Changes.{port_lines, port_lines_if}
-use Rattle.gptp_timeline.specs.Ports.{same_port, same_ports}
+use Rattle.gptp_timeline.specs.Ports.{shows_same_port, same_ports}
 use Rattle.gptp_timeline.specs.declared.ports.ShownPort.{ShownPort}
 
 drop_none : (k : ℕ) → drop {A = ShownPort} k [] ≡ []
@@ -40,4 +40,4 @@ other_lengths [] [] apart = absurd (apart refl)
 other_lengths [] (q ∷ qs) apart = refl
 other_lengths (p ∷ ps) [] apart = refl
 other_lengths (p ∷ ps) (q ∷ qs) apart =
-    both_false (same_port p q) (same_ports ps qs) (other_lengths ps qs (λ e. apart (ap suc e)))
+    both_false (shows_same_port p q) (same_ports ps qs) (other_lengths ps qs (λ e. apart (ap suc e)))

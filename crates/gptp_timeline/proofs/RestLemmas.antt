@@ -21,9 +21,9 @@ use Rattle.gptp_graph.proofs.RoleLemmas.{RoleBy-unique}
 use Rattle.gptp_graph.proofs.SystemLemmas.{same_clock}
 use Rattle.gptp_kept.specs.CalmFor.{IsCalmFor, span_over}
 use Rattle.gptp_kept.specs.Claimed.{Claimed}
-use Rattle.gptp_kept.specs.Settled.{IsSettledSystem, role_of}
+use Rattle.gptp_kept.specs.Settled.{IsSettledSystem, graph_role}
 use Rattle.gptp_kept.specs.Shown.{AreCapable}
-use Rattle.gptp_kept.specs.Standing.{snapshot_of, standing}
+use Rattle.gptp_kept.specs.Standing.{snapshot_of, standing_system}
 use Rattle.gptp_kept.proofs.ClaimedLemmas.{over_capable, settled_by_paths}
 use Rattle.gptp_kept.proofs.ShownLemmas.{capable_shown}
 use Rattle.gptp_kept.proofs.SystemLemmas.{live_from, live_there}
@@ -33,7 +33,7 @@ use Rattle.gptp_roles.specs.declared.role.Role.TheVariants as roles
 use Rattle.gptp_settling.specs.Settled.{IsSlaveOf}
 use Rattle.gptp_system.specs.Start.{role_at}
 use Rattle.gptp_system.specs.State.{clock, is_capable_at, SystemState}
-use Rattle.gptp_system.specs.Steps.{IsPortOf}
+use Rattle.gptp_system.specs.Steps.{HasPortNumber}
 use Rattle.gptp_timeline.specs.Ports.{shown_port, shown_ports}
 use Rattle.gptp_timeline.specs.Shown.{live_among, live_system, same_choice, same_roles, shown, shown_of}
 use Rattle.gptp_timeline.specs.declared.ports.ShownPort.{ShownPort}
@@ -63,13 +63,13 @@ role_from graph.Master = roles.Master
 role_from graph.Slave = roles.Slave
 role_from graph.Passive = roles.Passive
 
-role_back : (r : Role) → role_from (role_of r) ≡ r
+role_back : (r : Role) → role_from (graph_role r) ≡ r
 role_back roles.Disabled = refl
 role_back roles.Master = refl
 role_back roles.Slave = refl
 role_back roles.Passive = refl
 
-same_role : (a b : Role) → role_of a ≡ role_of b → a ≡ b
+same_role : (a b : Role) → graph_role a ≡ graph_role b → a ≡ b
 same_role a b same = sym (role_back a) ∙ ap role_from same ∙ role_back b
 
 same_test : (a b : Bool) (P : Type 0) → (a ≡ true) ↔ P → (b ≡ true) ↔ P → a ≡ b
@@ -94,20 +94,20 @@ pub record IsAtRest (g : Snapshot) (s : SystemState) : Type 0 where
 
 module _ (g : Snapshot) (well : IsWellFormed g) (s s' : SystemState) (named : clock s' ≡ clock s)
     (count : length s'.ports ≡ length s.ports) (rests : IsAtRest g s) (rests' : IsAtRest g s') where
-  as_port : (n : ℕ) → IsPortOf s n → IsPortOf s' n
+  as_port : (n : ℕ) → HasPortNumber s n → HasPortNumber s' n
   as_port n is = record { least = is.least; most = subst (λ k. n ≤ k) (sym count) is.most }
 
   abbrev made : Role → Bool → ShownPort
   made r c = record { role = r; capable = c }
 
-  port_of_s : (n : ℕ) → IsPortOf s n → shown_port s' n ≡ shown_port s n
+  port_of_s : (n : ℕ) → HasPortNumber s n → shown_port s' n ≡ shown_port s n
   port_of_s n is =
       let port = port_of (clock s) n in
       let role : role_at s' n ≡ role_at s n =
       same_role (role_at s' n) (role_at s n)
-      (RoleBy-unique (IsLinked g port) (IsSlavePort g port) (IsMasterPort g port) (role_of (role_at s' n))
-      (role_of (role_at s n))
-      (subst (λ v. graph.IsSettledRole g (port_of v n) (role_of (role_at s' n))) named
+      (RoleBy-unique (IsLinked g port) (IsSlavePort g port) (IsMasterPort g port) (graph_role (role_at s' n))
+      (graph_role (role_at s n))
+      (subst (λ v. graph.IsSettledRole g (port_of v n) (graph_role (role_at s' n))) named
       (rests'.settled.roles n (as_port n is))) (rests.settled.roles n is)) in
       let capable : is_capable_at s' n ≡ is_capable_at s n =
       same_test (is_capable_at s' n) (is_capable_at s n) (IsLinked g port)
@@ -199,7 +199,7 @@ pub stands_there : (w : WorldState) (name : ℕ) (s : SystemState) → live_syst
     → (x : System) × In x (snapshot_of w).systems × (x.clock ≡ clock s) × (x.ports ≡ length s.ports) × (clock s ≡ name)
 stands_there w name s is =
     let live = found_live name w.stations s is in (
-      standing live.station,
+      standing_system live.station,
       live_there w.stations live.place live.station live.here live.live,
       ap clock live.state,
       ap (λ (t : SystemState). length t.ports) live.state,

@@ -6,7 +6,7 @@ use Rattle.std.proofs.lemmas.Bool.Decides.{nat_tests}
 use Rattle.gptp_roles.specs.declared.role.Role.{Role}
 use Rattle.gptp_roles.specs.declared.role.Role.TheVariants.{Disabled, Master, Slave, Passive}
 use Rattle.gptp_timeline.specs.Changes.{change_lines, port_lines, same_line}
-use Rattle.gptp_timeline.specs.Ports.{role_number, same_bool, same_port, same_ports}
+use Rattle.gptp_timeline.specs.Ports.{role_number, same_bool, shows_same_port, same_ports}
 use Rattle.gptp_timeline.specs.Shown.{is_known, same_choice, same_roles, same_slave, same_way}
 use Rattle.gptp_timeline.specs.Stretch.{same_known}
 use Rattle.gptp_timeline.specs.declared.ports.ShownPort.{ShownPort}
@@ -19,7 +19,7 @@ pub bool_itself : (b : Bool) → same_bool b b ≡ true
 bool_itself true = refl
 bool_itself false = refl
 
-pub port_itself : (p : ShownPort) → same_port p p ≡ true
+pub port_itself : (p : ShownPort) → shows_same_port p p ≡ true
 port_itself p = rw (number_itself (role_number p.role), bool_itself p.capable) refl
 
 ports_itself : (ps : List ShownPort) → same_ports ps ps ≡ true
@@ -83,7 +83,7 @@ role_back Master = refl
 role_back Slave = refl
 role_back Passive = refl
 
-pub same_port_is : (p q : ShownPort) → same_port p q ≡ true → p ≡ q
+pub same_port_is : (p q : ShownPort) → shows_same_port p q ≡ true → p ≡ q
 same_port_is p q is =
     let (roles, capable) = both (role_number p.role == role_number q.role) (same_bool p.capable q.capable) is in
     let role : p.role ≡ q.role =

@@ -12,7 +12,7 @@ use Rattle.gptp_network.specs.Snapshot.{events_by}
 use Rattle.gptp_world.specs.Transitions.{Transition}
 use Rattle.gptp_timeline.specs.Changes.{change_lines, is_same, port_lines, port_lines_if, same_line, system_lines_if}
 use Rattle.gptp_timeline.specs.Laws.{all_acts}
-use Rattle.gptp_timeline.specs.Ports.{same_bool, same_port}
+use Rattle.gptp_timeline.specs.Ports.{same_bool, shows_same_port}
 use Rattle.gptp_timeline.specs.Shown.{live_among, same_slave, shown, shown_of}
 use Rattle.gptp_timeline.specs.Tellings.{all_tellings, IsAlike, last_by, of_port, of_system, OfFailure, OfSystem, port_telling, port_tellings, Telling, telling_line, tellings, TellLast}
 use Rattle.gptp_timeline.specs.Timeline.{TimelineOf}
@@ -172,9 +172,9 @@ ports_of_others place low (p ∷ ps) (q ∷ qs) less =
 of_itself : (place : ℕ) (before : Option ShownPort) (q : ShownPort)
     → option_or (last_by (of_port place) (port_telling place before q)) before ≡ Some q
 of_itself place None q = rw (number_itself place) refl
-of_itself place (Some p) q = by (same_port p q) refl
+of_itself place (Some p) q = by (shows_same_port p q) refl
   where
-    by : (same : Bool) → same_port p q ≡ same
+    by : (same : Bool) → shows_same_port p q ≡ same
         → option_or (last_by (of_port place) (port_telling place (Some p) q)) (Some p) ≡ Some q
     by true is = rw is (ap Some (same_port_is p q is))
     by false is = rw (is, number_itself place) refl

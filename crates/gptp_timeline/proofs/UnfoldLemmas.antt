@@ -11,7 +11,7 @@ use Rattle.gptp_network.specs.Document.{DocumentState}
 use Rattle.gptp_network.specs.Events.{AreEvents, AreInOrder}
 use Rattle.gptp_network.specs.Snapshot.{events_by}
 use Rattle.gptp_plan.specs.declared.change.Timed.{Timed}
-use Rattle.gptp_report.specs.Run.{Goes, Plays}
+use Rattle.gptp_report.specs.Run.{Goes, PlaysRun}
 use Rattle.gptp_world.specs.Transitions.{Passes, PassesTo, Transition, transition}
 use Rattle.gptp_report.specs.Transitions.{Courses, Makes, Unfolds}
 use Rattle.gptp_world.proofs.FollowLemmas.{passes_advances}
@@ -207,7 +207,7 @@ module _ {F : Type 0} (answers : Bounds → ℕ → F → Option ℕ → F → T
     pub timeline_unfolds : Unfolds answers d until fate t.start (all_acts t.passages) t.after
     timeline_unfolds = record { started = t.started; begun = t.begun; drawn = t.fate_after; courses = course }
 
-    pub timeline_plays : (told : List Told) × Plays answers d until fate told t.after
+    pub timeline_plays : (told : List Told) × PlaysRun answers d until fate told t.after
     timeline_plays =
         let goes = courses_go until (events_by until d.events) (all_acts t.passages) t.started t.fate_after t.start
         t.after

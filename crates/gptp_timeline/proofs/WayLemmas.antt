@@ -1,7 +1,7 @@
 -- The way that a system has by a document is the one that it has in each world that the document leads to.
 use Rattle.std.proofs.Common.{◌≡◌, ℕ, zero, suc, ℤ, pos, List, Some, slice_get, inl, inr, sym, ap, ap₂, subst, ◌∙◌}
 use Rattle.std.proofs.lemmas.Option.{same_Some}
-use Rattle.gptp_accuracy.specs.TimeError.{Link, Way}
+use Rattle.gptp_accuracy.specs.TimeError.{WayLink, Way}
 use Rattle.gptp_accuracy.specs.WayLaws.{longer}
 use Rattle.gptp_acts.specs.Sound.{IsSound}
 use Rattle.gptp_acts.specs.World.{Channel, WorldState, receiver}
@@ -10,9 +10,9 @@ use Rattle.gptp_graph.specs.Parent.{IsParent, ParentLink}
 use Rattle.gptp_graph.specs.Snapshot.{IsWellFormed, Joins, PortIdentity, port_of, Snapshot}
 use Rattle.gptp_graph.proofs.LinkLemmas.{Joins-sym}
 use Rattle.gptp_graph.proofs.ParentLemmas.{IsParent-unique}
-use Rattle.gptp_kept.specs.Followers.{bound_at, parts_of}
+use Rattle.gptp_kept.specs.Followers.{bound_at, follower_parts}
 use Rattle.gptp_kept.specs.Legible.{IsLegible}
-use Rattle.gptp_kept.specs.Standing.{live_systems, snapshot_of}
+use Rattle.gptp_kept.specs.Standing.{live_stations, snapshot_of}
 use Rattle.gptp_kept.proofs.FollowPartLemmas.{bound_is, set_up_is}
 use Rattle.gptp_kept.proofs.WayLemmas.{way_of}
 use Rattle.gptp_links.specs.declared.bounds.Bounds.{Bounds}
@@ -27,7 +27,7 @@ use Rattle.gptp_plan.specs.declared.change.Timed.{Timed}
 use Rattle.gptp_plan.specs.declared.network.Wire.{Wire}
 use Rattle.gptp_plan.proofs.AfterLemmas.{after_keeps}
 use Rattle.gptp_reached.specs.AlikeLaws.{AreAlike}
-use Rattle.gptp_reached.specs.Reached.{Shape, shape, shape_after, StandsAs, wire_of}
+use Rattle.gptp_reached.specs.Reached.{Shape, shape, shape_after, StandsAs, channel_wire}
 use Rattle.gptp_reached.proofs.AlikeLemmas.{distance, parent, turned}
 use Rattle.gptp_roles.specs.Selection.{clock_of}
 use Rattle.gptp_time_error.specs.Ways.{HasDrift, IsLinkTo, IsWay, root_way}
@@ -38,7 +38,7 @@ use Rattle.gptp_vector.specs.declared.port.PortId.{PortId}
 module _ (n : NetworkState) (network : IsNetwork n) (events : List Timed) (w : WorldState) (so : StandsAs n events w)
     (sound : IsSound w) (legible : IsLegible w) where
   abbrev x : Parts
-  x = parts_of n.params w
+  x = follower_parts n.params w
 
   -- ---- the numbers of a way
 
@@ -57,7 +57,7 @@ module _ (n : NetworkState) (network : IsNetwork n) (events : List Timed) (w : W
       ∙ ap (λ (s : Shape). s.setup.drift) same ∙ sym has.drift_is
 
   -- the end of a link that receives
-  is_end : (direction : Direction) (channel : Channel) (v : Wire) (p : PortId) → link_after events v ≡ wire_of channel
+  is_end : (direction : Direction) (channel : Channel) (v : Wire) (p : PortId) → link_after events v ≡ channel_wire channel
       → receiver direction channel ≡ p → IsEnd p v
   is_end FromA channel v p same to =
       inr (sym (after_keeps events v).b ∙ ap (λ (u : Wire). u.b) same ∙ to)
@@ -68,11 +68,11 @@ module _ (n : NetworkState) (network : IsNetwork n) (events : List Timed) (w : W
   bound_there : (f : Bounds → ℕ) (clock port : ℕ) (other : PortIdentity) (v : Wire) (place : ℕ)
       → slice_get n.links place ≡ Some v → IsEnd (record { clock = clock; port = port }) v
       → Joins (snapshot_of w) (port_of clock port) other
-      → bound_at f (live_systems w.stations) w.net.channels (port_of clock port) ≡ f (link_after events v).bounds
+      → bound_at f (live_stations w.stations) w.net.channels (port_of clock port) ≡ f (link_after events v).bounds
   bound_there f clock port other v place at end joins =
       let p : PortId = record { clock = clock; port = port } in
       let way = way_of w other (port_of clock port) (Joins-sym (snapshot_of w) (port_of clock port) other joins) in
-      let (u, there, same) = alike (link_after events) wire_of n.links w.net.channels (sym so.links) way.link
+      let (u, there, same) = alike (link_after events) channel_wire n.links w.net.channels (sym so.links) way.link
       way.channel way.here in
       let to = way.to in
       let ends : receiver way.direction way.channel ≡ p =
@@ -80,11 +80,11 @@ module _ (n : NetworkState) (network : IsNetwork n) (events : List Timed) (w : W
       let one : way.link ≡ place =
       network.one_link way.link place u v p there at (is_end way.direction way.channel u p same ends) end in
       let link : u ≡ v = same_Some u v (sym there ∙ ap (slice_get n.links) one ∙ at) in
-      ap (bound_at f (live_systems w.stations) w.net.channels) (sym to)
+      ap (bound_at f (live_stations w.stations) w.net.channels) (sym to)
       ∙ bound_is f w sound legible way.link way.direction way.channel way.here way.used
       ∙ ap (λ (l : Wire). f l.bounds) (sym same) ∙ ap (λ l. f (link_after events l).bounds) link
 
-  link_there : (clock : ℕ) (follows : ParentLink) (l : Link) → IsLinkTo n events clock follows l
+  link_there : (clock : ℕ) (follows : ParentLink) (l : WayLink) → IsLinkTo n events clock follows l
       → IsParent (snapshot_of w) clock follows → last_link x clock follows ≡ l
   link_there clock follows l to is =
       let delays = to.delays in
@@ -116,7 +116,7 @@ module _ (n : NetworkState) (network : IsNetwork n) (events : List Timed) (w : W
     -- a system that has a way has it in the world
     pub way_there : (steps clock : ℕ) (way : Way) → IsWellFormed (snapshot_of w) → IsDistance g clock steps
         → IsWay n events g steps clock way
-        → (phase : ℕ → ℕ) × IsWayTo (parts_of n.params w) (snapshot_of w) steps clock way phase
+        → (phase : ℕ → ℕ) × IsWayTo (follower_parts n.params w) (snapshot_of w) steps clock way phase
     way_there steps clock way well far is =
         let (v, phase, leads) = way_exists x (snapshot_of w) steps clock well
         (distance g (snapshot_of w) (turned (snapshot_of w) g same) clock steps far) in

@@ -16,8 +16,8 @@ use Rattle.gptp_graph.specs.Snapshot.{IsWellFormed, Snapshot, System}
 use Rattle.gptp_graph.proofs.DistanceLemmas.{best_at_zero}
 use Rattle.gptp_kept.specs.CalmFor.{IsCalmFor}
 use Rattle.gptp_kept.specs.Claimed.{IsClaimed}
-use Rattle.gptp_kept.specs.Exact.{exact_span, IsErrorOf, IsExactInTime}
-use Rattle.gptp_kept.specs.Followers.{parts_of}
+use Rattle.gptp_kept.specs.Exact.{exact_span, IsWayError, IsExactInTime}
+use Rattle.gptp_kept.specs.Followers.{follower_parts}
 use Rattle.gptp_kept.specs.Standing.{snapshot_of}
 use Rattle.gptp_kept.specs.TimedClaim.{AllClaimed}
 use Rattle.gptp_kept.proofs.CalmKeptLemmas.{acts_keep, KeepsNetwork, same_snapshot}
@@ -51,8 +51,8 @@ use Rattle.gptp_time_error.specs.TimeErrors.{AreTimeErrors, exact_from, IsFrom}
 use Rattle.gptp_time_error.specs.TimeErrors as errors_of
 use Rattle.gptp_time_error.specs.Ways.{IsWay}
 use Rattle.gptp_time_error.specs.declared.errors.TimeErrors.{TimeErrors}
-use Rattle.gptp_timeline.specs.Laws.{AreErrorsWithin, IsWithin, SayBound}
-use Rattle.gptp_timeline.specs.Receipts.{error_of}
+use Rattle.gptp_timeline.specs.Laws.{AreErrorsWithin, ErrorIsWithin, SayBound}
+use Rattle.gptp_timeline.specs.Receipts.{offset_error}
 use Rattle.gptp_timeline.specs.Shown.{live_system}
 use Rattle.gptp_timeline.specs.Stretch.{at_of, error_at, receives}
 use Rattle.gptp_timeline.specs.Timeline.{AreErrorsBy, now_of, TimelineOf}
@@ -111,7 +111,7 @@ has_error name t error is = by_own (live_system name t.after) refl is
         by_leader own offset lives left (live_system (clock_of own.root) t.after) refl same
 
     by_own : (own : Option SystemState) → live_system name t.after ≡ own
-        → option_and_then (λ s. error_of (at_of t) s t.after) own ≡ Some error → HasError name t error
+        → option_and_then (λ s. offset_error (at_of t) s t.after) own ≡ Some error → HasError name t error
     by_own None lives none = absurd (none-some error none)
     by_own (Some own) lives same = by_offset own lives own.offset refl same
 
@@ -120,12 +120,12 @@ has_error name t error is = by_own (live_system name t.after) refl is
 -- what the clock of a live system shows
 shown_by : (p : Pace) (w : WorldState) → IsClaimed p w → (name : ℕ) (s : SystemState) → live_system name w ≡ Some s
     → (time : ℕ) → local_time s time
-    ≡ local_clock ((parts_of p.params w).phase name) ((parts_of p.params w).drift name) time
+    ≡ local_clock ((follower_parts p.params w).phase name) ((follower_parts p.params w).drift name) time
 shown_by p w claimed name s is time =
     let live = found_live name w.stations s is in
     ap (λ y. local_time y time) (sym live.state)
     ∙ clock_shown p.params w claimed.world.sound claimed.measured live.place live.station live.here time
-    ∙ ap (λ c. local_clock ((parts_of p.params w).phase c) ((parts_of p.params w).drift c) time) live.is_named
+    ∙ ap (λ c. local_clock ((follower_parts p.params w).phase c) ((follower_parts p.params w).drift c) time) live.is_named
 
 -- ---- times
 
@@ -246,12 +246,12 @@ module _ {F : Type 0} (answers : Bounds → ℕ → F → Option ℕ → F → T
         all : AllClaimed w
         all = record { pace = pace; is = keeps.claimed; carries = keeps.carries }
 
-        error_is : IsErrorOf calm.0.pace.params w name (suc has.steps) bound
+        error_is : IsWayError calm.0.pace.params w name (suc has.steps) bound
         error_is =
             let is = keeps.claimed.world in
             let (phase, leads) = way_there n playable.network events w keeps.stands is.sound is.legible g alike
             (suc has.steps) name has.way well has.far has.leads in
-            subst (λ (p : Pace). IsErrorOf p.params w name (suc has.steps) bound) (sym calm.1)
+            subst (λ (p : Pace). IsWayError p.params w name (suc has.steps) bound) (sym calm.1)
             (record { way = has.way; phase = phase; leads = leads; is = has.bound_is })
 
         -- the best of the component, whose clock the root of the system names
@@ -307,7 +307,7 @@ module _ {F : Type 0} (answers : Bounds → ℕ → F → Option ℕ → F → T
             subst (λ z. unsigned_abs z ≤ bound) (sym is_off) (size_within bound e.offset ahead within)
 
     passes_within : (until : ℕ) (ts : List Transition) (fate fate_after : F) (w w' : WorldState) → until ≤ 10 ^ 18
-        → Passes answers until ts fate fate_after w w' → Kept events w → AllByRecursion (IsWithin name from bound) ts
+        → Passes answers until ts fate fate_after w w' → Kept events w → AllByRecursion (ErrorIsWithin name from bound) ts
     passes_within until [] fate fate_after w w' early k keeps = tt
     passes_within until (t ∷ ts) fate fate_after w w' early (drawn, before, happens, rest) keeps = (
       λ error late. act_within until t fate drawn w happens keeps late early error,
@@ -322,16 +322,16 @@ module _ {F : Type 0} (answers : Bounds → ℕ → F → Option ℕ → F → T
       (ts : List Transition) (fate fate_after : F) (w w' : WorldState) → until ≤ 10 ^ 18 → last < from
       → Each (IsFitEvent answers d playable names) events → PastBy last events
       → HasBound (before ++ events) g name from bound → Courses answers until events ts fate fate_after w w'
-      → Kept before w → AllByRecursion (IsWithin name from bound) ts
+      → Kept before w → AllByRecursion (ErrorIsWithin name from bound) ts
   courses_within before [] until last g name from bound ts fate fate_after w w' early soon fit past has k keeps =
       passes_within (before ++ []) g name from bound has until ts fate fate_after w k.between early k.passes
       (subst (λ es. Kept es w) (sym (append-nil before)) keeps)
   courses_within before (event ∷ events) until last g name from bound ts fate fate_after w w' early soon fit past has
       (first, rest, drawn, between, makes, k, is) keeps =
       let by_last = past.0 in
-      subst (AllByRecursion (IsWithin name from bound)) (sym is)
-      (all_both (IsWithin name from bound) first rest
-      (early_makes answers d playable names (IsWithin name from bound) event first fate drawn w between
+      subst (AllByRecursion (ErrorIsWithin name from bound)) (sym is)
+      (all_both (ErrorIsWithin name from bound) first rest
+      (early_makes answers d playable names (ErrorIsWithin name from bound) event first fate drawn w between
       (λ t by_then error late. absurd (omega (arith, soon, by_last, by_then, late))) makes)
       (courses_within (before ++ event ∷ []) events until last g name from bound rest drawn fate_after between w' early
       soon (λ place. fit (suc place)) past.1
@@ -404,7 +404,7 @@ module _ {F : Type 0} (answers : Bounds → ℕ → F → Option ℕ → F → T
       → events_by time d.events ≡ before ++ now → Each (IsFitEvent answers d playable names) now
       → AreTimeErrors d time errors → SayBound errors name from bound
       → Courses answers until now ts fate fate_after w w' → Kept before w
-      → (t : Transition) → In t ts → IsWithin name from bound t
+      → (t : Transition) → In t ts → ErrorIsWithin name from bound t
   run_within until time before now errors name from bound ts fate fate_after w w' early are fit hold says k keeps t
       member =
       let has = has_bound time errors name from bound hold says in
@@ -412,7 +412,7 @@ module _ {F : Type 0} (answers : Bounds → ℕ → F → Option ℕ → F → T
       let past = all_past last (events_by time d.events)
       (filter_in_order (λ (e : Timed). nat_le e.at time) d.events playable.events.in_order) (omega arith) in
       let (place, there) = slice_get-In t ts member in
-      each_there (IsWithin name from bound) ts
+      each_there (ErrorIsWithin name from bound) ts
       (courses_within before now until last hold.snapshot name from bound ts fate fate_after w w' early
       (holds_later (events_by time d.events) hold.snapshot name from bound keeps.claimed.pace.largest has) fit
       (past_behind last before now (subst (PastBy last) are past))
@@ -448,7 +448,7 @@ pub runs_are_within : {F : Type 0} (answers : Bounds → ℕ → F → Option �
     (fate : F) (start : WorldState) (ts : List Transition) (w : WorldState) (errors : TimeErrors)
     (name from bound : ℕ) → IsPlayable d → until ≤ 10 ^ 18 → Unfolds answers d until fate start ts w
     → AreTimeErrors d until errors → SayBound errors name from bound
-    → (act : Transition) → In act ts → IsWithin name from bound act
+    → (act : Transition) → In act ts → ErrorIsWithin name from bound act
 runs_are_within answers d until fate start ts w errors name from bound playable early unfolds are says =
     let clocks = rising_clocks start in
     run_within answers d playable clocks until until [] (events_by until d.events) errors name from bound ts

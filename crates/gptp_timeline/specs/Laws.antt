@@ -14,7 +14,7 @@ use Rattle.gptp_network.specs.Document.{DocumentState}
 use Rattle.gptp_network.specs.Events.{AreEvents}
 use Rattle.gptp_network.specs.Snapshot.{IsSnapshot}
 use Rattle.gptp_reached.specs.PlayedLaws.{IsPlayable}
-use Rattle.gptp_report.specs.Run.{Plays}
+use Rattle.gptp_report.specs.Run.{PlaysRun}
 use Rattle.gptp_roles.specs.Selection.{clock_of}
 use Rattle.gptp_time_error.specs.TimeErrors.{AreTimeErrors}
 use Rattle.gptp_time_error.specs.declared.errors.SystemError.{SystemError}
@@ -47,7 +47,7 @@ TimelineUnfolds {F} answers = (d : DocumentState) (until : ℕ) (options : Timel
 abbrev pub TimelineEndsAsRun : {F : Type 0} → (Bounds → ℕ → F → Option ℕ → F → Type 0) → Type 0
 TimelineEndsAsRun {F} answers = (d : DocumentState) (until : ℕ) (options : TimelineOptions) (fate : F)
     (lines : List (List ℕ)) (exceeded : Bool) (t : TimelineOf answers d until options fate lines exceeded)
-    → AreEvents d.network d.events → (told : List Told) × Plays answers d until fate told t.after
+    → AreEvents d.network d.events → (told : List Told) × PlaysRun answers d until fate told t.after
 
 -- The lines of what an act leaves another of a system are those of what is told of it.
 abbrev pub ChangesAreTold : Type 0
@@ -78,12 +78,12 @@ StretchesSettle {F} answers = (d : DocumentState) (until : ℕ) (options : Timel
     → IsPlayable d → Settle t.passages
 
 -- the root that a system follows: where it is near, the identity of the best of its component
-abbrev pub IsRootOf : Snapshot → ℕ → ℕ → Type 0
-IsRootOf g name root = IsNear g name → IsBestIdentity g name root
+abbrev pub IsShownRoot : Snapshot → ℕ → ℕ → Type 0
+IsShownRoot g name root = IsNear g name → IsBestIdentity g name root
 
 -- the roots that all systems of the snapshot follow, by rising clock
 abbrev pub AreRoots : Snapshot → List ℕ → Type 0
-AreRoots g roots = Each (IsRootOf g) (clocks g) roots
+AreRoots g roots = Each (IsShownRoot g) (clocks g) roots
 
 -- Where a stretch has a bound and lasts as long, the roots that live systems follow where it ends are those of the
 -- settled choice of the network as it stands then: of each near system the best of its component.
@@ -107,8 +107,8 @@ pub record SayBound (errors : TimeErrors) (name from bound : ℕ) : Type 0 where
   pub bound_is : system.error ≡ Some bound
 
 -- the error of a receipt of a system from a time on is within a bound
-abbrev pub IsWithin : ℕ → ℕ → ℕ → Transition → Type 0
-IsWithin name from bound t = (error : ℤ) → from ≤ at_of t → receives name t ≡ true → error_at name t ≡ Some error
+abbrev pub ErrorIsWithin : ℕ → ℕ → ℕ → Transition → Type 0
+ErrorIsWithin name from bound t = (error : ℤ) → from ≤ at_of t → receives name t ≡ true → error_at name t ≡ Some error
     → unsigned_abs error ≤ bound
 
 -- Errors of receipts are within the bounds that the time errors of their stretch say, each from the time on from which
@@ -116,7 +116,7 @@ IsWithin name from bound t = (error : ℤ) → from ≤ at_of t → receives nam
 abbrev pub AreErrorsWithin : List Passage → Type 0
 AreErrorsWithin passages = (p : Passage) (errors : TimeErrors) (name from bound : ℕ)
     → In p passages → p.errors ≡ Some errors → SayBound errors name from bound
-    → ((act : Transition) → In act p.acts → IsWithin name from bound act)
+    → ((act : Transition) → In act p.acts → ErrorIsWithin name from bound act)
     × IfSome (error_from name (Some from) p.acts) (λ amount. amount ≤ bound)
 
 -- The errors of a timeline are within its bounds as long as clocks can show the time.
@@ -131,13 +131,13 @@ RunsAreWithin {F} answers = (d : DocumentState) (until : ℕ) (fate : F) (start 
     (w : WorldState) (errors : TimeErrors) (name from bound : ℕ)
     → IsPlayable d → until ≤ 10 ^ 18 → Unfolds answers d until fate start ts w → AreTimeErrors d until errors
     → SayBound errors name from bound
-    → (act : Transition) → In act ts → IsWithin name from bound act
+    → (act : Transition) → In act ts → ErrorIsWithin name from bound act
 
 -- ---- all of it at once
 
 -- A timeline is right: its stretches are one run, the last lines of each system tell what it shows where that ends,
 -- stretches settle within their bounds and then follow the settled choice, and errors are within theirs.
-pub record IsRight {F : Type 0} (answers : Bounds → ℕ → F → Option ℕ → F → Type 0) (d : DocumentState) (until : ℕ)
+pub record TimelineIsRight {F : Type 0} (answers : Bounds → ℕ → F → Option ℕ → F → Type 0) (d : DocumentState) (until : ℕ)
     (options : TimelineOptions) (fate : F) (lines : List (List ℕ)) (exceeded : Bool)
     (t : TimelineOf answers d until options fate lines exceeded) : Type 0 where
   pub unfolds : Unfolds answers d until fate t.start (all_acts t.passages) t.after
@@ -150,4 +150,4 @@ pub record IsRight {F : Type 0} (answers : Bounds → ℕ → F → Option ℕ �
 abbrev pub TimelinesAreRight : {F : Type 0} → (Bounds → ℕ → F → Option ℕ → F → Type 0) → Type 0
 TimelinesAreRight {F} answers = (d : DocumentState) (until : ℕ) (options : TimelineOptions) (fate : F)
     (lines : List (List ℕ)) (exceeded : Bool) (t : TimelineOf answers d until options fate lines exceeded)
-    → IsPlayable d → until ≤ 10 ^ 18 → IsRight answers d until options fate lines exceeded t
+    → IsPlayable d → until ≤ 10 ^ 18 → TimelineIsRight answers d until options fate lines exceeded t

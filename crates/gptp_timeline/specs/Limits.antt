@@ -14,13 +14,13 @@ abbrev pub all_limits : List Limit
 all_limits = Choice ∷ Holdover ∷ Error ∷ Without ∷ Roots ∷ Alone ∷ []
 
 -- the place of each among them
-abbrev pub place_of : Limit → ℕ
-place_of Choice = 0
-place_of Holdover = 1
-place_of Error = 2
-place_of Without = 3
-place_of Roots = 4
-place_of Alone = 5
+abbrev pub limit_number : Limit → ℕ
+limit_number Choice = 0
+limit_number Holdover = 1
+limit_number Error = 2
+limit_number Without = 3
+limit_number Roots = 4
+limit_number Alone = 5
 
 abbrev pub limit_text : Limit → List ℕ
 limit_text Choice = codes "choice"
@@ -41,7 +41,7 @@ unit_of limit = 1
 
 -- what is given for it
 abbrev pub most_of : Limits → Limit → Option ℕ
-most_of limits limit = slice_index_or limits.most (place_of limit) None
+most_of limits limit = slice_index_or limits.most (limit_number limit) None
 
 -- ---- whether a stretch keeps to them
 
@@ -79,7 +79,7 @@ first_exceeded limits amounts (limit ∷ others) =
 abbrev pub earlier : Option Limit → Option Limit → Option Limit
 earlier None b = b
 earlier (Some a) None = Some a
-earlier (Some a) (Some b) = if nat_lt (place_of b) (place_of a) then Some b else Some a
+earlier (Some a) (Some b) = if nat_lt (limit_number b) (limit_number a) then Some b else Some a
 
 -- the first limit that some stretches exceed, with one more
 abbrev pub exceeded_after : Limits → Stretch → Option Limit → Option Limit

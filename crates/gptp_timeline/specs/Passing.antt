@@ -8,8 +8,8 @@ use Rattle.gptp_plan.specs.declared.change.Timed.{Timed}
 use Rattle.gptp_world.specs.Observing.{Tells}
 use Rattle.gptp_world.specs.Transitions.{Transition}
 use Rattle.gptp_report.specs.Transitions.{Courses, CoursesSoFar}
-use Rattle.gptp_timeline.specs.Timeline.{end_lines, exact_time, is_begun, IsPlan}
-use Rattle.gptp_timeline.specs.Watch.{begun, event_look, nothing, see_all, tells_changes, unseen, WatchState}
+use Rattle.gptp_timeline.specs.Timeline.{end_lines, exact_time, is_begun, IsTimelinePlan}
+use Rattle.gptp_timeline.specs.Watch.{watch_begun, event_look, nothing, see_all, tells_changes, unseen, WatchState}
 use Rattle.gptp_timeline.specs.declared.timeline.Plan.{Plan}
 use Rattle.gptp_timeline.specs.declared.timeline.TimelineOptions.{TimelineOptions}
 
@@ -32,11 +32,11 @@ abbrev pub watch_at_start : TimelineOptions → WorldState → WatchState
 watch_at_start options w = see_all (event_look 0) w (watch_before options w)
 
 -- The acts of a stretch with these events were done before an observer for which it began, and this is told of them.
-pub record IsSeen {F : Type 0} (answers : Bounds → ℕ → F → Option ℕ → F → Type 0) (plan : Plan) (events : List Timed)
+pub record StretchIsSeen {F : Type 0} (answers : Bounds → ℕ → F → Option ℕ → F → Type 0) (plan : Plan) (events : List Timed)
     (fate fate_after : F) (w w' : WorldState) (o o_after : WatchState) (told : List (List ℕ)) : Type 0 where
   pub acts : List Transition
   pub courses : Courses answers plan.to events acts fate fate_after w w'
-  pub tells : Tells tells_changes acts (begun (exact_time plan.errors) o) o_after told
+  pub tells : Tells tells_changes acts (watch_begun (exact_time plan.errors) o) o_after told
 
 -- some of them were
 pub record IsSeenSoFar {F : Type 0} (answers : Bounds → ℕ → F → Option ℕ → F → Type 0) (plan : Plan)
@@ -44,7 +44,7 @@ pub record IsSeenSoFar {F : Type 0} (answers : Bounds → ℕ → F → Option �
   pub acts : List Transition
   pub o_after : WatchState
   pub courses : CoursesSoFar answers plan.to events acts fate w
-  pub tells : Tells tells_changes acts (begun (exact_time plan.errors) o) o_after told
+  pub tells : Tells tells_changes acts (watch_begun (exact_time plan.errors) o) o_after told
 
 -- all of them were, and the stretch ended
 pub record IsSeenToEnd {F : Type 0} (answers : Bounds → ℕ → F → Option ℕ → F → Type 0) (plan : Plan)
@@ -53,17 +53,17 @@ pub record IsSeenToEnd {F : Type 0} (answers : Bounds → ℕ → F → Option �
   pub after : WorldState
   pub o_after : WatchState
   pub told : List (List ℕ)
-  pub seen : IsSeen answers plan events fate fate_after w after o o_after told
+  pub seen : StretchIsSeen answers plan events fate fate_after w after o o_after told
   pub are : lines ≡ told ++ end_lines plan o_after
 
 -- A stretch that breaks off: nothing is known of it, or some of its acts were done, or it ended.
-abbrev pub BreaksSeen : {F : Type 0} → (Bounds → ℕ → F → Option ℕ → F → Type 0) → Plan → List Timed → F → WorldState
+abbrev pub StretchBreaksOff : {F : Type 0} → (Bounds → ℕ → F → Option ℕ → F → Type 0) → Plan → List Timed → F → WorldState
     → WatchState → List (List ℕ) → Type 0
-BreaksSeen answers plan events fate w o lines =
+StretchBreaksOff answers plan events fate w o lines =
     IsSeenSoFar answers plan events fate w o lines ⊎ IsSeenToEnd answers plan events fate w o lines
 
 abbrev pub StopsSeen : {F : Type 0} → (Bounds → ℕ → F → Option ℕ → F → Type 0) → Bool → DocumentState → ℕ → ℕ
     → List Timed → F → WorldState → WatchState → List (List ℕ) → Type 0
 StopsSeen answers exact d from to events fate w o lines =
     (lines ≡ [])
-    ⊎ ((plan : Plan) × IsPlan exact d from to (is_begun events) plan × BreaksSeen answers plan events fate w o lines)
+    ⊎ ((plan : Plan) × IsTimelinePlan exact d from to (is_begun events) plan × StretchBreaksOff answers plan events fate w o lines)

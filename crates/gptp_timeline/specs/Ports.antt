@@ -26,11 +26,11 @@ abbrev pub same_bool : Bool → Bool → Bool
 same_bool true b = b
 same_bool false b = not b
 
-abbrev pub same_port : ShownPort → ShownPort → Bool
-same_port p q = role_number p.role == role_number q.role && same_bool p.capable q.capable
+abbrev pub shows_same_port : ShownPort → ShownPort → Bool
+shows_same_port p q = role_number p.role == role_number q.role && same_bool p.capable q.capable
 
 abbrev pub same_ports : List ShownPort → List ShownPort → Bool
 same_ports [] [] = true
 same_ports [] (q ∷ qs) = false
 same_ports (p ∷ ps) [] = false
-same_ports (p ∷ ps) (q ∷ qs) = same_port p q && same_ports ps qs
+same_ports (p ∷ ps) (q ∷ qs) = shows_same_port p q && same_ports ps qs

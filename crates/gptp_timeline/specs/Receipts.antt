@@ -19,19 +19,19 @@ is_follow_up [] = false
 is_follow_up (octet ∷ octets) = octet % 16 == 8
 
 -- the clock, where a frame that was answered so is a Follow_Up that was used
-abbrev pub receiver : ℕ → Option Answer → List ℕ → Option ℕ
-receiver clock (Some answers.Used) octets = if is_follow_up octets then Some clock else None
-receiver clock answer octets = None
+abbrev pub receiver_clock : ℕ → Option Answer → List ℕ → Option ℕ
+receiver_clock clock (Some answers.Used) octets = if is_follow_up octets then Some clock else None
+receiver_clock clock answer octets = None
 
 -- the system that receives time by an act of which this is told, if one does
 abbrev pub received_by : Done → Option ℕ
 received_by Quiet = None
-received_by (Heard clock port answer frame) = receiver clock answer frame.items
+received_by (Heard clock port answer frame) = receiver_clock clock answer frame.items
 
 -- How far the offset of a system is off at a time: that less what its local time is ahead of that of the system whose
 -- clock its root names, whatever that follows itself. There is none where that doesn't live.
-abbrev pub error_of : ℕ → SystemState → WorldState → Option ℤ
-error_of at s w = option_and_then (λ offset.
+abbrev pub offset_error : ℕ → SystemState → WorldState → Option ℤ
+offset_error at s w = option_and_then (λ offset.
     option_map (λ leader. offset -ℤ (local_time s at -ℤ local_time leader at)) (live_system (clock_of s.root) w))
     s.offset
 

@@ -4,7 +4,7 @@ use Rattle.std.specs.Option.{option_eq, option_map, option_map_or}
 use Rattle.gptp_acts.specs.declared.station.Station.{Station}
 use Rattle.gptp_acts.specs.World.{WorldState}
 use Rattle.gptp_system.specs.State.{SystemState, clock}
-use Rattle.gptp_time_error.specs.TimeErrors.{is_capable}
+use Rattle.gptp_time_error.specs.TimeErrors.{root_is_capable}
 use Rattle.gptp_timeline.specs.Ports.{same_ports, shown_ports}
 use Rattle.gptp_timeline.specs.declared.shown.Shown.{Shown}
 
@@ -59,4 +59,4 @@ is_known shown = option_map_or (λ (s : Shown). s.known) shown false
 
 -- It lives and expects time: it has a Slave port, and its root can be a grandmaster.
 abbrev pub is_expecting : Option Shown → Bool
-is_expecting shown = option_map_or (λ (s : Shown). is_some s.slave && is_capable s.root) shown false
+is_expecting shown = option_map_or (λ (s : Shown). is_some s.slave && root_is_capable s.root) shown false

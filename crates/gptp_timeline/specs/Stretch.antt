@@ -8,14 +8,14 @@ use Rattle.gptp_plan.specs.declared.change.Act.TheVariants.{Change as Changing, 
 use Rattle.gptp_world.specs.Transitions.{Transition}
 use Rattle.gptp_timeline.specs.Measures.{ended_by, greatest, one_at, since_after}
 use Rattle.gptp_timeline.specs.Ports.{same_bool}
-use Rattle.gptp_timeline.specs.Receipts.{error_of, received_by}
+use Rattle.gptp_timeline.specs.Receipts.{offset_error, received_by}
 use Rattle.gptp_timeline.specs.Shown.{is_expecting, is_known, live_system, same_choice, same_roles, shown}
 use Rattle.gptp_timeline.specs.declared.counts.Counts.{Counts}
 use Rattle.gptp_timeline.specs.declared.measures.Greatest.{Greatest}
 use Rattle.gptp_timeline.specs.declared.measures.Measures.{Measures}
 use Rattle.gptp_timeline.specs.declared.shown.Shown.{Shown}
 use Rattle.gptp_timeline.specs.declared.watched.Watched.{Watched}
-use Rattle.gptp_time_error.specs.TimeErrors.{is_capable}
+use Rattle.gptp_time_error.specs.TimeErrors.{root_is_capable}
 
 -- ---- an act
 
@@ -84,7 +84,7 @@ holdover names since time ts = greatest (ended names since ts ++ under_way names
 
 -- the error of the receipt of a system by an act
 abbrev pub error_at : ℕ → Transition → Option ℤ
-error_at name t = option_and_then (λ s. error_of (at_of t) s t.after) (live_system name t.after)
+error_at name t = option_and_then (λ s. offset_error (at_of t) s t.after) (live_system name t.after)
 
 -- without its sign, with the system that received
 abbrev pub error_in : Transition → Option Greatest
@@ -119,7 +119,7 @@ measured names since time ts = record {
 
 -- a live system has no time: its root can't be a grandmaster, or it has a Slave port and no offset
 abbrev pub goes_without : Shown → Bool
-goes_without s = not (is_capable s.root) || (is_some s.slave && not s.known)
+goes_without s = not (root_is_capable s.root) || (is_some s.slave && not s.known)
 
 abbrev pub is_without : Option Shown → Bool
 is_without shown = option_map_or goes_without shown false

@@ -4,7 +4,7 @@ use Rattle.std.specs.List.{flat_map}
 use Rattle.std.specs.Option.{option_or}
 use Rattle.gptp_acts.specs.World.{WorldState}
 use Rattle.gptp_world.specs.Transitions.{Transition}
-use Rattle.gptp_timeline.specs.Changes.{failed_line, is_same, port_line, same_line, system_line}
+use Rattle.gptp_timeline.specs.Changes.{changed_failed_line, is_same, changed_port_line, same_line, changed_system_line}
 use Rattle.gptp_timeline.specs.Shown.{shown}
 use Rattle.gptp_timeline.specs.declared.ports.ShownPort.{ShownPort}
 use Rattle.gptp_timeline.specs.declared.shown.Shown.{Shown}
@@ -16,9 +16,9 @@ pub data Telling : Type 0 where
   OfFailure : Telling
 
 abbrev pub telling_line : ℕ → ℕ → Telling → List ℕ
-telling_line at name (OfSystem s) = system_line at name s
-telling_line at name (OfPort place p) = port_line at name (place + 1) p
-telling_line at name OfFailure = failed_line at name
+telling_line at name (OfSystem s) = changed_system_line at name s
+telling_line at name (OfPort place p) = changed_port_line at name (place + 1) p
+telling_line at name OfFailure = changed_failed_line at name
 
 -- ---- what is told of a system behind an act
 

@@ -47,13 +47,13 @@ all_changes names t =
     flat_map (λ name. change_lines (at_of t) name (shown name t.before) (shown name t.after)) names
 
 -- the line of the receipt of a live system
-abbrev pub receipt_lines : ℕ → Transition → Option SystemState → List (List ℕ)
-receipt_lines name t None = []
-receipt_lines name t (Some s) = offset_line (at_of t) name s.offset (error_at name t) ∷ []
+abbrev pub stretch_receipt_lines : ℕ → Transition → Option SystemState → List (List ℕ)
+stretch_receipt_lines name t None = []
+stretch_receipt_lines name t (Some s) = offset_line (at_of t) name s.offset (error_at name t) ∷ []
 
 abbrev pub offset_lines : Transition → Option ℕ → List (List ℕ)
 offset_lines t None = []
-offset_lines t (Some name) = receipt_lines name t (live_system name t.after)
+offset_lines t (Some name) = stretch_receipt_lines name t (live_system name t.after)
 
 -- The event first, then what is another at systems, then the receipt.
 abbrev pub act_lines : TimelineOptions → List ℕ → Transition → List (List ℕ)
@@ -73,9 +73,9 @@ accuracy_at None ts systems = []
 accuracy_at (Some from) ts systems = flat_map (system_accuracy from (λ name. error_from name (Some from) ts)) systems
 
 -- all of them, by rising clock
-abbrev pub accuracy_lines : List Transition → Option TimeErrors → List (List ℕ)
-accuracy_lines ts None = []
-accuracy_lines ts (Some t) = accuracy_at t.from ts t.systems.items
+abbrev pub timeline_accuracy_lines : List Transition → Option TimeErrors → List (List ℕ)
+timeline_accuracy_lines ts None = []
+timeline_accuracy_lines ts (Some t) = accuracy_at t.from ts t.systems.items
 
 -- the time from which on they hold
 abbrev pub exact_time : Option TimeErrors → Option ℕ
@@ -129,7 +129,7 @@ is_begun [] = false
 is_begun (e ∷ es) = true
 
 -- what is known of it by the document alone, where it is asked, or isn't, how exact systems are
-pub record IsPlan (exact : Bool) (d : DocumentState) (from to : ℕ) (begins_with_event : Bool) (plan : Plan) : Type 0
+pub record IsTimelinePlan (exact : Bool) (d : DocumentState) (from to : ℕ) (begins_with_event : Bool) (plan : Plan) : Type 0
   where
     pub from_is : plan.from ≡ from
     pub to_is : plan.to ≡ to
@@ -152,7 +152,7 @@ stretch_of names since p = record {
 abbrev pub passage_lines : TimelineOptions → List ℕ → (ℕ → Option ℕ) → Passage → List (List ℕ)
 passage_lines options names since p =
     flat_map (act_lines options names) p.acts
-    ++ after_line (stretch_of names since p) ∷ accuracy_lines p.acts p.errors
+    ++ after_line (stretch_of names since p) ∷ timeline_accuracy_lines p.acts p.errors
 
 -- ---- all stretches
 

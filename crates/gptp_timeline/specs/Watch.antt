@@ -14,7 +14,7 @@ use Rattle.gptp_system.specs.State.{SystemState}
 use Rattle.gptp_timeline.specs.Changes.{change_lines}
 use Rattle.gptp_timeline.specs.EventLine.{event_line}
 use Rattle.gptp_timeline.specs.Measures.{better_if, ended_by, last_if, one_at, since_after}
-use Rattle.gptp_timeline.specs.Receipts.{error_of, offset_line, received_by}
+use Rattle.gptp_timeline.specs.Receipts.{offset_error, offset_line, received_by}
 use Rattle.gptp_timeline.specs.Shown.{is_expecting, live_system, same_choice, same_roles, shown}
 use Rattle.gptp_timeline.specs.Stretch.{same_known}
 use Rattle.gptp_timeline.specs.declared.measures.Greatest.{Greatest}
@@ -83,8 +83,8 @@ nothing = record { choice = None; roles = None; offsets = None; holdover = None;
 abbrev pub without_error : Watched → Watched
 without_error x = record x { error = None }
 
-abbrev pub begun : Option ℕ → WatchState → WatchState
-begun exact_from o = record o { exact_from = exact_from; systems = map without_error o.systems; measures = nothing }
+abbrev pub watch_begun : Option ℕ → WatchState → WatchState
+watch_begun exact_from o = record o { exact_from = exact_from; systems = map without_error o.systems; measures = nothing }
 
 -- ---- systems that are looked at
 
@@ -164,11 +164,11 @@ take_error at place (Some x) error o = with_error at place x error o
 -- the receipt of a live system
 abbrev pub see_receipt_of : ℕ → WorldState → ℕ → Option SystemState → WatchState → WatchState
 see_receipt_of at w place None o = o
-see_receipt_of at w place (Some s) o = take_error at place (slice_get o.systems place) (error_of at s w) o
+see_receipt_of at w place (Some s) o = take_error at place (slice_get o.systems place) (offset_error at s w) o
 
 abbrev pub receipt_lines_of : ℕ → WorldState → ℕ → Option SystemState → List (List ℕ)
 receipt_lines_of at w clock None = []
-receipt_lines_of at w clock (Some s) = offset_line at clock s.offset (error_of at s w) ∷ []
+receipt_lines_of at w clock (Some s) = offset_line at clock s.offset (offset_error at s w) ∷ []
 
 abbrev pub see_receipt : ℕ → WorldState → ℕ → ℕ → WatchState → WatchState
 see_receipt at w clock place o = see_receipt_of at w place (live_system clock w) o
@@ -205,8 +205,8 @@ placed_lines at w clock received (Some place) o =
 abbrev pub see_system : ℕ → WorldState → ℕ → Bool → WatchState → WatchState
 see_system at w clock received o = see_placed at w clock received (place_of clock o) o
 
-abbrev pub system_lines : ℕ → WorldState → ℕ → Bool → WatchState → List (List ℕ)
-system_lines at w clock received o = placed_lines at w clock received (place_of clock o) o
+abbrev pub watched_lines : ℕ → WorldState → ℕ → Bool → WatchState → List (List ℕ)
+watched_lines at w clock received o = placed_lines at w clock received (place_of clock o) o
 
 -- ---- an act
 
@@ -218,7 +218,7 @@ see_delivery at w (Heard clock port answer frame) o =
 abbrev pub delivery_lines : ℕ → WorldState → Done → WatchState → List (List ℕ)
 delivery_lines at w Quiet o = []
 delivery_lines at w (Heard clock port answer frame) o =
-    system_lines at w clock (is_some (received_by (Heard clock port answer frame))) o
+    watched_lines at w clock (is_some (received_by (Heard clock port answer frame))) o
 
 abbrev pub see_act : ℕ → Act → Done → WorldState → WatchState → WatchState
 see_act at (Deliver link direction) done w o = see_delivery at w done o
@@ -227,7 +227,7 @@ see_act at (Changing change) done w o = see_all (event_look at) w o
 
 abbrev pub seen_lines : ℕ → Act → Done → WorldState → WatchState → List (List ℕ)
 seen_lines at (Deliver link direction) done w o = delivery_lines at w done o
-seen_lines at (Expire clock timer) done w o = system_lines at w clock false o
+seen_lines at (Expire clock timer) done w o = watched_lines at w clock false o
 seen_lines at (Changing change) done w o =
     unless o.summary (event_line at change ∷ []) ++ lines_all (event_look at) w o
 
@@ -238,5 +238,5 @@ tells_changes told w o o_after lines =
     × (lines ≡ seen_lines told.timed.at told.timed.act told.done w o)
 
 -- clocks rise
-abbrev pub RisesByClock : List Watched → Type 0
-RisesByClock systems = IsRising (map (λ (x : Watched). x.clock) systems)
+abbrev pub WatchedRise : List Watched → Type 0
+WatchedRise systems = IsRising (map (λ (x : Watched). x.clock) systems)

@@ -2,7 +2,7 @@
 
 ghost use Rattle.std.specs.Prelude.{◌≡◌, ◌*◌};
 ghost use Rattle.gptp_pdelay.specs.GoodLink.{ceil_div};
-ghost use Rattle.gptp_timeline.specs.Amounts.{nearest, sign_text};
+ghost use Rattle.gptp_timeline.specs.Amounts.{nearest_thousandth, sign_text};
 
 use gptp_time_error::Thousandths;
 use std::fmt;
@@ -10,7 +10,7 @@ use std::fmt;
 /// Such a time in thousandths of a nanosecond, to the nearest, half up.
 #[tactic(auto, using(crate::proofs::AmountLemmas::apart))]
 fn nearest(amount: u128) -> u128
-    ensures { result ≡ nearest amount }
+    ensures { result ≡ nearest_thousandth amount }
 {
     amount / 65_536 * 1000 + (amount % 65_536 * 1000 + 32_768) / 65_536
 }

@@ -2,7 +2,7 @@
 
 ghost use Rattle.std.specs.Prelude.{◌≡◌, ◌<◌, ◌≤◌, ◌+◌, slice_get, ◌++◌, ◌∷◌, [], OnOk, Some, length, string_bytes};
 ghost use Rattle.gptp_spelling.specs.Lines.{text_of};
-ghost use Rattle.gptp_timeline.specs.Changes.{change_lines, changed_lines, failed_line, is_same, known_text, new_lines, port_line, port_lines, port_lines_if, same_line, system_line, system_lines_if};
+ghost use Rattle.gptp_timeline.specs.Changes.{change_lines, changed_lines, changed_failed_line, is_same, known_text, new_lines, changed_port_line, port_lines, port_lines_if, same_line, changed_system_line, system_lines_if};
 
 use crate::ports::{ShownPort, same_bool, same_port};
 use crate::shown::{Shown, is_known, same_choice};
@@ -20,7 +20,7 @@ fn known_word(known: bool) -> &'static str
 /// Appends the line of a live system.
 fn write_system(text: &mut String, at: u64, clock: ClockId, shown: &Shown) -> Result<(), AllocError>
     ensures { OnOk result (string_bytes text.new
-        ≡ string_bytes text.old ++ (system_line at clock shown.now ++ 10 ∷ [])) }
+        ≡ string_bytes text.old ++ (changed_system_line at clock shown.now ++ 10 ∷ [])) }
 {
     writeln!(
         text,
@@ -43,7 +43,7 @@ fn write_port(
     shown: ShownPort,
 ) -> Result<(), AllocError>
     ensures { OnOk result (string_bytes text.new
-        ≡ string_bytes text.old ++ (port_line at clock port shown ++ 10 ∷ [])) }
+        ≡ string_bytes text.old ++ (changed_port_line at clock port shown ++ 10 ∷ [])) }
 {
     writeln!(
         text,
@@ -56,7 +56,7 @@ fn write_port(
 
 /// Appends the line of a system that failed.
 fn write_failed(text: &mut String, at: u64, clock: ClockId) -> Result<(), AllocError>
-    ensures { OnOk result (string_bytes text.new ≡ string_bytes text.old ++ text_of (failed_line at clock ∷ [])) }
+    ensures { OnOk result (string_bytes text.new ≡ string_bytes text.old ++ text_of (changed_failed_line at clock ∷ [])) }
 {
     writeln!(text, "at {at} system {} failed", ClockDigits(clock))
 }

@@ -2,7 +2,7 @@
 
 ghost use Rattle.std.specs.Prelude.{◌≡◌, ◌<◌, ◌++◌, ◌∷◌, [], IfOk, OnOk, is_some, string_bytes};
 ghost use Rattle.gptp_spelling.specs.Lines.{text_of};
-ghost use Rattle.gptp_timeline.specs.Limits.{amount_in, earlier, exceeded_after, exceeds, first_exceeded, is_above, is_asked, is_exceeded, is_some_given, most_of, option_name, place_of, unit_of, verdict_line, verdict_lines};
+ghost use Rattle.gptp_timeline.specs.Limits.{amount_in, earlier, exceeded_after, exceeds, first_exceeded, is_above, is_asked, is_exceeded, is_some_given, most_of, option_name, limit_number, unit_of, verdict_line, verdict_lines};
 
 use crate::stretch::Stretch;
 use std::alloc::AllocError;
@@ -38,7 +38,7 @@ impl Limit {
 
     /// Its place among all of them.
     fn place(self) -> usize
-        ensures place { result ≡ place_of self }
+        ensures place { result ≡ limit_number self }
         ensures below { result < 6 }
     {
         self as usize

@@ -1,8 +1,8 @@
 //! What is shown of the ports of a system.
 
 ghost use Rattle.std.specs.Prelude.{◌≡◌, ◌≤◌, true, length};
-ghost use Rattle.gptp_system.specs.Steps.{IsPortOf};
-ghost use Rattle.gptp_timeline.specs.Ports.{role_number, same_bool, same_port, same_ports, shown_port, shown_ports};
+ghost use Rattle.gptp_system.specs.Steps.{HasPortNumber};
+ghost use Rattle.gptp_timeline.specs.Ports.{role_number, same_bool, shows_same_port, same_ports, shown_port, shown_ports};
 
 use arrayvec::ArrayVec;
 use gptp_roles::Role;
@@ -34,7 +34,7 @@ pub(crate) fn same_bool(a: bool, b: bool) -> bool
 
 /// Whether two ports are the same.
 pub(crate) fn same_port(a: ShownPort, b: ShownPort) -> bool
-    ensures { result ≡ same_port a b }
+    ensures { result ≡ shows_same_port a b }
 {
     role_number(a.role) == role_number(b.role) && same_bool(a.capable, b.capable)
 }
@@ -85,7 +85,7 @@ impl Ports {
 
 /// What is shown of a port of a system.
 fn shown_port(system: &System, port: u8) -> ShownPort
-    requires { IsPortOf system.now port }
+    requires { HasPortNumber system.now port }
     ensures { result ≡ shown_port system.now port }
 {
     ShownPort {

@@ -2,7 +2,7 @@
 
 ghost use Rattle.std.specs.Prelude.{◌≡◌, ◌≤◌, ◌-ℤ◌, ◌++◌, ◌∷◌, [], OnOk, string_bytes};
 ghost use Rattle.gptp_system.specs.State.{local_time};
-ghost use Rattle.gptp_timeline.specs.Receipts.{error_of, is_follow_up, offset_line, received_by, receiver};
+ghost use Rattle.gptp_timeline.specs.Receipts.{offset_error, is_follow_up, offset_line, received_by, receiver_clock};
 
 use crate::amounts::SignedOrNone;
 use gptp_acts::Done;
@@ -26,7 +26,7 @@ fn is_follow_up(frame: &[u8]) -> bool
 
 /// The clock, where a frame that was answered so is a Follow_Up that was used.
 fn receiver(clock: ClockId, answer: Option<Answer>, frame: &[u8]) -> Option<ClockId>
-    ensures { result ≡ receiver clock answer frame.now }
+    ensures { result ≡ receiver_clock clock answer frame.now }
 {
     match answer {
         Some(Answer::Used) => match is_follow_up(frame) {
@@ -65,7 +65,7 @@ fn error_against(at: u64, offset: ScaledNs, system: &System, leader: &System) ->
 /// that of the system whose clock its root names; none where that doesn't live, or no offset is known.
 pub(crate) fn error_of<F: Fate + Drop>(at: u64, system: &System, world: &World<F>) -> Option<i128>
     requires { at ≤ 1000000000000000 }
-    ensures { result ≡ error_of at system.now world.now.scene }
+    ensures { result ≡ offset_error at system.now world.now.scene }
 {
     world.well_formed();
     let (root, _, _) = system.follows();

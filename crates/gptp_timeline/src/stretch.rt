@@ -7,7 +7,7 @@ ghost use Rattle.gptp_spelling.specs.Lines.{text_of};
 ghost use Rattle.gptp_timeline.specs.Limits.{amount_of};
 ghost use Rattle.gptp_timeline.specs.Measures.{greatest_from};
 ghost use Rattle.gptp_timeline.specs.Stretch.{shown_of_all};
-ghost use Rattle.gptp_timeline.specs.Watch.{RisesByClock};
+ghost use Rattle.gptp_timeline.specs.Watch.{WatchedRise};
 ghost use Rattle.gptp_timeline.specs.StretchText.{accuracy_line, after_line, behind, bound_words, changed_words, counted_words, ended_stretch, error_among, exact_words, greatest_words, system_accuracy, wait_of};
 
 use crate::amounts::{Near, NearOrNone, Up};
@@ -252,7 +252,7 @@ pub(crate) fn write_after(text: &mut String, stretch: &Stretch) -> Result<(), Al
 
 /// The greatest error of the receipts of a system that count by themselves.
 fn error_at(systems: &[Watched], clock: ClockId) -> Option<u128>
-    requires { RisesByClock systems.now }
+    requires { WatchedRise systems.now }
     ensures { result ≡ error_among systems.now clock }
 {
     match systems.binary_search_by_key(&clock, |system| system.clock) {
@@ -303,7 +303,7 @@ fn write_exact_if(
     system: &SystemError,
     systems: &[Watched],
 ) -> Result<(), AllocError>
-    requires { RisesByClock systems.now }
+    requires { WatchedRise systems.now }
     ensures { OnOk result (string_bytes text.new
         ≡ string_bytes text.old ++ text_of (system_accuracy from (error_among systems.now) system.now)) }
 {
@@ -326,7 +326,7 @@ pub(crate) fn write_accuracies(
     errors: &[SystemError],
     systems: &[Watched],
 ) -> Result<(), AllocError>
-    requires { RisesByClock systems.now }
+    requires { WatchedRise systems.now }
     ensures { OnOk result (string_bytes text.new
         ≡ string_bytes text.old ++ text_of (flat_map (system_accuracy from (error_among systems.now)) errors.now)) }
 {

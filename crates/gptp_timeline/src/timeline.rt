@@ -17,8 +17,8 @@ ghost use Rattle.gptp_spelling.specs.Lines.{text_of};
 ghost use Rattle.gptp_topology.specs.Times.{AreCalmTimes};
 ghost use Rattle.gptp_timeline.specs.LastTwo.{EndsOf, all_kept, end_of, kept_after, none_kept};
 ghost use Rattle.gptp_timeline.specs.Limits.{is_exceeded, verdict_lines};
-ghost use Rattle.gptp_timeline.specs.Passing.{BreaksSeen, IsSeen, StopsSeen, first_time, watch_at_start};
-ghost use Rattle.gptp_timeline.specs.Timeline.{AllPass, AreErrorsBy, AreErrorsIf, BeginsTimeline, IsPlan, Passage, SomePass, TimelineOf, act_lines, all_lines, end_lines, exact_time, is_begun, kept_accuracy, later_than, none_waits, now_of};
+ghost use Rattle.gptp_timeline.specs.Passing.{StretchBreaksOff, StretchIsSeen, StopsSeen, first_time, watch_at_start};
+ghost use Rattle.gptp_timeline.specs.Timeline.{AllPass, AreErrorsBy, AreErrorsIf, BeginsTimeline, IsTimelinePlan, Passage, SomePass, TimelineOf, act_lines, all_lines, end_lines, exact_time, is_begun, kept_accuracy, later_than, none_waits, now_of};
 ghost use Rattle.gptp_timeline.specs.Watch.{event_look, lines_all, see_all};
 
 use crate::counts::roots_of;
@@ -176,7 +176,7 @@ fn plan_of(
     begins_with_event: bool,
 ) -> Result<Plan, Cut>
     requires { AreCalmTimes document.now times.now }
-    ensures plan { IfOk result (IsPlan exact document.now from to begins_with_event) }
+    ensures plan { IfOk result (IsTimelinePlan exact document.now from to begins_with_event) }
     ensures memory { IfErr result (λ e. e ≡ Cut.Memory) }
 {
     let bound = bound_among(alloc, document, times, from)?;
@@ -263,12 +263,12 @@ fn pass_stretch<F: Fate + Drop, K: Sink>(
     requires due { events_by plan.now.to events.now ≡ events.now }
     requires moment { plan.now.to ≤ 1000000000000000 }
     ensures passed { IfOk result (λ end. (told : List (List ℕ))
-        × IsSeen F.answers plan.now events.now world.old.fate world.new.fate world.old.scene world.new.scene
+        × StretchIsSeen F.answers plan.now events.now world.old.fate world.new.fate world.old.scene world.new.scene
         watch.old watch.new told
         × (end ≡ end_of plan.now watch.new)
         × Appends (K.written sink.old) (K.written sink.new) (text_of (told ++ end_lines plan.now watch.new))) }
     ensures broken { OnErr result ((lines : List (List ℕ))
-        × BreaksSeen F.answers plan.now events.now world.old.fate world.old.scene watch.old lines
+        × StretchBreaksOff F.answers plan.now events.now world.old.fate world.old.scene watch.old lines
         × AppendsSome (K.written sink.old) (K.written sink.new) (text_of lines)) }
     ensures works { result ≢ Err Cut.Write → K.failures sink.new ≡ K.failures sink.old }
     ensures fails { result ≡ Err Cut.Write → K.failures sink.new ≢ K.failures sink.old }
@@ -299,8 +299,8 @@ fn next_stretch<F: Fate + Drop, K: Sink>(
     requires moment { to ≤ 1000000000000000 }
     requires times { AreCalmTimes document.now times.now }
     ensures passed { IfOk result (λ kept. (plan : Plan) × (told : List (List ℕ))
-        × IsPlan exact document.now from to (is_begun events.now) plan
-        × IsSeen F.answers plan events.now world.old.fate world.new.fate world.old.scene world.new.scene
+        × IsTimelinePlan exact document.now from to (is_begun events.now) plan
+        × StretchIsSeen F.answers plan events.now world.old.fate world.new.fate world.old.scene world.new.scene
         watch.old watch.new told
         × (kept ≡ kept_after limits.now (end_of plan watch.new) before)
         × Appends (K.written sink.old) (K.written sink.new) (text_of (told ++ end_lines plan watch.new))) }

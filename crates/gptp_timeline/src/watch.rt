@@ -43,7 +43,7 @@ impl Model for Watch {
 
     ghost Value = { WatchState };
 
-    ghost use Rattle.gptp_timeline.specs.Watch.{RisesByClock};
+    ghost use Rattle.gptp_timeline.specs.Watch.{WatchedRise};
 
     ghost view = { λ w. record {
       summary = w.summary;
@@ -53,7 +53,7 @@ impl Model for Watch {
       measures = w.measures;
     } };
 
-    ghost invariant = { λ w. RisesByClock w.systems.items };
+    ghost invariant = { λ w. WatchedRise w.systems.items };
 }
 
 /// What the system with a clock shows, where it is live.
@@ -165,7 +165,7 @@ impl Watch {
     ghost use Rattle.gptp_spelling.specs.Lines.{text_of};
     ghost use Rattle.gptp_timeline.specs.Changes.{change_lines};
     ghost use Rattle.gptp_timeline.specs.EventLine.{event_line};
-    ghost use Rattle.gptp_timeline.specs.Watch.{RisesByClock, StaysSo, begun, delivery_lines, event_look, lines_all, lines_at, nothing, place_of, placed_lines, receipt_lines, receipt_lines_if, see_act, see_all, see_at, see_delivery, see_placed, see_receipt, see_receipt_if, see_system, seen_lines, system_lines, take_error, taken, unless, unseen};
+    ghost use Rattle.gptp_timeline.specs.Watch.{WatchedRise, StaysSo, watch_begun, delivery_lines, event_look, lines_all, lines_at, nothing, place_of, placed_lines, receipt_lines, receipt_lines_if, see_act, see_all, see_at, see_delivery, see_placed, see_receipt, see_receipt_if, see_system, seen_lines, watched_lines, take_error, taken, unless, unseen};
     ghost use Rattle.gptp_timeline.specs.declared.watched.Watched.{Watched};
 
     /// An observer of a world whose systems start, before it has seen that.
@@ -197,7 +197,7 @@ impl Watch {
     /// What is kept of each system, by rising clock.
     pub(crate) fn systems(&self) -> &[Watched]
         ensures are { result.now ≡ self.now.systems }
-        ensures rises { RisesByClock result.now }
+        ensures rises { WatchedRise result.now }
     {
         &self.systems
     }
@@ -211,7 +211,7 @@ impl Watch {
 
     /// A stretch begins, in which the receipts of each system count by themselves from a time on.
     pub(crate) fn begin(&mut self, exact_from: Option<u64>)
-        ensures { self.new ≡ begun exact_from self.old }
+        ensures { self.new ≡ watch_begun exact_from self.old }
     {
         self.exact_from = exact_from;
         self.measures = NOTHING;
@@ -516,7 +516,7 @@ impl Watch {
         requires { at ≤ 1000000000000000 }
         ensures sees { OnOk result (self.new ≡ see_system at world.now.scene clock received self.old) }
         ensures tells { OnOk result (string_bytes text.new
-            ≡ string_bytes text.old ++ text_of (system_lines at world.now.scene clock received self.old)) }
+            ≡ string_bytes text.old ++ text_of (watched_lines at world.now.scene clock received self.old)) }
     {
         match self.place_of(clock) {
             Some(place) => self.see_placed(text, world, at, clock, received, place),

@@ -1,16 +1,16 @@
 -- The invariant of a system that follows its parent: it begins, every act keeps it, and what it gives.
 use Rattle.std.proofs.Common.{◌≡◌, ◌⊎◌, ◌<◌, ◌++◌, ℕ, List, ◌∷◌, Option, Some, None, sym, ap, subst, ◌∙◌, inl, inr, arith}
 use Rattle.gptp_correction.specs.declared.correction.Relayed.{Relayed}
-use Rattle.gptp_measuring.specs.Lanes.{Frame, IsMute}
+use Rattle.gptp_measuring.specs.Lanes.{LaneFrame, IsMute}
 use Rattle.gptp_timing.specs.Messages.{Message}
 use Rattle.gptp_timing.specs.Right.{info_of}
-use Rattle.gptp_timing.specs.Follower.{Follower, IsSetting, KeptSync, Setting, from, own_clock}
-use Rattle.gptp_timing.specs.Flows.{Arrival, Flows, IsTold, arrival}
-use Rattle.gptp_timing.specs.Acts.{Acts, FrameArrives, Knows, KnowsAnew, KnowsStill, Passes, hears, kept, others_send, parent_tells, relays}
-use Rattle.gptp_timing.specs.Invariant.{Inv, IsFresh, IsKept, IsKnownRight}
+use Rattle.gptp_timing.specs.Follower.{Follower, IsSetting, FollowerSync, FollowerSetting, from, own_clock}
+use Rattle.gptp_timing.specs.Flows.{Arrival, FramesFlow, TellsRight, arrival}
+use Rattle.gptp_timing.specs.Acts.{FollowerActs, FrameArrives, Knows, KnowsAnew, KnowsStill, FollowerWaits, hears, kept_at_ingress, others_send, parent_tells, relays}
+use Rattle.gptp_timing.specs.Invariant.{FollowerInvariant, IsJustSettled, IsKept, IsKnownRight}
 use Rattle.gptp_timing.proofs.FlowLemmas
 
-module _ (k : Setting) (says : List ℕ → Message → Type 0) where
+module _ (k : FollowerSetting) (says : List ℕ → Message → Type 0) where
   -- what is known stays right
   known_still : (s s' : Follower) → KnowsStill s s' → IsKnownRight k s → IsKnownRight k s'
   known_still s s' still right info due known relay late =
@@ -31,7 +31,7 @@ module _ (k : Setting) (says : List ℕ → Message → Type 0) where
 
   -- what a Follow_Up tells is right, and is known from then on
   known_told : (s s' : Follower) (sequence : ℕ) (told : Relayed) (a : Arrival)
-      → IsTold k (Some a) sequence s.time told → Knows k told (own_clock k a.came) s s' → IsKnownRight k s'
+      → TellsRight k (Some a) sequence s.time told → Knows k told (own_clock k a.came) s s' → IsKnownRight k s'
   known_told s s' sequence told a is knows info due known relay late = rw one (record {
     sent = is.sent;
     came = is.came;
@@ -48,23 +48,23 @@ module _ (k : Setting) (says : List ℕ → Message → Type 0) where
       then : a.came ≡ is.came
       then = cc
 
-  -- the state after an act, where the Sync that is kept is as it was
-  same_kept : (a : Option Arrival) (now now' : Option KeptSync) → now' ≡ now → IsKept k a now → IsKept k a now'
+  -- the state after an act, where the Sync that is kept_at_ingress is as it was
+  same_kept : (a : Option Arrival) (now now' : Option FollowerSync) → now' ≡ now → IsKept k a now → IsKept k a now'
   same_kept a now now' e is = subst (λ n. IsKept k a n) (sym e) is
 
   -- what is in flight after an act
-  flows_in : (a : Option Arrival) (lane lane' : List Frame) → lane' ≡ lane → Flows k says a lane → Flows k says a lane'
-  flows_in a lane lane' e flows = subst (λ fs. Flows k says a fs) (sym e) flows
+  flows_in : (a : Option Arrival) (lane lane' : List LaneFrame) → lane' ≡ lane → FramesFlow k says a lane → FramesFlow k says a lane'
+  flows_in a lane lane' e flows = subst (λ fs. FramesFlow k says a fs) (sym e) flows
 
   -- the oldest frame arrives
-  frame_arrived : (s s' : Follower) (act : FrameArrives k says s s') → Inv k says s → Inv k says s'
+  frame_arrived : (s s' : Follower) (act : FrameArrives k says s s') → FollowerInvariant k says s → FollowerInvariant k says s'
   frame_arrived s s' act inv =
       by_frame inv.arrival inv.is_kept
-      (subst (λ fs. Flows k says inv.arrival fs) act.was inv.flows)
+      (subst (λ fs. FramesFlow k says inv.arrival fs) act.was inv.flows)
     where
-      -- the state after a frame that leaves what is kept
-      unmoved : (a : Option Arrival) → IsKept k a s.kept → IsMute says act.front → Flows k says a act.rest
-          → Inv k says s'
+      -- the state after a frame that leaves what is kept_at_ingress
+      unmoved : (a : Option Arrival) → IsKept k a s.kept → IsMute says act.front → FramesFlow k says a act.rest
+          → FollowerInvariant k says s'
       unmoved a is mute flows =
           let still = act.hears.nothing mute in
           record {
@@ -74,8 +74,8 @@ module _ (k : Setting) (says : List ℕ → Message → Type 0) where
             known = known_still s s' still.still inv.known;
           }
 
-      -- the state where no Sync is known to be kept
-      unkept : Flows k says None act.rest → IsKnownRight k s' → Inv k says s'
+      -- the state where no Sync is known to be kept_at_ingress
+      unkept : FramesFlow k says None act.rest → IsKnownRight k s' → FollowerInvariant k says s'
       unkept flows known = record {
         arrival = None;
         is_kept = tt;
@@ -89,20 +89,20 @@ module _ (k : Setting) (says : List ℕ → Message → Type 0) where
       anyway old (inr anew) = known_early s s' (omega (arith, old, act.now)) anew
 
       -- a Follow_Up
-      told_or_none : (a : Arrival) (sequence : ℕ) (told : Relayed) → IsTold k (Some a) sequence act.front.due told
+      told_or_none : (a : Arrival) (sequence : ℕ) (told : Relayed) → TellsRight k (Some a) sequence act.front.due told
           → Knows k told (own_clock k a.came) s s' ⊎ (s'.known ≡ None) → IsKnownRight k s'
       told_or_none a sequence told is (inl knows) =
-          known_told s s' sequence told a (subst (λ t. IsTold k (Some a) sequence t told) act.now is) knows
+          known_told s s' sequence told a (subst (λ t. TellsRight k (Some a) sequence t told) act.now is) knows
       told_or_none a sequence told is (inr none) = known_none s' none
 
-      by_frame : (a : Option Arrival) → IsKept k a s.kept → Flows k says a (act.front ∷ act.rest) → Inv k says s'
+      by_frame : (a : Option Arrival) → IsKept k a s.kept → FramesFlow k says a (act.front ∷ act.rest) → FollowerInvariant k says s'
       by_frame a is (inl (old, behind)) = unkept behind (anyway old act.hears.anyway)
       by_frame a is (inr (inl (mute, behind))) = unmoved a is mute behind
       by_frame a is (inr (inr (inl (sequence, said, behind)))) =
           let keeps = act.hears.sync sequence said in
           record {
             arrival = Some (arrival sequence act.front.due);
-            is_kept = keeps.kept ∙ ap (λ t. Some (kept k.parent sequence (own_clock k t))) (sym act.now);
+            is_kept = keeps.kept ∙ ap (λ t. Some (kept_at_ingress k.parent sequence (own_clock k t))) (sym act.now);
             flows = flows_in (Some (arrival sequence act.front.due)) act.rest s'.lane act.lane behind;
             known = known_still s s' keeps.still inv.known;
           }
@@ -115,12 +115,12 @@ module _ (k : Setting) (says : List ℕ → Message → Type 0) where
           unkept behind
           (told_or_none a sequence told told_is
           (act.hears.follow_up sequence told (own_clock k a.came) said
-          (is ∙ ap (λ n. Some (kept k.parent n (own_clock k a.came))) number)))
+          (is ∙ ap (λ n. Some (kept_at_ingress k.parent n (own_clock k a.came))) number)))
         where
           number_is : {b : Arrival} → Some a ≡ Some b → a.sequence ≡ b.sequence
           number_is e = cc
 
-  pub inv_kept : (s s' : Follower) → Acts k says s s' → Inv k says s → Inv k says s'
+  pub inv_kept : (s s' : Follower) → FollowerActs k says s s' → FollowerInvariant k says s → FollowerInvariant k says s'
   inv_kept s s' (hears act) inv = frame_arrived s s' act inv
   inv_kept s s' (parent_tells act) inv = record {
     arrival = inv.arrival;
@@ -149,11 +149,11 @@ module _ (k : Setting) (says : List ℕ → Message → Type 0) where
     known = known_still s s' act.unmoved.still inv.known;
   }
 
-  pub inv_later : (s s' : Follower) → Passes s s' → Inv k says s → Inv k says s'
-  inv_later s s' (time, on, is) inv = subst (λ (t : Follower). Inv k says t) (sym is)
+  pub inv_later : (s s' : Follower) → FollowerWaits s s' → FollowerInvariant k says s → FollowerInvariant k says s'
+  inv_later s s' (time, on, is) inv = subst (λ (t : Follower). FollowerInvariant k says t) (sym is)
       (record { arrival = inv.arrival; is_kept = inv.is_kept; flows = inv.flows; known = inv.known })
 
-  pub inv_begins : (s : Follower) → IsSetting k → IsFresh k s → Inv k says s
+  pub inv_begins : (s : Follower) → IsSetting k → IsJustSettled k s → FollowerInvariant k says s
   inv_begins s is fresh = record {
     arrival = None;
     is_kept = tt;

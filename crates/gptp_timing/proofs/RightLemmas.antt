@@ -11,17 +11,17 @@ use Rattle.gptp_pdelay.specs.GoodLink.{ceil_div}
 use Rattle.gptp_pdelay.specs.Measured.{AreMeasured}
 use Rattle.gptp_pdelay.proofs.MeasurementLemmas.{clock_counts, counts_between, measurement_is_within}
 use Rattle.gptp_correction.specs.declared.correction.Relayed.{Relayed}
-use Rattle.gptp_correction.specs.Correction.{bridge, carried, carried_on, received, relayed, BridgeFits}
+use Rattle.gptp_correction.specs.Correction.{bridge, carried, carried_on, sync_received, relayed, BridgeFits}
 use Rattle.gptp_correction.specs.Sum.{sum_below}
-use Rattle.gptp_measuring.specs.Setting.{IsInTime}
-use Rattle.gptp_accuracy.specs.TimeError.{Link, Way, clock_at, drift_at, jitter_at, link_at, rate_error_at, rates_error_at, steady_rate_at, time_error_at, total_below}
+use Rattle.gptp_measuring.specs.Setting.{IsByMost}
+use Rattle.gptp_accuracy.specs.TimeError.{WayLink, Way, clock_at, drift_at, jitter_at, link_at, rate_error_at, rates_error_at, steady_rate_at, time_error_at, total_below}
 use Rattle.gptp_accuracy.specs.HopLaws.{IsOverLink, IsRateBehind, IsRateWithin}
 use Rattle.gptp_accuracy.specs.WayLaws.{IsDocumented, longer, shown_at}
 use Rattle.gptp_accuracy.proofs.HopLemmas.{hop_keeps, offset_is_within}
 use Rattle.gptp_accuracy.proofs.WayLemmas.{adds, ceil_reaches, error_before, error_behind, error_sent, link_grows, natural, rate_near, size_is, stay_grows}
 use Rattle.gptp_accuracy.proofs.LongerLemmas.{link_same, parents_error_stays, rates_same, steady_same, sum_same, total_same}
 use Rattle.gptp_timing.proofs.SizeLemmas.{IsSmall, passage_small}
-use Rattle.gptp_timing.specs.Right.{IsHeldAt, IsMeasuredAt, IsModest, IsRight, at_rate, info_of, measured_error_at, most_correction_at, sent_error_at}
+use Rattle.gptp_timing.specs.Right.{IsHeldAt, IsMeasuredAt, IsModest, FollowUpIsRight, at_rate, info_of, measured_error_at, most_correction_at, sent_error_at}
 use Rattle.gptp_timing.specs.RightLaws.{BridgeNumbersFit, BridgeTellsRight, ExchangesMeasureRight, HeldIsRight, IsOnWay, OffsetIsRight, RightStays, RootTellsRight}
 
 pub root_tells_right : RootTellsRight
@@ -46,7 +46,7 @@ held_is_right w phase i told sent neighbour held limited at right = by_case at.n
     fits = right.fits
 
     other : AreWithin (total_below i (measured_error_at w)) held (sum_below i (steady_rate_at w)) → FitsRate held
-        → IsRight w phase i (at_rate told held) sent
+        → FollowUpIsRight w phase i (at_rate told held) sent
     other within fits' = record {
       time = right.time;
       later = right.later;
@@ -57,7 +57,7 @@ held_is_right w phase i told sent neighbour held limited at right = by_case at.n
 
     by_case : (held ≡ told.rate) ⊎ (IsModest w i × (((held +ℤ neighbour ≡ pos 2147483647) × (held ≤ℤ told.rate))
         ⊎ ((held +ℤ neighbour ≡ negsuc 2147483647) × (told.rate ≤ℤ held))))
-        → IsRight w phase i (at_rate told held) sent
+        → FollowUpIsRight w phase i (at_rate told held) sent
     by_case (inl same) = other (rw same near) (rw same fits)
     by_case (inr (modest, inl (greatest, below))) =
         let sum = size_is (sum_below i (steady_rate_at w)) in
@@ -131,7 +131,7 @@ over_link w phase i told sent came rate delay on measured =
 
 -- the sum of the rates behind it is right
 rates_add : (w : Way) (phase : ℕ → ℕ) (i : ℕ) (told : Relayed) (sent : ℕ) (rate delay : ℤ) →
-    IsRight w phase i told sent → IsMeasuredAt w i rate delay →
+    FollowUpIsRight w phase i told sent → IsMeasuredAt w i rate delay →
     AreWithin (total_below (suc i) (measured_error_at w)) (told.rate +ℤ rate) (sum_below (suc i) (steady_rate_at w))
 rates_add w phase i told sent rate delay right measured =
     let before = right.rate in
@@ -169,7 +169,7 @@ held_on_way w phase i told sent came rate delay held on measured at = record {
 -- what a bridge adds to the correction isn't negative, and is small
 added_small : (w : Way) (phase : ℕ → ℕ) (i : ℕ) (told : Relayed) (sent came due : ℕ) (rate delay : ℤ) →
     IsOnWay w phase i told sent came → IsMeasuredAt w i rate delay →
-    IsInTime came due (w.residence + jitter_at w i) → FitsRate (told.rate +ℤ rate) →
+    IsByMost came due (w.residence + jitter_at w i) → FitsRate (told.rate +ℤ rate) →
     let info = info_of told (shown_at w phase (suc i) came) in
     IsSmall ((link_at w i).most + w.turnaround + w.residence + jitter_at w i + 1)
     (bridge info delay rate (shown_at w phase (suc i) due)) (told.rate +ℤ rate)
@@ -186,9 +186,9 @@ added_small w phase i told sent came due rate delay on measured (later, soon) fi
 
 right_behind : (w : Way) (phase : ℕ → ℕ) (i : ℕ) (told : Relayed) (sent came due : ℕ) (rate delay : ℤ) →
     IsOnWay w phase i told sent came → IsMeasuredAt w i rate delay →
-    IsInTime came due (w.residence + jitter_at w i) → FitsRate (told.rate +ℤ rate) →
+    IsByMost came due (w.residence + jitter_at w i) → FitsRate (told.rate +ℤ rate) →
     let info = info_of told (shown_at w phase (suc i) came) in
-    IsRight w phase (suc i) (relayed info (bridge info delay rate (shown_at w phase (suc i) due))) due
+    FollowUpIsRight w phase (suc i) (relayed info (bridge info delay rate (shown_at w phase (suc i) due))) due
 right_behind w phase i told sent came due rate delay on measured (later, soon) fits =
     let l = link_at w i in
     let ingress = shown_at w phase (suc i) came in
@@ -229,7 +229,7 @@ bridge_tells_right w phase i told sent came due rate delay held on measured in_t
 -- the numbers fit
 numbers_fit : (w : Way) (phase : ℕ → ℕ) (i : ℕ) (told : Relayed) (sent came due : ℕ) (rate delay : ℤ) →
     IsOnWay w phase i told sent came → IsMeasuredAt w i rate delay →
-    IsInTime came due (w.residence + jitter_at w i) → FitsRate (told.rate +ℤ rate) →
+    IsByMost came due (w.residence + jitter_at w i) → FitsRate (told.rate +ℤ rate) →
     most_correction_at w (suc i) < 2 ^ 63 → IsTime (shown_at w phase (suc i) came) →
     IsTime (shown_at w phase (suc i) due) → let info = info_of told (shown_at w phase (suc i) came) in
     let hop = bridge info delay rate (shown_at w phase (suc i) due) in
@@ -265,7 +265,7 @@ bridge_numbers_fit w phase i told sent came due rate delay held on measured in_t
 offset_within : (w : Way) (phase : ℕ → ℕ) (i : ℕ) (told : Relayed) (sent came now : ℕ) (rate delay : ℤ) →
     IsOnWay w phase i told sent came → IsMeasuredAt w i rate delay → came ≤ now → now ≤ sent + (link_at w i).most →
     let ingress = shown_at w phase (suc i) came in
-    AreWithin (time_error_at w (suc i)) (ingress -ℤ received (info_of told ingress) delay rate)
+    AreWithin (time_error_at w (suc i)) (ingress -ℤ sync_received (info_of told ingress) delay rate)
     (shown_at w phase (suc i) now -ℤ shown_at w phase 0 now)
 offset_within w phase i told sent came now rate delay on measured later soon =
     let l = link_at w i in
@@ -278,7 +278,7 @@ offset_within w phase i told sent came now rate delay on measured later soon =
     let passed = counts_between (phase 0) (drift_at w 0) sent now (on.documented.drifts 0 (omega arith))
     (omega (arith, on.long, later)) in
     let parts : now - sent ≡ passing + wait = omega (arith, on.long, later) in
-    let added = received info delay rate -ℤ (scaled_of told.origin +ℤ told.correction) +ℤ pos count.count in
+    let added = sync_received info delay rate -ℤ (scaled_of told.origin +ℤ told.correction) +ℤ pos count.count in
     let within = offset_is_within l.least l.most w.turnaround (clock_at w 0) (clock_at w i) (clock_at w (suc i))
     (error_before w i) passing wait count.count passed.count info delay rate
     (over_link w phase i told sent came rate delay on measured) (clock_counts.rate (drift_at w (suc i)) drifts)
@@ -298,20 +298,20 @@ offset_is_right w phase i told sent came now rate delay held on measured at late
     (held_on_way w phase i told sent came rate delay held on measured at) measured later soon
 
 -- what is measured on the links that a way had stays as it was
-measured_same : (w : Way) (l : Link) (i : ℕ) → i < length w.links →
+measured_same : (w : Way) (l : WayLink) (i : ℕ) → i < length w.links →
     measured_error_at (longer w l) i ≡ measured_error_at w i
 measured_same w l i h =
-    ap (λ (k : Link). ceil_div (2202000000000 * (k.most - k.least)) w.interval + 3) (link_same w l i h)
+    ap (λ (k : WayLink). ceil_div (2202000000000 * (k.most - k.least)) w.interval + 3) (link_same w l i h)
 
 -- and so does the error of what is sent over them, and over the next one
-sent_same : (w : Way) (l : Link) (i : ℕ) → i ≤ length w.links → sent_error_at (longer w l) i ≡ sent_error_at w i
+sent_same : (w : Way) (l : WayLink) (i : ℕ) → i ≤ length w.links → sent_error_at (longer w l) i ≡ sent_error_at w i
 sent_same w l zero h = refl
 sent_same w l (suc i) h =
     ap (λ n. 33550000 * n + rates_error_at (longer w l) i * (w.residence + jitter_at (longer w l) i))
     (parents_error_stays w l (suc i) h)
     ∙ ap (λ n. 33550000 * time_error_at w (suc i) + n * (w.residence + jitter_at (longer w l) i))
     (rates_same w l i h)
-    ∙ ap (λ (k : Link). 33550000 * time_error_at w (suc i) + rates_error_at w i * (w.residence + (k.most - k.least)))
+    ∙ ap (λ (k : WayLink). 33550000 * time_error_at w (suc i) + rates_error_at w i * (w.residence + (k.most - k.least)))
     (link_same w l i h)
 
 -- what passes on the link at a place and at the bridge behind it
@@ -325,7 +325,7 @@ right_stays w l phase phase' i told sent h root right =
     let rates = sum_same i (steady_rate_at (longer w l)) (steady_rate_at w)
     (λ j m. steady_same w l j (omega (arith, h, m))) in
     let most = total_same i (passing_at (longer w l)) (passing_at w)
-    (λ j m. ap (λ (k : Link). 131072 * (k.most + w.turnaround + w.residence + (k.most - k.least) + 1))
+    (λ j m. ap (λ (k : WayLink). 131072 * (k.most + w.turnaround + w.residence + (k.most - k.least) + 1))
     (link_same w l j (omega (arith, h, m)))) in
     let small = right.small in
     record {

@@ -10,10 +10,10 @@ use Rattle.gptp_graph.proofs.BestLemmas.{IsBest-neighbour}
 use Rattle.gptp_graph.proofs.DistanceLemmas.{best_at_zero}
 use Rattle.gptp_graph.proofs.ParentLemmas.{IsParent-unique, LeadsNearer-distance, parent_exists}
 use Rattle.gptp_pdelay.specs.Clock.{IsDrift, local_clock}
-use Rattle.gptp_accuracy.specs.TimeError.{Link, Way, drift_at, link_at}
+use Rattle.gptp_accuracy.specs.TimeError.{WayLink, Way, drift_at, link_at}
 use Rattle.gptp_accuracy.specs.WayLaws.{IsDocumented, longer, shown_at}
 use Rattle.gptp_accuracy.proofs.LongerLemmas.{documented_longer, drift_last, drift_same, link_last, longer_length}
-use Rattle.gptp_timing.specs.Tree.{IsWayTo, Parts, last_link, root_way}
+use Rattle.gptp_timing.specs.Tree.{IsWayTo, Parts, last_link, tree_root_way}
 use Rattle.gptp_timing.specs.TreeLaws.{ArePartsOf, ParentsAreMeasured, ParentsAreParents, WayEndsAtParent, WayExists, WayIsOne, WayLeadsTo, WaysAreSettings}
 
 -- a way is the same by phases that are the same on it
@@ -40,7 +40,7 @@ behind : (steps own : ℕ) (phase : ℕ → ℕ) → phases_with steps own phase
 behind steps own phase = let e : nat_lt steps (suc steps) ≡ true = grind (arith, nat_tests) in rw e refl
 
 pub way_exists : WayExists
-way_exists x g zero clock wf distance = (root_way x clock, (λ i. x.phase clock), (distance, refl, refl))
+way_exists x g zero clock wf distance = (tree_root_way x clock, (λ i. x.phase clock), (distance, refl, refl))
 way_exists x g (suc steps) clock wf distance =
     let (parent, follows) = parent_exists g clock steps wf distance in
     let nearer = follows.nearer in
@@ -162,7 +162,7 @@ documented x g zero clock longest w phase parts (distance, is, first) = subst Is
   drifts = drifts;
 })
   where
-    drifts : (i : ℕ) → i ≤ 0 → IsDrift (drift_at (root_way x clock) i)
+    drifts : (i : ℕ) → i ≤ 0 → IsDrift (drift_at (tree_root_way x clock) i)
     drifts zero h = parts.drifts clock
     drifts (suc i) h = absurd (omega (arith, h))
 documented x g (suc steps) clock longest w phase parts (parent, above, follows, way, is, last) =
@@ -177,7 +177,7 @@ ways_are_settings x g steps clock settled longest port w phase parts (parent, ab
     record {
       documented = documented x g (suc steps) clock longest w phase parts whole;
       on_way = let all = long x g (suc steps) clock w phase whole in omega (arith, all);
-      short = subst (λ (l : Link). l.most ≤ longest) (sym end) (short _);
+      short = subst (λ (l : WayLink). l.most ≤ longest) (sym end) (short _);
     }
 
 pub parents_are_parents : ParentsAreParents
@@ -203,8 +203,8 @@ parents_are_measured x g steps clock longest parent w phase k parts follows way 
     record {
       documented = documented x g (suc steps) clock longest w phase parts way;
       on_way = (let long = long x g (suc steps) clock w phase way in omega (arith, long));
-      order = subst (λ (l : Link). l.least ≤ k.most) (sym end) m.least;
-      most = m.most ∙ ap (λ (l : Link). l.most) (sym end);
+      order = subst (λ (l : WayLink). l.least ≤ k.most) (sym end) m.least;
+      most = m.most ∙ ap (λ (l : WayLink). l.most) (sym end);
       turnaround = m.turnaround ∙ sym all.1;
       period = m.period ∙ sym all.0;
       asking = λ t. m.asking t ∙ sym (way_leads_to.own x g (suc steps) clock t w phase way);

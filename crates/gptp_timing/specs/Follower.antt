@@ -2,14 +2,14 @@
 use Rattle.std.specs.Prelude.{ℕ, suc, ◌+◌, ◌*◌, ◌<◌, ◌≤◌, ℤ, List, Option, length}
 use Rattle.gptp_graph.specs.Snapshot.{PortIdentity}
 use Rattle.gptp_correction.specs.declared.sync_in.SyncInfo.{SyncInfo}
-use Rattle.gptp_measuring.specs.Lanes.{Frame}
-use Rattle.gptp_accuracy.specs.TimeError.{Link, Way, link_at}
+use Rattle.gptp_measuring.specs.Lanes.{LaneFrame}
+use Rattle.gptp_accuracy.specs.TimeError.{WayLink, Way, link_at}
 use Rattle.gptp_accuracy.specs.WayLaws.{IsDocumented, shown_at}
 
 -- The way to the system from its root, the phases of the clocks on it, in ns, and the place of its last link on it,
 -- counted from 0; the port of the parent on that link; the time from which the network is settled, and a delay that no
 -- link on which time is carried exceeds, in ns.
-pub record Setting : Type 0 where
+pub record FollowerSetting : Type 0 where
   pub way : Way
   pub phase : ℕ → ℕ
   pub place : ℕ
@@ -18,30 +18,30 @@ pub record Setting : Type 0 where
   pub longest : ℕ
 
 -- the link to the parent
-abbrev pub link_of : Setting → Link
-link_of k = link_at k.way k.place
+abbrev pub parent_link : FollowerSetting → WayLink
+parent_link k = link_at k.way k.place
 
 -- the clock of the system
-abbrev pub own_clock : Setting → ℕ → ℤ
+abbrev pub own_clock : FollowerSetting → ℕ → ℤ
 own_clock k t = shown_at k.way k.phase (suc k.place) t
 
 -- the clock of its root
-abbrev pub root_clock : Setting → ℕ → ℤ
+abbrev pub root_clock : FollowerSetting → ℕ → ℤ
 root_clock k t = shown_at k.way k.phase 0 t
 
 -- From then on what comes left the root when the network was settled, even where each link up to here takes the longest
 -- delay, and each system keeps it for a residence.
-abbrev pub from : Setting → ℕ
+abbrev pub from : FollowerSetting → ℕ
 from k = k.settled + suc k.place * (k.longest + k.way.residence)
 
 -- what a setting has to be
-pub record IsSetting (k : Setting) : Type 0 where
+pub record IsSetting (k : FollowerSetting) : Type 0 where
   pub documented : IsDocumented k.way
   pub on_way : k.place < length k.way.links
-  pub short : (link_of k).most ≤ k.longest
+  pub short : (parent_link k).most ≤ k.longest
 
 -- The Sync that is kept: its source, its number, and its ingress by the own clock (IEEE 802.1AS-2020, 11.2.14).
-pub record KeptSync : Type 0 where
+pub record FollowerSync : Type 0 where
   pub source : PortIdentity
   pub sequence : ℕ
   pub ingress : ℤ
@@ -50,11 +50,11 @@ pub record KeptSync : Type 0 where
 -- on; and the frames in flight from the parent, the oldest first.
 pub record Follower : Type 0 where
   pub time : ℕ
-  pub kept : Option KeptSync
+  pub kept : Option FollowerSync
   pub known : Option SyncInfo
   pub relay : Option ℕ
-  pub lane : List Frame
+  pub lane : List LaneFrame
 
 -- the same at another time
-abbrev pub at_time : Follower → ℕ → Follower
-at_time s time = record s { time = time }
+abbrev pub follower_at_time : Follower → ℕ → Follower
+follower_at_time s time = record s { time = time }

@@ -38,7 +38,7 @@ most_correction_at w i = 65536
 -- What a Follow_Up tells is right, as its Sync is sent over the link at a place at that time, in ns: origin and
 -- correction are the root's clock then, and the correction is what passed since the origin; the rate is the sum of the
 -- neighbour rates up to there, and a number of 32 bits (IEEE 802.1AS-2020, 11.4.4).
-pub record IsRight (w : Way) (phase : ℕ → ℕ) (i : ℕ) (told : Relayed) (sent : ℕ) : Type 0 where
+pub record FollowUpIsRight (w : Way) (phase : ℕ → ℕ) (i : ℕ) (told : Relayed) (sent : ℕ) : Type 0 where
   pub time : AreWithin (sent_error_at w i) (pos 33550000 *ℤ (scaled_of told.origin +ℤ told.correction))
       (pos 33550000 *ℤ shown_at w phase 0 sent)
   pub later : pos 0 ≤ℤ told.correction
@@ -52,8 +52,8 @@ info_of told ingress =
     record { origin = told.origin; correction = told.correction; rate = told.rate; ingress = ingress }
 
 -- what it told
-abbrev pub told_of : SyncInfo → Relayed
-told_of info = record { origin = info.origin; correction = info.correction; rate = info.rate }
+abbrev pub follow_up_told : SyncInfo → Relayed
+follow_up_told info = record { origin = info.origin; correction = info.correction; rate = info.rate }
 
 -- what the root tells: its own clock as a timestamp and a rest, at its own rate
 abbrev pub root_time : Timestamp → ℕ → Relayed

@@ -1,6 +1,6 @@
 //! Laws on a system that follows its parent.
 
-ghost use Rattle.gptp_timing.specs.FollowerLaws.{InvIsKept, InvHoldsLater, InvBegins};
+ghost use Rattle.gptp_timing.specs.FollowerLaws.{FollowerInvariantIsKept, FollowerInvariantHoldsLater, FollowerInvariantBegins};
 ghost use Rattle.gptp_timing.specs.FollowerLaws.{OffsetIsExact, ParentTellsRight, ParentsNumbersFit};
 ghost use Rattle.gptp_timing.specs.FollowerLaws.{RootTells, RunsKeepInv};
 
@@ -8,17 +8,17 @@ use crate::coding::Coding;
 
 /// Every act keeps the invariant: what is in flight brings what is right, and what is known is right.
 pub fn invariant_kept<C: Coding>()
-    ensures { InvIsKept C.says }
+    ensures { FollowerInvariantIsKept C.says }
 {}
 
 /// The invariant holds as time passes.
 pub fn invariant_holds_later<C: Coding>()
-    ensures { InvHoldsLater C.says }
+    ensures { FollowerInvariantHoldsLater C.says }
 {}
 
 /// The invariant holds as the network becomes settled, whatever is kept, known and in flight.
 pub fn invariant_begins<C: Coding>()
-    ensures { InvBegins C.says }
+    ensures { FollowerInvariantBegins C.says }
 {}
 
 /// In every run that begins as the network becomes settled the invariant holds of each state.

@@ -12,7 +12,7 @@ use Rattle.gptp_vector.specs.declared.port.PortId.{PortId}
 use Rattle.gptp_plan.specs.Allowed.{AreAllowed}
 use Rattle.gptp_plan.specs.Calm.{AllRest, IsCalm, Rests}
 use Rattle.gptp_plan.specs.Change.{link_after, system_after}
-use Rattle.gptp_plan.specs.InUse.{are_several, far_clock, greatest_delay, lives, neighbour, neighbours, path_systems}
+use Rattle.gptp_plan.specs.InUse.{any_differ, far_clock, greatest_delay, lives, neighbour, neighbours, path_systems}
 use Rattle.gptp_plan.specs.InUse as plans
 use Rattle.gptp_plan.specs.Network.{IsNetwork, IsPort, NetworkState, pace_of}
 use Rattle.gptp_plan.specs.SettlingTime.{settling_span, settling_span_with}
@@ -30,9 +30,9 @@ use Rattle.gptp_network.specs.Span.{IsBound}
 use Rattle.gptp_network.proofs.ExistenceLemmas.{snapshot_exists}
 use Rattle.gptp_network.proofs.InUseLemmas.{paths_are}
 use Rattle.gptp_network.proofs.PassLemmas.{count-map, count_alike, passes, passes_at, same_tests}
-use Rattle.gptp_topology.specs.Course.{cable_of, first, is_used}
-use Rattle.gptp_topology.specs.Times.{IsTime}
-use Rattle.gptp_topology.specs.Tables.{NodeState, bound_of, cables_of, clocks_of, delay_of, elsewhere, first_used, greatest_used, is_marked, late_of, leads_elsewhere, leads_to_two, led, lives_between, mark_of, may_lapse, neighbours_of, path_bound, paths_of, seen, time_of, used_at}
+use Rattle.gptp_topology.specs.Course.{cable_of, first, cable_is_used}
+use Rattle.gptp_topology.specs.Times.{IsCalmTime}
+use Rattle.gptp_topology.specs.Tables.{NodeState, bound_of, cables_of, clocks_of, crossing_delay, elsewhere, first_used, greatest_used, is_marked, late_of, marked_elsewhere, leads_to_two, led, marked_between, mark_of, may_lapse, neighbours_of, marked_path_bound, paths_of, tables_seen, time_of, used_at}
 use Rattle.gptp_topology.specs.Trouble.{is_long, loss_in_use}
 use Rattle.gptp_topology.specs.declared.nodes.Neighbour.{Neighbour}
 use Rattle.gptp_topology.specs.declared.nodes.Node.{Node}
@@ -67,13 +67,13 @@ module _ (marks : List Mark) where
       by false rest = rest
 
   elsewhere_is : (clock : ℕ) (os : List Neighbour)
-      → leads_elsewhere marks clock os ≡ list_any (λ y. not (y == clock)) (used_clocks os)
+      → marked_elsewhere marks clock os ≡ list_any (λ y. not (y == clock)) (used_clocks os)
   elsewhere_is clock [] = refl
   elsewhere_is clock (o ∷ os) = by (used_at marks o.link) (not (o.clock == clock)) refl (elsewhere_is clock os)
     where
       by : (used other : Bool) → not (o.clock == clock) ≡ other
-          → leads_elsewhere marks clock os ≡ list_any (λ y. not (y == clock)) (used_clocks os)
-          → (other && used || leads_elsewhere marks clock os)
+          → marked_elsewhere marks clock os ≡ list_any (λ y. not (y == clock)) (used_clocks os)
+          → (other && used || marked_elsewhere marks clock os)
           ≡ list_any (λ y. not (y == clock)) (cons_option (cond used (Some o.clock) None) (used_clocks os))
       by true true is rest = rw is refl
       by true false is rest = rw is rest
@@ -81,10 +81,10 @@ module _ (marks : List Mark) where
       by false false is rest = rest
 
   -- two differ exactly where one is another than the first
-  pub two_are : (os : List Neighbour) → leads_to_two marks os ≡ are_several (used_clocks os)
+  pub two_are : (os : List Neighbour) → leads_to_two marks os ≡ any_differ (used_clocks os)
   two_are os = ap (elsewhere marks os) (first_is os) ∙ by (used_clocks os) refl
     where
-      by : (xs : List ℕ) → used_clocks os ≡ xs → elsewhere marks os (slice_get xs 0) ≡ are_several xs
+      by : (xs : List ℕ) → used_clocks os ≡ xs → elsewhere marks os (slice_get xs 0) ≡ any_differ xs
       by [] is = refl
       by (x ∷ xs) is =
           let same : (x == x) ≡ true = eq-eqb x x refl in
@@ -126,7 +126,7 @@ module _ (n : NetworkState) (network : IsNetwork n) (events : List Timed) (t : T
 
   -- a link is in use where it stands so
   used_is : (w : Wire) → In w n.links
-      → is_used (after events (first w)) ≡ plans.is_used n.systems events (link_after events w)
+      → cable_is_used (after events (first w)) ≡ plans.is_used n.systems events (link_after events w)
   used_is w member =
       let (place, there) = slice_get-In w n.links member in
       let wire = network.links place w there in
@@ -211,30 +211,30 @@ module _ (n : NetworkState) (network : IsNetwork n) (events : List Timed) (t : T
 
   two_is : (clock : ℕ)
       → leads_to_two t.marks.items (neighbours_of clock (cables_of n))
-      ≡ are_several (neighbours n.systems n.links events clock)
+      ≡ any_differ (neighbours n.systems n.links events clock)
   two_is clock =
       two_are t.marks.items (neighbours_of clock (cables_of n))
-      ∙ ap are_several (clocks_from clock n.links (λ w member. member))
+      ∙ ap any_differ (clocks_from clock n.links (λ w member. member))
 
   -- ---- how many systems
 
   -- counted over the systems of the network
   over_members : (p : NodeState → Bool)
-      → count_by (λ (o : Node). p (seen o)) t.nodes.items
+      → count_by (λ (o : Node). p (tables_seen o)) t.nodes.items
       ≡ count_by (λ (m : Member). p (node_after events (cables_of n) (clock_of m.identity))) n.systems
   over_members p =
-      sym (count-map p seen t.nodes.items)
+      sym (count-map p tables_seen t.nodes.items)
       ∙ ap (count_by p) stand.nodes
       ∙ count-map p (node_after events (cables_of n)) (clocks_of n)
       ∙ count-map (λ own. p (node_after events (cables_of n) own)) (λ (m : Member). clock_of m.identity) n.systems
 
-  systems_are : count_by (λ (o : Node). o.lives) t.nodes.items ≡ plans.live_systems n.systems events
+  systems_are : count_by (λ (o : Node). o.lives) t.nodes.items ≡ plans.count_live n.systems events
   systems_are =
       over_members (λ (s : NodeState). s.lives)
       ∙ count_alike (λ (m : Member). lives_after events (clock_of m.identity) true)
       (λ (m : Member). (system_after events m).live) n.systems (member_lives events)
 
-  between_are : count_by (lives_between t.marks.items) t.nodes.items
+  between_are : count_by (marked_between t.marks.items) t.nodes.items
       ≡ count_by (plans.lives_between n.systems n.links events) n.systems
   between_are =
       over_members (λ (s : NodeState). s.lives && leads_to_two t.marks.items s.neighbours)
@@ -244,7 +244,7 @@ module _ (n : NetworkState) (network : IsNetwork n) (events : List Timed) (t : T
       (plans.lives_between n.systems n.links events) n.systems
       (λ (m : Member). ap₂ (λ a b. a && b) (member_lives events m) (two_is (clock_of m.identity)))
 
-  pub paths_is : path_bound t.marks.items t.nodes.items ≡ path_systems n.systems n.links events
+  pub paths_is : marked_path_bound t.marks.items t.nodes.items ≡ path_systems n.systems n.links events
   unfolding path_systems
   paths_is = ap₂ (λ a b. min (a + 2) b) between_are systems_are
 
@@ -253,7 +253,7 @@ module _ (n : NetworkState) (network : IsNetwork n) (events : List Timed) (t : T
   -- it is so where something may lapse
   crossed : may_lapse n.params ≡ true → paths_of n.params t.marks.items t.nodes.items ≡ sync_paths n events
   crossed on =
-      let delay : delay_of n.params t.marks.items ≡ greatest_delay n.systems events n.links =
+      let delay : crossing_delay n.params t.marks.items ≡ greatest_delay n.systems events n.links =
       ap (λ test. cond test (greatest_used t.marks.items) 0) on ∙ greatest_is in
       ap₂ paths_with paths_is delay
     where
@@ -271,19 +271,19 @@ module _ (n : NetworkState) (network : IsNetwork n) (events : List Timed) (t : T
       by false is = rw is refl
 
   span_same : settling_span_with (pace_of n) (paths_of n.params t.marks.items t.nodes.items)
-      (path_bound t.marks.items t.nodes.items)
+      (marked_path_bound t.marks.items t.nodes.items)
       ≡ settling_span_with (pace_of n) (sync_paths n events) (path_systems n.systems n.links events)
   span_same = by (may_lapse n.params) refl
     where
       by : (on : Bool) → may_lapse n.params ≡ on
           → settling_span_with (pace_of n) (paths_of n.params t.marks.items t.nodes.items)
-          (path_bound t.marks.items t.nodes.items)
+          (marked_path_bound t.marks.items t.nodes.items)
           ≡ settling_span_with (pace_of n) (sync_paths n events) (path_systems n.systems n.links events)
       by true is = ap₂ (settling_span_with (pace_of n)) (crossed is) paths_is
       by false is =
           let off = eqb-true n.params.sync_timeout 0 (not-false (n.params.sync_timeout == 0) is) in
           let paths = paths_of n.params t.marks.items t.nodes.items in
-          sym (never_longer (pace_of n) paths (path_bound t.marks.items t.nodes.items) off)
+          sym (never_longer (pace_of n) paths (marked_path_bound t.marks.items t.nodes.items) off)
           ∙ ap (settling_span (pace_of n)) paths_is
           ∙ never_longer (pace_of n) (sync_paths n events) (path_systems n.systems n.links events) off
 
@@ -368,7 +368,7 @@ bound_is d at network t so =
         → (is_some (late_of d.network.params (counted d t)) || list_any (λ (m : Mark). m.troubled) t.marks.items) ≡ test
         → IsBound d at
         (cond test None
-        (Some (settling_span_with (pace_of d.network) (counted d t) (path_bound t.marks.items t.nodes.items))))
+        (Some (settling_span_with (pace_of d.network) (counted d t) (marked_path_bound t.marks.items t.nodes.items))))
     by true is = λ calm.
         let no : true ≡ false = sym is ∙ calm_to d.network network (events_by at d.events) t so calm in cc
     by false is =
@@ -385,7 +385,7 @@ bound_is d at network t so =
 
 pub time_is : (d : DocumentState) (at : ℕ) → IsNetwork d.network → (done : List Timed) (t : Tables)
     → Stand d.network done t → events_by at d.events ≡ done
-    → IsTime d (time_of d.network t.marks.items t.nodes.items at)
+    → IsCalmTime d (time_of d.network t.marks.items t.nodes.items at)
 time_is d at network done t stand now = record {
   bound = bound_is d at network t so;
   needs = late_same d.network network (events_by at d.events) t so;

@@ -9,7 +9,7 @@ use Rattle.gptp_plan.specs.declared.network.Wire.{Wire}
 use Rattle.gptp_plan.proofs.AfterLemmas.{acted_keeps, after_keeps}
 use Rattle.gptp_network.specs.Events.{AreInOrder}
 use Rattle.gptp_network.specs.Snapshot.{events_by}
-use Rattle.gptp_topology.specs.Course.{acted, at_time, cable_of, course_from, course_of, first, lives_acted, wire_of}
+use Rattle.gptp_topology.specs.Course.{acted, course_at_time, cable_of, course_from, course_of, first, lives_acted, cable_wire}
 use Rattle.gptp_topology.specs.Times.{times_from, times_of}
 use Rattle.gptp_topology.specs.declared.course.Standing.{Standing}
 use Rattle.gptp_topology.proofs.LivesLemmas.{lives_after}
@@ -29,7 +29,7 @@ after [] s = s
 after (t ∷ ts) s = after ts (acted t.act s)
 
 pub cable_after : (events : List Timed) (s : Standing)
-    → (after events s).cable ≡ cable_of (link_after events (wire_of s.cable))
+    → (after events s).cable ≡ cable_of (link_after events (cable_wire s.cable))
 cable_after [] s = refl
 cable_after (t ∷ ts) s = cable_after ts (acted t.act s)
 
@@ -39,7 +39,7 @@ a_after [] s = refl
 a_after (t ∷ ts) s =
     a_after ts (acted t.act s)
     ∙ ap (λ (p : PortId). lives_after ts p.clock (lives_acted t.act s.cable.a.clock s.a_lives))
-    (acted_keeps t.act (wire_of s.cable)).a
+    (acted_keeps t.act (cable_wire s.cable)).a
 
 pub b_after : (events : List Timed) (s : Standing)
     → (after events s).b_lives ≡ lives_after events s.cable.b.clock s.b_lives
@@ -47,7 +47,7 @@ b_after [] s = refl
 b_after (t ∷ ts) s =
     b_after ts (acted t.act s)
     ∙ ap (λ (p : PortId). lives_after ts p.clock (lives_acted t.act s.cable.b.clock s.b_lives))
-    (acted_keeps t.act (wire_of s.cable)).b
+    (acted_keeps t.act (cable_wire s.cable)).b
 
 pub one_more : (done : List Timed) (t : Timed) (s : Standing) → acted t.act (after done s) ≡ after (done ++ t ∷ []) s
 one_more [] t s = refl
@@ -115,24 +115,24 @@ until_now at done t ts past later order =
 
 -- how it stands at a time
 abbrev pub stood : List Timed → Standing → ℕ → Standing
-stood events s at = at_time at (after (events_by at events) s)
+stood events s at = course_at_time at (after (events_by at events) s)
 
 -- how it stands behind these events, at a time and at those of the events behind them
 abbrev StandsSo : Standing → List Timed → Type 0
 StandsSo s ts = (done : List Timed) (at : ℕ) → past_by at done → not_before at ts → AreInOrder ts
-    → course_from (at_time at (after done s)) ts ≡ map (stood (done ++ ts) s) (times_from at ts)
+    → course_from (course_at_time at (after done s)) ts ≡ map (stood (done ++ ts) s) (times_from at ts)
 
 course_step : (s : Standing) (t : Timed) (ts : List Timed) → StandsSo s ts → (done : List Timed) (at : ℕ) (same : Bool)
     → (at == t.at) ≡ same → past_by at done → not_before at (t ∷ ts) → AreInOrder (t ∷ ts)
-    → (cond same [] (at_time at (after done s) ∷ [])) ++ course_from (acted t.act (at_time t.at (after done s))) ts
+    → (cond same [] (course_at_time at (after done s) ∷ [])) ++ course_from (acted t.act (course_at_time t.at (after done s))) ts
     ≡ map (stood (done ++ t ∷ ts) s) (times_from at (t ∷ ts))
 course_step s t ts behind_it done at true is past come order =
     let same : at ≡ t.at = eqb-true at t.at is in
     let here : t.at ≤ at = omega (arith, same) in
     let joined : (done ++ t ∷ []) ++ ts ≡ done ++ t ∷ ts = append_assoc done (t ∷ []) ts in
     let other : (t.at == at) ≡ true = grind (arith, nat_tests) in
-    ap (λ u. course_from (acted t.act (at_time u (after done s))) ts) (sym same)
-    ∙ ap (λ r. course_from (at_time at r) ts) (one_more done t s)
+    ap (λ u. course_from (acted t.act (course_at_time u (after done s))) ts) (sym same)
+    ∙ ap (λ r. course_from (course_at_time at r) ts) (one_more done t s)
     ∙ behind_it (done ++ t ∷ []) at (past_more at done t past here) come.1 (order_behind t ts order)
     ∙ ap (λ es. map (stood es s) (times_from at ts)) joined
     ∙ ap (λ test. map (stood (done ++ t ∷ ts) s) (cond test (times_from at ts) (at ∷ times_from t.at ts))) (sym other)
@@ -146,18 +146,18 @@ course_step s t ts behind_it done at false is past come order =
     let joined : (done ++ t ∷ []) ++ ts ≡ done ++ t ∷ ts = append_assoc done (t ∷ []) ts in
     let self : t.at ≤ t.at = omega arith in
     let later =
-    ap (λ r. course_from (at_time t.at r) ts) (one_more done t s)
+    ap (λ r. course_from (course_at_time t.at r) ts) (one_more done t s)
     ∙ behind_it (done ++ t ∷ []) t.at (past_more t.at done t (still_past at t.at done earlier past) self) rest
     (order_behind t ts order)
     ∙ ap (λ es. map (stood es s) (times_from t.at ts)) joined in
-    ap (λ r. r ∷ course_from (acted t.act (at_time t.at (after done s))) ts)
-    (ap (λ es. at_time at (after es s)) (sym now))
+    ap (λ r. r ∷ course_from (acted t.act (course_at_time t.at (after done s))) ts)
+    (ap (λ es. course_at_time at (after es s)) (sym now))
     ∙ ap (λ rs. stood (done ++ t ∷ ts) s at ∷ rs) later
     ∙ ap (λ test. map (stood (done ++ t ∷ ts) s) (cond test (times_from at ts) (at ∷ times_from t.at ts))) (sym other)
 
 stands_so : (s : Standing) (ts : List Timed) → StandsSo s ts
 stands_so s [] done at past come order =
-    ap (λ es. at_time at (after es s) ∷ []) (sym (only_past at done [] past tt))
+    ap (λ es. course_at_time at (after es s) ∷ []) (sym (only_past at done [] past tt))
 stands_so s (t ∷ ts) done at past come order =
     course_step s t ts (stands_so s ts) done at (at == t.at) refl past come order
 

@@ -1,14 +1,14 @@
 -- An act changes nothing at a link at none of whose ends it names a system.
 use Rattle.std.proofs.Common.{◌≡◌, ◌≢◌, ℕ, Bool, true, false, ◌==◌, cond, refl, sym, ap}
 use Rattle.std.proofs.lemmas.Bool.{and_left, ne_eqb, or_from}
-use Rattle.gptp_plan.specs.Change.{is_at, link_acted, link_changed, system_changed, with_bounds, with_up}
+use Rattle.gptp_plan.specs.Change.{is_at, link_acted, link_changed, system_changed, member_with_bounds, with_up}
 use Rattle.gptp_plan.specs.Network.{same_port}
 use Rattle.gptp_plan.specs.declared.change.Act.{Act}
 use Rattle.gptp_plan.specs.declared.change.Act.TheVariants as acts
 use Rattle.gptp_plan.specs.declared.change.Change.{Change}
 use Rattle.gptp_plan.specs.declared.change.Change.TheVariants as changes
 use Rattle.gptp_plan.specs.declared.network.Wire.{Wire}
-use Rattle.gptp_topology.specs.Course.{acted, cable_of, lives_acted, named, named_by, wire_of}
+use Rattle.gptp_topology.specs.Course.{acted, cable_of, lives_acted, named, named_by, cable_wire}
 use Rattle.gptp_topology.specs.declared.course.Standing.{Standing}
 
 -- ---- whether a system lives
@@ -42,7 +42,7 @@ wire_changed : (change : Change) (w : Wire) → named_by change ≢ w.a.clock �
 wire_changed (changes.LinkDown clock port) w a b = ap (λ test. cond test (with_up false w) w) (not_at clock port w a b)
 wire_changed (changes.LinkUp clock port) w a b = ap (λ test. cond test (with_up true w) w) (not_at clock port w a b)
 wire_changed (changes.LinkSet clock port least greatest loss) w a b =
-    ap (λ test. cond test (with_bounds least greatest loss w) w) (not_at clock port w a b)
+    ap (λ test. cond test (member_with_bounds least greatest loss w) w) (not_at clock port w a b)
 wire_changed (changes.Fail clock) w a b = refl
 wire_changed (changes.Recover clock) w a b = refl
 wire_changed (changes.Priority1 clock value) w a b = refl
@@ -58,7 +58,7 @@ wire_same (acts.Change change) w a b = wire_changed change w a b
 pub untouched : (act : Act) (s : Standing) → named act ≢ s.cable.a.clock → named act ≢ s.cable.b.clock → acted act s ≡ s
 untouched act s a b = λ i. record {
   at = s.at;
-  cable = cable_of (wire_same act (wire_of s.cable) a b i);
+  cable = cable_of (wire_same act (cable_wire s.cable) a b i);
   a_lives = lives_same act s.cable.a.clock s.a_lives a i;
   b_lives = lives_same act s.cable.b.clock s.b_lives b i;
 }

@@ -1,4 +1,4 @@
--- Each time of a document is told of, as its events are passed.
+-- Each time of a document is told_times of, as its events are passed.
 use Rattle.std.proofs.Common.{◌≡◌, ◌≤◌, ◌<◌, ℕ, Bool, true, false, ◌==◌, cond, List, [], ◌∷◌, ◌++◌, map, slice_get, Some, zero, suc, append_assoc, refl, sym, ap, subst, ◌∙◌, arith}
 use Rattle.std.specs.List.{AllByRecursion}
 use Rattle.std.proofs.lemmas.Bool.{eq-eqb, eqb-true, eqb-false, ne_eqb}
@@ -8,15 +8,15 @@ use Rattle.gptp_plan.specs.declared.change.Timed.{Timed}
 use Rattle.gptp_network.specs.Document.{DocumentState}
 use Rattle.gptp_network.specs.Events.{AreInOrder}
 use Rattle.gptp_network.specs.Snapshot.{events_by}
-use Rattle.gptp_topology.specs.Tables.{told}
-use Rattle.gptp_topology.specs.Times.{AreCalmTimes, IsTime, times_from, times_of}
+use Rattle.gptp_topology.specs.Tables.{told_times}
+use Rattle.gptp_topology.specs.Times.{AreCalmTimes, IsCalmTime, times_from, times_of}
 use Rattle.gptp_topology.specs.declared.times.CalmTime.{CalmTime}
 use Rattle.gptp_topology.proofs.CourseLemmas.{all_from_0, behind, not_before, only_past, order_behind, past_by, past_more, still_past, until_now}
 
--- ---- whatever is told of a time
+-- ---- whatever is told_times of a time
 
 -- These events are done, and those are left; the last time so far is this one, and of all times before it something is
--- told, which has its time and is so.
+-- told_times, which has its time and is so.
 pub record Passed {X : Type 0} (at_of : X → ℕ) (Is : X → Type 0) (d : DocumentState) (done left : List Timed) (at : ℕ)
     (xs : List X) : Type 0 where
   pub split : done ++ left ≡ d.events
@@ -112,7 +112,7 @@ abbrev at_of : CalmTime → ℕ
 at_of c = c.at
 
 abbrev pub CalmPassed : DocumentState → List Timed → List Timed → ℕ → List CalmTime → Type 0
-CalmPassed d = Passed at_of (IsTime d) d
+CalmPassed d = Passed at_of (IsCalmTime d) d
 
 -- what a world can be asked for at each place it can be before one
 pub allowed_before : (done left all : List Timed) → done ++ left ≡ all → AreAllowed all → AreAllowed done
@@ -131,20 +131,20 @@ module _ (d : DocumentState) (done : List Timed) (this : CalmTime) (times : List
 
   -- at the next event
   pub passed_more : (t : Timed) (left : List Timed) (after : List CalmTime) → CalmPassed d done (t ∷ left) at times
-      → after ≡ told t.at this times → (events_by at d.events ≡ done → IsTime d this)
+      → after ≡ told_times t.at this times → (events_by at d.events ≡ done → IsCalmTime d this)
       → CalmPassed d (done ++ t ∷ []) left t.at after
   passed_more t left after so_far is told_so =
       subst (CalmPassed d (done ++ t ∷ []) left t.at) (sym is) (by (t.at == at) refl)
     where
       by : (same : Bool) → (t.at == at) ≡ same
           → CalmPassed d (done ++ t ∷ []) left t.at (cond same times (times ++ this ∷ []))
-      by true is = passed_same at_of (IsTime d) d done at times t left so_far (eqb-true t.at at is)
+      by true is = passed_same at_of (IsCalmTime d) d done at times t left so_far (eqb-true t.at at is)
       by false is =
-          passed_next at_of (IsTime d) d done at times t left this so_far (eqb-false t.at at is) refl told_so
+          passed_next at_of (IsCalmTime d) d done at times t left this so_far (eqb-false t.at at is) refl told_so
 
   -- after the last event
   pub passed_all : (after : List CalmTime) → CalmPassed d done [] at times → after ≡ times ++ this ∷ []
-      → (events_by at d.events ≡ done → IsTime d this) → AreCalmTimes d after
+      → (events_by at d.events ≡ done → IsCalmTime d this) → AreCalmTimes d after
   passed_all after so_far is told_so =
-      let (times_are, each) = passed_last at_of (IsTime d) d done at times this so_far refl told_so in
+      let (times_are, each) = passed_last at_of (IsCalmTime d) d done at times this so_far refl told_so in
       subst (AreCalmTimes d) (sym is) (record { times_are = times_are; each = each })

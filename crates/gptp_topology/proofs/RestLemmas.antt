@@ -17,7 +17,7 @@ use Rattle.gptp_plan.specs.declared.change.Timed.{Timed}
 use Rattle.gptp_plan.specs.declared.network.Member.{Member}
 use Rattle.gptp_plan.specs.declared.network.Wire.{Wire}
 use Rattle.gptp_plan.specs.declared.sync_wait.SyncPaths.{SyncPaths}
-use Rattle.gptp_topology.specs.Course.{first, is_used}
+use Rattle.gptp_topology.specs.Course.{first, cable_is_used}
 use Rattle.gptp_topology.specs.Tables.{late_of, may_lapse}
 use Rattle.gptp_topology.specs.Trouble.{is_long, loss_in_use, needed}
 use Rattle.gptp_topology.specs.declared.course.Standing.{Standing}
@@ -49,7 +49,7 @@ and_from a b c ea eb ec = rw (ea, eb, ec) refl
 
 -- it is in use where it stands so exactly where it is used after the events
 pub used_to : (members : List Member) (events : List Timed) (w : Wire) → IsPort members w.a → IsPort members w.b
-    → is_used (after events (first w)) ≡ true → IsUsed members events (link_after events w)
+    → cable_is_used (after events (first w)) ≡ true → IsUsed members events (link_after events w)
 used_to members events w a b used =
     let s = after events (first w) in
     let (up, left, right) = and_both s.cable.up s.a_lives s.b_lives used in
@@ -62,7 +62,7 @@ used_to members events w a b used =
     }
 
 pub used_from : (members : List Member) (events : List Timed) (w : Wire) → IsUsed members events (link_after events w)
-    → is_used (after events (first w)) ≡ true
+    → cable_is_used (after events (first w)) ≡ true
 used_from members events w used =
     let s = after events (first w) in
     and_from s.cable.up s.a_lives s.b_lives (ap (λ c. c.up) (cable_after events (first w)) ∙ used.up)
@@ -72,7 +72,7 @@ used_from members events w used =
     (subst (λ (p : PortId). IsLive members events p.clock) (same_b events w) used.b))
 
 -- neither long nor lossy, by whether it is in use
-quiet_used : (p : Params) (s : Standing) → is_used s ≡ true → is_long p s ≡ false → loss_in_use s ≡ 0
+quiet_used : (p : Params) (s : Standing) → cable_is_used s ≡ true → is_long p s ≡ false → loss_in_use s ≡ 0
     → (s.cable.bounds.loss ≡ 0) × (needed p s.cable.bounds.max ≤ p.threshold)
 quiet_used p s used long lossy =
     let short : nat_lt p.threshold (needed p s.cable.bounds.max) ≡ false =
@@ -80,7 +80,7 @@ quiet_used p s used long lossy =
     let none : s.cable.bounds.loss ≡ 0 = ap (λ u. cond u s.cable.bounds.loss 0) (sym used) ∙ lossy in
     (none, grind (arith, nat_tests))
 
-quiet_by : (p : Params) (s : Standing) (used : Bool) → is_used s ≡ used
+quiet_by : (p : Params) (s : Standing) (used : Bool) → cable_is_used s ≡ used
     → (used ≡ true → (s.cable.bounds.loss ≡ 0) × (needed p s.cable.bounds.max ≤ p.threshold))
     → ((used && nat_lt p.threshold (needed p s.cable.bounds.max)) ≡ false) × (cond used s.cable.bounds.loss 0 ≡ 0)
 quiet_by p s true is quiet = let (none, short) = quiet refl in (grind (arith, nat_tests), none)
@@ -104,7 +104,7 @@ pub rests_to : (p : Params) (members : List Member) (events : List Timed) (w : W
 rests_to p members events w a b rests =
     let s = after events (first w) in
     let same = cable_after events (first w) in
-    quiet_by p s (is_used s) refl (λ used.
+    quiet_by p s (cable_is_used s) refl (λ used.
     let quiet = rests (used_to members events w a b used) in (
       ap (λ c. c.bounds.loss) same ∙ quiet.lossless,
       subst (λ most. needed p most ≤ p.threshold) (sym (ap (λ c. c.bounds.max) same)) quiet.good,

@@ -13,8 +13,8 @@ use Rattle.gptp_plan.specs.declared.change.Act.{Act}
 use Rattle.gptp_plan.specs.declared.change.Timed.{Timed}
 use Rattle.gptp_plan.specs.declared.network.Member.{Member}
 use Rattle.gptp_plan.specs.declared.network.Wire.{Wire}
-use Rattle.gptp_topology.specs.Course.{acted, cable_of, first, lives_acted, named, wire_of}
-use Rattle.gptp_topology.specs.Tables.{Acted, AreFirst, AreMarked, NodeState, acted_along, acted_at, cables_of, clocks_of, led, neighbours_at, neighbours_of, node_acted, seen}
+use Rattle.gptp_topology.specs.Course.{acted, cable_of, first, lives_acted, named, cable_wire}
+use Rattle.gptp_topology.specs.Tables.{TablesActed, AreFirstTables, AreMarked, NodeState, acted_along, acted_at, cables_of, clocks_of, led, neighbours_at, neighbours_of, node_acted, tables_seen}
 use Rattle.gptp_topology.specs.declared.course.Cable.{Cable}
 use Rattle.gptp_topology.specs.declared.course.Standing.{Standing}
 use Rattle.gptp_topology.specs.declared.nodes.Node.{Node}
@@ -128,15 +128,15 @@ node_after events cables own =
 -- after these events
 pub record Stand (n : NetworkState) (events : List Timed) (t : Tables) : Type 0 where
   pub params : t.params ≡ n.params
-  pub nodes : map seen t.nodes.items ≡ map (node_after events (cables_of n)) (clocks_of n)
+  pub nodes : map tables_seen t.nodes.items ≡ map (node_after events (cables_of n)) (clocks_of n)
   pub standings : t.standings.items ≡ map (λ w. after events (first w)) n.links
   pub marks : AreMarked t
 
-pub starts : (ws : List Wire) → map (λ c. first (wire_of c)) (map cable_of ws) ≡ map first ws
+pub starts : (ws : List Wire) → map (λ c. first (cable_wire c)) (map cable_of ws) ≡ map first ws
 starts [] = refl
 starts (w ∷ ws) = ap (λ ss. first w ∷ ss) (starts ws)
 
-pub stand_first : (n : NetworkState) (t : Tables) → AreFirst n t → Stand n [] t
+pub stand_first : (n : NetworkState) (t : Tables) → AreFirstTables n t → Stand n [] t
 stand_first n t are =
     record { params = are.params; nodes = are.nodes; standings = are.standings; marks = are.marks }
 
@@ -159,18 +159,18 @@ module _ (events : List Timed) (cables : List Cable) (clock : ℕ) where
       (neighbours_at clock os ≡ neighbours_of clock cables)
       ⊎ ((neighbours_at clock os ≡ []) × (In clock owns → ⊥))
 
-  looked : (os : List Node) (owns : List ℕ) → map seen os ≡ map (node_after events cables) owns → Looked os owns
+  looked : (os : List Node) (owns : List ℕ) → map tables_seen os ≡ map (node_after events cables) owns → Looked os owns
   looked [] [] are = inr (refl, λ none. absurd none)
   looked [] (own ∷ owns) are = absurd cc
   looked (o ∷ os) [] are = absurd cc
   looked (o ∷ os) (own ∷ owns) are =
       by (o.clock == clock) refl
-      (looked os owns (same_tails (seen o) (node_after events cables own) (map seen os)
+      (looked os owns (same_tails (tables_seen o) (node_after events cables own) (map tables_seen os)
       (map (node_after events cables) owns) are))
     where
-      head : seen o ≡ node_after events cables own
+      head : tables_seen o ≡ node_after events cables own
       head =
-          same_heads (seen o) (node_after events cables own) (map seen os) (map (node_after events cables) owns) are
+          same_heads (tables_seen o) (node_after events cables own) (map tables_seen os) (map (node_after events cables) owns) are
 
       by : (test : Bool) → (o.clock == clock) ≡ test → Looked os owns
           → (cond test o.neighbours.items (neighbours_at clock os) ≡ neighbours_of clock cables)
@@ -230,16 +230,16 @@ lives_more [] t own lives = refl
 lives_more (u ∷ done) t own lives = lives_more done t own (lives_acted u.act own lives)
 
 nodes_more : (done : List Timed) (t : Timed) (cables : List Cable) (os : List Node) (owns : List ℕ)
-    → map seen os ≡ map (node_after done cables) owns
-    → map seen (map (node_acted t.act) os) ≡ map (node_after (done ++ t ∷ []) cables) owns
+    → map tables_seen os ≡ map (node_after done cables) owns
+    → map tables_seen (map (node_acted t.act) os) ≡ map (node_after (done ++ t ∷ []) cables) owns
 nodes_more done t cables [] [] are = refl
 nodes_more done t cables [] (own ∷ owns) are = absurd cc
 nodes_more done t cables (o ∷ os) [] are = absurd cc
 nodes_more done t cables (o ∷ os) (own ∷ owns) are =
     let head =
-    same_heads (seen o) (node_after done cables own) (map seen os) (map (node_after done cables) owns) are in
+    same_heads (tables_seen o) (node_after done cables own) (map tables_seen os) (map (node_after done cables) owns) are in
     let tail =
-    same_tails (seen o) (node_after done cables own) (map seen os) (map (node_after done cables) owns) are in
+    same_tails (tables_seen o) (node_after done cables own) (map tables_seen os) (map (node_after done cables) owns) are in
     ap₂ (λ x xs. x ∷ xs)
     (ap
     (λ (s : NodeState).
@@ -255,11 +255,11 @@ ends_b : (events : List Timed) (w : Wire) → (after events (first w)).cable.b �
 ends_b events w = ap (λ (c : Cable). c.b) (cable_after events (first w)) ∙ same_b events w
 
 pub stand_more : (n : NetworkState) → IsNetwork n → (done : List Timed) (t : Timed) (old new : Tables)
-    → Stand n done old → Acted t.act old new → Stand n (done ++ t ∷ []) new
+    → Stand n done old → TablesActed t.act old new → Stand n (done ++ t ∷ []) new
 stand_more n network done t old new stand acts = record {
   params = acts.params ∙ stand.params;
   nodes =
-      ap (map seen) acts.nodes
+      ap (map tables_seen) acts.nodes
       ∙ nodes_more done t (cables_of n) old.nodes.items (clocks_of n) stand.nodes;
   standings =
       acts.standings
@@ -275,7 +275,7 @@ pub few_nodes : (n : NetworkState) → IsNetwork n → (events : List Timed) (t 
     → length t.nodes.items ≤ 512
 few_nodes n network events t stand =
     let limit = network.few_systems in
-    let nodes = length-map t.nodes.items seen in
+    let nodes = length-map t.nodes.items tables_seen in
     let clocks = length-map n.systems (λ (m : Member). clock_of m.identity) in
     let both = length-map (clocks_of n) (node_after events (cables_of n)) in
     let same = ap length stand.nodes in

@@ -11,8 +11,8 @@ use Rattle.gptp_topology.specs.declared.course.Cable.{Cable}
 use Rattle.gptp_topology.specs.declared.course.Standing.{Standing}
 
 -- a link as gptp_plan has it
-abbrev pub wire_of : Cable → Wire
-wire_of c = record { a = c.a; b = c.b; bounds = c.bounds; up = c.up }
+abbrev pub cable_wire : Cable → Wire
+cable_wire c = record { a = c.a; b = c.b; bounds = c.bounds; up = c.up }
 
 abbrev pub cable_of : Wire → Cable
 cable_of w = record { a = w.a; b = w.b; bounds = w.bounds; up = w.up }
@@ -25,13 +25,13 @@ lives_acted act clock lives = (system_acted act clock (record { identity = 0; li
 abbrev pub acted : Act → Standing → Standing
 acted act s = record {
   at = s.at;
-  cable = cable_of (link_acted act (wire_of s.cable));
+  cable = cable_of (link_acted act (cable_wire s.cable));
   a_lives = lives_acted act s.cable.a.clock s.a_lives;
   b_lives = lives_acted act s.cable.b.clock s.b_lives;
 }
 
-abbrev pub at_time : ℕ → Standing → Standing
-at_time at s = record { at = at; cable = s.cable; a_lives = s.a_lives; b_lives = s.b_lives }
+abbrev pub course_at_time : ℕ → Standing → Standing
+course_at_time at s = record { at = at; cable = s.cable; a_lives = s.a_lives; b_lives = s.b_lives }
 
 -- how it stood so far, where the time is another: this is the last of that
 abbrev pub past : ℕ → Standing → List Standing → List Standing
@@ -40,7 +40,7 @@ past at s ss = if s.at == at then ss else ss ++ s ∷ []
 -- how a link stands at the time of this standing and at those of the events behind it
 abbrev pub course_from : Standing → List Timed → List Standing
 course_from s [] = s ∷ []
-course_from s (t ∷ ts) = past t.at s [] ++ course_from (acted t.act (at_time t.at s)) ts
+course_from s (t ∷ ts) = past t.at s [] ++ course_from (acted t.act (course_at_time t.at s)) ts
 
 -- a link at first
 abbrev pub first : Wire → Standing
@@ -50,8 +50,8 @@ abbrev pub course_of : List Timed → Wire → List Standing
 course_of events w = course_from (first w) events
 
 -- it is up between two live systems
-abbrev pub is_used : Standing → Bool
-is_used s = s.cable.up && (s.a_lives && s.b_lives)
+abbrev pub cable_is_used : Standing → Bool
+cable_is_used s = s.cable.up && (s.a_lives && s.b_lives)
 
 -- the system that a change names, and an act; no document has one that names none
 abbrev pub named_by : Change → ℕ
@@ -72,9 +72,9 @@ abbrev pub names_of : List Timed → List ℕ
 names_of = map (λ (t : Timed). named t.act)
 
 -- a system at one of the link's ends is named so
-abbrev pub is_end : Cable → ℕ → Bool
-is_end c clock = (clock == c.a.clock) || (clock == c.b.clock)
+abbrev pub is_cable_end : Cable → ℕ → Bool
+is_cable_end c clock = (clock == c.a.clock) || (clock == c.b.clock)
 
 -- the events that name one of these systems: no other changes how the link stands
 abbrev pub naming : Cable → List Timed → List Timed
-naming c = filter (λ (t : Timed). is_end c (named t.act))
+naming c = filter (λ (t : Timed). is_cable_end c (named t.act))

@@ -11,7 +11,7 @@ use Rattle.gptp_plan.specs.SyncWait.{sync_wait}
 use Rattle.gptp_plan.specs.declared.change.Act.{Act}
 use Rattle.gptp_plan.specs.declared.network.Member.{Member}
 use Rattle.gptp_plan.specs.declared.sync_wait.SyncPaths.{SyncPaths}
-use Rattle.gptp_topology.specs.Course.{acted, cable_of, first, is_used, lives_acted, named}
+use Rattle.gptp_topology.specs.Course.{acted, cable_of, first, cable_is_used, lives_acted, named}
 use Rattle.gptp_topology.specs.Trouble.{is_long, loss_in_use}
 use Rattle.gptp_topology.specs.declared.course.Cable.{Cable}
 use Rattle.gptp_topology.specs.declared.course.Standing.{Standing}
@@ -40,8 +40,8 @@ pub record NodeState : Type 0 where
   pub lives : Bool
   pub neighbours : List Neighbour
 
-abbrev pub seen : Node → NodeState
-seen o = record { clock = o.clock; lives = o.lives; neighbours = o.neighbours.items }
+abbrev pub tables_seen : Node → NodeState
+tables_seen o = record { clock = o.clock; lives = o.lives; neighbours = o.neighbours.items }
 
 abbrev pub node_of : List Cable → ℕ → NodeState
 node_of cables clock = record { clock = clock; lives = true; neighbours = neighbours_of clock cables }
@@ -71,12 +71,12 @@ acted_along act (o ∷ os) ss = acted_along act os (acted_at act o.link ss)
 
 -- the greatest delay of a link in use, or 0
 abbrev pub delay_in_use : Standing → ℕ
-delay_in_use s = if is_used s then s.cable.bounds.max else 0
+delay_in_use s = if cable_is_used s then s.cable.bounds.max else 0
 
 -- whether a link is in use, and then isn't good or loses frames, and its greatest delay
 abbrev pub mark_of : Params → Standing → Mark
 mark_of p s = record {
-  used = is_used s;
+  used = cable_is_used s;
   troubled = is_long p s || not (loss_in_use s == 0);
   delay = delay_in_use s;
 }
@@ -99,34 +99,34 @@ first_used marks [] = None
 first_used marks (o ∷ os) = if used_at marks o.link then Some o.clock else first_used marks os
 
 -- a link in use leads to another than this one
-abbrev pub leads_elsewhere : List Mark → ℕ → List Neighbour → Bool
-leads_elsewhere marks clock = list_any (λ (o : Neighbour). not (o.clock == clock) && used_at marks o.link)
+abbrev pub marked_elsewhere : List Mark → ℕ → List Neighbour → Bool
+marked_elsewhere marks clock = list_any (λ (o : Neighbour). not (o.clock == clock) && used_at marks o.link)
 
 abbrev pub elsewhere : List Mark → List Neighbour → Option ℕ → Bool
 elsewhere marks os None = false
-elsewhere marks os (Some clock) = leads_elsewhere marks clock os
+elsewhere marks os (Some clock) = marked_elsewhere marks clock os
 
 -- links in use lead to two different systems
 abbrev pub leads_to_two : List Mark → List Neighbour → Bool
 leads_to_two marks os = elsewhere marks os (first_used marks os)
 
-abbrev pub lives_between : List Mark → Node → Bool
-lives_between marks o = o.lives && leads_to_two marks o.neighbours.items
+abbrev pub marked_between : List Mark → Node → Bool
+marked_between marks o = o.lives && leads_to_two marks o.neighbours.items
 
 -- how many systems a path has at most
-abbrev pub path_bound : List Mark → List Node → ℕ
-path_bound marks os = min (count_by (lives_between marks) os + 2) (count_by (λ (o : Node). o.lives) os)
+abbrev pub marked_path_bound : List Mark → List Node → ℕ
+marked_path_bound marks os = min (count_by (marked_between marks) os + 2) (count_by (λ (o : Node). o.lives) os)
 
 -- something may lapse for want of Sync
 abbrev pub may_lapse : Params → Bool
 may_lapse p = not (p.sync_timeout == 0)
 
 -- what Sync has to cross; where nothing may lapse for want of it delays don't count
-abbrev pub delay_of : Params → List Mark → ℕ
-delay_of p marks = if may_lapse p then greatest_used marks else 0
+abbrev pub crossing_delay : Params → List Mark → ℕ
+crossing_delay p marks = if may_lapse p then greatest_used marks else 0
 
 abbrev pub paths_of : Params → List Mark → List Node → SyncPaths
-paths_of p marks os = record { systems = path_bound marks os; delay = delay_of p marks }
+paths_of p marks os = record { systems = marked_path_bound marks os; delay = crossing_delay p marks }
 
 -- for how long at most a settled system waits for Sync, where that isn't below the timeout
 abbrev pub late_of : Params → SyncPaths → Option ℕ
@@ -139,7 +139,7 @@ bound_of n paths marks =
     if is_some (late_of n.params paths) || list_any (λ (m : Mark). m.troubled) marks then None
     else Some (settling_span_with (pace_of n) paths paths.systems)
 
--- what is told of a time
+-- what is told_times of a time
 abbrev pub time_of : NetworkState → List Mark → List Node → ℕ → CalmTime
 time_of n marks os at = record {
   at = at;
@@ -147,24 +147,24 @@ time_of n marks os at = record {
   needs = late_of n.params (paths_of n.params marks os);
 }
 
--- it is told where the next time is another
-abbrev pub told : ℕ → CalmTime → List CalmTime → List CalmTime
-told next time times = if next == time.at then times else times ++ time ∷ []
+-- it is told_times where the next time is another
+abbrev pub told_times : ℕ → CalmTime → List CalmTime → List CalmTime
+told_times next time times = if next == time.at then times else times ++ time ∷ []
 
 -- what is kept of the links agrees with how they stand
 abbrev pub AreMarked : Tables → Type 0
 AreMarked t = t.marks.items ≡ map (mark_of t.params) t.standings.items
 
 -- what an act makes of the tables
-pub record Acted (act : Act) (old new : Tables) : Type 0 where
+pub record TablesActed (act : Act) (old new : Tables) : Type 0 where
   pub params : new.params ≡ old.params
   pub nodes : new.nodes.items ≡ map (node_acted act) old.nodes.items
   pub standings : new.standings.items ≡ acted_along act (neighbours_at (named act) old.nodes.items) old.standings.items
   pub marks : AreMarked new
 
 -- the tables of a network at first
-pub record AreFirst (n : NetworkState) (t : Tables) : Type 0 where
+pub record AreFirstTables (n : NetworkState) (t : Tables) : Type 0 where
   pub params : t.params ≡ n.params
-  pub nodes : map seen t.nodes.items ≡ map (node_of (cables_of n)) (clocks_of n)
+  pub nodes : map tables_seen t.nodes.items ≡ map (node_of (cables_of n)) (clocks_of n)
   pub standings : t.standings.items ≡ map first n.links
   pub marks : AreMarked t

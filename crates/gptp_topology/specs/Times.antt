@@ -23,11 +23,11 @@ abbrev pub late_at : DocumentState → ℕ → Option ℕ
 late_at d at = late_of d.network.params (sync_paths d.network (events_by at d.events))
 
 -- a time of a document, with its bound and that wait
-pub record IsTime (d : DocumentState) (t : CalmTime) : Type 0 where
+pub record IsCalmTime (d : DocumentState) (t : CalmTime) : Type 0 where
   pub bound : IsBound d t.at t.bound
   pub needs : t.needs ≡ late_at d t.at
 
 -- each time of a document
 pub record AreCalmTimes (d : DocumentState) (times : List CalmTime) : Type 0 where
   pub times_are : map (λ (t : CalmTime). t.at) times ≡ times_of d.events
-  pub each : AllByRecursion (IsTime d) times
+  pub each : AllByRecursion (IsCalmTime d) times

@@ -2,7 +2,7 @@
 use Rattle.std.specs.Prelude.{ℕ, ◌+◌, ◌&&◌, nat_lt, Bool, if◌then◌else◌}
 use Rattle.gptp_pdelay.specs.GoodLink.{ceil_div}
 use Rattle.gptp_setup.specs.declared.setup.Params.{Params}
-use Rattle.gptp_topology.specs.Course.{is_used}
+use Rattle.gptp_topology.specs.Course.{cable_is_used}
 use Rattle.gptp_topology.specs.declared.course.Standing.{Standing}
 
 -- the least threshold at which a link of this greatest delay is good, and what the rule of good links asks for
@@ -10,8 +10,8 @@ abbrev pub needed : Params → ℕ → ℕ
 needed p most = most + ceil_div most 1000 + ceil_div p.turnaround 2000 + 2
 
 abbrev pub is_long : Params → Standing → Bool
-is_long p s = is_used s && nat_lt p.threshold (needed p s.cable.bounds.max)
+is_long p s = cable_is_used s && nat_lt p.threshold (needed p s.cable.bounds.max)
 
 -- how many of a thousand frames a link loses in use
 abbrev pub loss_in_use : Standing → ℕ
-loss_in_use s = if is_used s then s.cable.bounds.loss else 0
+loss_in_use s = if cable_is_used s then s.cable.bounds.loss else 0

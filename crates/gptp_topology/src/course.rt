@@ -2,7 +2,7 @@
 
 ghost use Rattle.std.specs.Prelude.{◌≡◌, ◌++◌, ◌∷◌, ◌<◌, ◌+◌, [], IfOk, OnOk, drop, length, map, take};
 ghost use Rattle.gptp_plan.specs.Change.{link_acted, link_changed, system_acted, system_changed};
-ghost use Rattle.gptp_topology.specs.Course.{acted, at_time, cable_of, course_from, first, is_end, is_used, lives_acted, named, named_by, names_of, naming, past, wire_of};
+ghost use Rattle.gptp_topology.specs.Course.{acted, course_at_time, cable_of, course_from, first, is_cable_end, cable_is_used, lives_acted, named, named_by, names_of, naming, past, cable_wire};
 
 use gptp_links::Bounds;
 use gptp_plan::{Act, Change, Network, Timed};
@@ -29,7 +29,7 @@ pub struct Standing {
 
 /// How a link stands at first.
 pub(crate) fn first(cable: &Cable) -> Standing
-    ensures { result ≡ first (wire_of cable.now) }
+    ensures { result ≡ first (cable_wire cable.now) }
 {
     Standing {
         at: 0,
@@ -72,14 +72,14 @@ pub fn cables_of(alloc: Global, network: &Network) -> Result<Vec<Cable>, AllocEr
 
 /// Whether a link is up between two live systems.
 pub(crate) fn is_used(standing: &Standing) -> bool
-    ensures { result ≡ is_used standing.now }
+    ensures { result ≡ cable_is_used standing.now }
 {
     standing.cable.up && (standing.a_lives && standing.b_lives)
 }
 
 /// Does to a link what a change does.
 fn change_cable(change: &Change, cable: &mut Cable)
-    ensures { wire_of cable.new ≡ link_changed change.now (wire_of cable.old) }
+    ensures { cable_wire cable.new ≡ link_changed change.now (cable_wire cable.old) }
 {
     match *change {
         Change::LinkDown { clock, port } => {
@@ -121,7 +121,7 @@ fn change_cable(change: &Change, cable: &mut Cable)
 
 /// Does to a link what an act does.
 fn act_on_cable(act: &Act, cable: &mut Cable)
-    ensures { wire_of cable.new ≡ link_acted act.now (wire_of cable.old) }
+    ensures { cable_wire cable.new ≡ link_acted act.now (cable_wire cable.old) }
 {
     match act {
         Act::Change(change) => change_cable(change, cable),
@@ -184,7 +184,7 @@ pub(crate) fn act(act: &Act, standing: &mut Standing)
 /// Goes on to a time: where it is another, how the link stood until then is put behind the others.
 fn go_on(course: &mut Vec<Standing>, standing: &mut Standing, at: u64) -> Result<(), AllocError>
     ensures course { OnOk result (course.new.items ≡ past at standing.old course.old.items) }
-    ensures standing { OnOk result (standing.new ≡ at_time at standing.old) }
+    ensures standing { OnOk result (standing.new ≡ course_at_time at standing.old) }
 {
     if standing.at != at {
         course.push(*standing)?;
@@ -245,7 +245,7 @@ pub fn names_of(alloc: Global, events: &[Timed]) -> Result<Vec<ClockId>, AllocEr
 
 /// Whether a system at one of a link's ends has this clock.
 fn is_end(cable: &Cable, clock: ClockId) -> bool
-    ensures { result ≡ is_end cable.now clock }
+    ensures { result ≡ is_cable_end cable.now clock }
 {
     clock == cable.a.clock || clock == cable.b.clock
 }
@@ -257,7 +257,7 @@ fn pass(
     event: &Timed,
 ) -> Result<(), AllocError>
     ensures course { OnOk result (course.new.items ≡ past event.now.at standing.old course.old.items) }
-    ensures standing { OnOk result (standing.new ≡ acted event.now.act (at_time event.now.at standing.old)) }
+    ensures standing { OnOk result (standing.new ≡ acted event.now.act (course_at_time event.now.at standing.old)) }
 {
     go_on(course, standing, event.at)?;
     act(&event.act, standing);
@@ -294,7 +294,7 @@ pub fn course_of(
 ) -> Result<Vec<Standing>, AllocError>
     requires { names.now ≡ names_of events.now }
     ensures { IfOk result (λ course. course.items
-        ≡ course_from (first (wire_of cable.now)) (naming cable.now events.now)) }
+        ≡ course_from (first (cable_wire cable.now)) (naming cable.now events.now)) }
 {
     let mut course = Vec::new(alloc);
     let mut standing = first(cable);

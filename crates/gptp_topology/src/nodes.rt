@@ -4,7 +4,7 @@ ghost use Rattle.std.specs.Prelude.{◌≡◌, ◌++◌, ◌∷◌, [], ◌<◌,
 ghost use Rattle.std.specs.List.{count_by};
 ghost use Rattle.gptp_roles.specs.Selection.{clock_of};
 ghost use Rattle.gptp_plan.specs.declared.network.Member.{Member};
-ghost use Rattle.gptp_topology.specs.Tables.{clocks_of, led, neighbours_at, neighbours_of, node_acted, node_of, seen};
+ghost use Rattle.gptp_topology.specs.Tables.{clocks_of, led, neighbours_at, neighbours_of, node_acted, node_of, tables_seen};
 
 use crate::course::{Cable, lives_acted};
 use gptp_plan::{Act, Network};
@@ -70,7 +70,7 @@ fn push_node(
     clock: ClockId,
     cables: &[Cable],
 ) -> Result<(), AllocError>
-    ensures { OnOk result (map seen nodes.new.items ≡ map seen nodes.old.items ++ node_of cables.now clock ∷ []) }
+    ensures { OnOk result (map tables_seen nodes.new.items ≡ map tables_seen nodes.old.items ++ node_of cables.now clock ∷ []) }
 {
     let neighbours = neighbours_of(alloc, clock, cables)?;
     nodes.push(Node {
@@ -119,7 +119,7 @@ fn clocks_of(alloc: Global, network: &Network) -> Result<Vec<ClockId>, AllocErro
 
 /// The systems with these clocks, which all live, with those of the links that are at them.
 fn nodes_with(alloc: Global, clocks: &[ClockId], cables: &[Cable]) -> Result<Vec<Node>, AllocError>
-    ensures { IfOk result (λ nodes. map seen nodes.items ≡ map (node_of cables.now) clocks.now) }
+    ensures { IfOk result (λ nodes. map tables_seen nodes.items ≡ map (node_of cables.now) clocks.now) }
 {
     let mut nodes = Vec::new(alloc);
     for clock in clocks {
@@ -134,7 +134,7 @@ pub(crate) fn nodes_of(
     network: &Network,
     cables: &[Cable],
 ) -> Result<Vec<Node>, AllocError>
-    ensures { IfOk result (λ nodes. map seen nodes.items ≡ map (node_of cables.now) (clocks_of network.now)) }
+    ensures { IfOk result (λ nodes. map tables_seen nodes.items ≡ map (node_of cables.now) (clocks_of network.now)) }
 {
     let clocks = clocks_of(alloc, network)?;
     nodes_with(alloc, &clocks, cables)

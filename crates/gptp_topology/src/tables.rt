@@ -3,8 +3,8 @@
 ghost use Rattle.std.specs.Prelude.{◌≡◌, ◌≤◌, ◌+◌, map, length, IfOk, OnOk};
 ghost use Rattle.std.specs.List.{count_by, list_any};
 ghost use Rattle.gptp_plan.specs.Network.{NetworkState};
-ghost use Rattle.gptp_topology.specs.Course.{first, wire_of};
-ghost use Rattle.gptp_topology.specs.Tables.{Acted, AreFirst, AreMarked, acted_along, acted_at, bound_of, cables_of, delay_in_use, delay_of, first_used, greatest_used, late_of, leads_elsewhere, leads_to_two, lives_between, mark_of, may_lapse, path_bound, paths_of, used_at};
+ghost use Rattle.gptp_topology.specs.Course.{first, cable_wire};
+ghost use Rattle.gptp_topology.specs.Tables.{TablesActed, AreFirstTables, AreMarked, acted_along, acted_at, bound_of, cables_of, delay_in_use, crossing_delay, first_used, greatest_used, late_of, marked_elsewhere, leads_to_two, marked_between, mark_of, may_lapse, marked_path_bound, paths_of, used_at};
 
 use crate::course::{Cable, Standing, act, first, is_used, named};
 use crate::nodes::{Neighbour, Node, act_on_nodes, live_nodes, neighbours_at, nodes_of};
@@ -56,7 +56,7 @@ fn mark_of(params: &Params, standing: &Standing) -> Mark
 
 /// How links stand at first.
 fn first_standings(alloc: Global, cables: &[Cable]) -> Result<Vec<Standing>, AllocError>
-    ensures { IfOk result (λ standings. standings.items ≡ map (λ c. first (wire_of c)) cables.now) }
+    ensures { IfOk result (λ standings. standings.items ≡ map (λ c. first (cable_wire c)) cables.now) }
 {
     let mut standings = Vec::new(alloc);
     for cable in cables {
@@ -100,7 +100,7 @@ fn first_used(marks: &[Mark], neighbours: &[Neighbour]) -> Option<ClockId>
 
 /// Whether one of these links in use leads to another system than this one.
 fn leads_elsewhere(marks: &[Mark], clock: ClockId, neighbours: &[Neighbour]) -> bool
-    ensures { result ≡ leads_elsewhere marks.now clock neighbours.now }
+    ensures { result ≡ marked_elsewhere marks.now clock neighbours.now }
 {
     neighbours.iter().any(|neighbour| neighbour.clock != clock && used_at(marks, neighbour.link))
 }
@@ -117,14 +117,14 @@ fn leads_to_two(marks: &[Mark], neighbours: &[Neighbour]) -> bool
 
 /// Whether a system lives and links in use join it to two different ones.
 fn lives_between(marks: &[Mark], node: &Node) -> bool
-    ensures { result ≡ lives_between marks.now node.now }
+    ensures { result ≡ marked_between marks.now node.now }
 {
     node.lives && leads_to_two(marks, &node.neighbours)
 }
 
 /// How many systems do.
 fn live_between(marks: &[Mark], nodes: &[Node]) -> usize
-    ensures count { result ≡ count_by (lives_between marks.now) nodes.now }
+    ensures count { result ≡ count_by (marked_between marks.now) nodes.now }
     ensures bound { result ≤ length nodes.now }
 {
     let mut count = 0;
@@ -137,7 +137,7 @@ fn live_between(marks: &[Mark], nodes: &[Node]) -> usize
 /// How many systems a path over live systems and links in use has at most.
 fn path_bound(marks: &[Mark], nodes: &[Node]) -> usize
     requires { length nodes.now ≤ 512 }
-    ensures is { result ≡ path_bound marks.now nodes.now }
+    ensures is { result ≡ marked_path_bound marks.now nodes.now }
     ensures few { result ≤ 512 }
 {
     (live_between(marks, nodes) + 2).min(live_nodes(nodes))
@@ -157,7 +157,7 @@ fn greatest_used(marks: &[Mark]) -> u64
 
 /// What counts of it: nothing where nothing may lapse for want of Sync.
 fn delay_of(params: &Params, marks: &[Mark]) -> u64
-    ensures { result ≡ delay_of params.now marks.now }
+    ensures { result ≡ crossing_delay params.now marks.now }
 {
     if may_lapse(params) {
         greatest_used(marks)
@@ -242,7 +242,7 @@ impl Tables {
         cables: &[Cable],
     ) -> Result<Self, AllocError>
         requires { cables.now ≡ cables_of network.now }
-        ensures { IfOk result (AreFirst network.now) }
+        ensures { IfOk result (AreFirstTables network.now) }
     {
         let params = network.params();
         let nodes = nodes_of(alloc, network, cables)?;
@@ -259,7 +259,7 @@ impl Tables {
     /// Does what an act does.
     pub(crate) fn act(&mut self, done: &Act)
         requires { AreMarked self.old }
-        ensures { Acted done.now self.old self.new }
+        ensures { TablesActed done.now self.old self.new }
     {
         act_along(
             &self.params,

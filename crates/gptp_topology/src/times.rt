@@ -2,7 +2,7 @@
 
 ghost use Rattle.std.specs.Prelude.{◌≡◌, ◌≤◌, IfOk, OnOk, length};
 ghost use Rattle.gptp_network.specs.Span.{IsBound};
-ghost use Rattle.gptp_topology.specs.Tables.{cables_of, greatest_used, time_of, told};
+ghost use Rattle.gptp_topology.specs.Tables.{cables_of, greatest_used, time_of, told_times};
 ghost use Rattle.gptp_topology.specs.Times.{AreCalmTimes};
 
 use crate::course::{Cable, cables_of};
@@ -47,7 +47,7 @@ fn tell(
     requires few { length tables.now.nodes.items ≤ 512 }
     requires short { greatest_used tables.now.marks.items ≤ 16000000000 }
     ensures { OnOk result (calm.new.items
-        ≡ told next (time_of network.now tables.now.marks.items tables.now.nodes.items at) calm.old.items) }
+        ≡ told_times next (time_of network.now tables.now.marks.items tables.now.nodes.items at) calm.old.items) }
 {
     if next != at {
         calm.push(time_of(tables, network, at))?;

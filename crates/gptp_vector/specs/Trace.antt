@@ -4,5 +4,5 @@ use Rattle.gptp_vector.specs.declared.trace.Full.{Full}
 use Rattle.gptp_vector.specs.declared.trace.Full.TheVariants as fulls
 
 -- the clock that found no room
-abbrev pub clock_of : Full → ℕ
-clock_of (fulls.Full clock) = clock
+abbrev pub clock_left_out : Full → ℕ
+clock_left_out (fulls.Full clock) = clock

@@ -22,8 +22,8 @@ abbrev pub path_of : Vector → Vector
 path_of v = record v { steps = v.steps + 1 }
 
 -- the system vector: its own root, no steps, and port 0 of its own clock
-abbrev pub system_of : ℕ → Vector
-system_of identity =
+abbrev pub system_vector : ℕ → Vector
+system_vector identity =
     record { root = identity; steps = 0; source = record { clock = identity % 2 ^ 64; port = 0 }; receiver = 0 }
 
 -- the master vector of a port

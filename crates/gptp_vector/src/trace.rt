@@ -48,7 +48,7 @@ impl fmt::Display for Full {
 impl Error for Full {}
 
 impl Trace {
-    ghost use Rattle.gptp_vector.specs.Trace.{clock_of};
+    ghost use Rattle.gptp_vector.specs.Trace.{clock_left_out};
 
     /// The trace with no clock.
     pub fn empty() -> Self
@@ -114,7 +114,7 @@ impl Trace {
     pub fn extend(&mut self, clocks: &[ClockId]) -> Result<(), Full>
         ensures ok { OnOk result (self.new ≡ self.old ++ clocks.now) }
         ensures room { IsOk result ↔ (length self.old + length clocks.now ≤ 256) }
-        ensures full { IfErr result (λ e. slice_get clocks.now (256 - length self.old) ≡ Some (clock_of e)) }
+        ensures full { IfErr result (λ e. slice_get clocks.now (256 - length self.old) ≡ Some (clock_left_out e)) }
         ensures err { OnErr result (self.new ≡ self.old) }
     {
         match clocks.get(self.clocks.remaining_capacity()) {

@@ -20,7 +20,7 @@ pub struct Vector {
 
 impl Vector {
     ghost use Rattle.std.specs.Prelude.{◌≡◌, ◌+◌, ◌<◌, ◌%◌, ◌^◌};
-    ghost use Rattle.gptp_vector.specs.Vector.{order, path_of, system_of, master_of};
+    ghost use Rattle.gptp_vector.specs.Vector.{order, path_of, system_vector, master_of};
 
     /// Which of two vectors is better: `Less` where this one is, by the first of root, steps, source
     /// clock, source port and receiving port in which they differ; the lower number is the better
@@ -51,7 +51,7 @@ impl Vector {
     /// The vector of a system that is its own root: the systemPriorityVector of IEEE 802.1AS-2020,
     /// 10.3.5.
     pub fn system(identity: Identity) -> Self
-        ensures { result ≡ system_of identity }
+        ensures { result ≡ system_vector identity }
     {
         Vector {
             root: identity,

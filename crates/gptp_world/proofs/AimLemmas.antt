@@ -2,7 +2,7 @@
 use Rattle.std.proofs.Common.{◌≡◌, ◌⊎◌, ℕ, List, [], ◌∷◌, Some, slice_get, refl, ap, sym, subst, ◌∙◌, inl, inr}
 use Rattle.std.specs.Option.{option_map}
 use Rattle.std.proofs.lemmas.Option.{none-some, same_Some}
-use Rattle.gptp_links.specs.Queue.{first, Frame}
+use Rattle.gptp_links.specs.Queue.{first_frame, Frame}
 use Rattle.gptp_links.specs.declared.link.Direction.{Direction}
 use Rattle.gptp_links.specs.declared.link.Direction.TheVariants.{FromA, FromB}
 use Rattle.gptp_setup.specs.declared.timer.Timer.{Timer}
@@ -20,13 +20,13 @@ use Rattle.gptp_acts.specs.Pending.{IsNext}
 use Rattle.gptp_acts.specs.Sound.{IsSound}
 use Rattle.gptp_acts.specs.Views.{IsActOf}
 use Rattle.gptp_acts.specs.Acts.{AnyLink, AnySystem, AtLink, AtSystem, IsOldestDue}
-use Rattle.gptp_world.specs.Aim.{aim_of, IsAimOf, IsLaneAt, IsSystemAt, IsTimerAt}
+use Rattle.gptp_world.specs.Aim.{aim_of, IsAimOf, IsLaneAt, PlaceHasClock, IsTimerAt}
 use Rattle.gptp_world.specs.Cable.{channel_of}
 use Rattle.gptp_acts.specs.Changing.{IsChannel}
-use Rattle.gptp_world.specs.Directory.{start_of, BeginsAt, DirectoryState, IsDirectory, IsPlaced}
+use Rattle.gptp_world.specs.Directory.{direction_start, BeginsAt, DirectoryState, IsDirectory, PortIsPlaced}
 use Rattle.gptp_world.specs.Net.{between, IsNet}
-use Rattle.gptp_world.specs.Stage.{clock_at, world_of, IsStage}
-use Rattle.gptp_acts.specs.World.{Channel, WorldState, queue, sender}
+use Rattle.gptp_world.specs.Stage.{clock_at_place, world_of, IsStage}
+use Rattle.gptp_acts.specs.World.{Channel, WorldState, world_queue, sender}
 use Rattle.gptp_world.proofs.EndLemmas.{station_at}
 use Rattle.gptp_world.proofs.NetLemmas.{known_cable, known_lane}
 use Rattle.gptp_acts.proofs.NextDueLemmas.{next_comes, next_runs_out}
@@ -73,11 +73,11 @@ no_lane stage port is none at =
 
 -- a port where a lane begins is that of a system
 pub begins_placed : (d : DirectoryState) (port : PortId) (lane : Lane) → IsDirectory d → BeginsAt d.joins port lane
-    → IsPlaced d.clocks port
+    → PortIsPlaced d.clocks port
 begins_placed d port lane is begins =
-    subst (IsPlaced d.clocks) begins.begins (by lane.direction)
+    subst (PortIsPlaced d.clocks) begins.begins (by lane.direction)
   where
-    by : (direction : Direction) → IsPlaced d.clocks (start_of direction begins.join)
+    by : (direction : Direction) → PortIsPlaced d.clocks (direction_start direction begins.join)
     by FromA = is.plan.placed_a lane.link begins.join begins.there
     by FromB = is.plan.placed_b lane.link begins.join begins.there
 
@@ -85,7 +85,7 @@ begins_placed d port lane is begins =
 
 pub system_found : (stage : Stage) (number place : ℕ) → IsStage stage
     → slice_get stage.net.directory.clocks place ≡ Some number
-    → IsSystemAt number (world_of stage) place
+    → PlaceHasClock number (world_of stage) place
 system_found stage number place is there =
     let stands = station_at stage place number is there in
     record { station = stands.station; is = record { here = stands.here; named = stands.named } }
@@ -95,7 +95,7 @@ pub system_clock : (stage : Stage) (number : ℕ) → IsStage stage → (at : At
     → slice_get stage.net.directory.clocks at.place ≡ Some number
 system_clock stage number is at =
     ap (λ cs. slice_get cs at.place) (sym is.clocks)
-    ∙ (mapped_there clock_at stage.stations.items at.place at.station at.is.here ∙ ap Some at.is.named)
+    ∙ (mapped_there clock_at_place stage.stations.items at.place at.station at.is.here ∙ ap Some at.is.named)
 
 pub no_system : (stage : Stage) (number : ℕ) → IsStage stage
     → ((place : ℕ) → slice_get stage.net.directory.clocks place ≡ Some number → ⊥)
@@ -129,22 +129,22 @@ no_timer_at stage number place timer is directory there none at =
 -- ---- what is due
 
 -- the due time of the oldest frame
-pub oldest_is : (fs : List Frame) (time : ℕ) → option_map (λ (f : Frame). f.due) (first fs) ≡ Some time
+pub oldest_is : (fs : List Frame) (time : ℕ) → option_map (λ (f : Frame). f.due) (first_frame fs) ≡ Some time
     → (f : Frame) × (rest : List Frame) × (fs ≡ f ∷ rest) × (f.due ≡ time)
 oldest_is [] time is = absurd (none-some time is)
 oldest_is (f ∷ fs) time is = (f, fs, refl, same_Some f.due time is)
 
 pub oldest_due : (direction : Direction) (channel : Channel) (time : ℕ)
-    → option_map (λ (f : Frame). f.due) (first (queue direction channel)) ≡ Some time
+    → option_map (λ (f : Frame). f.due) (first_frame (world_queue direction channel)) ≡ Some time
     → IsOldestDue direction time channel
 oldest_due direction channel time is =
-    let found = oldest_is (queue direction channel) time is in
+    let found = oldest_is (world_queue direction channel) time is in
     record { oldest = found.0; rest = found.1; front = found.2; due = found.3 }
 
 pub due_oldest : (direction : Direction) (channel : Channel) (time : ℕ) → IsOldestDue direction time channel
-    → option_map (λ (f : Frame). f.due) (first (queue direction channel)) ≡ Some time
+    → option_map (λ (f : Frame). f.due) (first_frame (world_queue direction channel)) ≡ Some time
 due_oldest direction channel time is =
-    ap (λ fs. option_map (λ (f : Frame). f.due) (first fs)) is.front ∙ ap Some is.due
+    ap (λ fs. option_map (λ (f : Frame). f.due) (first_frame fs)) is.front ∙ ap Some is.due
 
 -- ---- what is next
 

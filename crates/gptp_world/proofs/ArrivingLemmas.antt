@@ -7,10 +7,10 @@ use Rattle.gptp_world.specs.declared.cable.Cable.{Cable}
 use Rattle.gptp_world.specs.declared.cable.Lane.{Lane}
 use Rattle.gptp_world.specs.Directory.{Join}
 use Rattle.gptp_acts.specs.declared.item.Item.TheVariants.{Arrival}
-use Rattle.gptp_acts.specs.Act.{Takes}
+use Rattle.gptp_acts.specs.Act.{TakesFrame}
 use Rattle.gptp_world.specs.Cable.{join_of, channel_of, net_of}
-use Rattle.gptp_world.specs.Pending.{PendingState}
-use Rattle.gptp_acts.specs.Pending.{without_first}
+use Rattle.gptp_world.specs.Pending.{PendingView}
+use Rattle.gptp_acts.specs.Pending.{without_first_entry}
 use Rattle.gptp_acts.specs.World.{with_queue}
 use Rattle.gptp_lists.proofs.MappedLemmas.{mapped_there}
 use Rattle.gptp_lists.proofs.PlaceLemmas.{map-set, map-set_same}
@@ -30,13 +30,13 @@ head_is f g fs gs same = cc
 
 -- the frame that was the oldest has left, and is no longer pending
 pub taken : (lane : Lane) (now : ℕ) (octets : List ℕ) (cables : List Cable) (old new : Cable)
-    (pending after : PendingState)
+    (pending after : PendingView)
     (oldest : Frame) (rest : List Frame) → slice_get cables lane.link ≡ Some old → new.a ≡ old.a → new.b ≡ old.b
     → links.ChangesOnly lane.direction old.link new.link
     → (links.queue lane.direction old.link).frames ≡ oldest ∷ rest → oldest.due ≡ now
     → IsTaken (links.queue lane.direction old.link).frames octets (links.queue lane.direction new.link).frames
-    → after.entries ≡ without_first (Arrival lane.link lane.direction) pending.entries
-    → Takes lane.link lane.direction now octets (channel_of old) (net_of cables pending)
+    → after.entries ≡ without_first_entry (Arrival lane.link lane.direction) pending.entries
+    → TakesFrame lane.link lane.direction now octets (channel_of old) (net_of cables pending)
     (net_of (slice_set cables lane.link new) after)
 taken lane now octets cables old new pending after oldest rest here a b only front due is entries =
     let left : List Frame = (links.queue lane.direction new.link).frames in

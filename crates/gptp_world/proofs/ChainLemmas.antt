@@ -9,7 +9,7 @@ use Rattle.std.specs.Option.{option_map}
 use Rattle.slab.specs.Slab.{Slab, get, slab_len}
 use Rattle.gptp_links.specs.Flights.{Differ, EndsWith}
 use Rattle.gptp_lists.proofs.PlaceLemmas.{read}
-use Rattle.gptp_world.specs.Chain.{with_next, with_last, without_first, no_chain, number_at, next_at, places, places_of, numbers_at, numbers_in, chain_at, IsChained, AreApart, Joins, Stays, ChangesOne, AreChained}
+use Rattle.gptp_world.specs.Chain.{with_next, with_last, without_first, no_chain, number_at, next_number_at, places, chain_places, numbers_at, chain_numbers, chain_at, IsChained, ChainsAreApart, JoinsNumber, Stays, ChangesOne, AreChained}
 use Rattle.gptp_world.specs.declared.chain.Chain.{Chain}
 use Rattle.gptp_world.specs.declared.chain.Node.{Node}
 
@@ -71,7 +71,7 @@ ends-all P tail p (q ∷ ps) ends all = ends-all P tail q ps ends all.1
 module _ (s t : ℕ → Option Node) where
   places-same : (n p : ℕ) → AllByRecursion (λ q. t q ≡ s q) (places s n p) → places t n p ≡ places s n p
   places-same zero p same = refl
-  places-same (suc n) p same = rw same.0 (ap (λ (ps : List ℕ). p ∷ ps) (places-same n (next_at s p) same.1))
+  places-same (suc n) p same = rw same.0 (ap (λ (ps : List ℕ). p ∷ ps) (places-same n (next_number_at s p) same.1))
 
   numbers-same : (ps : List ℕ) → AllByRecursion (λ p. number_at t p ≡ number_at s p) ps
       → numbers_at t ps ≡ numbers_at s ps
@@ -86,17 +86,17 @@ module _ (s t : ℕ → Option Node) where
       all-both (λ p. t p ≡ s p) (λ p. IsSome (s p)) (λ p. IsSome (t p)) ps (λ p is some. rw is some) same there
 
   -- a chain of whose numbers none was changed
-  module _ (chain : Chain) (same : AllByRecursion (λ p. t p ≡ s p) (places_of s chain)) where
-    places-kept : places_of t chain ≡ places_of s chain
+  module _ (chain : Chain) (same : AllByRecursion (λ p. t p ≡ s p) (chain_places s chain)) where
+    places-kept : chain_places t chain ≡ chain_places s chain
     places-kept = places-same chain.count chain.head same
 
-    numbers-kept : numbers_in t chain ≡ numbers_in s chain
-    numbers-kept = rw places-kept (numbers-same (places_of s chain)
-        (all-map (λ p. t p ≡ s p) (λ p. number_at t p ≡ number_at s p) (places_of s chain) (λ p is. rw is refl) same))
+    numbers-kept : chain_numbers t chain ≡ chain_numbers s chain
+    numbers-kept = rw places-kept (numbers-same (chain_places s chain)
+        (all-map (λ p. t p ≡ s p) (λ p. number_at t p ≡ number_at s p) (chain_places s chain) (λ p is. rw is refl) same))
 
     chained-kept : IsChained s chain → IsChained t chain
     chained-kept chained = record {
-      there = rw places-kept (there-same (places_of s chain) same chained.there);
+      there = rw places-kept (there-same (chain_places s chain) same chained.there);
       differ = rw places-kept chained.differ;
       tail = rw places-kept chained.tail;
     }
@@ -112,28 +112,28 @@ none_vacant s ps place there vacant =
 last-all : (s : ℕ → Option Node) (P : ℕ → Type 0) (tail n p : ℕ) → 0 < n → EndsWith tail (places s n p)
     → AllByRecursion P (places s n p) → P tail
 last-all s P tail zero p some ends all = absurd (omega (arith, some))
-last-all s P tail (suc n) p some ends all = ends-all P tail p (places s n (next_at s p)) ends all
+last-all s P tail (suc n) p some ends all = ends-all P tail p (places s n (next_number_at s p)) ends all
 
 -- ---- a number comes behind the others
 
 -- the places of a chain that is made longer
 module _ (s t : ℕ → Option Node) (place tail : ℕ) where
   places-longer : (n p : ℕ) → EndsWith tail (places s (suc n) p) → Differ (places s (suc n) p)
-      → AllByRecursion (λ q. q ≢ place) (places s (suc n) p) → next_at t tail ≡ place
-      → ((q : ℕ) → q ≢ tail → q ≢ place → next_at t q ≡ next_at s q)
+      → AllByRecursion (λ q. q ≢ place) (places s (suc n) p) → next_number_at t tail ≡ place
+      → ((q : ℕ) → q ≢ tail → q ≢ place → next_number_at t q ≡ next_number_at s q)
       → places t (suc (suc n)) p ≡ places s (suc n) p ++ place ∷ []
   places-longer zero p ends differ free joined others =
-      ap (λ (q : ℕ). p ∷ (q ∷ [])) (ap (next_at t) ends ∙ joined)
+      ap (λ (q : ℕ). p ∷ (q ∷ [])) (ap (next_number_at t) ends ∙ joined)
   places-longer (suc n) p ends differ free joined others =
       let no_tail : p ≢ tail = λ same.
-      ends-all (λ q. q ≢ p) tail (next_at s p) (places s n (next_at s (next_at s p))) ends differ.0 (sym same) in
+      ends-all (λ q. q ≢ p) tail (next_number_at s p) (places s n (next_number_at s (next_number_at s p))) ends differ.0 (sym same) in
       let step = others p no_tail free.0 in
       ap (λ (q : ℕ). p ∷ places t (suc (suc n)) q) step
-      ∙ ap (λ (ps : List ℕ). p ∷ ps) (places-longer n (next_at s p) ends differ.1 free.1 joined others)
+      ∙ ap (λ (ps : List ℕ). p ∷ ps) (places-longer n (next_number_at s p) ends differ.1 free.1 joined others)
 
   places-pushed_on : (n head : ℕ) → EndsWith tail (places s n head) → Differ (places s n head)
-      → AllByRecursion (λ q. q ≢ place) (places s n head) → (0 < n → next_at t tail ≡ place)
-      → ((q : ℕ) → (0 < n → q ≢ tail) → q ≢ place → next_at t q ≡ next_at s q)
+      → AllByRecursion (λ q. q ≢ place) (places s n head) → (0 < n → next_number_at t tail ≡ place)
+      → ((q : ℕ) → (0 < n → q ≢ tail) → q ≢ place → next_number_at t q ≡ next_number_at s q)
       → places t (n + 1) (if n == 0 then place else head) ≡ places s n head ++ place ∷ []
   places-pushed_on zero head ends differ free joined others = refl
   places-pushed_on (suc n) head ends differ free joined others =
@@ -152,13 +152,13 @@ numbers-longer s t (p ∷ ps) place same =
 
 -- A number was put at a place that was vacant, and what was the last leads to it.
 module _ (s one t : ℕ → Option Node) (chain : Chain) (place : ℕ) (n : Node) (vacant : s place ≡ None)
-    (here : one place ≡ Some n) (same : (p : ℕ) → p ≢ place → one p ≡ s p) (joins : Joins one t chain place)
+    (here : one place ≡ Some n) (same : (p : ℕ) → p ≢ place → one p ≡ s p) (joins : JoinsNumber one t chain place)
     (chained : IsChained s chain) where
   abbrev longer : Chain
   longer = with_last place chain
 
-  free : AllByRecursion (λ p. p ≢ place) (places_of s chain)
-  free = none_vacant s (places_of s chain) place chained.there vacant
+  free : AllByRecursion (λ p. p ≢ place) (chain_places s chain)
+  free = none_vacant s (chain_places s chain) place chained.there vacant
 
   tail-differs : 0 < chain.count → chain.tail ≢ place
   tail-differs some = last-all s (λ p. p ≢ place) chain.tail chain.count chain.head some chained.tail free
@@ -195,45 +195,45 @@ module _ (s one t : ℕ → Option Node) (chain : Chain) (place : ℕ) (n : Node
     by None some = some
     by (Some m) some = grind (arith)
 
-  next-left : (p : ℕ) → (0 < chain.count → p ≢ chain.tail) → p ≢ place → next_at t p ≡ next_at s p
+  next-left : (p : ℕ) → (0 < chain.count → p ≢ chain.tail) → p ≢ place → next_number_at t p ≡ next_number_at s p
   next-left p apart differs = rw (joins.others p apart ∙ same p differs) refl
 
-  tail-leads : 0 < chain.count → next_at t chain.tail ≡ place
+  tail-leads : 0 < chain.count → next_number_at t chain.tail ≡ place
   tail-leads some = rw (joins.joined some ∙ ap (option_map (with_next place)) (same chain.tail (tail-differs some)))
       (by (s chain.tail)
       (last-all s (λ p. IsSome (s p)) chain.tail chain.count chain.head some chained.tail chained.there)) where
-        by : (o : Option Node) → IsSome o → next_at (λ q. option_map (with_next place) o) chain.tail ≡ place
+        by : (o : Option Node) → IsSome o → next_number_at (λ q. option_map (with_next place) o) chain.tail ≡ place
         by None some = absurd (vacant_has_none None some refl)
         by (Some m) some = refl
 
-  places-pushed : places_of t longer ≡ places_of s chain ++ place ∷ []
+  places-pushed : chain_places t longer ≡ chain_places s chain ++ place ∷ []
   places-pushed = places-pushed_on s t place chain.tail chain.count chain.head chained.tail chained.differ free
       tail-leads next-left
 
   number-new : number_at t place ≡ n.number
   number-new = rw came refl
 
-  pub numbers-pushed : numbers_in t longer ≡ numbers_in s chain ++ n.number ∷ []
+  pub numbers-pushed : chain_numbers t longer ≡ chain_numbers s chain ++ n.number ∷ []
   numbers-pushed =
       ap (numbers_at t) places-pushed
-      ∙ numbers-longer s t (places_of s chain) place
-      (all-map (λ p. p ≢ place) (λ p. number_at t p ≡ number_at s p) (places_of s chain) number-left free)
-      ∙ ap (λ (m : ℕ). numbers_in s chain ++ m ∷ []) number-new
+      ∙ numbers-longer s t (chain_places s chain) place
+      (all-map (λ p. p ≢ place) (λ p. number_at t p ≡ number_at s p) (chain_places s chain) number-left free)
+      ∙ ap (λ (m : ℕ). chain_numbers s chain ++ m ∷ []) number-new
 
   chained-pushed : IsChained t longer
   chained-pushed = record {
-    there = rw places-pushed (all-push (λ p. IsSome (t p)) (places_of s chain) place
-        (all-both (λ p. p ≢ place) (λ p. IsSome (s p)) (λ p. IsSome (t p)) (places_of s chain) some-left free
+    there = rw places-pushed (all-push (λ p. IsSome (t p)) (chain_places s chain) place
+        (all-both (λ p. p ≢ place) (λ p. IsSome (s p)) (λ p. IsSome (t p)) (chain_places s chain) some-left free
         chained.there) (rw came refl));
-    differ = rw places-pushed (differ-push (places_of s chain) place chained.differ free);
-    tail = rw places-pushed (ends-push (places_of s chain) place);
+    differ = rw places-pushed (differ-push (chain_places s chain) place chained.differ free);
+    tail = rw places-pushed (ends-push (chain_places s chain) place);
   }
 
-  module _ (other : Chain) (is : IsChained s other) (beside : AreApart s chain other) where
-    other-same : AllByRecursion (λ p. t p ≡ s p) (places_of s other)
+  module _ (other : Chain) (is : IsChained s other) (beside : ChainsAreApart s chain other) where
+    other-same : AllByRecursion (λ p. t p ≡ s p) (chain_places s other)
     other-same =
-        all-both (λ p. IsSome (s p)) (λ p. AllByRecursion (λ q. q ≢ p) (places_of s chain)) (λ p. t p ≡ s p)
-        (places_of s other)
+        all-both (λ p. IsSome (s p)) (λ p. AllByRecursion (λ q. q ≢ p) (chain_places s chain)) (λ p. t p ≡ s p)
+        (chain_places s other)
         (λ p some apart.
         joins.others p (λ many last. last-all s (λ q. q ≢ p) chain.tail chain.count chain.head many chained.tail apart
         (sym last))
@@ -246,9 +246,9 @@ module _ (s one t : ℕ → Option Node) (chain : Chain) (place : ℕ) (n : Node
       places = places-kept s t other other-same;
       numbers = numbers-kept s t other other-same;
       apart = rw (places-kept s t other other-same, places-pushed)
-          (all-both (λ p. IsSome (s p)) (λ p. AllByRecursion (λ q. q ≢ p) (places_of s chain))
-          (λ p. AllByRecursion (λ q. q ≢ p) (places_of s chain ++ place ∷ [])) (places_of s other)
-          (λ p some apart. all-push (λ q. q ≢ p) (places_of s chain) place apart
+          (all-both (λ p. IsSome (s p)) (λ p. AllByRecursion (λ q. q ≢ p) (chain_places s chain))
+          (λ p. AllByRecursion (λ q. q ≢ p) (chain_places s chain ++ place ∷ [])) (chain_places s other)
+          (λ p some apart. all-push (λ q. q ≢ p) (chain_places s chain) place apart
           (λ at. vacant_has_none (s p) some (ap s (sym at) ∙ vacant)))
           is.there beside);
     }
@@ -267,10 +267,10 @@ module _ (s t : ℕ → Option Node) (chain : Chain) (n : Node) (found : s chain
   abbrev rest : List ℕ
   rest = places s (chain.count - 1) n.next
 
-  next-found : next_at s chain.head ≡ n.next
+  next-found : next_number_at s chain.head ≡ n.next
   next-found = rw found refl
 
-  places-were : places_of s chain ≡ chain.head ∷ rest
+  places-were : chain_places s chain ≡ chain.head ∷ rest
   places-were = by chain.count some where
     by : (m : ℕ) → 0 < m → places s m chain.head ≡ chain.head ∷ places s (m - 1) n.next
     by zero some = absurd (omega (arith, some))
@@ -281,10 +281,10 @@ module _ (s t : ℕ → Option Node) (chain : Chain) (n : Node) (found : s chain
   rest-same : AllByRecursion (λ p. t p ≡ s p) rest
   rest-same = all-map (λ p. p ≢ chain.head) (λ p. t p ≡ s p) rest same (rw places-were at chained.differ).0
 
-  places-left : places_of t shorter ≡ rest
+  places-left : chain_places t shorter ≡ rest
   places-left = places-same s t (chain.count - 1) n.next rest-same
 
-  numbers-left : numbers_in t shorter ≡ numbers_at s rest
+  numbers-left : chain_numbers t shorter ≡ numbers_at s rest
   numbers-left =
       ap (numbers_at t) places-left
       ∙ numbers-same s t rest (all-map (λ p. t p ≡ s p) (λ p. number_at t p ≡ number_at s p) rest
@@ -293,10 +293,10 @@ module _ (s t : ℕ → Option Node) (chain : Chain) (n : Node) (found : s chain
   number-first : number_at s chain.head ≡ n.number
   number-first = rw found refl
 
-  pub numbers-taken : numbers_in s chain ≡ n.number ∷ numbers_in t shorter
+  pub numbers-taken : chain_numbers s chain ≡ n.number ∷ chain_numbers t shorter
   numbers-taken =
       ap (numbers_at s) places-were ∙ ap (λ (ns : List ℕ). number_at s chain.head ∷ ns) (sym numbers-left)
-      ∙ ap (λ (m : ℕ). m ∷ numbers_in t shorter) number-first
+      ∙ ap (λ (m : ℕ). m ∷ chain_numbers t shorter) number-first
 
   chained-taken : IsChained t shorter
   chained-taken = record {
@@ -305,10 +305,10 @@ module _ (s t : ℕ → Option Node) (chain : Chain) (n : Node) (found : s chain
     tail = rw places-left (ends-rest chain.tail chain.head rest (rw places-were at chained.tail));
   }
 
-  module _ (other : Chain) (is : IsChained s other) (beside : AreApart s chain other) where
-    left-same : AllByRecursion (λ p. t p ≡ s p) (places_of s other)
+  module _ (other : Chain) (is : IsChained s other) (beside : ChainsAreApart s chain other) where
+    left-same : AllByRecursion (λ p. t p ≡ s p) (chain_places s other)
     left-same =
-        all-map (λ p. AllByRecursion (λ q. q ≢ p) (places_of s chain)) (λ p. t p ≡ s p) (places_of s other)
+        all-map (λ p. AllByRecursion (λ q. q ≢ p) (chain_places s chain)) (λ p. t p ≡ s p) (chain_places s other)
         (λ p apart. same p (λ at. (rw places-were at apart).0 (sym at))) beside
 
     stays-taken : Stays s t shorter other
@@ -317,8 +317,8 @@ module _ (s t : ℕ → Option Node) (chain : Chain) (n : Node) (found : s chain
       places = places-kept s t other left-same;
       numbers = numbers-kept s t other left-same;
       apart = rw (places-kept s t other left-same, places-left)
-          (all-map (λ p. AllByRecursion (λ q. q ≢ p) (places_of s chain)) (λ p. AllByRecursion (λ q. q ≢ p) rest)
-          (places_of s other) (λ p apart. (rw places-were at apart).1) beside);
+          (all-map (λ p. AllByRecursion (λ q. q ≢ p) (chain_places s chain)) (λ p. AllByRecursion (λ q. q ≢ p) rest)
+          (chain_places s other) (λ p apart. (rw places-were at apart).1) beside);
     }
 
   pub changes-taken : ChangesOne s t chain shorter
@@ -364,16 +364,16 @@ module _ (s t : Slab Node) (chains : List Chain) (place : ℕ) (after : Chain) (
     | inr apart ↦ subst (IsChained (get t)) (sym (there i apart)) (others i apart).chained
   ]
 
-  apart-here : (i : ℕ) → i ≢ place → AreApart (get t) after (chain_at i chains)
+  apart-here : (i : ℕ) → i ≢ place → ChainsAreApart (get t) after (chain_at i chains)
   apart-here i apart = (others i apart).apart
 
   apart-there : (i j : ℕ) → i ≢ j → i ≢ place → j ≢ place
-      → AreApart (get t) (chain_at i chains) (chain_at j chains)
+      → ChainsAreApart (get t) (chain_at i chains) (chain_at j chains)
   apart-there i j differ one other =
       let p = (others i one).places in let q = (others j other).places in
       rw (p, q) (are.apart i j differ)
 
-  apart-changed : (i j : ℕ) → i ≢ j → AreApart (get t) (chain_at i changed) (chain_at j changed)
+  apart-changed : (i j : ℕ) → i ≢ j → ChainsAreApart (get t) (chain_at i changed) (chain_at j changed)
   apart-changed i j differ = elim (cases_eq i place) [
     | inl same ↦
         let other : j ≢ place = λ is. differ (same ∙ sym is) in
@@ -382,7 +382,7 @@ module _ (s t : Slab Node) (chains : List Chain) (place : ℕ) (after : Chain) (
     | inr apart ↦ elim (cases_eq j place) [
       | inl same ↦
           let one = there i apart in let two = ap (λ k. chain_at k changed) same ∙ here in
-          rw (one, two) (apart-turned (places_of (get t) after) (places_of (get t) (chain_at i chains))
+          rw (one, two) (apart-turned (chain_places (get t) after) (chain_places (get t) (chain_at i chains))
           (apart-here i apart))
       | inr other ↦
           let one = there i apart in let two = there j other in rw (one, two) (apart-there i j differ apart other)
@@ -400,18 +400,18 @@ module _ (s t : Slab Node) (chains : List Chain) (place : ℕ) (after : Chain) (
     fits = fits;
   }
 
-  pub numbers-changed : map (numbers_in (get t)) changed
-      ≡ slice_set (map (numbers_in (get s)) chains) place (numbers_in (get t) after)
-  numbers-changed = map-set_kept (numbers_in (get s)) (numbers_in (get t)) chains place after
+  pub numbers-changed : map (chain_numbers (get t)) changed
+      ≡ slice_set (map (chain_numbers (get s)) chains) place (chain_numbers (get t) after)
+  numbers-changed = map-set_kept (chain_numbers (get s)) (chain_numbers (get t)) chains place after
       (λ i c apart at.
       let is = read chains i c no_chain at in
-      subst (λ (d : Chain). numbers_in (get t) d ≡ numbers_in (get s) d) is (others i apart).numbers)
+      subst (λ (d : Chain). chain_numbers (get t) d ≡ chain_numbers (get s) d) is (others i apart).numbers)
 
 -- ---- reading
 
 -- the numbers at a place are those of the chain there
 pub numbers_there : (s : ℕ → Option Node) (chains : List Chain) (place : ℕ)
-    → slice_index_or (map (numbers_in s) chains) place [] ≡ numbers_in s (chain_at place chains)
+    → slice_index_or (map (chain_numbers s) chains) place [] ≡ chain_numbers s (chain_at place chains)
 numbers_there s [] place = refl
 numbers_there s (c ∷ chains) zero = refl
 numbers_there s (c ∷ chains) (suc place) = numbers_there s chains place

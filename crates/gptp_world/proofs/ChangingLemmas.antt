@@ -5,7 +5,7 @@ use Rattle.gptp_world.specs.declared.cable.Cable.{Cable}
 use Rattle.gptp_world.specs.declared.net.Net.{Net as Between}
 use Rattle.gptp_world.specs.Cable.{join_of, channel_of, net_of}
 use Rattle.gptp_world.specs.Net.{IsNet}
-use Rattle.gptp_world.specs.Pending.{PendingState}
+use Rattle.gptp_world.specs.Pending.{PendingView}
 use Rattle.gptp_acts.specs.Pending.{Entry}
 use Rattle.gptp_acts.specs.World.{Channel, Net}
 use Rattle.gptp_lists.proofs.PlaceLemmas.{map-set}
@@ -14,7 +14,7 @@ use Rattle.gptp_world.proofs.ArrivingLemmas.{joins_kept}
 abbrev made : List Channel → List Entry → Net
 made channels pending = record { channels = channels; pending = pending }
 
-pub net_changed : (cables : List Cable) (place : ℕ) (new : Cable) (channel : Channel) (after : PendingState)
+pub net_changed : (cables : List Cable) (place : ℕ) (new : Cable) (channel : Channel) (after : PendingView)
     (entries : List Entry)
     → channel_of new ≡ channel → after.entries ≡ entries
     → net_of (slice_set cables place new) after ≡ made (slice_set (map channel_of cables) place channel) entries

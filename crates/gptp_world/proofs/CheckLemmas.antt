@@ -15,7 +15,7 @@ use Rattle.gptp_acts.specs.declared.station.Station.{Station}
 use Rattle.gptp_acts.specs.Acts.{IsDueThen, IsEarlier, IsOldestDue, IsThere}
 use Rattle.gptp_world.specs.Aim.{IsAimOf, IsAimOfChange}
 use Rattle.gptp_world.specs.Directory.{IsDirectory}
-use Rattle.gptp_acts.specs.Pending.{Entry, entry, IsNext}
+use Rattle.gptp_acts.specs.Pending.{Entry, pending_entry, IsNext}
 use Rattle.gptp_world.specs.Stage.{world_of, IsStage}
 use Rattle.gptp_acts.specs.World.{Channel, WorldState, port_id, station_due}
 use Rattle.gptp_world.proofs.AimLemmas.{lane_joins, system_clock}
@@ -28,8 +28,8 @@ in_middle (x ∷ xs) after e = inr (in_middle xs after e)
 
 pub next_earlier : (es : List Entry) (due time : ℕ) (item : Item) → IsNext es due item → due < time → IsEarlier time es
 next_earlier es due time item next less = (
-  entry due item,
-  subst (In (entry due item)) (sym next.is) (in_middle next.before next.after (entry due item)),
+  pending_entry due item,
+  subst (In (pending_entry due item)) (sym next.is) (in_middle next.before next.after (pending_entry due item)),
   less,
 )
 

@@ -18,9 +18,9 @@ use Rattle.gptp_acts.specs.Act.{in_state, Calls}
 use Rattle.gptp_acts.specs.Changing.{is_up_at, CallsAll}
 use Rattle.gptp_world.specs.Net.{between, IsUpLane}
 use Rattle.gptp_acts.specs.World.{port_id}
-use Rattle.gptp_acts.specs.Sends.{IsUnlinked}
-use Rattle.gptp_world.specs.Room.{both, for_call, nothing, repeated, HasRoom, Need, Uses}
-use Rattle.gptp_world.specs.Stage.{clock_at, world_of, Called, CallUses, HasRoomToCall, IsStage}
+use Rattle.gptp_acts.specs.Sends.{IsUnlinkedPort}
+use Rattle.gptp_world.specs.Room.{both, for_call, no_room, repeated, WorldHasRoom, Need, Uses}
+use Rattle.gptp_world.specs.Stage.{clock_at_place, world_of, Called, CallUses, HasRoomToCall, IsStage}
 use Rattle.gptp_world.specs.Starting.{CameUp, HasRoomForPorts}
 use Rattle.gptp_acts.specs.World.{WorldState}
 use Rattle.gptp_world.proofs.NeedLemmas.{covered, left_of, unsent, uses_both, uses_less, Covers}
@@ -145,12 +145,12 @@ pub linked : (stage : Stage) (place port : ℕ) (one : Station) (lane : Option L
     → ((number : ℕ) → slice_get stage.net.directory.clocks place ≡ Some number
     → IfSome lane (IsUpLane stage.net (port_id number port)))
     → ((number : ℕ) → slice_get stage.net.directory.clocks place ≡ Some number
-    → IfNone lane (IsUnlinked (between stage.net) (port_id number port)))
+    → IfNone lane (IsUnlinkedPort (between stage.net) (port_id number port)))
     → is_up_at (world_of stage).net.channels (clock one.system) port ≡ is_some lane
 linked stage place port one lane is here some none =
     let number = clock one.system in
     let known : slice_get stage.net.directory.clocks place ≡ Some number =
-    ap (λ cs. slice_get cs place) (sym is.clocks) ∙ mapped_there clock_at stage.stations.items place one here in
+    ap (λ cs. slice_get cs place) (sym is.clocks) ∙ mapped_there clock_at_place stage.stations.items place one here in
     up_tells stage.net number port lane is.net (some number known) (none number known)
 
 pub one_came : {F : Type 0} (answers : Bounds → ℕ → F → Option ℕ → F → Type 0) (place port : ℕ) (fate fate_after : F)
@@ -213,7 +213,7 @@ CallsUse calls place stage net = (station : Station) → slice_get stage.station
     → Uses (repeated calls (for_call station.system)) stage.net net
 
 pub none_use : (place : ℕ) (stage : Stage) → CallsUse 0 place stage stage.net
-none_use place stage = λ station here. unsent nothing stage.net
+none_use place stage = λ station here. unsent no_room stage.net
 
 -- one call more
 pub more_use : (calls place : ℕ) (stage middle : Stage) (net : Between)
@@ -237,7 +237,7 @@ pub room_for_next : (calls place : ℕ) (stage middle : Stage) (has : HasRoomFor
     → HasRoomToCall place middle
 room_for_next calls place stage middle has still so_far less =
     let need = for_call has.station.system in
-    let left : HasRoom need middle.net =
+    let left : WorldHasRoom need middle.net =
     left_of (repeated calls need) need stage.net middle.net (so_far has.station has.here)
     (covered (repeated (length has.station.system.ports) need) (both (repeated calls need) need) stage.net
     (repeated-more calls (length has.station.system.ports) need less) has.room) in
@@ -245,5 +245,5 @@ room_for_next calls place stage middle has still so_far less =
     record {
       station = still.station;
       here = still.here;
-      room = subst (λ (n : Need). HasRoom n middle.net) (sym same) left;
+      room = subst (λ (n : Need). WorldHasRoom n middle.net) (sym same) left;
     }

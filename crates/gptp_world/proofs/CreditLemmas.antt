@@ -21,8 +21,8 @@ use Rattle.gptp_world.specs.Credit.{credit_of, for_credit, AreItsPorts, DrawsTwo
 use Rattle.gptp_world.specs.Delivering.{HasRoomToHear}
 use Rattle.gptp_world.specs.Directory.{BeginsAt, IsDirectory}
 use Rattle.gptp_world.specs.Net.{IsNet}
-use Rattle.gptp_world.specs.Room.{both, for_reach, is_reached, nothing, HasRoom, HasRoomAtPorts, Need, OnlyRoom, Uses}
-use Rattle.gptp_world.specs.Stage.{clock_at, HasRoomToGive, HasRoomWithin, IsStage}
+use Rattle.gptp_world.specs.Room.{both, for_reach, is_reached, no_room, WorldHasRoom, HasRoomAtPorts, Need, OnlyRoom, Uses}
+use Rattle.gptp_world.specs.Stage.{clock_at_place, HasRoomToGive, HasRoomWithin, IsStage}
 use Rattle.gptp_system.specs.Input.{Expires as TimerExpires}
 use Rattle.gptp_world.proofs.LaterLemmas.{at_time}
 use Rattle.gptp_world.proofs.NeedLemmas.{covered, fewer, nothing_with, uses_both, uses_less}
@@ -164,7 +164,7 @@ pub its_ports : (stage : Stage) (place : ℕ) (station : Station) → IsStage st
     → slice_get stage.stations.items place ≡ Some station → AreItsPorts place (length station.system.ports) stage.net
 its_ports stage place station is here number port lane known same begins =
     let stands : slice_get stage.net.directory.clocks place ≡ Some (clock station.system) =
-    ap (λ cs. slice_get cs place) (sym is.clocks) ∙ mapped_there clock_at stage.stations.items place station here in
+    ap (λ cs. slice_get cs place) (sym is.clocks) ∙ mapped_there clock_at_place stage.stations.items place station here in
     let named : port.clock ≡ clock station.system =
     same ∙ same_Some number (clock station.system) (sym known ∙ stands) in
     is.ports place station port.port lane here
@@ -261,7 +261,7 @@ pub room_beyond : (stage : Stage) (r : Reach) (place : ℕ) (station : Station) 
     → HasReachBeyond r place credit stage.net → HasRoomBeyond r place credit stage
 room_beyond stage r place station credit is here entries buffers has =
     let known : slice_get stage.net.directory.clocks place ≡ Some (clock station.system) =
-    ap (λ cs. slice_get cs place) (sym is.clocks) ∙ mapped_there clock_at stage.stations.items place station here in
+    ap (λ cs. slice_get cs place) (sym is.clocks) ∙ mapped_there clock_at_place stage.stations.items place station here in
     record {
       station = station;
       here = here;
@@ -321,9 +321,9 @@ left_covered : (credit : List ℕ) (r : Reach) (place : ℕ) (station : Station)
 left_covered credit r place station stage net here has uses port lane begins =
     let ahead_of = for_credit stage.net.directory.clocks credit in
     let one : has.station ≡ station = same_Some has.station station (sym has.here ∙ here) in
-    let room : HasRoom (both (for_reach r station.system) ahead_of) stage.net =
-    subst (λ (s : Station). HasRoom (both (for_reach r s.system) ahead_of) stage.net) one has.room in
-    let left : HasRoom ahead_of net = uses.left ahead_of room in
+    let room : WorldHasRoom (both (for_reach r station.system) ahead_of) stage.net =
+    subst (λ (s : Station). WorldHasRoom (both (for_reach r s.system) ahead_of) stage.net) one has.room in
+    let left : WorldHasRoom ahead_of net = uses.left ahead_of room in
     let directory = uses.directory in rw directory (left.lanes port lane begins)
 
 pub covered_after : (aim : Aim) (credit : List ℕ) (stage : Stage) (net : Between) → IsNet net
@@ -380,8 +380,8 @@ change_uses (aims.Priority1 place value) stage net change = tt
 change_uses (aims.Inject lane) stage net change = tt
 
 -- what is taken away before a call takes no room
-pub after_nothing : (need : Need) (net between net' : Between) → Uses nothing net between → Uses need between net'
+pub after_nothing : (need : Need) (net between net' : Between) → Uses no_room net between → Uses need between net'
     → Uses need net net'
 after_nothing need net between net' first second =
-    uses_less need (both nothing need) net net' (nothing_with need)
-    (uses_both nothing need net between net' first second)
+    uses_less need (both no_room need) net net' (nothing_with need)
+    (uses_both no_room need net between net' first second)

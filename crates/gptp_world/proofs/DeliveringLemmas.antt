@@ -6,10 +6,10 @@ use Rattle.gptp_links.specs.Queue.{frame}
 use Rattle.gptp_world.specs.declared.cable.Lane.{Lane}
 use Rattle.gptp_world.specs.declared.net.Net.{Net as Between}
 use Rattle.gptp_world.specs.declared.stage.Stage.{Stage}
-use Rattle.gptp_acts.specs.Act.{Takes}
-use Rattle.gptp_acts.specs.World.{WorldState, queue}
+use Rattle.gptp_acts.specs.Act.{TakesFrame}
+use Rattle.gptp_acts.specs.World.{WorldState, world_queue}
 use Rattle.gptp_world.specs.Cable.{channel_of, join_of}
-use Rattle.gptp_world.specs.Directory.{end_of, DirectoryState, IsDirectory, Join}
+use Rattle.gptp_world.specs.Directory.{direction_end, DirectoryState, IsDirectory, Join}
 use Rattle.gptp_world.specs.Net.{between, IsFrameDue, IsOldest}
 use Rattle.gptp_world.specs.Stage.{world_of, IsStage}
 use Rattle.gptp_lists.proofs.MappedLemmas.{mapped_there}
@@ -22,19 +22,19 @@ use Rattle.gptp_world.proofs.TellingLemmas.{same_clocks, same_joins}
 -- the system at this place is the one at the end of a lane
 abbrev pub IsReceiver : Lane → ℕ → DirectoryState → Type 0
 IsReceiver lane place d = (join : Join) → slice_get d.joins lane.link ≡ Some join
-    → slice_get d.clocks place ≡ Some (end_of lane.direction join).clock
+    → slice_get d.clocks place ≡ Some (direction_end lane.direction join).clock
 
 pub receiver_within : (stage : Stage) (lane : Lane) (place : ℕ) → IsStage stage
     → lane.link < length stage.net.cables.items
     → IsReceiver lane place stage.net.directory → place < length stage.stations.items
 receiver_within stage lane place is known hears =
     let cable = member_there stage.net.cables.items lane.link known in let join = join_of cable.0 in
-    place_within stage place (end_of lane.direction join).clock is
+    place_within stage place (direction_end lane.direction join).clock is
     (hears join (known_join stage.net lane.link cable.0 is.net cable.1))
 
 -- the oldest frame of a lane is the one that is taken
 pub oldest_taken : (net net' : Between) (lane : Lane) (now : ℕ) (octets : List ℕ) (due : IsFrameDue lane now net)
-    → Takes lane.link lane.direction now octets (channel_of due.cable) (between net) (between net')
+    → TakesFrame lane.link lane.direction now octets (channel_of due.cable) (between net) (between net')
     → IsOldest lane octets net
 oldest_taken net net' lane now octets due takes = record {
   cable = due.cable;
@@ -61,7 +61,7 @@ oldest_before stage stage' lane octets world oldest =
       oldest = oldest.oldest;
       rest = oldest.rest;
       front = sym (queue_same lane.direction made.one)
-          ∙ (ap (queue lane.direction) (sym made.is) ∙ (queue_same lane.direction oldest.cable ∙ oldest.front));
+          ∙ (ap (world_queue lane.direction) (sym made.is) ∙ (queue_same lane.direction oldest.cable ∙ oldest.front));
       these = oldest.these;
     }
 
@@ -72,15 +72,15 @@ pub so_heard : (stage stage' : Stage) (lane : Lane) (receiver : ℕ) (r : Reach)
     → ((octets : List ℕ) → IsOldest lane octets stage.net → r ≡ frame_reach octets)
     → So r receiver → (join : Join) (place : ℕ) (octets : List ℕ)
     → slice_get stage'.net.directory.joins lane.link ≡ Some join
-    → slice_get stage'.net.directory.clocks place ≡ Some (end_of lane.direction join).clock
+    → slice_get stage'.net.directory.clocks place ≡ Some (direction_end lane.direction join).clock
     → IsOldest lane octets stage'.net → So (frame_reach octets) place
 so_heard stage stage' lane receiver r So is is' world directory hears tells has join place octets there placed oldest =
     let d = stage.net.directory in
     let known : slice_get d.joins lane.link ≡ Some join =
     ap (λ js. slice_get js lane.link) (sym (same_joins stage stage' is is' world)) ∙ there in
-    let stands : slice_get d.clocks place ≡ Some (end_of lane.direction join).clock =
+    let stands : slice_get d.clocks place ≡ Some (direction_end lane.direction join).clock =
     ap (λ cs. slice_get cs place) (sym (same_clocks stage stage' is is' world)) ∙ placed in
     let here : So r place = subst (λ p. So r p)
-    (directory.plan.differ receiver place (end_of lane.direction join).clock (hears join known) stands) has in
+    (directory.plan.differ receiver place (direction_end lane.direction join).clock (hears join known) stands) has in
     subst (λ (reach : Reach). So reach place)
     (tells octets (oldest_before stage stage' lane octets world oldest)) here

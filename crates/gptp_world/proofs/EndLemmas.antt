@@ -8,9 +8,9 @@ use Rattle.gptp_world.specs.declared.net.Net.{Net as Between}
 use Rattle.gptp_world.specs.declared.stage.Stage.{Stage}
 use Rattle.gptp_acts.specs.declared.station.Station.{Station}
 use Rattle.gptp_world.specs.Cable.{channel_of, join_of}
-use Rattle.gptp_world.specs.Directory.{end_of, DirectoryState, IsDirectory, IsPlaced, Join}
+use Rattle.gptp_world.specs.Directory.{direction_end, DirectoryState, IsDirectory, PortIsPlaced, Join}
 use Rattle.gptp_world.specs.Net.{IsNet}
-use Rattle.gptp_world.specs.Stage.{clock_at, IsStage}
+use Rattle.gptp_world.specs.Stage.{clock_at_place, IsStage}
 use Rattle.gptp_acts.specs.World.{receiver}
 use Rattle.gptp_world.proofs.NetLemmas.{from_map}
 use Rattle.gptp_lists.proofs.MappedLemmas.{mapped_there}
@@ -21,12 +21,12 @@ pub known_join : (net : Between) (link : ℕ) (cable : Cable) → IsNet net → 
 known_join net link cable is here =
     ap (λ js. slice_get js link) (sym is.joins) ∙ mapped_there join_of net.cables.items link cable here
 
-pub end_same : (d : Direction) (cable : Cable) → end_of d (join_of cable) ≡ receiver d (channel_of cable)
+pub end_same : (d : Direction) (cable : Cable) → direction_end d (join_of cable) ≡ receiver d (channel_of cable)
 end_same FromA cable = refl
 end_same FromB cable = refl
 
 pub end_placed : (d : DirectoryState) (direction : Direction) (link : ℕ) (join : Join) → IsDirectory d
-    → slice_get d.joins link ≡ Some join → IsPlaced d.clocks (end_of direction join)
+    → slice_get d.joins link ≡ Some join → PortIsPlaced d.clocks (direction_end direction join)
 end_placed d FromA link join is there = is.plan.placed_b link join there
 end_placed d FromB link join is there = is.plan.placed_a link join there
 
@@ -34,13 +34,13 @@ end_placed d FromB link join is there = is.plan.placed_a link join there
 pub record StandsAt (stage : Stage) (place number : ℕ) : Type 0 where
   pub station : Station
   pub here : slice_get stage.stations.items place ≡ Some station
-  pub named : clock_at station ≡ number
+  pub named : clock_at_place station ≡ number
 
 pub station_at : (stage : Stage) (place number : ℕ) → IsStage stage
     → slice_get stage.net.directory.clocks place ≡ Some number
     → StandsAt stage place number
 station_at stage place number is there =
-    let made = from_map clock_at stage.stations.items place number (ap (λ cs. slice_get cs place) is.clocks ∙ there) in
+    let made = from_map clock_at_place stage.stations.items place number (ap (λ cs. slice_get cs place) is.clocks ∙ there) in
     record { station = made.one; here = made.there; named = sym made.is }
 
 pub place_within : (stage : Stage) (place number : ℕ) → IsStage stage

@@ -15,7 +15,7 @@ use Rattle.gptp_acts.specs.Act.{Calls}
 use Rattle.gptp_world.specs.Aim.{IsTimerDue}
 use Rattle.gptp_acts.specs.Item.{timer_port}
 use Rattle.gptp_world.specs.Net.{between}
-use Rattle.gptp_acts.specs.Pending.{without_first, IsKnown}
+use Rattle.gptp_acts.specs.Pending.{without_first_entry, IsKnownItem}
 use Rattle.gptp_world.specs.Performing.{Expired}
 use Rattle.gptp_world.specs.Stage.{world_of, Called, IsStage}
 use Rattle.gptp_acts.proofs.NextDueLemmas.{runs_out}
@@ -33,7 +33,7 @@ timer_few s timers.Lapse few of = omega arith
 -- a timer that is due is one that can be pending
 pub known_timer : (stage : Stage) (place : ℕ) (timer : Timer) → IsStage stage
     → IsTimerDue place timer stage.now (world_of stage)
-    → IsKnown stage.net.pending.systems stage.net.pending.links (Expiry place timer)
+    → IsKnownItem stage.net.pending.systems stage.net.pending.links (Expiry place timer)
 known_timer stage place timer is due =
     let runs = runs_out place timer stage.now (world_of stage) due.station due.here due.due in
     let within = slice_get_within stage.stations.items place due.station due.here in let places = is.systems in (
@@ -46,7 +46,7 @@ pub expired : {F : Type 0} (answers : Bounds → ℕ → F → Option ℕ → F 
     (place : ℕ) (timer : Timer) (fate fate_after : F)
     (stage : Stage) (net : Between) (stage' : Stage) → IsTimerDue place timer stage.now (world_of stage)
     → between net
-    ≡ record (between stage.net) { pending = without_first (Expiry place timer) (between stage.net).pending }
+    ≡ record (between stage.net) { pending = without_first_entry (Expiry place timer) (between stage.net).pending }
     → (answer : Answer)
     → Called answers place (TimerExpires timer) answer fate fate_after (record stage { net = net }) stage'
     → Expired answers place timer fate fate_after stage stage'

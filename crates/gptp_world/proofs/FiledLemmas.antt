@@ -6,7 +6,7 @@ use Rattle.std.proofs.lemmas.Bool.Decides.{nat_tests}
 use Rattle.std.proofs.lemmas.List.{get_or-set_same, get_or-set_other}
 use Rattle.gptp_links.specs.declared.link.Direction.{Direction}
 use Rattle.gptp_links.specs.declared.link.Direction.TheVariants.{FromA, FromB}
-use Rattle.gptp_scheduler.specs.Pending.{Entry as Numbered, entry as numbered, without as without_number, RiseFrom}
+use Rattle.gptp_scheduler.specs.Pending.{AgendaEntry as Numbered, entry as numbered, without_number, RiseFrom}
 use Rattle.gptp_setup.specs.declared.timer.Timer.{Timer}
 use Rattle.gptp_world.specs.declared.filed.Running.{Running}
 use Rattle.gptp_acts.specs.declared.item.Item.{Item}
@@ -15,13 +15,13 @@ use Rattle.gptp_acts.proofs.PendingLemmas.{without_first-none}
 use Rattle.gptp_acts.proofs.TimerLemmas.{kind_below}
 use Rattle.gptp_world.proofs.SlotLemmas.{cut, length-cut, in_slot-push_same, in_slot-push_other, in_slot-cut_same, in_slot-cut_other, all-cut, removed, times-plain, plain-cut}
 use Rattle.gptp_world.proofs.QueueLemmas.{queue-same, queue-other, length-plain}
-use Rattle.gptp_acts.specs.Pending.{Entry, plain, times, without_first, IsKnown, arrival_place}
+use Rattle.gptp_acts.specs.Pending.{Entry, plain, times_of_item, without_first_entry, IsKnownItem, arrival_place}
 use Rattle.gptp_world.specs.Chain.{rest_of}
-use Rattle.gptp_world.specs.Filed.{FiledState, queue_at, with_queue, slot_of, timer_place, in_slot, running, number_of, one_or_none, AreFiled}
+use Rattle.gptp_world.specs.Filed.{FiledState, queue_at, filed_with_queue, slot_of, timer_place, filed_in_slot, running, timer_number, one_or_none, PendingIsFiled}
 
 -- ---- places
 
-pub timer_within : (systems links place : ℕ) (timer : Timer) → IsKnown systems links (Expiry place timer)
+pub timer_within : (systems links place : ℕ) (timer : Timer) → IsKnownItem systems links (Expiry place timer)
     → timer_place place timer < systems * 119
 timer_within systems links place timer known =
     let kind = kind_below timer in let here = known.0 in let port = known.1 in omega arith
@@ -54,33 +54,33 @@ all-push P (y ∷ xs) x all here = (all.0, all-push P xs x all.1 here)
 -- ---- entries put and taken
 
 pub known-plain : (systems links : ℕ) (es : List (Numbered Item))
-    → AllByRecursion (λ (e : Numbered Item). IsKnown systems links e.item) es
-    → AllByRecursion (λ (e : Entry). IsKnown systems links e.item) (plain es)
+    → AllByRecursion (λ (e : Numbered Item). IsKnownItem systems links e.item) es
+    → AllByRecursion (λ (e : Entry). IsKnownItem systems links e.item) (plain es)
 known-plain systems links [] all = tt
 known-plain systems links (e ∷ es) all = (all.0, known-plain systems links es all.1)
 
 module _ (systems links : ℕ) (filed : FiledState) (es : List (Numbered Item))
-    (are : AreFiled systems links filed es) where
+    (are : PendingIsFiled systems links filed es) where
   due-times : (xs : List (Numbered Item)) → map (λ (e : Numbered Item). e.time) xs ≡ map (λ (r : Running). r.due)
       (map running xs)
   due-times [] = refl
   due-times (x ∷ xs) = ap (λ ts. x.time ∷ ts) (due-times xs)
 
   -- a timer is pending as it is filed
-  pub times-timer : (place : ℕ) (timer : Timer) (slot : Option Running) → IsKnown systems links (Expiry place timer)
+  pub times-timer : (place : ℕ) (timer : Timer) (slot : Option Running) → IsKnownItem systems links (Expiry place timer)
       → slot ≡ slice_index_or filed.timers (timer_place place timer) None
-      → times (Expiry place timer) (plain es) ≡ map (λ (r : Running). r.due) (one_or_none slot)
+      → times_of_item (Expiry place timer) (plain es) ≡ map (λ (r : Running). r.due) (one_or_none slot)
   times-timer place timer slot known is =
       times-plain systems links (Expiry place timer) es known are.known
-      ∙ due-times (in_slot (slot_of (Expiry place timer)) es)
+      ∙ due-times (filed_in_slot (slot_of (Expiry place timer)) es)
       ∙ ap (map (λ (r : Running). r.due)) (are.timers (timer_place place timer) ∙ ap one_or_none (sym is))
 
   one_at_most : (slot : Option Running) → length (map (λ (r : Running). r.due) (one_or_none slot)) ≤ 1
   one_at_most None = omega arith
   one_at_most (Some r) = omega arith
 
-  pub times-once : (place : ℕ) (timer : Timer) → IsKnown systems links (Expiry place timer)
-      → length (times (Expiry place timer) (plain es)) ≤ 1
+  pub times-once : (place : ℕ) (timer : Timer) → IsKnownItem systems links (Expiry place timer)
+      → length (times_of_item (Expiry place timer) (plain es)) ≤ 1
   times-once place timer known =
       let is = times-timer place timer (slice_index_or filed.timers (timer_place place timer) None) known refl in
       rw is (one_at_most (slice_index_or filed.timers (timer_place place timer) None))
@@ -88,10 +88,10 @@ module _ (systems links : ℕ) (filed : FiledState) (es : List (Numbered Item))
   -- a direction of a link with no number has nothing pending
   pub times-no_arrival : (link : ℕ) (direction : Direction) → link < links
       → queue_at (arrival_place link direction) filed ≡ []
-      → times (Arrival link direction) (plain es) ≡ []
+      → times_of_item (Arrival link direction) (plain es) ≡ []
   times-no_arrival link direction known none =
       times-plain systems links (Arrival link direction) es known are.known
-      ∙ ap (map (λ (e : Numbered Item). e.time)) (map-empty number_of (in_slot (slot_of (Arrival link direction)) es)
+      ∙ ap (map (λ (e : Numbered Item). e.time)) (map-empty timer_number (filed_in_slot (slot_of (Arrival link direction)) es)
       (are.queues (arrival_place link direction) ∙ none))
 
   unfiled : (slot : Option Running) → map (λ (r : Running). r.due) (one_or_none slot) ≡ [] → slot ≡ None
@@ -99,21 +99,21 @@ module _ (systems links : ℕ) (filed : FiledState) (es : List (Numbered Item))
   unfiled (Some r) some = absurd (grind (arith, some))
 
   -- a timer that isn't pending isn't filed
-  pub not_filed : (place : ℕ) (timer : Timer) → IsKnown systems links (Expiry place timer)
-      → times (Expiry place timer) (plain es) ≡ [] → slice_index_or filed.timers (timer_place place timer) None ≡ None
+  pub not_filed : (place : ℕ) (timer : Timer) → IsKnownItem systems links (Expiry place timer)
+      → times_of_item (Expiry place timer) (plain es) ≡ [] → slice_index_or filed.timers (timer_place place timer) None ≡ None
   not_filed place timer known none =
       unfiled (slice_index_or filed.timers (timer_place place timer) None)
       (sym (times-timer place timer (slice_index_or filed.timers (timer_place place timer) None) known refl) ∙ none)
 
   -- one that isn't filed can't be taken
-  pub plain-not_filed : (place : ℕ) (timer : Timer) → IsKnown systems links (Expiry place timer)
+  pub plain-not_filed : (place : ℕ) (timer : Timer) → IsKnownItem systems links (Expiry place timer)
       → None ≡ slice_index_or filed.timers (timer_place place timer) None
-      → without_first (Expiry place timer) (plain es) ≡ plain es
+      → without_first_entry (Expiry place timer) (plain es) ≡ plain es
   plain-not_filed place timer known none =
       without_first-none (Expiry place timer) (plain es) (times-timer place timer None known none)
 
   -- a timer that doesn't run is put
-  module _ (place : ℕ) (timer : Timer) (time number : ℕ) (known : IsKnown systems links (Expiry place timer))
+  module _ (place : ℕ) (timer : Timer) (time number : ℕ) (known : IsKnownItem systems links (Expiry place timer))
       (none : slice_index_or filed.timers (timer_place place timer) None ≡ None) where
     abbrev put_timer : Numbered Item
     put_timer = numbered time number (Expiry place timer)
@@ -122,17 +122,17 @@ module _ (systems links : ℕ) (filed : FiledState) (es : List (Numbered Item))
     with_timer = slice_set filed.timers (timer_place place timer) (Some (running put_timer))
 
     timers-put : (p : ℕ) (t : Bool) → (p == timer_place place timer) ≡ t
-        → map running (in_slot (2 * p) (es ++ put_timer ∷ [])) ≡ one_or_none (slice_index_or with_timer p None)
+        → map running (filed_in_slot (2 * p) (es ++ put_timer ∷ [])) ≡ one_or_none (slice_index_or with_timer p None)
     timers-put p true t =
         let same : p ≡ timer_place place timer = grind (arith, nat_tests) in
         let within : timer_place place timer < length filed.timers =
         omega (arith, are.timers_len, timer_within systems links place timer known) in
         let slot : slice_index_or with_timer p None ≡ Some (running put_timer) =
         rw same (get_or-set_same filed.timers (timer_place place timer) (Some (running put_timer)) None within) in
-        let before : map running (in_slot (2 * p) es) ≡ [] = are.timers p
+        let before : map running (filed_in_slot (2 * p) es) ≡ [] = are.timers p
         ∙ ap one_or_none (ap (λ i. slice_index_or filed.timers i None) same ∙ none) in
         ap (map running) (in_slot-push_same (2 * p) es put_timer (ap (λ i. 2 * i) same))
-        ∙ map-push running (in_slot (2 * p) es) put_timer ∙ ap (λ rs. rs ++ running put_timer ∷ []) before
+        ∙ map-push running (filed_in_slot (2 * p) es) put_timer ∙ ap (λ rs. rs ++ running put_timer ∷ []) before
         ∙ sym (ap one_or_none slot)
     timers-put p false t =
         let differ : p ≡ timer_place place timer → ⊥ = λ same. grind (arith, nat_tests) in
@@ -141,7 +141,7 @@ module _ (systems links : ℕ) (filed : FiledState) (es : List (Numbered Item))
         ∙ sym (ap one_or_none (get_or-set_other filed.timers (timer_place place timer) p (Some
         (running put_timer)) None differ))
 
-    pub filed-put_timer : AreFiled systems links (record filed { timers = with_timer }) (es ++ put_timer ∷ [])
+    pub filed-put_timer : PendingIsFiled systems links (record filed { timers = with_timer }) (es ++ put_timer ∷ [])
     filed-put_timer = record {
       few_systems = are.few_systems;
       few_links = are.few_links;
@@ -149,16 +149,16 @@ module _ (systems links : ℕ) (filed : FiledState) (es : List (Numbered Item))
       queues_len = are.queues_len;
       known = all-push _ es put_timer are.known known;
       timers = λ p. timers-put p (p == timer_place place timer) refl;
-      queues = λ p. ap (map number_of) (in_slot-push_other (2 * p + 1) es put_timer (λ same. omega arith))
+      queues = λ p. ap (map timer_number) (in_slot-push_other (2 * p + 1) es put_timer (λ same. omega arith))
           ∙ are.queues p;
     }
 
   -- a timer that runs is taken out
-  module _ (place : ℕ) (timer : Timer) (known : IsKnown systems links (Expiry place timer)) (r : Running)
+  module _ (place : ℕ) (timer : Timer) (known : IsKnownItem systems links (Expiry place timer)) (r : Running)
       (runs : slice_index_or filed.timers (timer_place place timer) None ≡ Some r) where
-    its : (e : Numbered Item) × (rest : List (Numbered Item)) × (in_slot (slot_of (Expiry place timer)) es ≡ e ∷ rest)
+    its : (e : Numbered Item) × (rest : List (Numbered Item)) × (filed_in_slot (slot_of (Expiry place timer)) es ≡ e ∷ rest)
         × (running e ≡ r) × (map running rest ≡ [])
-    its = map-cons running (in_slot (slot_of (Expiry place timer)) es) r [] (are.timers (timer_place place timer)
+    its = map-cons running (filed_in_slot (slot_of (Expiry place timer)) es) r [] (are.timers (timer_place place timer)
         ∙ ap one_or_none runs)
 
     pub removed-timer : (next : ℕ) → RiseFrom 0 es next
@@ -172,12 +172,12 @@ module _ (systems links : ℕ) (filed : FiledState) (es : List (Numbered Item))
     without_timer = slice_set filed.timers (timer_place place timer) None
 
     timers-cut : (p : ℕ) (t : Bool) → (p == timer_place place timer) ≡ t
-        → map running (in_slot (2 * p) (cut (slot_of (Expiry place timer)) es)) ≡ one_or_none
+        → map running (filed_in_slot (2 * p) (cut (slot_of (Expiry place timer)) es)) ≡ one_or_none
         (slice_index_or without_timer p None)
     timers-cut p true t =
         let same : p ≡ timer_place place timer = grind (arith, nat_tests) in
-        let gone : in_slot (2 * p) (cut (slot_of (Expiry place timer)) es) ≡ its.1 =
-        ap (λ i. in_slot (2 * i) (cut (slot_of (Expiry place timer)) es)) same
+        let gone : filed_in_slot (2 * p) (cut (slot_of (Expiry place timer)) es) ≡ its.1 =
+        ap (λ i. filed_in_slot (2 * i) (cut (slot_of (Expiry place timer)) es)) same
         ∙ in_slot-cut_same (slot_of (Expiry place timer)) es its.0 its.1 its.2 in
         let within : timer_place place timer < length filed.timers =
         omega (arith, are.timers_len, timer_within systems links place timer known) in
@@ -191,11 +191,11 @@ module _ (systems links : ℕ) (filed : FiledState) (es : List (Numbered Item))
         ∙ sym (ap one_or_none (get_or-set_other filed.timers (timer_place place timer) p None None differ))
 
     pub plain-stopped : (next : ℕ) → RiseFrom 0 es next
-        → plain (without_number r.number es) ≡ without_first (Expiry place timer) (plain es)
+        → plain (without_number r.number es) ≡ without_first_entry (Expiry place timer) (plain es)
     plain-stopped next rises =
         ap plain (removed-timer next rises) ∙ plain-cut systems links (Expiry place timer) es known are.known
 
-    filed-cut_timer : AreFiled systems links (record filed {
+    filed-cut_timer : PendingIsFiled systems links (record filed {
       timers =
           without_timer;
     }) (cut (slot_of (Expiry place timer)) es)
@@ -206,13 +206,13 @@ module _ (systems links : ℕ) (filed : FiledState) (es : List (Numbered Item))
       queues_len = are.queues_len;
       known = all-cut _ (slot_of (Expiry place timer)) es are.known;
       timers = λ p. timers-cut p (p == timer_place place timer) refl;
-      queues = λ p. ap (map number_of) (in_slot-cut_other (slot_of (Expiry place timer)) (2 * p + 1) es
+      queues = λ p. ap (map timer_number) (in_slot-cut_other (slot_of (Expiry place timer)) (2 * p + 1) es
           (λ same. omega arith))
           ∙ are.queues p;
     }
 
     pub filed-stopped : (next : ℕ) → RiseFrom 0 es next
-        → AreFiled systems links (record filed { timers = without_timer }) (without_number r.number es)
+        → PendingIsFiled systems links (record filed { timers = without_timer }) (without_number r.number es)
     filed-stopped next rises = rw (removed-timer next rises) filed-cut_timer
 
   -- an arrival is put
@@ -221,28 +221,28 @@ module _ (systems links : ℕ) (filed : FiledState) (es : List (Numbered Item))
     put_arrival = numbered time number (Arrival link direction)
 
     abbrev longer : FiledState
-    longer = with_queue (arrival_place link direction) (queue_at (arrival_place link direction) filed ++ number ∷ [])
+    longer = filed_with_queue (arrival_place link direction) (queue_at (arrival_place link direction) filed ++ number ∷ [])
         room filed
 
     queues-put : (p : ℕ) (t : Bool) → (p == arrival_place link direction) ≡ t
-        → map number_of (in_slot (2 * p + 1) (es ++ put_arrival ∷ [])) ≡ queue_at p longer
+        → map timer_number (filed_in_slot (2 * p + 1) (es ++ put_arrival ∷ [])) ≡ queue_at p longer
     queues-put p true t =
         let same : p ≡ arrival_place link direction = grind (arith, nat_tests) in
         let within : arrival_place link direction < length filed.queues =
         omega (arith, are.queues_len, arrival_within links link direction known) in
         let now = queue-same filed (arrival_place link direction) (queue_at (arrival_place link direction) filed
         ++ number ∷ []) room within in
-        ap (map number_of) (in_slot-push_same (2 * p + 1) es put_arrival (ap (λ i. 2 * i + 1) same))
-        ∙ map-push number_of (in_slot (2 * p + 1) es) put_arrival
+        ap (map timer_number) (in_slot-push_same (2 * p + 1) es put_arrival (ap (λ i. 2 * i + 1) same))
+        ∙ map-push timer_number (filed_in_slot (2 * p + 1) es) put_arrival
         ∙ ap (λ ns. ns ++ number ∷ []) (are.queues p ∙ ap (λ i. queue_at i filed) same)
         ∙ sym (ap (λ i. queue_at i longer) same ∙ now)
     queues-put p false t =
         let differ : p ≡ arrival_place link direction → ⊥ = λ same. grind (arith, nat_tests) in
-        ap (map number_of) (in_slot-push_other (2 * p + 1) es put_arrival (λ same. differ (omega arith)))
+        ap (map timer_number) (in_slot-push_other (2 * p + 1) es put_arrival (λ same. differ (omega arith)))
         ∙ are.queues p
         ∙ sym (queue-other filed (arrival_place link direction) p _ room differ)
 
-    pub filed-put_arrival : AreFiled systems links longer (es ++ put_arrival ∷ [])
+    pub filed-put_arrival : PendingIsFiled systems links longer (es ++ put_arrival ∷ [])
     filed-put_arrival = record {
       few_systems = are.few_systems;
       few_links = are.few_links;
@@ -259,38 +259,38 @@ module _ (systems links : ℕ) (filed : FiledState) (es : List (Numbered Item))
     abbrev arrival_slot : ℕ
     arrival_slot = slot_of (Arrival link direction)
 
-    front : (e : Numbered Item) × (rest : List (Numbered Item)) × (in_slot arrival_slot es ≡ e ∷ rest)
-        × (number_of e ≡ n) × (map number_of rest ≡ ns)
-    front = map-cons number_of (in_slot arrival_slot es) n ns (are.queues (arrival_place link direction) ∙ first)
+    front : (e : Numbered Item) × (rest : List (Numbered Item)) × (filed_in_slot arrival_slot es ≡ e ∷ rest)
+        × (timer_number e ≡ n) × (map timer_number rest ≡ ns)
+    front = map-cons timer_number (filed_in_slot arrival_slot es) n ns (are.queues (arrival_place link direction) ∙ first)
 
     pub removed-arrival : (next : ℕ) → RiseFrom 0 es next → without_number n es ≡ cut arrival_slot es
     removed-arrival next rises =
         ap (λ m. without_number m es) (sym front.3) ∙ removed arrival_slot 0 next es front.0 front.1 rises front.2
 
     abbrev shorter : FiledState
-    shorter = with_queue (arrival_place link direction) (rest_of (queue_at (arrival_place link direction) filed)) room
+    shorter = filed_with_queue (arrival_place link direction) (rest_of (queue_at (arrival_place link direction) filed)) room
         filed
 
     queues-cut : (p : ℕ) (t : Bool) → (p == arrival_place link direction) ≡ t
-        → map number_of (in_slot (2 * p + 1) (cut arrival_slot es)) ≡ queue_at p shorter
+        → map timer_number (filed_in_slot (2 * p + 1) (cut arrival_slot es)) ≡ queue_at p shorter
     queues-cut p true t =
         let same : p ≡ arrival_place link direction = grind (arith, nat_tests) in
         let within : arrival_place link direction < length filed.queues =
         omega (arith, are.queues_len, arrival_within links link direction known) in
-        let gone : in_slot (2 * p + 1) (cut arrival_slot es) ≡ front.1 =
-        ap (λ i. in_slot (2 * i + 1) (cut arrival_slot es)) same
+        let gone : filed_in_slot (2 * p + 1) (cut arrival_slot es) ≡ front.1 =
+        ap (λ i. filed_in_slot (2 * i + 1) (cut arrival_slot es)) same
         ∙ in_slot-cut_same arrival_slot es front.0 front.1 front.2 in
         let now = queue-same filed (arrival_place link direction) (rest_of (queue_at
         (arrival_place link direction) filed)) room within in
-        ap (map number_of) gone ∙ front.4
+        ap (map timer_number) gone ∙ front.4
         ∙ sym (ap (λ i. queue_at i shorter) same ∙ now ∙ ap rest_of first)
     queues-cut p false t =
         let differ : p ≡ arrival_place link direction → ⊥ = λ same. grind (arith, nat_tests) in
-        ap (map number_of) (in_slot-cut_other arrival_slot (2 * p + 1) es (λ same. differ (omega arith)))
+        ap (map timer_number) (in_slot-cut_other arrival_slot (2 * p + 1) es (λ same. differ (omega arith)))
         ∙ are.queues p
         ∙ sym (queue-other filed (arrival_place link direction) p _ room differ)
 
-    filed-cut_arrival : AreFiled systems links shorter (cut arrival_slot es)
+    filed-cut_arrival : PendingIsFiled systems links shorter (cut arrival_slot es)
     filed-cut_arrival = record {
       few_systems = are.few_systems;
       few_links = are.few_links;
@@ -301,11 +301,11 @@ module _ (systems links : ℕ) (filed : FiledState) (es : List (Numbered Item))
       queues = λ p. queues-cut p (p == arrival_place link direction) refl;
     }
 
-    pub filed-taken : (next : ℕ) → RiseFrom 0 es next → AreFiled systems links shorter (without_number n es)
+    pub filed-taken : (next : ℕ) → RiseFrom 0 es next → PendingIsFiled systems links shorter (without_number n es)
     filed-taken next rises = rw (removed-arrival next rises) filed-cut_arrival
 
     pub plain-taken : (next : ℕ) → RiseFrom 0 es next
-        → plain (without_number n es) ≡ without_first (Arrival link direction) (plain es)
+        → plain (without_number n es) ≡ without_first_entry (Arrival link direction) (plain es)
     plain-taken next rises =
         ap plain (removed-arrival next rises) ∙ plain-cut systems links (Arrival link direction) es known are.known
 

@@ -26,15 +26,15 @@ use Rattle.gptp_acts.specs.declared.station.Station.{Station}
 use Rattle.gptp_acts.specs.Agrees.{Agrees}
 use Rattle.gptp_acts.specs.Ahead.{IsOnTime, IsWorldOnTime}
 use Rattle.gptp_world.specs.Cable.{channel_of, join_of}
-use Rattle.gptp_world.specs.Directory.{Join, clocks_of, joins_of, start_of, BeginsAt}
+use Rattle.gptp_world.specs.Directory.{Join, directory_clocks, joins_of, direction_start, BeginsAt}
 use Rattle.gptp_acts.specs.Initial.{channel_from, channels_of, initial, setup_of, station_of, stations_of}
 use Rattle.gptp_world.specs.Net.{IsNet}
 use Rattle.gptp_acts.specs.World.{port_id}
 use Rattle.gptp_plan.specs.Network.{largest_of, member, pace_of, NetworkState, IsEnd, IsNetwork, IsPort, IsWire}
 use Rattle.gptp_plan.proofs.LogLemmas.{largest_log, logs_up_to}
 use Rattle.gptp_acts.specs.Sound.{AllFlow, AreApart, AreLinked, Flows, HaveOwnClocks, HaveTheirSetups, IsItsSetup, IsSound, JoinPorts}
-use Rattle.gptp_world.specs.Stage.{clock_at, IsStage}
-use Rattle.gptp_acts.specs.World.{Channel, queue, sender}
+use Rattle.gptp_world.specs.Stage.{clock_at_place, IsStage}
+use Rattle.gptp_acts.specs.World.{Channel, world_queue, sender}
 use Rattle.gptp_acts.proofs.ChangeAgreeLemmas.{silent_agrees}
 use Rattle.gptp_lists.proofs.MappedLemmas.{mapped, same_there}
 use Rattle.gptp_acts.proofs.SteadyLemmas.{started_none_late, started_steady}
@@ -183,13 +183,13 @@ initial_on_time n is = record {
   pending = λ k d l. omega arith;
 }
 
-idle_queue : (direction : Direction) (w : Wire) → queue direction (channel_from w) ≡ []
+idle_queue : (direction : Direction) (w : Wire) → world_queue direction (channel_from w) ≡ []
 idle_queue FromA w = refl
 idle_queue FromB w = refl
 
 pub initial_agrees : (n : NetworkState) → Agrees (initial n)
 initial_agrees n = silent_agrees (initial n) (initial_silent n)
-    (λ link direction. each_channel n (λ (channel : Channel). queue direction channel ≡ [])
+    (λ link direction. each_channel n (λ (channel : Channel). world_queue direction channel ≡ [])
     (λ place w there. idle_queue direction w) link) refl
 
 -- no two systems have one clock
@@ -267,13 +267,13 @@ idle_net n net cables joins links = record {
 }
 
 clocks_kept : (n : NetworkState) (systems : List Member)
-    → map clock_at (map (station_of (pace_of n)) systems) ≡ clocks_of systems
+    → map clock_at_place (map (station_of (pace_of n)) systems) ≡ directory_clocks systems
 clocks_kept n [] = refl
 clocks_kept n (m ∷ systems) = ap (λ rest. clock_of m.identity ∷ rest) (clocks_kept n systems)
 
 -- a link begins at a port of a system of the network
 begins_at_port : (n : NetworkState) (place : ℕ) (direction : Direction) (w : Wire) → IsWire n place w
-    → IsPort n.systems (start_of direction (record { a = w.a; b = w.b }))
+    → IsPort n.systems (direction_start direction (record { a = w.a; b = w.b }))
 begins_at_port n place FromA w is = is.a
 begins_at_port n place FromB w is = is.b
 
@@ -284,7 +284,7 @@ port_counted n is place m p lane here begins =
     let join_from : Wire → Join = λ w. record { a = w.a; b = w.b } in
     let x = mapped join_from n.links lane.link begins.join begins.there in
     let port : IsPort n.systems (port_id (clock_of m.identity) p) =
-    subst (IsPort n.systems) (ap (start_of lane.direction) x.2 ∙ begins.begins)
+    subst (IsPort n.systems) (ap (direction_start lane.direction) x.2 ∙ begins.begins)
     (begins_at_port n lane.link lane.direction x.0 (is.links lane.link x.0 x.1)) in
     let same : port.place ≡ place = is.clocks port.place place port.system m port.there here port.clock in
     let one : port.system ≡ m =
@@ -308,7 +308,7 @@ have_few n is = each_station n (λ (station : Station). length station.system.po
     let count = ports_counted n is place m there in rw count (is.systems place m there).ports)
 
 pub initial_stage : (n : NetworkState) (stage : Stage) → IsNetwork n → IsNet stage.net
-    → stage.stations.items ≡ stations_of n → stage.net.directory.clocks ≡ clocks_of n.systems
+    → stage.stations.items ≡ stations_of n → stage.net.directory.clocks ≡ directory_clocks n.systems
     → stage.net.directory.joins ≡ joins_of n.links → stage.net.pending.systems ≡ length n.systems
     → stage.outbox.items ≡ [] → stage.now ≡ 0 → IsStage stage
 initial_stage n stage is net stations clocks joins systems empty now =
@@ -317,7 +317,7 @@ initial_stage n stage is net stations clocks joins systems empty now =
     λ place station e. ap (λ (all : List Station). slice_get all place) (sym stations) ∙ e in
     record {
       net = net;
-      clocks = ap (map clock_at) stations ∙ clocks_kept n n.systems ∙ sym clocks;
+      clocks = ap (map clock_at_place) stations ∙ clocks_kept n n.systems ∙ sym clocks;
       systems =
           let count = ap length stations ∙ length-map n.systems (station_of (pace_of n)) in
           omega (arith, count, systems);

@@ -9,7 +9,7 @@ use Rattle.gptp_links.specs.declared.link.Direction.{Direction}
 use Rattle.gptp_links.specs.declared.link.Direction.TheVariants.{FromA, FromB}
 use Rattle.gptp_world.specs.declared.cable.Lane.{Lane}
 use Rattle.gptp_world.specs.declared.directory.Ends.{Ends}
-use Rattle.gptp_world.specs.Directory.{Join, start_of, direction_number, lane_number, entered, BeginsAt, IsPlan, IsOut, AreOuts}
+use Rattle.gptp_world.specs.Directory.{Join, direction_start, direction_number, lane_number, lanes_entered, BeginsAt, IsPlan, IsOut, AreOuts}
 use Rattle.gptp_lists.proofs.MappedLemmas.{same_there}
 
 abbrev pub port_id : ℕ → ℕ → PortId
@@ -33,7 +33,7 @@ same_lane k l h =
 -- a lane begins at one port
 begins_once : (joins : List Join) (p q : PortId) (l : Lane) → BeginsAt joins p l → BeginsAt joins q l → p ≡ q
 begins_once joins p q l x y =
-    sym x.begins ∙ ap (start_of l.direction) (same_there joins l.link x.join y.join x.there y.there) ∙ y.begins
+    sym x.begins ∙ ap (direction_start l.direction) (same_there joins l.link x.join y.join x.there y.there) ∙ y.begins
 
 -- one more lane, which begins elsewhere
 unless_here : (k : ℕ) (joins : List Join) (p : PortId) (l : Lane) → lane_number l ≡ k → (BeginsAt joins p l → ⊥)
@@ -76,7 +76,7 @@ at_own k clocks joins l x c q e there small begins place port clock at few here 
           (ap (λ v. port_id v q) (sym clocks_same) ∙ ap (λ v. port_id clock v) (sym ports_same)) begins,
     )
 
--- one more lane is entered
+-- one more lane is lanes_entered
 pub one_entered : (k : ℕ) (clocks : List ℕ) (joins : List Join) (outs : List (Option Lane)) (l : Lane) (x c q : ℕ)
     → ((i j clock : ℕ) → slice_get clocks i ≡ Some clock → slice_get clocks j ≡ Some clock → i ≡ j)
     → AreOuts k clocks joins outs → lane_number l ≡ k → slice_get clocks x ≡ Some c → q ≤ 16
@@ -104,18 +104,18 @@ one_entered k clocks joins outs l x c q differ h e there small begins = record {
       (sym (get_or-set_other outs (17 * x + q) (17 * place + port) (Some l) None apart))
       (at_other k clocks joins outs l x c q differ h e there begins place port clock at few apart)
 
--- both lanes of a link are entered
+-- both lanes of a link are lanes_entered
 pub both_entered : (i : ℕ) (clocks : List ℕ) (joins : List Join) (outs : List (Option Lane)) (join : Join) (ends : Ends)
     → IsPlan clocks joins → AreOuts (2 * i) clocks joins outs → slice_get joins i ≡ Some join
     → slice_get clocks ends.a ≡ Some join.a.clock → slice_get clocks ends.b ≡ Some join.b.clock
-    → AreOuts (2 * (i + 1)) clocks joins (entered i join ends outs)
+    → AreOuts (2 * (i + 1)) clocks joins (lanes_entered i join ends outs)
 both_entered i clocks joins outs join ends plan h at at_a at_b =
     let one = one_entered (2 * i) clocks joins outs (made i FromA) ends.a join.a.clock join.a.port plan.differ h
     (omega arith) at_a (plan.placed_a i join at).last (record { join = join; there = at; begins = refl }) in
     let two = one_entered (2 * i + 1) clocks joins _ (made i FromB) ends.b join.b.clock join.b.port plan.differ one
     (omega arith) at_b (plan.placed_b i join at).last (record { join = join; there = at; begins = refl }) in
     let e : 2 * i + 1 + 1 ≡ 2 * (i + 1) = omega arith in
-    subst (λ k. AreOuts k clocks joins (entered i join ends outs)) e two
+    subst (λ k. AreOuts k clocks joins (lanes_entered i join ends outs)) e two
 
 -- ---- reading the table
 
@@ -149,7 +149,7 @@ only_lane clocks joins p None l plan h b =
 
 pub small_port : (clocks : List ℕ) (joins : List Join) (p : PortId) (link : ℕ) (d : Direction) (join : Join)
     → IsPlan clocks joins
-    → slice_get joins link ≡ Some join → start_of d join ≡ p → p.port ≤ 16
+    → slice_get joins link ≡ Some join → direction_start d join ≡ p → p.port ≤ 16
 small_port clocks joins p link FromA join plan e b = subst (λ (q : PortId). q.port ≤ 16) b
     (plan.placed_a link join e).last
 small_port clocks joins p link FromB join plan e b = subst (λ (q : PortId). q.port ≤ 16) b

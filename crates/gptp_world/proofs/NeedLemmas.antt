@@ -5,17 +5,17 @@ use Rattle.std.proofs.lemmas.List.{length-append}
 use Rattle.std.proofs.lemmas.Option.{same_Some}
 use Rattle.std.proofs.Math.Nat.{suc-mul}
 use Rattle.gptp_system.specs.declared.sending.Sending.{Sending}
-use Rattle.gptp_system.specs.Reach.{sends_at}
+use Rattle.gptp_system.specs.Reach.{count_sends_at}
 use Rattle.gptp_system.specs.State.{clock}
 use Rattle.gptp_vector.specs.declared.port.PortId.{PortId}
 use Rattle.gptp_world.specs.declared.cable.Cable.{Cable}
 use Rattle.gptp_world.specs.declared.cable.Lane.{Lane}
 use Rattle.gptp_world.specs.declared.net.Net.{Net as Between}
 use Rattle.gptp_world.specs.Cable.{HasRoomOn}
-use Rattle.gptp_world.specs.Directory.{start_of, BeginsAt}
+use Rattle.gptp_world.specs.Directory.{direction_start, BeginsAt}
 use Rattle.gptp_world.specs.Net.{IsUpLane, OnlyEntries}
 use Rattle.gptp_acts.specs.World.{port_id}
-use Rattle.gptp_world.specs.Room.{both, for_sends, for_timers, nothing, repeated, sends_from, HasRoom, KeepsRoomOn, Need, Uses}
+use Rattle.gptp_world.specs.Room.{both, for_sends, for_timers, no_room, repeated, sends_from, WorldHasRoom, KeepsRoomOn, Need, Uses}
 use Rattle.gptp_world.proofs.SendingLemmas.{same_lane}
 
 -- ---- more and less
@@ -32,7 +32,7 @@ pub record Covers (large small : Need) : Type 0 where
   pub buffers : small.buffers ≤ large.buffers
   pub frames : (port : PortId) → small.frames port ≤ large.frames port
 
-pub covered : (large small : Need) (net : Between) → Covers large small → HasRoom large net → HasRoom small net
+pub covered : (large small : Need) (net : Between) → Covers large small → WorldHasRoom large net → WorldHasRoom small net
 covered large small net covers has = record {
   entries = let had = has.entries in let less = covers.entries in omega arith;
   buffers = let had = has.buffers in let less = covers.buffers in omega arith;
@@ -73,7 +73,7 @@ uses_both first second net between net' a b = record {
 -- where there is no less room than there was
 pub uses_nothing : (net net' : Between) → net'.directory ≡ net.directory → net'.pending.systems ≡ net.pending.systems
     → net.pending.room ≤ net'.pending.room → net.buffers.ready ≤ net'.buffers.ready
-    → KeepsRoomOn net.cables.items net'.cables.items → Uses nothing net net'
+    → KeepsRoomOn net.cables.items net'.cables.items → Uses no_room net net'
 uses_nothing net net' directory systems entries buffers lanes = record {
   directory = directory;
   systems = systems;
@@ -82,17 +82,17 @@ uses_nothing net net' directory systems entries buffers lanes = record {
     buffers = let had = has.buffers in omega arith;
     lanes = λ port lane begins.
         lanes (more.frames port) lane
-        (fewer (more.frames port) ((both nothing more).frames port) lane net.cables.items (omega arith)
+        (fewer (more.frames port) ((both no_room more).frames port) lane net.cables.items (omega arith)
         (has.lanes port lane (rw (← directory) begins)));
   };
 }
 
 -- what is left once the first of two was used
-pub left_of : (first second : Need) (net net' : Between) → Uses first net net' → HasRoom (both first second) net
-    → HasRoom second net'
+pub left_of : (first second : Need) (net net' : Between) → Uses first net net' → WorldHasRoom (both first second) net
+    → WorldHasRoom second net'
 left_of first second net net' uses has = uses.left second has
 
-pub nothing_with : (need : Need) → Covers need (both nothing need)
+pub nothing_with : (need : Need) → Covers need (both no_room need)
 nothing_with need = record { entries = omega arith; buffers = omega arith; frames = λ port. omega arith }
 
 -- ---- timers
@@ -119,12 +119,12 @@ uses_timers used net net' only =
 
 -- ---- sends
 
-sends_at-append : (p : ℕ) (xs ys : List Sending) → sends_at p (xs ++ ys) ≡ sends_at p xs + sends_at p ys
+sends_at-append : (p : ℕ) (xs ys : List Sending) → count_sends_at p (xs ++ ys) ≡ count_sends_at p xs + count_sends_at p ys
 sends_at-append p [] ys = omega arith
 sends_at-append p (x ∷ xs) ys = by (x.port == p) refl (sends_at-append p xs ys)
   where
-    by : (test : Bool) → (x.port == p) ≡ test → sends_at p (xs ++ ys) ≡ sends_at p xs + sends_at p ys
-        → sends_at p (x ∷ (xs ++ ys)) ≡ sends_at p (x ∷ xs) + sends_at p ys
+    by : (test : Bool) → (x.port == p) ≡ test → count_sends_at p (xs ++ ys) ≡ count_sends_at p xs + count_sends_at p ys
+        → count_sends_at p (x ∷ (xs ++ ys)) ≡ count_sends_at p (x ∷ xs) + count_sends_at p ys
     by true test ih = rw test (omega (arith, ih))
     by false test ih = rw test (omega (arith, ih))
 
@@ -162,7 +162,7 @@ one_from : (clock : ℕ) (x : Sending) → sends_from clock (x ∷ []) (port_id 
 one_from clock x = let same = eq-eqb clock clock refl in let at = eq-eqb x.port x.port refl in rw (same, at) refl
 
 -- there is room for a send
-pub room_first : (clock : ℕ) (x : Sending) (net : Between) (lane : Lane) → HasRoom (for_sends clock (x ∷ [])) net
+pub room_first : (clock : ℕ) (x : Sending) (net : Between) (lane : Lane) → WorldHasRoom (for_sends clock (x ∷ [])) net
     → IsUpLane net (port_id clock x.port) lane → HasRoomOn 1 lane net.cables.items
 room_first clock x net lane has up =
     subst (λ n. HasRoomOn n lane net.cables.items) (one_from clock x)
@@ -196,8 +196,8 @@ sent_uses clock x net net' lane same systems begins entries buffers room elsewhe
         ap (λ (l : Lane). slice_get net.directory.joins l.link) (sym one) ∙ starts.there in
         let joins : begins.join ≡ starts.join = same_Some begins.join starts.join (sym begins.there ∙ here) in
         sym begins.begins
-        ∙ (ap (start_of lane.direction) joins
-        ∙ (ap (λ (l : Lane). start_of l.direction starts.join) (sym one) ∙ starts.begins))
+        ∙ (ap (direction_start lane.direction) joins
+        ∙ (ap (λ (l : Lane). direction_start l.direction starts.join) (sym one) ∙ starts.begins))
 
     by : (more : Need) (port : PortId) (other : Lane) → BeginsAt net.directory.joins port other → (other ≡ lane)
         ⊎ (other ≢ lane)

@@ -8,9 +8,9 @@ use Rattle.gptp_world.specs.declared.cable.Cable.{Cable}
 use Rattle.gptp_world.specs.declared.cable.Lane.{Lane}
 use Rattle.gptp_world.specs.declared.net.Net.{Net as Between}
 use Rattle.gptp_world.specs.Cable.{join_of, channel_of}
-use Rattle.gptp_world.specs.Directory.{start_of, BeginsAt}
+use Rattle.gptp_world.specs.Directory.{direction_start, BeginsAt}
 use Rattle.gptp_world.specs.Net.{between, IsNet}
-use Rattle.gptp_acts.specs.Sends.{IsUnlinked}
+use Rattle.gptp_acts.specs.Sends.{IsUnlinkedPort}
 use Rattle.gptp_acts.specs.World.{Channel, sender}
 use Rattle.std.specs.Prelude.{Vec}
 use Rattle.std.specs.Vec.{with_items}
@@ -30,7 +30,7 @@ from_map f (x ∷ xs) zero y is = record { one = x; there = refl; is = sym (same
 from_map f (x ∷ xs) (suc i) y is =
     let rest = from_map f xs i y is in record { one = rest.one; there = rest.there; is = rest.is }
 
-start_same : (d : Direction) (cable : Cable) → start_of d (join_of cable) ≡ sender d (channel_of cable)
+start_same : (d : Direction) (cable : Cable) → direction_start d (join_of cable) ≡ sender d (channel_of cable)
 start_same FromA cable = refl
 start_same FromB cable = refl
 
@@ -46,7 +46,7 @@ known_cable net port lane is begins =
     ap (λ js. slice_get js lane.link) is.joins ∙ begins.there in
     let made = from_map join_of net.cables.items lane.link begins.join there in
     let starts : sender lane.direction (channel_of made.one) ≡ port =
-    sym (start_same lane.direction made.one) ∙ (ap (start_of lane.direction) (sym made.is) ∙ begins.begins) in
+    sym (start_same lane.direction made.one) ∙ (ap (direction_start lane.direction) (sym made.is) ∙ begins.begins) in
     (made.one, made.there, starts)
 
 -- a lane of a link begins where the directory says
@@ -64,14 +64,14 @@ known_lane net port place direction channel is there begins =
 
 -- no lane begins at the port
 pub unlinked_none : (net : Between) (port : PortId) → IsNet net
-    → ((lane : Lane) → BeginsAt net.directory.joins port lane → ⊥) → IsUnlinked (between net) port
+    → ((lane : Lane) → BeginsAt net.directory.joins port lane → ⊥) → IsUnlinkedPort (between net) port
 unlinked_none net port is none = λ place direction channel there begins.
     absurd (none (lane_of place direction) (known_lane net port place direction channel is there begins))
 
 -- the one that does is of a link that is down
 pub unlinked_down : (net : Between) (port : PortId) (lane : Lane) (cable : Cable) → IsNet net
     → ((other : Lane) → BeginsAt net.directory.joins port other → lane ≡ other)
-    → slice_get net.cables.items lane.link ≡ Some cable → cable.link.up ≡ false → IsUnlinked (between net) port
+    → slice_get net.cables.items lane.link ≡ Some cable → cable.link.up ≡ false → IsUnlinkedPort (between net) port
 unlinked_down net port lane cable is only here down = λ place direction channel there begins.
     let one : lane
     ≡ lane_of place direction =

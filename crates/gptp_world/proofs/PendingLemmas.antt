@@ -2,12 +2,12 @@
 use Rattle.std.proofs.Common.{◌≡◌, ℕ, ◌≤◌, List, ap, ◌∙◌}
 use Rattle.gptp_acts.specs.declared.item.Item.{Item}
 use Rattle.gptp_acts.specs.Pending.{Entry, without}
-use Rattle.gptp_world.specs.Pending.{PendingState}
+use Rattle.gptp_world.specs.Pending.{PendingView}
 
-abbrev made : ℕ → ℕ → List Entry → ℕ → PendingState
+abbrev made : ℕ → ℕ → List Entry → ℕ → PendingView
 made systems links entries room = record { systems = systems; links = links; entries = entries; room = room }
 
-pub same_state : (p q : PendingState) → p.systems ≡ q.systems → p.links ≡ q.links → p.entries ≡ q.entries
+pub same_state : (p q : PendingView) → p.systems ≡ q.systems → p.links ≡ q.links → p.entries ≡ q.entries
     → p.room ≡ q.room → p ≡ q
 same_state p q systems links entries room =
     ap (λ x. made x p.links p.entries p.room) systems
@@ -18,7 +18,7 @@ same_state p q systems links entries room =
 -- ---- all arrivals of a direction cancelled, one after another
 
 -- some entries of an item are cancelled, the first of them
-pub record Cancels (item : Item) (old new : PendingState) : Type 0 where
+pub record Cancels (item : Item) (old new : PendingView) : Type 0 where
   pub systems : new.systems ≡ old.systems
   pub links : new.links ≡ old.links
   pub entries : without item new.entries ≡ without item old.entries

@@ -29,20 +29,20 @@ use Rattle.gptp_acts.specs.declared.done.Done.TheVariants.{Quiet}
 use Rattle.gptp_world.specs.declared.net.Net.{Net as Between}
 use Rattle.gptp_world.specs.declared.stage.Stage.{Stage}
 use Rattle.gptp_acts.specs.declared.station.Station.{Station}
-use Rattle.gptp_acts.specs.Acts.{Acts, AtPlace, Changes, IsOldestDue, Tells}
+use Rattle.gptp_acts.specs.Acts.{Acts, AtPlace, Changes, IsOldestDue, TellsHearing}
 use Rattle.gptp_plan.specs.Allowed.{IsFitAct}
 use Rattle.gptp_world.specs.Aim.{IsAimOf, IsAimOfChange}
 use Rattle.gptp_world.specs.Cable.{channel_of, join_of, SentOne}
 use Rattle.gptp_acts.specs.Changing.{with_bounds, with_setup, with_station, CallsIfLive, InjectsIf}
 use Rattle.gptp_world.specs.Delivering.{Delivered, MayHear}
-use Rattle.gptp_world.specs.Directory.{end_of, Join}
+use Rattle.gptp_world.specs.Directory.{direction_end, Join}
 use Rattle.gptp_world.specs.Memory.{AsksForNoMemory, ChangesWithoutMemory}
 use Rattle.gptp_world.specs.Net.{between, IsFrameDue, LinkIs}
-use Rattle.gptp_world.specs.Performing.{octets_of, Acted, CanChange, HasRoomForAim, Injected, OfLink, OfSystem, Turned, Turns}
+use Rattle.gptp_world.specs.Performing.{octets_of, ActIsDone, CanChange, HasRoomForAim, Injected, OfLink, OfSystem, Turned, TurnsOver}
 use Rattle.gptp_acts.specs.Sound.{AreLinked, Flows, IsSound, IsWired}
-use Rattle.gptp_world.specs.Stage.{clock_at, world_of, HasRoomWithin, HasTimerAt, IsStage, SystemIs}
+use Rattle.gptp_world.specs.Stage.{clock_at_place, world_of, HasRoomWithin, HasTimerAt, IsStage, SystemIs}
 use Rattle.gptp_world.specs.Telling.{HasRoomAtEnds}
-use Rattle.gptp_acts.specs.World.{Channel, WorldState, port_id, queue, receiver, sender}
+use Rattle.gptp_acts.specs.World.{Channel, WorldState, port_id, world_queue, receiver, sender}
 use Rattle.gptp_world.proofs.AimLemmas.{lane_joins}
 use Rattle.gptp_world.proofs.EndLemmas.{end_same, known_join}
 use Rattle.gptp_world.proofs.NetLemmas.{from_map}
@@ -173,7 +173,7 @@ frame_due stage lane time at =
       here = made.there;
       oldest = at.so.oldest;
       rest = at.so.rest;
-      front = sym (queue_same lane.direction made.one) ∙ (ap (queue lane.direction) (sym made.is) ∙ at.so.front);
+      front = sym (queue_same lane.direction made.one) ∙ (ap (world_queue lane.direction) (sym made.is) ∙ at.so.front);
       due_now = at.so.due;
     }
 
@@ -201,12 +201,12 @@ end_up w link place FromB channel station linked there up here live named =
 -- the directory knows where a lane ends
 end_is : (stage : Stage) (link : ℕ) (direction : Direction) (join : Join) (channel : Channel) → IsStage stage
     → slice_get stage.net.directory.joins link ≡ Some join → slice_get (world_of stage).net.channels link ≡ Some channel
-    → end_of direction join ≡ receiver direction channel
+    → direction_end direction join ≡ receiver direction channel
 end_is stage link direction join channel is there here =
     let made = from_map channel_of stage.net.cables.items link channel here in
     let one : join ≡ join_of made.one =
     same_Some join (join_of made.one) (sym there ∙ known_join stage.net link made.one is.net made.there) in
-    ap (end_of direction) one ∙ (end_same direction made.one ∙ ap (receiver direction) (sym made.is))
+    ap (direction_end direction) one ∙ (end_same direction made.one ∙ ap (receiver direction) (sym made.is))
 
 -- the port that a frame reaches is one whose link is up
 pub may_hear : (stage : Stage) (lane : Lane) (time : ℕ) → IsStage stage → IsWired (world_of stage)
@@ -214,9 +214,9 @@ pub may_hear : (stage : Stage) (lane : Lane) (time : ℕ) → IsStage stage → 
 may_hear stage lane time is wired at = λ join place there placed station here live.
     let ends = end_is stage lane.link lane.direction join at.channel is there at.here in
     let known : slice_get stage.net.directory.clocks place ≡ Some (clock station.system) =
-    ap (λ cs. slice_get cs place) (sym is.clocks) ∙ mapped_there clock_at stage.stations.items place station here in
-    let named : clock station.system ≡ (end_of lane.direction join).clock =
-    same_Some (clock station.system) (end_of lane.direction join).clock (sym known ∙ placed) in
+    ap (λ cs. slice_get cs place) (sym is.clocks) ∙ mapped_there clock_at_place stage.stations.items place station here in
+    let named : clock station.system ≡ (direction_end lane.direction join).clock =
+    same_Some (clock station.system) (direction_end lane.direction join).clock (sym known ∙ placed) in
     let up = carries_up lane.direction at.channel time (wired.flow lane.link lane.direction at.channel at.here) at.so in
     subst (λ (port : PortId). IsUp station.system port.port) (sym ends)
     (end_up (world_of stage) lane.link place lane.direction at.channel station wired.linked at.here up here live
@@ -226,8 +226,8 @@ may_hear stage lane time is wired at = λ join place there placed station here l
 pub arrived : {F : Type 0} (answers : Bounds → ℕ → F → Option ℕ → F → Type 0) (lane : Lane) (reached : PortId)
     (answer : Option Answer) (octets : List ℕ) (done : Done) (fate fate_after : F) (stage stage' : Stage)
     → IsStage stage
-    → Tells reached answer octets done → Delivered answers lane reached answer octets fate fate_after stage stage'
-    → Acted answers (Deliver lane.link lane.direction) done fate fate_after stage stage'
+    → TellsHearing reached answer octets done → Delivered answers lane reached answer octets fate fate_after stage stage'
+    → ActIsDone answers (Deliver lane.link lane.direction) done fate fate_after stage stage'
 arrived answers lane reached answer octets done fate fate_after stage stage' is told delivered =
     let delivers = delivered.delivers in let channel = delivers.channel in
     let ends : reached ≡ receiver lane.direction channel =
@@ -241,7 +241,7 @@ arrived answers lane reached answer octets done fate fate_after stage stage' is 
         octets = octets;
         answer = answer;
         here = delivers.takes.here;
-        told = subst (λ port. Tells port answer octets done) ends told;
+        told = subst (λ port. TellsHearing port answer octets done) ends told;
         delivers = delivers;
       };
     }
@@ -318,7 +318,7 @@ abbrev pub changed_now : Stage → Stage
 changed_now stage = record stage { last_change = stage.now }
 
 pub changes_so : (change : Change) (aim : Aim) (stage : Stage) (draws : List Draw) (w' : WorldState)
-    → IsAimOfChange change (world_of stage) aim → Turns aim (world_of (changed_now stage)) draws w'
+    → IsAimOfChange change (world_of stage) aim → TurnsOver aim (world_of (changed_now stage)) draws w'
     → Changes change (world_of (changed_now stage)) draws w'
 changes_so (changes.LinkDown number port) (aims.LinkDown link) stage draws w' at turns =
     record { place = link; channel = at.channel; is = at.is; so = turns at.channel at.is.here }
@@ -446,7 +446,7 @@ pub change_told : {F : Type 0} (answers : Bounds → ℕ → F → Option ℕ �
     (act : Act) (aim : Aim) (fate fate_after : F)
     (stage stage' : Stage) → IsSomeChange act aim (world_of stage)
     → Turned answers aim fate fate_after (changed_now stage) stage'
-    → Acted answers act Quiet fate fate_after stage stage'
+    → ActIsDone answers act Quiet fate fate_after stage stage'
 change_told answers act aim fate fate_after stage stage' is turned = record {
   draws = turned.draws;
   drawn = turned.drawn;
@@ -458,7 +458,7 @@ change_told answers act aim fate fate_after stage stage' is turned = record {
 pub injection_told : {F : Type 0} (answers : Bounds → ℕ → F → Option ℕ → F → Type 0) (act : Act) (lane : Lane)
     (fate fate_after : F) (stage stage' : Stage) → IsAimOf act (world_of stage) (aims.Inject lane)
     → Injected answers lane (octets_of act) fate fate_after (changed_now stage) stage'
-    → Acted answers act Quiet fate fate_after stage stage'
+    → ActIsDone answers act Quiet fate fate_after stage stage'
 injection_told answers (Changing (changes.Inject number port octets)) lane fate fate_after stage stage' at was =
     record {
       draws = was.draws;

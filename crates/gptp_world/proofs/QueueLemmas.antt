@@ -4,31 +4,31 @@ use Rattle.std.specs.Prelude.{Result, Ok, Err, OnOk}
 use Rattle.std.proofs.lemmas.List.{get_or-set_same, get_or-set_other, length-map}
 use Rattle.std.proofs.lemmas.Option.{slice_get-get_or}
 use Rattle.gptp_lists.proofs.PlaceLemmas.{read}
-use Rattle.gptp_scheduler.specs.Pending.{Entry as Numbered}
+use Rattle.gptp_scheduler.specs.Pending.{AgendaEntry as Numbered}
 use Rattle.gptp_acts.specs.declared.item.Item.{Item}
 use Rattle.gptp_acts.specs.Pending.{plain}
 use Rattle.slab.specs.Slab.{Slab, get, slab_len}
 use Rattle.gptp_world.specs.declared.chain.Chain.{Chain}
 use Rattle.gptp_world.specs.declared.chain.Node.{Node}
 use Rattle.gptp_world.specs.declared.filed.Running.{Running}
-use Rattle.gptp_world.specs.Chain.{chain_at, head_of, no_chain, numbers_in, AreChained, ChangesOne}
-use Rattle.gptp_world.specs.Filed.{FiledState, queue_at, with_queue}
+use Rattle.gptp_world.specs.Chain.{chain_at, chain_head, no_chain, chain_numbers, AreChained, ChangesOne}
+use Rattle.gptp_world.specs.Filed.{FiledState, queue_at, filed_with_queue}
 use Rattle.gptp_world.proofs.ChainLemmas.{numbers-changed, numbers_there}
 
 pub queue-same : (filed : FiledState) (place : ℕ) (queue : List ℕ) (room : ℕ) → place < length filed.queues
-    → queue_at place (with_queue place queue room filed) ≡ queue
+    → queue_at place (filed_with_queue place queue room filed) ≡ queue
 queue-same filed place queue room within = get_or-set_same filed.queues place queue [] within
 
 pub queue-other : (filed : FiledState) (place other : ℕ) (queue : List ℕ) (room : ℕ) → (other ≡ place → ⊥)
-    → queue_at other (with_queue place queue room filed) ≡ queue_at other filed
+    → queue_at other (filed_with_queue place queue room filed) ≡ queue_at other filed
 queue-other filed place other queue room differ = get_or-set_other filed.queues place other queue [] differ
 
 -- the first number of a queue, and that there is none
-pub front_is : (ns : List ℕ) (n : ℕ) → Some n ≡ head_of ns → (rest : List ℕ) × (ns ≡ n ∷ rest)
+pub front_is : (ns : List ℕ) (n : ℕ) → Some n ≡ chain_head ns → (rest : List ℕ) × (ns ≡ n ∷ rest)
 front_is [] n is = absurd (grind (arith, is))
 front_is (m ∷ ns) n is = let e : n ≡ m = cc in (ns, ap (λ x. x ∷ ns) (sym e))
 
-pub no_front : (ns : List ℕ) → None ≡ head_of ns → ns ≡ []
+pub no_front : (ns : List ℕ) → None ≡ chain_head ns → ns ≡ []
 no_front [] is = refl
 no_front (m ∷ ns) is = absurd (grind (arith, is))
 
@@ -45,7 +45,7 @@ length-plain (e ∷ es) = let ih = length-plain es in omega arith
 abbrev table : List (Option Running) → Slab Node → List Chain → FiledState
 table timers nodes chains = record {
   timers = timers;
-  queues = map (numbers_in (get nodes)) chains;
+  queues = map (chain_numbers (get nodes)) chains;
   room = nodes.capacity - slab_len nodes;
 }
 
@@ -56,20 +56,20 @@ made timers queues room = record { timers = timers; queues = queues; room = room
 pub queue_changed : (timers : List (Option Running)) (s t : Slab Node) (chains : List Chain) (place : ℕ)
     (after : Chain) (change : List ℕ → List ℕ) (room : ℕ) → AreChained s chains → place < length chains
     → ChangesOne (get s) (get t) (chain_at place chains) after
-    → numbers_in (get t) after ≡ change (numbers_in (get s) (chain_at place chains)) → t.capacity - slab_len t ≡ room
+    → chain_numbers (get t) after ≡ change (chain_numbers (get s) (chain_at place chains)) → t.capacity - slab_len t ≡ room
     → table timers t (slice_set chains place after)
-    ≡ with_queue place (change (queue_at place (table timers s chains))) room (table timers s chains)
+    ≡ filed_with_queue place (change (queue_at place (table timers s chains))) room (table timers s chains)
 queue_changed timers s t chains place after change room are within changes numbers left =
     let queue = numbers ∙ ap change (sym (numbers_there (get s) chains place)) in
     ap₂ (made timers)
     (numbers-changed s t chains place after are within changes
-    ∙ ap (slice_set (map (numbers_in (get s)) chains) place) queue)
+    ∙ ap (slice_set (map (chain_numbers (get s)) chains) place) queue)
     left
 
 -- a place of a queue is one of a chain
-pub in_queues : (s : ℕ → Option Node) (chains : List Chain) (place : ℕ) → place < length (map (numbers_in s) chains)
+pub in_queues : (s : ℕ → Option Node) (chains : List Chain) (place : ℕ) → place < length (map (chain_numbers s) chains)
     → place < length chains
-in_queues s chains place within = let same = length-map chains (numbers_in s) in omega (arith, within, same)
+in_queues s chains place within = let same = length-map chains (chain_numbers s) in omega (arith, within, same)
 
 -- the chain that a call is lent is the one at that place
 pub chain_lent : (chains : List Chain) (place : ℕ) (lent : Chain) → place < length chains
@@ -80,7 +80,7 @@ chain_lent chains place lent within value =
 
 -- nothing is filed at the beginning
 pub none_filed : (s : ℕ → Option Node) (count place : ℕ)
-    → slice_index_or (map (numbers_in s) (replicate count no_chain)) place [] ≡ []
+    → slice_index_or (map (chain_numbers s) (replicate count no_chain)) place [] ≡ []
 none_filed s zero place = refl
 none_filed s (suc count) zero = refl
 none_filed s (suc count) (suc place) = none_filed s count place

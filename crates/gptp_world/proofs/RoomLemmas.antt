@@ -19,7 +19,7 @@ use Rattle.gptp_world.specs.Directory.{BeginsAt, IsDirectory, Join}
 use Rattle.gptp_world.specs.Net.{IsNet}
 use Rattle.gptp_acts.specs.World.{port_id}
 use Rattle.gptp_world.specs.Room.{both, for_call, for_timers, repeated, HasRoomAtPorts, HasRoomBothWays, HasRoomFrom, KeepsRoomOn, Need, OnlyRoom}
-use Rattle.gptp_world.specs.Stage.{clock_at, HasRoomToCall, HasRoomToCallBoth, IsStage}
+use Rattle.gptp_world.specs.Stage.{clock_at_place, HasRoomToCall, HasRoomToCallBoth, IsStage}
 use Rattle.gptp_world.specs.Starting.{for_start, HasRoomToStart}
 use Rattle.gptp_acts.specs.World.{Channel, Net}
 use Rattle.gptp_world.proofs.NeedLemmas.{covered, repeated-covered, Covers}
@@ -30,13 +30,13 @@ use Rattle.gptp_lists.proofs.PlaceLemmas.{get-set_same, get-set_other, same_plac
 -- ---- one link
 
 -- a link that only got room
-pub channel_kept : (cable : Cable) (link : links.State) → links.SameFrames cable.link link
+pub channel_kept : (cable : Cable) (link : links.LinkState) → links.SameFrames cable.link link
     → channel_of (record cable { link = link }) ≡ channel_of cable
 channel_kept cable link same =
     let from_a = same.from_a in let from_b = same.from_b in let bounds = same.bounds in let up = same.up in
     rw (from_a, from_b, bounds, up) refl
 
-queue_roomier : (d : Direction) (old new : links.State) → links.KeepsRoom old new
+queue_roomier : (d : Direction) (old new : links.LinkState) → links.KeepsRoom old new
     → (links.queue d old).room ≤ (links.queue d new).room
 queue_roomier FromA old new kept = kept.from_a
 queue_roomier FromB old new kept = kept.from_b
@@ -188,7 +188,7 @@ frames_from stage more place station is here has port lane begins =
         → HasRoomOn (most_from more (clock station.system) port) lane stage.net.cables.items
     by (inl (test, same)) =
         let known : slice_get stage.net.directory.clocks place ≡ Some (clock station.system) =
-        ap (λ cs. slice_get cs place) (sym is.clocks) ∙ mapped_there clock_at stage.stations.items place station here in
+        ap (λ cs. slice_get cs place) (sym is.clocks) ∙ mapped_there clock_at_place stage.stations.items place station here in
         let starts : BeginsAt stage.net.directory.joins (port_id (clock station.system) port.port) lane =
         subst (λ number. BeginsAt stage.net.directory.joins (port_id number port.port) lane) same begins in
         let range = is.ports place station port.port lane here starts in
@@ -275,7 +275,7 @@ clocks_apart stage first second near far is directory here there apart = λ same
     let known : (place : ℕ) (station : Station) → slice_get stage.stations.items place ≡ Some station
     → slice_get stage.net.directory.clocks place ≡ Some (clock station.system) =
     λ place station at. ap (λ cs. slice_get cs place) (sym is.clocks)
-    ∙ mapped_there clock_at stage.stations.items place station at in
+    ∙ mapped_there clock_at_place stage.stations.items place station at in
     apart (directory.plan.differ first second (clock near.system) (known first near here)
     (known second far there ∙ ap Some (sym same)))
 

@@ -11,14 +11,14 @@ use Rattle.gptp_world.specs.declared.cable.Cable.{Cable}
 use Rattle.gptp_world.specs.declared.cable.Lane.{Lane}
 use Rattle.gptp_acts.specs.declared.item.Item.TheVariants.{Arrival}
 use Rattle.gptp_acts.specs.Pending.{put_if}
-use Rattle.gptp_acts.specs.World.{Channel, sender, queue, with_queue}
+use Rattle.gptp_acts.specs.World.{Channel, sender, world_queue, with_queue}
 use Rattle.gptp_acts.specs.Sends.{entered}
 use Rattle.gptp_world.specs.Cable.{net_of, channel_of, HasRoomOn, SentOne}
-use Rattle.gptp_world.specs.Pending.{PendingState}
+use Rattle.gptp_world.specs.Pending.{PendingView}
 use Rattle.gptp_lists.proofs.MappedLemmas.{mapped_there}
 use Rattle.gptp_lists.proofs.PlaceLemmas.{get-set_same, get-set_other, map-set, map-set_same, same_place}
 
--- a link whose queue in one direction became another, and nothing else of it
+-- a link whose world_queue in one direction became another, and nothing else of it
 pub channel_sent : (d : Direction) (old new : Cable) (frames : List Frame) → new.a ≡ old.a → new.b ≡ old.b
     → links.ChangesOnly d old.link new.link
     → (links.queue d new.link).frames ≡ frames → channel_of new ≡ with_queue d frames (channel_of old)
@@ -31,18 +31,18 @@ channel_sent FromB old new frames a b only is =
     let bounds = only.bounds in let up = only.up in
     rw (a, b, bounds, up, is, other) refl
 
-pub queue_same : (d : Direction) (cable : Cable) → queue d (channel_of cable) ≡ (links.queue d cable.link).frames
+pub queue_same : (d : Direction) (cable : Cable) → world_queue d (channel_of cable) ≡ (links.queue d cable.link).frames
 queue_same FromA cable = refl
 queue_same FromB cable = refl
 
-queue_kept : (d : Direction) (channel : Channel) → with_queue d (queue d channel) channel ≡ channel
+queue_kept : (d : Direction) (channel : Channel) → with_queue d (world_queue d channel) channel ≡ channel
 queue_kept FromA channel = refl
 queue_kept FromB channel = refl
 
 -- the net after a frame went out with this fate
 net_sent : (d : Direction) (place now : ℕ) (cables : List Cable) (old new : Cable) (octets : List ℕ)
     (answer : Option ℕ) (due : Option ℕ)
-    (pending after : PendingState) → slice_get cables place ≡ Some old → new.a ≡ old.a → new.b ≡ old.b
+    (pending after : PendingView) → slice_get cables place ≡ Some old → new.a ≡ old.a → new.b ≡ old.b
     → links.ChangesOnly d old.link new.link → due ≡ option_map (due_after (links.queue d old.link).frames now) answer
     → (links.queue d new.link).frames ≡ with_sent (links.queue d old.link).frames due octets
     → after.entries ≡ put_if (Arrival place d) due pending.entries
@@ -76,7 +76,7 @@ net_sent d place now cables old new octets (Some delay) due pending after here a
 
 pub sent : {F : Type 0} (answers : Bounds → ℕ → F → Option ℕ → F → Type 0) (now : ℕ) (lane : Lane) (octets : List ℕ)
     (fate fate_after : F)
-    (cables : List Cable) (old new : Cable) (due : Option ℕ) (pending after : PendingState)
+    (cables : List Cable) (old new : Cable) (due : Option ℕ) (pending after : PendingView)
     → slice_get cables lane.link ≡ Some old
     → old.link.up ≡ true → new.a ≡ old.a → new.b ≡ old.b → links.ChangesOnly lane.direction old.link new.link
     → IsSent answers old.link.bounds now fate fate_after (links.queue lane.direction old.link).frames octets
@@ -108,7 +108,7 @@ abbrev lane_of : ℕ → Direction → Lane
 lane_of link direction = record { link = link; direction = direction }
 
 -- the two directions of a link: this one, or the other
-queue_other : (d e : Direction) (old new : links.State) → links.ChangesOnly d old new → (d ≡ e)
+queue_other : (d e : Direction) (old new : links.LinkState) → links.ChangesOnly d old new → (d ≡ e)
     ⊎ (links.queue e new ≡ links.queue e old)
 queue_other FromA FromA old new only = inl refl
 queue_other FromA FromB old new only = inr only.other_way

@@ -7,7 +7,7 @@ use Rattle.gptp_system.specs.declared.sending.Sending.{Sending}
 use Rattle.gptp_system.specs.State.{SystemState, own}
 use Rattle.gptp_world.specs.Cable.{SentAll}
 use Rattle.gptp_world.specs.Net.{SentNext}
-use Rattle.gptp_acts.specs.Sends.{IsUnlinked, SendsOne, SendsAll, written}
+use Rattle.gptp_acts.specs.Sends.{IsUnlinkedPort, SendsOne, SendsAll, written}
 use Rattle.gptp_acts.specs.World.{Net}
 
 -- one more send behind others, which goes onto a link
@@ -33,9 +33,9 @@ sends_more now s (y ∷ ys) x ds d net between after (inr (none, sends)) one =
 
 -- one more that goes nowhere
 sends_none : (now : ℕ) (s : SystemState) (xs : List Sending) (x : Sending) (ds : List Draw) (net after : Net)
-    → SendsAll now s xs ds net after → IsUnlinked after (own s x.port) → SendsAll now s (xs ++ x ∷ []) ds net after
+    → SendsAll now s xs ds net after → IsUnlinkedPort after (own s x.port) → SendsAll now s (xs ++ x ∷ []) ds net after
 sends_none now s [] x ds net after sends none =
-    let n = sends.1 in inr (subst (λ m. IsUnlinked m (own s x.port)) n none, sends)
+    let n = sends.1 in inr (subst (λ m. IsUnlinkedPort m (own s x.port)) n none, sends)
 sends_none now s (y ∷ ys) x ds net after (inl (first, rest, middle, is, sent, sends)) none =
     inl (first, rest, middle, is, sent, sends_none now s ys x rest middle after sends none)
 sends_none now s (y ∷ ys) x ds net after (inr (off, sends)) none =
@@ -61,5 +61,5 @@ sent_next answers now s xs x first second third net between after sent (inr none
   drawn = subst (λ f. Draws answers first sent.draws f) (sym none.fate_is) sent.drawn;
   sends_all = sends_none now s xs x sent.draws net after
       (subst (λ n. SendsAll now s xs sent.draws net n) (sym none.net_is) sent.sends_all)
-      (subst (λ n. IsUnlinked n (own s x.port)) (sym none.net_is) none.unlinked);
+      (subst (λ n. IsUnlinkedPort n (own s x.port)) (sym none.net_is) none.unlinked);
 }

@@ -3,13 +3,13 @@ use Rattle.std.proofs.Common.{◌≡◌, if◌then◌else◌, ℕ, ◌+◌, ◌*
 use Rattle.std.specs.List.{AllByRecursion}
 use Rattle.std.proofs.lemmas.Bool.Decides.{nat_tests}
 use Rattle.gptp_links.specs.declared.link.Direction.TheVariants.{FromA, FromB}
-use Rattle.gptp_scheduler.specs.Pending.{Entry as Numbered, without as without_number, RiseFrom}
+use Rattle.gptp_scheduler.specs.Pending.{AgendaEntry as Numbered, without_number, RiseFrom}
 use Rattle.gptp_scheduler.proofs.EntryLemmas.{without-other_head}
 use Rattle.gptp_acts.specs.declared.item.Item.{Item}
 use Rattle.gptp_acts.specs.declared.item.Item.TheVariants.{Expiry, Arrival}
 use Rattle.gptp_acts.specs.Item.{timer_kind, timer_port, same_item}
-use Rattle.gptp_acts.specs.Pending.{plain, times, without_first, IsKnown}
-use Rattle.gptp_world.specs.Filed.{slot_of, in_slot}
+use Rattle.gptp_acts.specs.Pending.{plain, times_of_item, without_first_entry, IsKnownItem}
+use Rattle.gptp_world.specs.Filed.{slot_of, filed_in_slot}
 use Rattle.gptp_acts.proofs.TimerLemmas.{kind_below}
 
 -- ---- slots
@@ -51,7 +51,7 @@ apart_too p k q l m r h i =
     (λ t. let e : r ≡ k = grind (arith, nat_tests) in absurd (omega arith))
 
 -- items of a world have the same slot exactly where they are the same
-pub same_slot : (systems links : ℕ) (a b : Item) → IsKnown systems links a → IsKnown systems links b
+pub same_slot : (systems links : ℕ) (a b : Item) → IsKnownItem systems links a → IsKnownItem systems links b
     → (slot_of a == slot_of b) ≡ same_item a b
 same_slot systems links (Expiry p t) (Expiry p' t') known also =
     same_number p (timer_kind t) (timer_port t) p' (timer_kind t') (timer_port t') (kind_below t)
@@ -86,45 +86,45 @@ cut slot [] = []
 cut slot (e ∷ es) = if slot == slot_of e.item then es else e ∷ cut slot es
 
 pub in_slot-push_same : (slot : ℕ) (es : List (Numbered Item)) (e : Numbered Item) → slot ≡ slot_of e.item
-    → in_slot slot (es ++ e ∷ []) ≡ in_slot slot es ++ e ∷ []
+    → filed_in_slot slot (es ++ e ∷ []) ≡ filed_in_slot slot es ++ e ∷ []
 in_slot-push_same slot [] e same = grind (arith, nat_tests)
 in_slot-push_same slot (x ∷ es) e same = grind (arith, nat_tests, in_slot-push_same slot es e same)
 
 pub in_slot-push_other : (slot : ℕ) (es : List (Numbered Item)) (e : Numbered Item) → (slot ≡ slot_of e.item → ⊥)
-    → in_slot slot (es ++ e ∷ []) ≡ in_slot slot es
+    → filed_in_slot slot (es ++ e ∷ []) ≡ filed_in_slot slot es
 in_slot-push_other slot [] e other = grind (arith, nat_tests)
 in_slot-push_other slot (x ∷ es) e other = grind (arith, nat_tests, in_slot-push_other slot es e other)
 
 pub in_slot-cut_other : (slot other : ℕ) (es : List (Numbered Item)) → (other ≡ slot → ⊥)
-    → in_slot other (cut slot es) ≡ in_slot other es
+    → filed_in_slot other (cut slot es) ≡ filed_in_slot other es
 in_slot-cut_other slot other [] differ = refl
 in_slot-cut_other slot other (e ∷ es) differ = grind (arith, nat_tests, in_slot-cut_other slot other es differ)
 
 cut_same-step : (slot : ℕ) (x : Numbered Item) (es : List (Numbered Item)) (e : Numbered Item) (rest : List
     (Numbered Item))
-    → in_slot slot (x ∷ es) ≡ e ∷ rest → (in_slot slot es ≡ e ∷ rest → in_slot slot (cut slot es) ≡ rest)
-    → (t : Bool) → (slot == slot_of x.item) ≡ t → in_slot slot (cut slot (x ∷ es)) ≡ rest
+    → filed_in_slot slot (x ∷ es) ≡ e ∷ rest → (filed_in_slot slot es ≡ e ∷ rest → filed_in_slot slot (cut slot es) ≡ rest)
+    → (t : Bool) → (slot == slot_of x.item) ≡ t → filed_in_slot slot (cut slot (x ∷ es)) ≡ rest
 cut_same-step slot x es e rest is ih true t =
-    let heads : x ∷ in_slot slot es ≡ e ∷ rest = rw t at is in rw t cc
+    let heads : x ∷ filed_in_slot slot es ≡ e ∷ rest = rw t at is in rw t cc
 cut_same-step slot x es e rest is ih false t =
-    let tail : in_slot slot es ≡ e ∷ rest = rw t at is in rw t (rw t (ih tail))
+    let tail : filed_in_slot slot es ≡ e ∷ rest = rw t at is in rw t (rw t (ih tail))
 
 pub in_slot-cut_same : (slot : ℕ) (es : List (Numbered Item)) (e : Numbered Item) (rest : List (Numbered Item))
-    → in_slot slot es ≡ e ∷ rest → in_slot slot (cut slot es) ≡ rest
+    → filed_in_slot slot es ≡ e ∷ rest → filed_in_slot slot (cut slot es) ≡ rest
 in_slot-cut_same slot [] e rest is = absurd (grind (arith, is))
 in_slot-cut_same slot (x ∷ es) e rest is =
     cut_same-step slot x es e rest is (in_slot-cut_same slot es e rest) (slot == slot_of x.item) refl
 
 length-cut_step : (slot : ℕ) (x : Numbered Item) (es : List (Numbered Item)) (e : Numbered Item)
-    (rest : List (Numbered Item)) → in_slot slot (x ∷ es) ≡ e ∷ rest
-    → (in_slot slot es ≡ e ∷ rest → length (cut slot es) + 1 ≡ length es)
+    (rest : List (Numbered Item)) → filed_in_slot slot (x ∷ es) ≡ e ∷ rest
+    → (filed_in_slot slot es ≡ e ∷ rest → length (cut slot es) + 1 ≡ length es)
     → (t : Bool) → (slot == slot_of x.item) ≡ t → length (cut slot (x ∷ es)) + 1 ≡ length (x ∷ es)
 length-cut_step slot x es e rest is ih true t = rw t (omega arith)
 length-cut_step slot x es e rest is ih false t =
-    let tail : in_slot slot es ≡ e ∷ rest = rw t at is in let less = ih tail in rw t (omega arith)
+    let tail : filed_in_slot slot es ≡ e ∷ rest = rw t at is in let less = ih tail in rw t (omega arith)
 
 pub length-cut : (slot : ℕ) (es : List (Numbered Item)) (e : Numbered Item) (rest : List (Numbered Item))
-    → in_slot slot es ≡ e ∷ rest → length (cut slot es) + 1 ≡ length es
+    → filed_in_slot slot es ≡ e ∷ rest → length (cut slot es) + 1 ≡ length es
 length-cut slot [] e rest is = absurd (grind (arith, is))
 length-cut slot (x ∷ es) e rest is =
     length-cut_step slot x es e rest is (length-cut slot es e rest) (slot == slot_of x.item) refl
@@ -151,45 +151,45 @@ absent-below low next n (x ∷ es) rises below =
     ∙ ap (λ ys. x ∷ ys) (absent-below (x.number + 1) next n es rises.1 (omega arith))
 
 above-step : (slot low next : ℕ) (x : Numbered Item) (es : List (Numbered Item)) (e : Numbered Item)
-    (rest : List (Numbered Item)) → RiseFrom low (x ∷ es) next → in_slot slot (x ∷ es) ≡ e ∷ rest
-    → (in_slot slot es ≡ e ∷ rest → x.number + 1 ≤ e.number) → (t : Bool) → (slot == slot_of x.item) ≡ t
+    (rest : List (Numbered Item)) → RiseFrom low (x ∷ es) next → filed_in_slot slot (x ∷ es) ≡ e ∷ rest
+    → (filed_in_slot slot es ≡ e ∷ rest → x.number + 1 ≤ e.number) → (t : Bool) → (slot == slot_of x.item) ≡ t
     → low ≤ e.number
 above-step slot low next x es e rest rises is ih true t =
-    let heads : x ∷ in_slot slot es ≡ e ∷ rest = rw t at is in
+    let heads : x ∷ filed_in_slot slot es ≡ e ∷ rest = rw t at is in
     let head : x ≡ e = cc in
     let number : x.number ≡ e.number = ap (λ (y : Numbered Item). y.number) head in
     let from : low ≤ x.number = rises.0 in omega arith
 above-step slot low next x es e rest rises is ih false t =
-    let tail : in_slot slot es ≡ e ∷ rest = rw t at is in let above = ih tail in
+    let tail : filed_in_slot slot es ≡ e ∷ rest = rw t at is in let above = ih tail in
     let from : low ≤ x.number = rises.0 in omega arith
 
 in_slot-above : (slot low next : ℕ) (es : List (Numbered Item)) (e : Numbered Item) (rest : List (Numbered Item))
-    → RiseFrom low es next → in_slot slot es ≡ e ∷ rest → low ≤ e.number
+    → RiseFrom low es next → filed_in_slot slot es ≡ e ∷ rest → low ≤ e.number
 in_slot-above slot low next [] e rest rises is = absurd (grind (arith, is))
 in_slot-above slot low next (x ∷ es) e rest rises is =
     above-step slot low next x es e rest rises is (in_slot-above slot (x.number + 1) next es e rest rises.1)
     (slot == slot_of x.item) refl
 
 removed-step : (slot low next : ℕ) (x : Numbered Item) (es : List (Numbered Item)) (e : Numbered Item)
-    (rest : List (Numbered Item)) → RiseFrom low (x ∷ es) next → in_slot slot (x ∷ es) ≡ e ∷ rest
-    → (in_slot slot es ≡ e ∷ rest → without_number e.number es ≡ cut slot es) → (t : Bool)
+    (rest : List (Numbered Item)) → RiseFrom low (x ∷ es) next → filed_in_slot slot (x ∷ es) ≡ e ∷ rest
+    → (filed_in_slot slot es ≡ e ∷ rest → without_number e.number es ≡ cut slot es) → (t : Bool)
     → (slot == slot_of x.item) ≡ t
     → without_number e.number (x ∷ es) ≡ cut slot (x ∷ es)
 removed-step slot low next x es e rest rises is ih true t =
-    let heads : x ∷ in_slot slot es ≡ e ∷ rest = rw t at is in
+    let heads : x ∷ filed_in_slot slot es ≡ e ∷ rest = rw t at is in
     let head : x ≡ e = cc in
     let number : x.number ≡ e.number = ap (λ (y : Numbered Item). y.number) head in
     let absent : without_number e.number es ≡ es = absent-below (x.number + 1) next e.number es rises.1 (omega arith) in
     let front : without_number e.number (x ∷ es) ≡ without_number e.number es = grind (arith, nat_tests) in
     rw t (front ∙ absent)
 removed-step slot low next x es e rest rises is ih false t =
-    let tail : in_slot slot es ≡ e ∷ rest = rw t at is in
+    let tail : filed_in_slot slot es ≡ e ∷ rest = rw t at is in
     let above = in_slot-above slot (x.number + 1) next es e rest rises.1 tail in
     rw t (without-other_head x es e.number (λ same. omega arith) ∙ ap (λ ys. x ∷ ys) (ih tail))
 
 -- the first entry of a slot goes with its number
 pub removed : (slot low next : ℕ) (es : List (Numbered Item)) (e : Numbered Item) (rest : List (Numbered Item))
-    → RiseFrom low es next → in_slot slot es ≡ e ∷ rest → without_number e.number es ≡ cut slot es
+    → RiseFrom low es next → filed_in_slot slot es ≡ e ∷ rest → without_number e.number es ≡ cut slot es
 removed slot low next [] e rest rises is = absurd (grind (arith, is))
 removed slot low next (x ∷ es) e rest rises is =
     removed-step slot low next x es e rest rises is (removed slot (x.number + 1) next es e rest rises.1)
@@ -201,19 +201,19 @@ if_map : {X Y : Type 0} (f : X → Y) (t : Bool) (a b : X) → f (if t then a el
 if_map f true a b = refl
 if_map f false a b = refl
 
-pub times-plain : (systems links : ℕ) (item : Item) (es : List (Numbered Item)) → IsKnown systems links item
-    → AllByRecursion (λ (e : Numbered Item). IsKnown systems links e.item) es
-    → times item (plain es) ≡ map (λ (e : Numbered Item). e.time) (in_slot (slot_of item) es)
+pub times-plain : (systems links : ℕ) (item : Item) (es : List (Numbered Item)) → IsKnownItem systems links item
+    → AllByRecursion (λ (e : Numbered Item). IsKnownItem systems links e.item) es
+    → times_of_item item (plain es) ≡ map (λ (e : Numbered Item). e.time) (filed_in_slot (slot_of item) es)
 times-plain systems links item [] known all = refl
 times-plain systems links item (e ∷ es) known all =
     let ih = times-plain systems links item es known all.1 in
     rw (← same_slot systems links item e.item known all.0, ih)
-    (sym (if_map (map (λ (x : Numbered Item). x.time)) (slot_of item == slot_of e.item) (e ∷ in_slot (slot_of item) es)
-    (in_slot (slot_of item) es)))
+    (sym (if_map (map (λ (x : Numbered Item). x.time)) (slot_of item == slot_of e.item) (e ∷ filed_in_slot (slot_of item) es)
+    (filed_in_slot (slot_of item) es)))
 
-pub plain-cut : (systems links : ℕ) (item : Item) (es : List (Numbered Item)) → IsKnown systems links item
-    → AllByRecursion (λ (e : Numbered Item). IsKnown systems links e.item) es
-    → plain (cut (slot_of item) es) ≡ without_first item (plain es)
+pub plain-cut : (systems links : ℕ) (item : Item) (es : List (Numbered Item)) → IsKnownItem systems links item
+    → AllByRecursion (λ (e : Numbered Item). IsKnownItem systems links e.item) es
+    → plain (cut (slot_of item) es) ≡ without_first_entry item (plain es)
 plain-cut systems links item [] known all = refl
 plain-cut systems links item (e ∷ es) known all =
     let ih = plain-cut systems links item es known all.1 in

@@ -11,7 +11,7 @@ use Rattle.gptp_system.specs.declared.reach.Reach.{Reach}
 use Rattle.gptp_system.specs.declared.reach.Reach.TheVariants as reaches
 use Rattle.gptp_system.specs.declared.sending.Sending.{Sending}
 use Rattle.gptp_system.specs.Input.{Input, IsTimely, Steps, PortUp, PortDown, Frame, Expires, Priority}
-use Rattle.gptp_system.specs.Reach.{sends_at, IsWithin}
+use Rattle.gptp_system.specs.Reach.{count_sends_at, SendsWithin}
 use Rattle.gptp_system.specs.State.{SystemState, clock}
 use Rattle.gptp_vector.specs.declared.port.PortId.{PortId}
 use Rattle.gptp_world.specs.declared.cable.Lane.{Lane}
@@ -22,7 +22,7 @@ use Rattle.gptp_world.specs.Cable.{SentAll}
 use Rattle.gptp_world.specs.Directory.{BeginsAt}
 use Rattle.gptp_world.specs.Net.{between, IsNet, OnlyEntries}
 use Rattle.gptp_acts.specs.World.{port_id}
-use Rattle.gptp_world.specs.Room.{both, for_call, for_reach, is_reached, nothing, sends_from, HasRoom, Uses}
+use Rattle.gptp_world.specs.Room.{both, for_call, for_reach, is_reached, no_room, sends_from, WorldHasRoom, Uses}
 use Rattle.gptp_system.specs.Reach.{may_select, reach, timer_reach}
 use Rattle.gptp_setup.specs.declared.timer.Timer.{Timer}
 use Rattle.gptp_setup.specs.declared.timer.Timer.TheVariants as timers
@@ -30,7 +30,7 @@ use Rattle.gptp_system.specs.Steps.{IsTimerOf}
 use Rattle.gptp_system.proofs.ReachLemmas.{steps_reach}
 use Rattle.gptp_system.proofs.TimelyLemmas.{timely_timer}
 use Rattle.gptp_world.specs.declared.stage.Stage.{Stage}
-use Rattle.gptp_world.specs.Stage.{clock_at, for_left, Called, CallUses, CarriesOut, GiveUses, HasRoomToCall, HasRoomToGive, HasRoomWithin, HasStepped, IsLiveAt, IsStage, IsTimelyAt}
+use Rattle.gptp_world.specs.Stage.{clock_at_place, for_left, Called, CallUses, CarriesOut, GiveUses, HasRoomToCall, HasRoomToGive, HasRoomWithin, HasStepped, IsLiveAt, IsStage, IsTimelyAt}
 use Rattle.gptp_acts.specs.World.{timers_from}
 use Rattle.gptp_world.proofs.NeedLemmas.{covered, nothing_with, uses_less, Covers}
 use Rattle.gptp_acts.proofs.SteadyLemmas.{same_clock, same_ports}
@@ -50,21 +50,21 @@ timers_set used place station net net' only entries = let cables = only.cables i
 
 -- ---- what a call sends has room
 
-at_most_all : (p : ℕ) (xs : List Sending) → sends_at p xs ≤ length xs
+at_most_all : (p : ℕ) (xs : List Sending) → count_sends_at p xs ≤ length xs
 at_most_all p [] = omega arith
 at_most_all p (x ∷ xs) = by (x.port == p) refl (at_most_all p xs)
   where
-    by : (test : Bool) → (x.port == p) ≡ test → sends_at p xs ≤ length xs → sends_at p (x ∷ xs) ≤ length (x ∷ xs)
+    by : (test : Bool) → (x.port == p) ≡ test → count_sends_at p xs ≤ length xs → count_sends_at p (x ∷ xs) ≤ length (x ∷ xs)
     by true is ih = rw is (omega (arith, ih))
     by false is ih = rw is (omega (arith, ih))
 
 none_elsewhere : (p one : ℕ) (xs : List Sending) → (p == one) ≡ false → ((x : Sending) → In x xs → x.port ≡ one)
-    → sends_at p xs ≡ 0
+    → count_sends_at p xs ≡ 0
 none_elsewhere p one [] test at = refl
 none_elsewhere p one (x ∷ xs) test at =
     by (x.port == p) refl (none_elsewhere p one xs test (λ y there. at y (inr there)))
   where
-    by : (same : Bool) → (x.port == p) ≡ same → sends_at p xs ≡ 0 → sends_at p (x ∷ xs) ≡ 0
+    by : (same : Bool) → (x.port == p) ≡ same → count_sends_at p xs ≡ 0 → count_sends_at p (x ∷ xs) ≡ 0
     by true same ih =
         let is : (p == one) ≡ true = eq-eqb p one (sym (eqb-true x.port p same) ∙ at x (inl refl)) in
         absurd cc
@@ -73,10 +73,10 @@ none_elsewhere p one (x ∷ xs) test at =
 -- at most two sends at each port that is reached, and none at others
 pub record AreFew (r : Reach) (ports : ℕ) (xs : List Sending) : Type 0 where
   pub all : length xs ≤ 2 * ports
-  pub each : (p : ℕ) → sends_at p xs ≤ (if is_reached r p then 2 else 0)
+  pub each : (p : ℕ) → count_sends_at p xs ≤ (if is_reached r p then 2 else 0)
 
 -- a step that sends at a port is of a system that has one
-pub within_few : (r : Reach) (ports : ℕ) (xs : List Sending) → IsWithin r ports xs
+pub within_few : (r : Reach) (ports : ℕ) (xs : List Sending) → SendsWithin r ports xs
     → ((p : ℕ) → r ≡ reaches.Port p → 1 ≤ ports)
     → AreFew r ports xs
 within_few reaches.Nothing ports xs within has =
@@ -85,7 +85,7 @@ within_few (reaches.Port one) ports xs within has =
     let few = within.few in let some = has one refl in
     record { all = omega arith; each = λ p. by p (p == one) refl }
   where
-    by : (p : ℕ) (test : Bool) → (p == one) ≡ test → sends_at p xs ≤ (if p == one then 2 else 0)
+    by : (p : ℕ) (test : Bool) → (p == one) ≡ test → count_sends_at p xs ≤ (if p == one then 2 else 0)
     by p true test = let at = at_most_all p xs in let few = within.few in rw test (omega (arith, at, few))
     by p false test = let no = none_elsewhere p one xs test within.port in rw test (omega (arith, no))
 within_few reaches.All ports xs within has = record { all = within.few; each = within.each }
@@ -95,9 +95,9 @@ within_few reaches.All ports xs within has = record { all = within.few; each = w
 clocks_kept : (stage : Stage) (place : ℕ) (old new : Station) → IsStage stage
     → slice_get stage.stations.items place ≡ Some old
     → clock new.system ≡ clock old.system
-    → map clock_at (slice_set stage.stations.items place new) ≡ stage.net.directory.clocks
+    → map clock_at_place (slice_set stage.stations.items place new) ≡ stage.net.directory.clocks
 clocks_kept stage place old new is here same =
-    map-set_same clock_at stage.stations.items place old new here same ∙ is.clocks
+    map-set_same clock_at_place stage.stations.items place old new here same ∙ is.clocks
 
 few_kept : (stage : Stage) (place : ℕ) (old new : Station) → IsStage stage
     → slice_get stage.stations.items place ≡ Some old
@@ -175,12 +175,12 @@ call_covers r s s' sends ports clocks few = record {
   where
     by : (port : PortId) (reached : Bool) → is_reached r port.port ≡ reached → (test : Bool)
         → (port.clock == clock s) ≡ test
-        → sends_at port.port sends ≤ (if is_reached r port.port then 2 else 0)
+        → count_sends_at port.port sends ≤ (if is_reached r port.port then 2 else 0)
         → sends_from (clock s') sends port ≤ (if is_reached r port.port && (port.clock == clock s) then 2 else 0)
     by port true reached true test each = rw (clocks, test, reached) (subst
-        (λ (b : Bool). sends_at port.port sends ≤ (if b then 2 else 0)) reached each)
+        (λ (b : Bool). count_sends_at port.port sends ≤ (if b then 2 else 0)) reached each)
     by port false reached true test each = rw (clocks, test, reached) (subst
-        (λ (b : Bool). sends_at port.port sends ≤ (if b then 2 else 0)) reached each)
+        (λ (b : Bool). count_sends_at port.port sends ≤ (if b then 2 else 0)) reached each)
     by port here reached false test each = rw (clocks, test) (omega arith)
 
 -- a call that reaches so far needs no more than any call can
@@ -245,8 +245,8 @@ carries stage stage' place input answer is room step timely =
     (has_port input old.system stage.now (timely old step.here)) in
     let r = reach input old.system in let made = room old step.here in
     let same : made.station ≡ old = same_Some made.station old (sym made.here ∙ step.here) in
-    let has : HasRoom (for_reach r old.system) stage.net =
-    subst (λ (x : Station). HasRoom (for_reach r x.system) stage.net) same made.room in
+    let has : WorldHasRoom (for_reach r old.system) stage.net =
+    subst (λ (x : Station). WorldHasRoom (for_reach r x.system) stage.net) same made.room in
     let places = is.systems in
     let small = is.few place old step.here in
     record {
@@ -372,7 +372,7 @@ net_replaced stage net is still directory systems = record {
 }
 
 -- there is still room for a call
-pub room_kept : (r : Reach) (place : ℕ) (stage : Stage) (net : Between) → Uses nothing stage.net net
+pub room_kept : (r : Reach) (place : ℕ) (stage : Stage) (net : Between) → Uses no_room stage.net net
     → HasRoomWithin r place stage
     → HasRoomWithin r place (record stage { net = net })
 room_kept r place stage net uses has =
@@ -380,5 +380,5 @@ room_kept r place stage net uses has =
     record {
       station = has.station;
       here = has.here;
-      room = uses.left need (covered need (both nothing need) stage.net (nothing_with need) has.room);
+      room = uses.left need (covered need (both no_room need) stage.net (nothing_with need) has.room);
     }

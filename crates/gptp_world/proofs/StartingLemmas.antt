@@ -13,10 +13,10 @@ use Rattle.gptp_world.specs.declared.stage.Stage.{Stage}
 use Rattle.gptp_acts.specs.declared.station.Station.{Station}
 use Rattle.gptp_acts.specs.Changing.{failed, fresh, is_up_at, with_setup, with_station, CallsAll}
 use Rattle.gptp_world.specs.Net.{OnlyEntries}
-use Rattle.gptp_world.specs.Room.{both, for_call, for_timers, repeated, HasRoom, Need}
+use Rattle.gptp_world.specs.Room.{both, for_call, for_timers, repeated, WorldHasRoom, Need}
 use Rattle.gptp_acts.specs.Sound.{IsItsSetup}
 use Rattle.gptp_world.specs.Stage.{world_of, Called, HasRoomToCall, IsStage}
-use Rattle.gptp_world.specs.Starting.{for_all_timers, for_start, CameUp, CanSetTimers, CanStart, HasRoomForPorts, HasRoomToStart, HasSetTimers, Prioritized, Replaces, Started}
+use Rattle.gptp_world.specs.Starting.{for_all_timers, for_start, CameUp, CanSetTimers, CanStart, HasRoomForPorts, HasRoomToStart, HasSetTimers, Prioritized, StandsReplaced, Started}
 use Rattle.gptp_acts.specs.World.{WorldState}
 use Rattle.gptp_acts.proofs.AgreeLemmas.{replaced}
 use Rattle.gptp_world.proofs.NeedLemmas.{covered, left_of, uses_timers}
@@ -29,7 +29,7 @@ use Rattle.gptp_world.proofs.StageLemmas.{becomes, net_kept}
 -- it stands there
 pub stands_there : (stage left : Stage) (place : ℕ) (old new : Station)
     → slice_get stage.stations.items place ≡ Some old
-    → Replaces place new stage left → slice_get left.stations.items place ≡ Some new
+    → StandsReplaced place new stage left → slice_get left.stations.items place ≡ Some new
 stands_there stage left place old new here by =
     ap (λ xs. slice_get xs place) by.stations ∙ get-set_same stage.stations.items place old new here
 
@@ -37,7 +37,7 @@ stands_there stage left place old new here by =
 pub replaced_stage : (stage left : Stage) (place : ℕ) (old new : Station) → IsStage stage
     → slice_get stage.stations.items place ≡ Some old
     → length new.system.ports ≡ length old.system.ports → clock new.system ≡ clock old.system
-    → Replaces place new stage left
+    → StandsReplaced place new stage left
     → IsStage left
 replaced_stage stage left place old new is here ports clocks by =
     let net = by.net in
@@ -49,7 +49,7 @@ replaced_stage stage left place old new is here ports clocks by =
 -- the timers of a system of the stage can be set
 pub can_set_timers : (stage : Stage) (place : ℕ) (station : Station) → IsStage stage
     → slice_get stage.stations.items place ≡ Some station
-    → (station.live ≡ true → HasRoom (for_all_timers station.system) stage.net) → CanSetTimers place stage
+    → (station.live ≡ true → WorldHasRoom (for_all_timers station.system) stage.net) → CanSetTimers place stage
 can_set_timers stage place station is here room =
     let within = slice_get_within stage.stations.items place station here in let places = is.systems in
     record {
@@ -78,7 +78,7 @@ timers_stage stage stage' place is set =
 -- the world in which one stands for a system, and its timers are set
 pub replaced_world : (stage left stage' : Stage) (place : ℕ) (old new : Station)
     → slice_get stage.stations.items place ≡ Some old
-    → Replaces place new stage left → HasSetTimers place left stage'
+    → StandsReplaced place new stage left → HasSetTimers place left stage'
     → world_of stage' ≡ replaced place new (world_of stage)
 replaced_world stage left stage' place old new here by set =
     let there = stands_there stage left place old new here by in
@@ -107,25 +107,25 @@ fresh_need station now is =
 
 -- the stage with the new system
 pub renewed_stage : (stage left : Stage) (place : ℕ) (can : CanStart place stage) → IsStage stage
-    → Replaces place (fresh stage.now can.station) stage left → IsStage left
+    → StandsReplaced place (fresh stage.now can.station) stage left → IsStage left
 renewed_stage stage left place can is by =
     replaced_stage stage left place can.station (fresh stage.now can.station) is can.here
     (fresh_ports can.station stage.now can.setup) can.setup.named by
 
 pub renewed_room : (stage left : Stage) (place : ℕ) (can : CanStart place stage) → HasRoomToStart place stage
-    → Replaces place (fresh stage.now can.station) stage left
-    → HasRoom (for_start (fresh stage.now can.station).system) left.net
+    → StandsReplaced place (fresh stage.now can.station) stage left
+    → WorldHasRoom (for_start (fresh stage.now can.station).system) left.net
 renewed_room stage left place can has by =
     let one : has.station ≡ can.station = same_Some has.station can.station (sym has.here ∙ can.here) in
-    let room : HasRoom (for_start can.station.system) left.net =
-    subst (λ (n : Between). HasRoom (for_start can.station.system) n) (sym by.net)
-    (subst (λ (s : Station). HasRoom (for_start s.system) stage.net) one has.room) in
-    subst (λ (need : Need). HasRoom need left.net) (sym (fresh_need can.station stage.now can.setup)) room
+    let room : WorldHasRoom (for_start can.station.system) left.net =
+    subst (λ (n : Between). WorldHasRoom (for_start can.station.system) n) (sym by.net)
+    (subst (λ (s : Station). WorldHasRoom (for_start s.system) stage.net) one has.room) in
+    subst (λ (need : Need). WorldHasRoom need left.net) (sym (fresh_need can.station stage.now can.setup)) room
 
 -- its timers can be set
 pub renewed_timers : (stage left : Stage) (place : ℕ) (can : CanStart place stage) → IsStage stage
     → HasRoomToStart place stage
-    → Replaces place (fresh stage.now can.station) stage left → CanSetTimers place left
+    → StandsReplaced place (fresh stage.now can.station) stage left → CanSetTimers place left
 renewed_timers stage left place can is has by =
     let new : Station = fresh stage.now can.station in
     can_set_timers left place new (renewed_stage stage left place can is by)
@@ -136,7 +136,7 @@ renewed_timers stage left place can is has by =
 
 -- once they are set, there is room for its ports
 pub ports_room : (place : ℕ) (stage stage' : Stage) (new : Station) → slice_get stage.stations.items place ≡ Some new
-    → HasRoom (for_start new.system) stage.net → HasSetTimers place stage stage' → HasRoomForPorts place stage'
+    → WorldHasRoom (for_start new.system) stage.net → HasSetTimers place stage stage' → HasRoomForPorts place stage'
 ports_room place stage stage' new here has set =
     let one : set.station ≡ new = same_Some set.station new (sym set.here ∙ here) in let stations = set.stations in
     let only : OnlyEntries (4 * length new.system.ports + 3) stage.net stage'.net =
@@ -153,7 +153,7 @@ ports_room place stage stage' new here has set =
 pub started : {F : Type 0} (answers : Bounds → ℕ → F → Option ℕ → F → Type 0) (fate fate_after : F)
     (stage left set stage' : Stage)
     (place : ℕ) (station : Station) → slice_get stage.stations.items place ≡ Some station
-    → Replaces place (fresh stage.now station) stage left → HasSetTimers place left set
+    → StandsReplaced place (fresh stage.now station) stage left → HasSetTimers place left set
     → CameUp answers place (range_with_len 1 (length (fresh stage.now station).system.ports)) fate fate_after set stage'
     → Started answers place fate fate_after stage stage'
 started answers fate fate_after stage left set stage' place station here by timers came =
@@ -185,7 +185,7 @@ started answers fate fate_after stage left set stage' place station here by time
 
 -- a live system with another priority1 can be called
 pub prepared_room : (stage left : Stage) (place value : ℕ) (has : HasRoomToCall place stage)
-    → Replaces place (with_setup value has.station) stage left → HasRoomToCall place left
+    → StandsReplaced place (with_setup value has.station) stage left → HasRoomToCall place left
 prepared_room stage left place value has by =
     let net = by.net in
     record {
@@ -195,7 +195,7 @@ prepared_room stage left place value has by =
     }
 
 -- the world in which it stands
-pub prepared_world : (stage left : Stage) (place : ℕ) (new : Station) → Replaces place new stage left
+pub prepared_world : (stage left : Stage) (place : ℕ) (new : Station) → StandsReplaced place new stage left
     → world_of left ≡ with_station place new (world_of stage)
 prepared_world stage left place new by =
     let list = by.stations in let net = by.net in let now = by.now in let last = by.last_change in
@@ -204,7 +204,7 @@ prepared_world stage left place new by =
 pub told : {F : Type 0} (answers : Bounds → ℕ → F → Option ℕ → F → Type 0) (fate fate_after : F)
     (stage left stage' : Stage)
     (place value : ℕ) (station : Station) → slice_get stage.stations.items place ≡ Some station
-    → Replaces place (with_setup value station) stage left → (answer : Answer)
+    → StandsReplaced place (with_setup value station) stage left → (answer : Answer)
     → Called answers place (Priority value) answer fate fate_after left stage'
     → Prioritized answers place value fate fate_after stage stage'
 told answers fate fate_after stage left stage' place value station here by answer called =
@@ -221,7 +221,7 @@ told answers fate fate_after stage left stage' place value station here by answe
 pub untold : {F : Type 0} (answers : Bounds → ℕ → F → Option ℕ → F → Type 0) (fate : F) (stage left : Stage)
     (place value : ℕ)
     (station : Station) → slice_get stage.stations.items place ≡ Some station
-    → Replaces place (with_setup value station) stage left
+    → StandsReplaced place (with_setup value station) stage left
     → station.live ≡ false → Prioritized answers place value fate fate stage left
 untold answers fate stage left place value station here by failed = record {
   station = station;

@@ -8,7 +8,7 @@ use Rattle.gptp_links.specs.Fate.{Draw, Draws}
 use Rattle.gptp_links.proofs.DrawLemmas as draws
 use Rattle.gptp_system.specs.declared.answer.Answer.{Answer}
 use Rattle.gptp_system.specs.Input.{Input, IsTimely}
-use Rattle.gptp_system.specs.Steps.{IsPortOf}
+use Rattle.gptp_system.specs.Steps.{HasPortNumber}
 use Rattle.gptp_system.specs.State.{clock}
 use Rattle.gptp_vector.specs.declared.port.PortId.{PortId}
 use Rattle.gptp_world.specs.declared.cable.Cable.{Cable}
@@ -19,12 +19,12 @@ use Rattle.gptp_world.specs.declared.telling.End.{End}
 use Rattle.gptp_acts.specs.Act.{in_state}
 use Rattle.gptp_world.specs.Cable.{channel_of, join_of}
 use Rattle.gptp_acts.specs.Changing.{CallsIfLive, TellsEnds}
-use Rattle.gptp_world.specs.Directory.{end_of, start_of, DirectoryState, IsDirectory, IsPlan, Join}
+use Rattle.gptp_world.specs.Directory.{direction_end, direction_start, DirectoryState, IsDirectory, IsPlan, Join}
 use Rattle.gptp_world.specs.Net.{IsNet}
 use Rattle.gptp_acts.specs.World.{port_id}
-use Rattle.gptp_world.specs.Room.{both, for_call, nothing, HasRoom, Need, Uses}
-use Rattle.gptp_world.specs.Stage.{clock_at, world_of, Called, CallUses, HasRoomToCall, HasRoomToCallBoth, IsPortAt, IsStage, IsTimelyAt}
-use Rattle.gptp_world.specs.Telling.{link_input, AreEndsOf, HasRoomAtEnds, IsEndAt, Told}
+use Rattle.gptp_world.specs.Room.{both, for_call, no_room, WorldHasRoom, Need, Uses}
+use Rattle.gptp_world.specs.Stage.{clock_at_place, world_of, Called, CallUses, HasRoomToCall, HasRoomToCallBoth, IsPortAt, IsStage, IsTimelyAt}
+use Rattle.gptp_world.specs.Telling.{link_input, AreEndsOf, HasRoomAtEnds, IsEndAt, WasTold}
 use Rattle.gptp_world.specs.Timing.{AreSetFor}
 use Rattle.gptp_acts.specs.World.{Channel, Net, WorldState}
 use Rattle.gptp_world.proofs.NeedLemmas.{covered, left_of}
@@ -37,7 +37,7 @@ use Rattle.gptp_world.proofs.RoomLemmas.{joins_kept}
 
 -- the number of a port at which a lane ends is at most 16
 pub small_end : (clocks : List ℕ) (joins : List Join) (link : ℕ) (d : Direction) (join : Join) → IsPlan clocks joins
-    → slice_get joins link ≡ Some join → (end_of d join).port ≤ 16
+    → slice_get joins link ≡ Some join → (direction_end d join).port ≤ 16
 small_end clocks joins link FromA join plan here = (plan.placed_b link join here).last
 small_end clocks joins link FromB join plan here = (plan.placed_a link join here).last
 
@@ -73,17 +73,17 @@ named : (stage : Stage) (port : PortId) (end : End) (station : Station) → IsSt
 named stage port end station is at there =
     let known : slice_get stage.net.directory.clocks end.place ≡ Some (clock station.system) =
     ap (λ cs. slice_get cs end.place) (sym is.clocks)
-    ∙ mapped_there clock_at stage.stations.items end.place station there in
+    ∙ mapped_there clock_at_place stage.stations.items end.place station there in
     same_Some (clock station.system) port.clock (sym known ∙ at.clock)
 
 -- the port of an end is one of its system
 end_port : (stage : Stage) (link : ℕ) (d : Direction) (join : Join) (end : End) (station : Station) → IsStage stage
-    → slice_get stage.net.directory.joins link ≡ Some join → IsEndAt (start_of d join) end stage.net.directory
+    → slice_get stage.net.directory.joins link ≡ Some join → IsEndAt (direction_start d join) end stage.net.directory
     → slice_get stage.stations.items end.place ≡ Some station → IsPortAt end.place end.port stage
 end_port stage link d join end station is here at there =
-    let own = named stage (start_of d join) end station is at there in
-    let begins : start_of d join ≡ port_id (clock station.system) end.port =
-    ap (λ c. port_id c (start_of d join).port) (sym own) ∙ ap (port_id (clock station.system)) (sym at.number) in
+    let own = named stage (direction_start d join) end station is at there in
+    let begins : direction_start d join ≡ port_id (clock station.system) end.port =
+    ap (λ c. port_id c (direction_start d join).port) (sym own) ∙ ap (port_id (clock station.system)) (sym at.number) in
     let range = is.ports end.place station end.port (lane_of link d) there
     (record { join = join; there = here; begins = begins }) in
     record { station = station; here = there; port_of = record { least = range.0; most = range.1 } }
@@ -92,7 +92,7 @@ end_port stage link d join end station is here at there =
 pub same_clocks : (stage stage' : Stage) → IsStage stage → IsStage stage' → world_of stage' ≡ world_of stage
     → stage'.net.directory.clocks ≡ stage.net.directory.clocks
 same_clocks stage stage' is is' world =
-    sym is'.clocks ∙ (ap (λ (w : WorldState). map clock_at w.stations) world ∙ is.clocks)
+    sym is'.clocks ∙ (ap (λ (w : WorldState). map clock_at_place w.stations) world ∙ is.clocks)
 
 pub same_joins : (stage stage' : Stage) → IsStage stage → IsStage stage' → world_of stage' ≡ world_of stage
     → stage'.net.directory.joins ≡ stage.net.directory.joins
@@ -138,15 +138,15 @@ net_becomes stage net is after directory systems = record {
 }
 
 -- so it is where it has no less room
-pub net_changes : (stage : Stage) (net : Between) → IsStage stage → IsNet net → Uses nothing stage.net net
+pub net_changes : (stage : Stage) (net : Between) → IsStage stage → IsNet net → Uses no_room stage.net net
     → IsStage (record stage { net = net })
 net_changes stage net is after uses = net_becomes stage net is after uses.directory uses.systems
 
 -- where a link only changes, there is as much room
-room_stays : (need : Need) (net net' : Between) → Uses nothing net net' → HasRoom need net → HasRoom need net'
+room_stays : (need : Need) (net net' : Between) → Uses no_room net net' → WorldHasRoom need net → WorldHasRoom need net'
 room_stays need net net' uses has =
     uses.left need
-    (covered need (both nothing need) net
+    (covered need (both no_room need) net
     (record { entries = omega arith; buffers = omega arith; frames = λ port. omega arith }) has)
 
 -- both ends can be told: so it is once the link has changed
@@ -157,7 +157,7 @@ pub record CanTell (a b : End) (stage : Stage) : Type 0 where
   pub apart : a.place ≢ b.place
 
 pub can_tell : (stage : Stage) (net : Between) (link : ℕ) (a b : End) → IsStage stage → IsDirectory stage.net.directory
-    → AreEndsOf link a b stage.net.directory → HasRoomAtEnds link stage → Uses nothing stage.net net
+    → AreEndsOf link a b stage.net.directory → HasRoomAtEnds link stage → Uses no_room stage.net net
     → CanTell a b (record stage { net = net })
 can_tell stage net link a b is directory ends has uses =
     let room = room_for link a b stage directory ends has in
@@ -184,9 +184,9 @@ pub link_timely : (up : Bool) (place port : ℕ) (stage : Stage) → IsPortAt pl
     → IsTimelyAt (link_input up port) place stage
 link_timely up place port stage own station here = by up
   where
-    port_of : IsPortOf station.system port
+    port_of : HasPortNumber station.system port
     port_of =
-        subst (λ (x : Station). IsPortOf x.system port) (same_Some own.station station (sym own.here ∙ here))
+        subst (λ (x : Station). HasPortNumber x.system port) (same_Some own.station station (sym own.here ∙ here))
         own.port_of
 
     by : (up : Bool) → IsTimely station.system stage.now (link_input up port)
@@ -200,7 +200,7 @@ link_set false place port stage station here timer off = absurd cc
 pub one_told : {F : Type 0} (answers : Bounds → ℕ → F → Option ℕ → F → Type 0) (place : ℕ) (input : Input)
     (answer : Answer) (fate fate_after : F) (stage stage' : Stage)
     → Called answers place input answer fate fate_after stage stage'
-    → Told answers place input fate fate_after stage stage'
+    → WasTold answers place input fate fate_after stage stage'
 one_told answers place input answer fate fate_after stage stage' called =
     record { draws = called.draws; drawn = called.drawn; calls = inl (answer, called.calls) }
 
@@ -208,7 +208,7 @@ one_told answers place input answer fate fate_after stage stage' called =
 pub not_told : {F : Type 0} (answers : Bounds → ℕ → F → Option ℕ → F → Type 0) (place : ℕ) (input : Input) (fate : F)
     (stage : Stage) (one station : Station) → slice_get stage.stations.items place ≡ Some station
     → one ≡ slice_index_or stage.stations.items place one → one.live ≡ false
-    → Told answers place input fate fate stage stage
+    → WasTold answers place input fate fate stage stage
 not_told answers place input fate stage one station here value failed =
     let is : one ≡ station = value ∙ read stage.stations.items place station one here in
     record {
@@ -242,7 +242,7 @@ room_second first second stage stage' same uses has =
 
 -- no other system changes
 elsewhere : {F : Type 0} (answers : Bounds → ℕ → F → Option ℕ → F → Type 0) (place other : ℕ) (input : Input)
-    (fate fate_after : F) (stage stage' : Stage) → Told answers place input fate fate_after stage stage' → other ≢ place
+    (fate fate_after : F) (stage stage' : Stage) → WasTold answers place input fate fate_after stage stage' → other ≢ place
     → slice_get stage'.stations.items other ≡ slice_get stage.stations.items other
 elsewhere answers place other input fate fate_after stage stage' told apart = by told.calls
   where
@@ -260,7 +260,7 @@ pub record CanTellSecond (b : End) (stage : Stage) : Type 0 where
 
 pub can_tell_second : {F : Type 0} (answers : Bounds → ℕ → F → Option ℕ → F → Type 0) (a b : End) (input : Input)
     (fate fate_after : F) (stage stage' : Stage) → CanTell a b stage
-    → Told answers a.place input fate fate_after stage stage'
+    → WasTold answers a.place input fate fate_after stage stage'
     → CallUses a.place stage stage'.net → CanTellSecond b stage'
 can_tell_second answers a b input fate fate_after stage stage' can told uses =
     let same = elsewhere answers a.place b.place input fate fate_after stage stage' told (λ e. can.apart (sym e)) in
@@ -293,8 +293,8 @@ pub both_told : {F : Type 0} (answers : Bounds → ℕ → F → Option ℕ → 
     → AreEndsOf link a b stage.net.directory → CanTell a b (record stage { net = net })
     → ((cable : Cable) → slice_get stage.net.cables.items link ≡ Some cable
     → (world_of (record stage { net = net })).net ≡ changed (channel_of cable))
-    → Told answers a.place (input a.port) first second (record stage { net = net }) between
-    → Told answers b.place (input b.port) second third between after
+    → WasTold answers a.place (input a.port) first second (record stage { net = net }) between
+    → WasTold answers b.place (input b.port) second third between after
     → BothTold answers input changed link first third stage after
 both_told answers input changed link a b first second third stage net between after is ends can changes told_a told_b =
     let made = known_link stage.net link ends.join is.net ends.here in

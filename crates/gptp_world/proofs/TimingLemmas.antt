@@ -20,10 +20,10 @@ use Rattle.gptp_world.specs.declared.stage.Stage.{Stage}
 use Rattle.gptp_acts.specs.declared.station.Station.{Station}
 use Rattle.gptp_system.specs.declared.touched.Touched.{Touched}
 use Rattle.gptp_system.specs.declared.touched.Touched.TheVariants as touches
-use Rattle.gptp_acts.specs.Act.{in_state, set_timers, Takes}
+use Rattle.gptp_acts.specs.Act.{in_state, set_timers, TakesFrame}
 use Rattle.gptp_acts.specs.Agrees.{Agrees}
 use Rattle.gptp_acts.specs.Item.{same_item}
-use Rattle.gptp_acts.specs.Pending.{Entry, set_due, times, without_first}
+use Rattle.gptp_acts.specs.Pending.{Entry, set_due, times_of_item, without_first_entry}
 use Rattle.gptp_world.specs.Net.{between, OnlyEntries}
 use Rattle.gptp_world.specs.Stage.{world_of, HasStepped}
 use Rattle.gptp_world.specs.Timing.{selected_from, AreSetAt, AreSetBut, AreSetFor, HasTouched}
@@ -248,10 +248,10 @@ has_touched stage left place input answer touched step set touches =
 -- where all agrees each timer of a system is pending when it is due, also once a frame is taken
 pub set_for_frame : (stage : Stage) (net : Between) (lane : Lane) (octets : List ℕ) (channel : Channel) (place : ℕ)
     → Agrees (world_of stage)
-    → Takes lane.link lane.direction stage.now octets channel (between stage.net) (between net)
+    → TakesFrame lane.link lane.direction stage.now octets channel (between stage.net) (between net)
     → AreSetAt (λ timer. false) place (record stage { net = net })
 set_for_frame stage net lane octets channel place agrees takes station here timer off =
-    ap (λ (n : Net). times (Expiry place timer) n.pending) takes.is
+    ap (λ (n : Net). times_of_item (Expiry place timer) n.pending) takes.is
     ∙ times-without_first_other (Arrival lane.link lane.direction) (Expiry place timer) stage.net.pending.entries
     (no_arrival place timer lane.link lane.direction)
     ∙ agrees (Expiry place timer) ∙ ap (running timer) here
@@ -269,10 +269,10 @@ differs place t u off = by (same_item (Expiry place u) (Expiry place t)) refl
 
 pub set_for_timer : (stage : Stage) (net : Between) (place : ℕ) (timer : Timer) → Agrees (world_of stage)
     → between net
-    ≡ record (between stage.net) { pending = without_first (Expiry place timer) (between stage.net).pending }
+    ≡ record (between stage.net) { pending = without_first_entry (Expiry place timer) (between stage.net).pending }
     → AreSetAt (same_timer timer) place (record stage { net = net })
 set_for_timer stage net place timer agrees taken station here other off =
-    ap (λ (n : Net). times (Expiry place other) n.pending) taken
+    ap (λ (n : Net). times_of_item (Expiry place other) n.pending) taken
     ∙ times-without_first_other (Expiry place timer) (Expiry place other) stage.net.pending.entries
     (differs place timer other off)
     ∙ agrees (Expiry place other) ∙ ap (running other) here

@@ -16,10 +16,10 @@ use Rattle.gptp_world.specs.declared.cable.Lane.{Lane}
 use Rattle.gptp_world.specs.declared.net.Net.{Net as Between}
 use Rattle.gptp_acts.specs.Act.{all_timers, in_state, Calls}
 use Rattle.gptp_world.specs.Cable.{channel_of}
-use Rattle.gptp_acts.specs.Changing.{is_end, is_up_at, CallsAll}
+use Rattle.gptp_acts.specs.Changing.{is_link_end, is_up_at, CallsAll}
 use Rattle.gptp_world.specs.Net.{between, IsNet, IsUpLane}
 use Rattle.gptp_acts.specs.World.{port_id}
-use Rattle.gptp_acts.specs.Sends.{entered, IsUnlinked, SendsAll, SendsOne}
+use Rattle.gptp_acts.specs.Sends.{entered, IsUnlinkedPort, SendsAll, SendsOne}
 use Rattle.gptp_acts.specs.World.{Channel, Net, WorldState, sender, with_queue}
 use Rattle.gptp_world.proofs.NetLemmas.{known_cable}
 use Rattle.gptp_lists.proofs.MappedLemmas.{mapped_there}
@@ -27,15 +27,15 @@ use Rattle.gptp_lists.proofs.MappedLemmas.{mapped_there}
 -- ---- the ends of a link
 
 end_tells : (number port : ℕ) (end : PortId)
-    → ((is_end number port end ≡ true) × (end ≡ port_id number port))
-    ⊎ ((is_end number port end ≡ false) × (end ≢ port_id number port))
+    → ((is_link_end number port end ≡ true) × (end ≡ port_id number port))
+    ⊎ ((is_link_end number port end ≡ false) × (end ≢ port_id number port))
 end_tells number port end = by (eqb_tells end.clock number) (eqb_tells end.port port)
   where
     by : ((eqb end.clock number ≡ true) × (end.clock ≡ number))
         ⊎ ((eqb end.clock number ≡ false) × (end.clock ≢ number))
         → ((eqb end.port port ≡ true) × (end.port ≡ port)) ⊎ ((eqb end.port port ≡ false) × (end.port ≢ port))
-        → ((is_end number port end ≡ true) × (end ≡ port_id number port))
-        ⊎ ((is_end number port end ≡ false) × (end ≢ port_id number port))
+        → ((is_link_end number port end ≡ true) × (end ≡ port_id number port))
+        ⊎ ((is_link_end number port end ≡ false) × (end ≢ port_id number port))
     by (inl (test, clocks)) (inl (at, ports)) =
         inl (rw (test, at) refl, ap (λ c. port_id c end.port) clocks ∙ ap (λ p. port_id number p) ports)
     by (inl (test, clocks)) (inr (at, apart)) = inr (rw (test, at) refl, λ e. apart (ap (λ (p : PortId). p.port) e))
@@ -43,7 +43,7 @@ end_tells number port end = by (eqb_tells end.clock number) (eqb_tells end.port 
 
 -- whether an end of a link is at a port
 abbrev is_at : ℕ → ℕ → Channel → Bool
-is_at number port channel = is_end number port channel.a || is_end number port channel.b
+is_at number port channel = is_link_end number port channel.a || is_link_end number port channel.b
 
 -- one is
 record IsAt (number port : ℕ) (channel : Channel) : Type 0 where
@@ -64,10 +64,10 @@ at_tells number port channel = by (end_tells number port channel.a) (end_tells n
     neither a b FromA = a
     neither a b FromB = b
 
-    by : ((is_end number port channel.a ≡ true) × (channel.a ≡ port_id number port))
-        ⊎ ((is_end number port channel.a ≡ false) × (channel.a ≢ port_id number port))
-        → ((is_end number port channel.b ≡ true) × (channel.b ≡ port_id number port))
-        ⊎ ((is_end number port channel.b ≡ false) × (channel.b ≢ port_id number port))
+    by : ((is_link_end number port channel.a ≡ true) × (channel.a ≡ port_id number port))
+        ⊎ ((is_link_end number port channel.a ≡ false) × (channel.a ≢ port_id number port))
+        → ((is_link_end number port channel.b ≡ true) × (channel.b ≡ port_id number port))
+        ⊎ ((is_link_end number port channel.b ≡ false) × (channel.b ≢ port_id number port))
         → IsAt number port channel ⊎ IsNotAt number port channel
     by (inl (test, is)) other = inl (record { test = rw test refl; direction = FromA; begins = is })
     by (inr (test, apart)) (inl (at, is)) = inl (record { test = rw (test, at) refl; direction = FromB; begins = is })
@@ -114,7 +114,7 @@ down_where (c ∷ cs) number port none =
 
 -- a lane of a link that is up begins there, or none does
 pub up_tells : (net : Between) (number port : ℕ) (lane : Option Lane) → IsNet net
-    → IfSome lane (IsUpLane net (port_id number port)) → IfNone lane (IsUnlinked (between net) (port_id number port))
+    → IfSome lane (IsUpLane net (port_id number port)) → IfNone lane (IsUnlinkedPort (between net) (port_id number port))
     → is_up_at (between net).channels number port ≡ is_some lane
 up_tells net number port None is up none = down_where (between net).channels number port none
 up_tells net number port (Some lane) is up none =

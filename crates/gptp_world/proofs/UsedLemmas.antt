@@ -9,15 +9,15 @@ use Rattle.gptp_lists.proofs.MemberLemmas.{In-map}
 use Rattle.gptp_acts.specs.World.{Channel, receiver}
 use Rattle.gptp_acts.specs.declared.station.Station.{Station}
 use Rattle.gptp_system.specs.State.{clock}
-use Rattle.gptp_kept.specs.Standing.{has_clock, is_used, joined, live_systems, standing, used_links}
+use Rattle.gptp_kept.specs.Standing.{stations_have_clock, channel_is_used, standing_link, live_stations, standing_system, used_channels}
 use Rattle.gptp_kept.proofs.SystemLemmas.{OwnClocks, clock_in, clock_lives, clock_there, live_from, live_there}
 use Rattle.gptp_world.specs.declared.cable.Cable.{Cable}
 use Rattle.gptp_world.specs.declared.cable.Lane.{Lane}
 use Rattle.gptp_world.specs.declared.stage.Stage.{Stage}
 use Rattle.gptp_world.specs.Cable.{channel_of, join_of}
-use Rattle.gptp_world.specs.Directory.{end_of}
+use Rattle.gptp_world.specs.Directory.{direction_end}
 use Rattle.gptp_world.specs.Scene.{IsFounded}
-use Rattle.gptp_world.specs.Used.{link_of, used, used_if, used_in}
+use Rattle.gptp_world.specs.Used.{snapshot_link, used, used_if, used_in}
 use Rattle.gptp_world.proofs.DeliveringLemmas.{IsReceiver}
 use Rattle.gptp_world.proofs.EndLemmas.{end_same, known_join, station_at}
 
@@ -26,12 +26,12 @@ use Rattle.gptp_world.proofs.EndLemmas.{end_same, known_join, station_at}
 -- a clock is that of a live system exactly where the system that has it lives
 lives_by : (stations : List Station) (place number : ℕ) (station : Station) (live has : Bool) → OwnClocks stations
     → slice_get stations place ≡ Some station → clock station.system ≡ number → station.live ≡ live
-    → has_clock (live_systems stations) number ≡ has → live ≡ has
+    → stations_have_clock (live_stations stations) number ≡ has → live ≡ has
 lives_by stations place number station true true own here named lives known = refl
 lives_by stations place number station true false own here named lives known =
-    let member = subst (λ n. has_clock (live_systems stations) n ≡ true) named
-    (clock_there (live_systems stations) (clock station.system)
-    (In-map clock_in (standing station) (live_systems stations) (live_there stations place station here lives))) in
+    let member = subst (λ n. stations_have_clock (live_stations stations) n ≡ true) named
+    (clock_there (live_stations stations) (clock station.system)
+    (In-map clock_in (standing_system station) (live_stations stations) (live_there stations place station here lives))) in
     absurd cc
 lives_by stations place number station false true own here named lives known =
     let (s, member, same) = clock_lives stations number known in
@@ -48,10 +48,10 @@ lives_by stations place number station false false own here named lives known = 
 pub lives_there : (stage : Stage) (lane : Lane) (place : ℕ) (cable : Cable) → IsFounded stage
     → slice_get stage.net.cables.items lane.link ≡ Some cable → IsReceiver lane place stage.net.directory
     → (station : Station) → slice_get stage.stations.items place ≡ Some station
-    → station.live ≡ has_clock (live_systems stage.stations.items) (receiver lane.direction (channel_of cable)).clock
+    → station.live ≡ stations_have_clock (live_stations stage.stations.items) (receiver lane.direction (channel_of cable)).clock
 lives_there stage lane place cable is here receives station there =
     let known = receives (join_of cable) (known_join stage.net lane.link cable is.stage_kept.net here) in
-    let at = station_at stage place (end_of lane.direction (join_of cable)).clock is.stage_kept known in
+    let at = station_at stage place (direction_end lane.direction (join_of cable)).clock is.stage_kept known in
     let one : at.station ≡ station = same_Some at.station station (sym at.here ∙ there) in
     let named : clock station.system ≡ (receiver lane.direction (channel_of cable)).clock =
     ap (λ (x : Station). clock x.system) (sym one) ∙ (at.named
@@ -62,72 +62,72 @@ lives_there stage lane place cable is here receives station there =
 -- ---- one link more
 
 used_append : (systems : List System) (xs : List Channel) (channel : Channel)
-    → used_links systems (xs ++ channel ∷ []) ≡ used_links systems xs ++ used_if systems channel
+    → used_channels systems (xs ++ channel ∷ []) ≡ used_channels systems xs ++ used_if systems channel
 used_append systems [] channel = refl
-used_append systems (x ∷ xs) channel = by (is_used systems x) refl (used_append systems xs channel)
+used_append systems (x ∷ xs) channel = by (channel_is_used systems x) refl (used_append systems xs channel)
   where
-    by : (is : Bool) → is_used systems x ≡ is
-        → used_links systems (xs ++ channel ∷ []) ≡ used_links systems xs ++ used_if systems channel
-        → used_links systems (x ∷ xs ++ channel ∷ []) ≡ used_links systems (x ∷ xs) ++ used_if systems channel
-    by true is more = rw is (ap (λ ls. joined x ∷ ls) more)
+    by : (is : Bool) → channel_is_used systems x ≡ is
+        → used_channels systems (xs ++ channel ∷ []) ≡ used_channels systems xs ++ used_if systems channel
+        → used_channels systems (x ∷ xs ++ channel ∷ []) ≡ used_channels systems (x ∷ xs) ++ used_if systems channel
+    by true is more = rw is (ap (λ ls. standing_link x ∷ ls) more)
     by false is more = rw is more
 
 pub used_more : (systems : List System) (channels : List Channel) (link : ℕ) (channel : Channel)
     → slice_get channels link ≡ Some channel
-    → used_links systems (take (link + 1) channels)
-    ≡ used_links systems (take link channels) ++ used_if systems channel
+    → used_channels systems (take (link + 1) channels)
+    ≡ used_channels systems (take link channels) ++ used_if systems channel
 used_more systems channels link channel here =
-    ap (used_links systems) (taken channels link channel here) ∙ used_append systems (take link channels) channel
+    ap (used_channels systems) (taken channels link channel here) ∙ used_append systems (take link channels) channel
 
 -- ---- the place of a link among those that are used
 
 pub used_here : (systems : List System) (channels : List Channel) (link : ℕ) (channel : Channel)
-    → slice_get channels link ≡ Some channel → is_used systems channel ≡ true
-    → slice_get (used_links systems channels) (length (used_links systems (take link channels)))
-    ≡ Some (joined channel)
+    → slice_get channels link ≡ Some channel → channel_is_used systems channel ≡ true
+    → slice_get (used_channels systems channels) (length (used_channels systems (take link channels)))
+    ≡ Some (standing_link channel)
 used_here systems [] link channel here is = absurd (none-some channel here)
 used_here systems (x ∷ xs) zero channel here is =
     let same = same_Some x channel here in
-    let used : is_used systems x ≡ true = ap (is_used systems) same ∙ is in
-    rw used (ap (λ c. Some (joined c)) same)
+    let used : channel_is_used systems x ≡ true = ap (channel_is_used systems) same ∙ is in
+    rw used (ap (λ c. Some (standing_link c)) same)
 used_here systems (x ∷ xs) (suc link) channel here is =
-    by (is_used systems x) refl (used_here systems xs link channel here is)
+    by (channel_is_used systems x) refl (used_here systems xs link channel here is)
   where
-    by : (used : Bool) → is_used systems x ≡ used
-        → slice_get (used_links systems xs) (length (used_links systems (take link xs))) ≡ Some (joined channel)
-        → slice_get (used_links systems (x ∷ xs)) (length (used_links systems (take (suc link) (x ∷ xs))))
-        ≡ Some (joined channel)
+    by : (used : Bool) → channel_is_used systems x ≡ used
+        → slice_get (used_channels systems xs) (length (used_channels systems (take link xs))) ≡ Some (standing_link channel)
+        → slice_get (used_channels systems (x ∷ xs)) (length (used_channels systems (take (suc link) (x ∷ xs))))
+        ≡ Some (standing_link channel)
     by true used later = rw used later
     by false used later = rw used later
 
 -- ---- by whether it is used
 
-pub used_yes : (systems : List System) (channel : Channel) → is_used systems channel ≡ true
-    → used systems channel ≡ Some (joined channel)
+pub used_yes : (systems : List System) (channel : Channel) → channel_is_used systems channel ≡ true
+    → used systems channel ≡ Some (standing_link channel)
 used_yes systems channel is = rw is refl
 
-pub used_no : (systems : List System) (channel : Channel) → is_used systems channel ≡ false
+pub used_no : (systems : List System) (channel : Channel) → channel_is_used systems channel ≡ false
     → used systems channel ≡ None
 used_no systems channel is = rw is refl
 
 -- what the one is, is put behind
 pub used_some : (systems : List System) (channel : Channel) (ports : PortId × PortId)
-    → Some (link_of ports) ≡ used systems channel → used_if systems channel ≡ link_of ports ∷ []
-used_some systems channel ports same = by (is_used systems channel) refl
+    → Some (snapshot_link ports) ≡ used systems channel → used_if systems channel ≡ snapshot_link ports ∷ []
+used_some systems channel ports same = by (channel_is_used systems channel) refl
   where
-    by : (is : Bool) → is_used systems channel ≡ is → used_if systems channel ≡ link_of ports ∷ []
+    by : (is : Bool) → channel_is_used systems channel ≡ is → used_if systems channel ≡ snapshot_link ports ∷ []
     by true is =
-        let one : joined channel ≡ link_of ports =
-        same_Some (joined channel) (link_of ports) (sym (same ∙ used_yes systems channel is)) in
+        let one : standing_link channel ≡ snapshot_link ports =
+        same_Some (standing_link channel) (snapshot_link ports) (sym (same ∙ used_yes systems channel is)) in
         rw is (ap (λ l. l ∷ []) one)
-    by false is = absurd (none-some (link_of ports) (sym (same ∙ used_no systems channel is)))
+    by false is = absurd (none-some (snapshot_link ports) (sym (same ∙ used_no systems channel is)))
 
 pub used_none : (systems : List System) (channel : Channel) → None ≡ used systems channel
     → used_if systems channel ≡ []
-used_none systems channel same = by (is_used systems channel) refl
+used_none systems channel same = by (channel_is_used systems channel) refl
   where
-    by : (is : Bool) → is_used systems channel ≡ is → used_if systems channel ≡ []
-    by true is = absurd (none-some (joined channel) (same ∙ used_yes systems channel is))
+    by : (is : Bool) → channel_is_used systems channel ≡ is → used_if systems channel ≡ []
+    by true is = absurd (none-some (standing_link channel) (same ∙ used_yes systems channel is))
     by false is = rw is refl
 
 -- ---- the links of a stage, one after another
@@ -135,11 +135,11 @@ used_none systems channel same = by (is_used systems channel) refl
 -- those before a place
 abbrev pub used_before : Stage → ℕ → List Link
 used_before stage link =
-    used_links (live_systems stage.stations.items) (take link (map channel_of stage.net.cables.items))
+    used_channels (live_stations stage.stations.items) (take link (map channel_of stage.net.cables.items))
 
 module _ (stage : Stage) (link : ℕ) (cable : Cable) (here : slice_get stage.net.cables.items link ≡ Some cable) where
   abbrev systems : List System
-  systems = live_systems stage.stations.items
+  systems = live_stations stage.stations.items
 
   there : slice_get (map channel_of stage.net.cables.items) link ≡ Some (channel_of cable)
   there = mapped_there channel_of stage.net.cables.items link cable here
@@ -147,22 +147,22 @@ module _ (stage : Stage) (link : ℕ) (cable : Cable) (here : slice_get stage.ne
   pub one_more : used_before stage (link + 1) ≡ used_before stage link ++ used_if systems (channel_of cable)
   one_more = used_more systems (map channel_of stage.net.cables.items) link (channel_of cable) there
 
-  pub counted_more : is_used systems (channel_of cable) ≡ true
+  pub counted_more : channel_is_used systems (channel_of cable) ≡ true
       → length (used_before stage (link + 1)) ≡ length (used_before stage link) + 1
   counted_more is =
-      let if_used : used_if systems (channel_of cable) ≡ joined (channel_of cable) ∷ [] = rw is refl in
+      let if_used : used_if systems (channel_of cable) ≡ standing_link (channel_of cable) ∷ [] = rw is refl in
       let more = ap (λ (ls : List Link). length ls)
       (one_more ∙ ap (λ (ls : List Link). used_before stage link ++ ls) if_used) in
-      omega (arith, more, length-append (used_before stage link) (joined (channel_of cable) ∷ []))
+      omega (arith, more, length-append (used_before stage link) (standing_link (channel_of cable) ∷ []))
 
-  pub counted_same : is_used systems (channel_of cable) ≡ false
+  pub counted_same : channel_is_used systems (channel_of cable) ≡ false
       → length (used_before stage (link + 1)) ≡ length (used_before stage link)
   counted_same is =
       let if_used : used_if systems (channel_of cable) ≡ [] = rw is refl in
       ap (λ (ls : List Link). length ls) (one_more
       ∙ (ap (λ (ls : List Link). used_before stage link ++ ls) if_used ∙ append-nil (used_before stage link)))
 
-  pub stands_here : is_used systems (channel_of cable) ≡ true
+  pub stands_here : channel_is_used systems (channel_of cable) ≡ true
       → slice_get (used_in stage) (length (used_before stage link)) ≡ used systems (channel_of cable)
   stands_here is =
       used_here systems (map channel_of stage.net.cables.items) link (channel_of cable) there is
@@ -172,6 +172,6 @@ module _ (stage : Stage) (link : ℕ) (cable : Cable) (here : slice_get stage.ne
 pub used_all : (stage : Stage) (link : ℕ) → length stage.net.cables.items ≤ link
     → used_before stage link ≡ used_in stage
 used_all stage link past =
-    ap (used_links (live_systems stage.stations.items))
+    ap (used_channels (live_stations stage.stations.items))
     (take_all link (map channel_of stage.net.cables.items)
     (let long = length-map stage.net.cables.items channel_of in omega arith))

@@ -4,7 +4,7 @@ use Rattle.std.proofs.lemmas.Option.{same_Some, slice_get_within}
 use Rattle.gptp_roles.specs.declared.role.Role.{Role}
 use Rattle.gptp_system.specs.Start.{role_at}
 use Rattle.gptp_system.specs.State.{SystemState}
-use Rattle.gptp_system.specs.Steps.{IsPortOf}
+use Rattle.gptp_system.specs.Steps.{HasPortNumber}
 use Rattle.gptp_acts.specs.declared.item.Item.{Item}
 use Rattle.gptp_acts.specs.declared.item.Item.TheVariants.{Expiry, Arrival}
 use Rattle.gptp_world.specs.declared.stage.Stage.{Stage}
@@ -15,7 +15,7 @@ use Rattle.gptp_acts.specs.Pending.{IsNext}
 use Rattle.gptp_world.specs.Stage.{world_of}
 use Rattle.gptp_acts.specs.Sound.{IsSound}
 use Rattle.gptp_world.specs.Stage.{IsPlacedItem}
-use Rattle.gptp_acts.specs.Views.{Follows, HasPort, HasRole, ShowsLive}
+use Rattle.gptp_acts.specs.Views.{FollowsRoot, HasPort, HasRole, ShowsLive}
 use Rattle.gptp_acts.specs.World.{WorldState}
 use Rattle.gptp_acts.proofs.NextDueLemmas.{next_runs_out}
 
@@ -29,7 +29,7 @@ next_placed stage time (Expiry place timer) agrees next =
 
 -- a clock is that of one system alone, so a port that this one hasn't got is nowhere
 pub no_port : (number port : ℕ) (w : WorldState) (s : SystemState) → IsSound w → ShowsLive number w s
-    → (IsPortOf s port → ⊥)
+    → (HasPortNumber s port → ⊥)
     → AtSystem number w (HasPort port) → ⊥
 no_port number port w s is shows none at =
     let same : at.place ≡ shows.place =
@@ -37,13 +37,13 @@ no_port number port w s is shows none at =
     (at.is.named ∙ sym shows.is.named) in
     let one : at.station ≡ shows.station =
     same_Some at.station shows.station (sym at.is.here ∙ (ap (slice_get w.stations) same ∙ shows.is.here)) in
-    let of : IsPortOf s port =
-    subst (λ x. IsPortOf x port) (ap (λ (x : Station). x.system) one ∙ sym shows.state) at.so.port_of in
+    let of : HasPortNumber s port =
+    subst (λ x. HasPortNumber x port) (ap (λ (x : Station). x.system) one ∙ sym shows.state) at.so.port_of in
     none of
 
 -- what a live system follows is what it shows
 pub follows_shown : (number root steps : ℕ) (slave : Option ℕ) (w : WorldState) (s : SystemState) → ShowsLive number w s
-    → root ≡ s.root → steps ≡ s.steps → slave ≡ s.slave → AtSystem number w (Follows root steps slave)
+    → root ≡ s.root → steps ≡ s.steps → slave ≡ s.slave → AtSystem number w (FollowsRoot root steps slave)
 follows_shown number root steps slave w s shows same_root same_steps same_slave = record {
   place = shows.place;
   station = shows.station;
@@ -58,14 +58,14 @@ follows_shown number root steps slave w s shows same_root same_steps same_slave 
 
 -- and so are the roles of its ports
 pub role_shown : (number port : ℕ) (w : WorldState) (s : SystemState) (role : Role) → ShowsLive number w s
-    → IsPortOf s port → role ≡ role_at s port → AtSystem number w (HasRole port role)
+    → HasPortNumber s port → role ≡ role_at s port → AtSystem number w (HasRole port role)
 role_shown number port w s role shows of same = record {
   place = shows.place;
   station = shows.station;
   is = shows.is;
   so = record {
     live = shows.live;
-    port_of = subst (λ x. IsPortOf x port) shows.state of;
+    port_of = subst (λ x. HasPortNumber x port) shows.state of;
     role_is = same ∙ ap (λ x. role_at x port) shows.state;
   };
 }

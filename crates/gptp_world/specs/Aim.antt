@@ -30,7 +30,7 @@ pub record IsLaneAt (port : PortId) (w : WorldState) (lane : Lane) : Type 0 wher
   pub begins : sender lane.direction channel ≡ port
 
 -- the system at this place has the clock
-pub record IsSystemAt (number : ℕ) (w : WorldState) (place : ℕ) : Type 0 where
+pub record PlaceHasClock (number : ℕ) (w : WorldState) (place : ℕ) : Type 0 where
   pub station : Station
   pub is : IsStation number place w station
 
@@ -40,9 +40,9 @@ IsAimOfChange (changes.LinkDown number port) w (aims.LinkDown link) = IsLinkAt (
 IsAimOfChange (changes.LinkUp number port) w (aims.LinkUp link) = IsLinkAt (port_id number port) w link
 IsAimOfChange (changes.LinkSet number port min max loss) w (aims.LinkSet link bounds) =
     (at : IsLinkAt (port_id number port) w link) × (bounds ≡ set_to min max loss at.channel)
-IsAimOfChange (changes.Fail number) w (aims.Fail place) = IsSystemAt number w place
-IsAimOfChange (changes.Recover number) w (aims.Recover place) = IsSystemAt number w place
-IsAimOfChange (changes.Priority1 number value) w (aims.Priority1 place set) = IsSystemAt number w place × (set ≡ value)
+IsAimOfChange (changes.Fail number) w (aims.Fail place) = PlaceHasClock number w place
+IsAimOfChange (changes.Recover number) w (aims.Recover place) = PlaceHasClock number w place
+IsAimOfChange (changes.Priority1 number value) w (aims.Priority1 place set) = PlaceHasClock number w place × (set ≡ value)
 IsAimOfChange (changes.Inject number port octets) w (aims.Inject lane) = IsLaneAt (port_id number port) w lane
 IsAimOfChange change w aim = ⊥
 

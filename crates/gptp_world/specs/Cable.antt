@@ -10,7 +10,7 @@ use Rattle.gptp_world.specs.declared.cable.Cable.{Cable}
 use Rattle.gptp_world.specs.declared.cable.Lane.{Lane}
 use Rattle.gptp_world.specs.Directory.{Join}
 use Rattle.gptp_acts.specs.World.{Channel, Net}
-use Rattle.gptp_world.specs.Pending.{PendingState}
+use Rattle.gptp_world.specs.Pending.{PendingView}
 use Rattle.gptp_acts.specs.Sends.{SendsOne, SendsAll}
 
 -- a link without the room that it has
@@ -28,7 +28,7 @@ channel_of cable = record {
 abbrev pub join_of : Cable → Join
 join_of cable = record { a = cable.a; b = cable.b }
 
-abbrev pub net_of : List Cable → PendingState → Net
+abbrev pub net_of : List Cable → PendingView → Net
 net_of cables pending = record { channels = map channel_of cables; pending = pending.entries }
 
 -- a link has room for so many more frames in a direction

@@ -11,9 +11,9 @@ use Rattle.gptp_world.specs.declared.cable.Lane.{Lane}
 use Rattle.gptp_world.specs.declared.net.Net.{Net as Between}
 use Rattle.gptp_world.specs.declared.stage.Stage.{Stage}
 use Rattle.gptp_world.specs.Cable.{HasRoomOn}
-use Rattle.gptp_world.specs.Directory.{end_of, BeginsAt, Join}
+use Rattle.gptp_world.specs.Directory.{direction_end, BeginsAt, Join}
 use Rattle.gptp_world.specs.Net.{IsOldest}
-use Rattle.gptp_world.specs.Room.{both, for_reach, is_reached, HasRoom, Need, Uses}
+use Rattle.gptp_world.specs.Room.{both, for_reach, is_reached, WorldHasRoom, Need, Uses}
 
 -- ---- the credit of systems
 
@@ -65,13 +65,13 @@ HasReachBeyond r place credit net = (number : ℕ) (port : PortId) (lane : Lane)
 pub record HasRoomBeyond (r : Reach) (place : ℕ) (credit : List ℕ) (stage : Stage) : Type 0 where
   pub station : Station
   pub here : slice_get stage.stations.items place ≡ Some station
-  pub room : HasRoom (both (for_reach r station.system) (for_credit stage.net.directory.clocks credit)) stage.net
+  pub room : WorldHasRoom (both (for_reach r station.system) (for_credit stage.net.directory.clocks credit)) stage.net
 
 -- when the system at the end of a lane hears the oldest frame there
 abbrev pub HearsBeyond : Lane → List ℕ → Stage → Type 0
 HearsBeyond lane credit stage = (join : Join) (place : ℕ) (octets : List ℕ)
     → slice_get stage.net.directory.joins lane.link ≡ Some join
-    → slice_get stage.net.directory.clocks place ≡ Some (end_of lane.direction join).clock
+    → slice_get stage.net.directory.clocks place ≡ Some (direction_end lane.direction join).clock
     → IsOldest lane octets stage.net → HasRoomBeyond (frame_reach octets) place credit stage
 
 -- when a timer of the system at a place expires
@@ -94,7 +94,7 @@ pub record HearUses (lane : Lane) (stage : Stage) (net : Between) : Type 0 where
   pub octets : List ℕ
   pub station : Station
   pub there : slice_get stage.net.directory.joins lane.link ≡ Some join
-  pub placed : slice_get stage.net.directory.clocks place ≡ Some (end_of lane.direction join).clock
+  pub placed : slice_get stage.net.directory.clocks place ≡ Some (direction_end lane.direction join).clock
   pub oldest : IsOldest lane octets stage.net
   pub here : slice_get stage.stations.items place ≡ Some station
   pub uses : Uses (for_reach (frame_reach octets) station.system) stage.net net

@@ -10,7 +10,7 @@ use Rattle.gptp_world.specs.declared.cable.Lane.{Lane}
 use Rattle.gptp_world.specs.declared.stage.Stage.{Stage}
 use Rattle.gptp_acts.specs.declared.station.Station.{Station}
 use Rattle.gptp_acts.specs.Act.{Delivers, Hears}
-use Rattle.gptp_world.specs.Directory.{end_of, Join}
+use Rattle.gptp_world.specs.Directory.{direction_end, Join}
 use Rattle.gptp_world.specs.Net.{IsOldest}
 use Rattle.gptp_world.specs.Stage.{world_of, HasRoomWithin}
 
@@ -30,14 +30,14 @@ pub record HeardAt {F : Type 0} (answers : Bounds → ℕ → F → Option ℕ �
 -- the same of the port at which a lane ends
 abbrev pub MayHear : Lane → Stage → Type 0
 MayHear lane stage = (join : Join) (place : ℕ) → slice_get stage.net.directory.joins lane.link ≡ Some join
-    → slice_get stage.net.directory.clocks place ≡ Some (end_of lane.direction join).clock
-    → IsHeardAt place (end_of lane.direction join).port stage
+    → slice_get stage.net.directory.clocks place ≡ Some (direction_end lane.direction join).clock
+    → IsHeardAt place (direction_end lane.direction join).port stage
 
 -- there is room for whatever the system there can leave when it hears the oldest frame of the lane
 abbrev pub HasRoomToHear : Lane → Stage → Type 0
 HasRoomToHear lane stage = (join : Join) (place : ℕ) (octets : List ℕ)
     → slice_get stage.net.directory.joins lane.link ≡ Some join
-    → slice_get stage.net.directory.clocks place ≡ Some (end_of lane.direction join).clock
+    → slice_get stage.net.directory.clocks place ≡ Some (direction_end lane.direction join).clock
     → IsOldest lane octets stage.net
     → HasRoomWithin (frame_reach octets) place stage
 
@@ -46,7 +46,7 @@ pub record Delivered {F : Type 0} (answers : Bounds → ℕ → F → Option ℕ
     (answer : Option Answer) (octets : List ℕ) (fate fate_after : F) (stage stage_after : Stage) : Type 0 where
   pub join : Join
   pub there : slice_get stage.net.directory.joins lane.link ≡ Some join
-  pub is_end : at ≡ end_of lane.direction join
+  pub is_end : at ≡ direction_end lane.direction join
   pub draws : List Draw
   pub drawn : Draws answers fate draws fate_after
   pub delivers : Delivers lane.link lane.direction octets (world_of stage) draws answer (world_of stage_after)

@@ -17,29 +17,29 @@ pub record DirectoryState : Type 0 where
   pub joins : List Join
 
 -- the systems and links of a network
-abbrev pub clocks_of : List Member → List ℕ
-clocks_of = map (λ (m : Member). clock_of m.identity)
+abbrev pub directory_clocks : List Member → List ℕ
+directory_clocks = map (λ (m : Member). clock_of m.identity)
 
 abbrev pub joins_of : List Wire → List Join
 joins_of = map (λ (w : Wire). record { a = w.a; b = w.b })
 
 -- where a direction of a link begins, and where it ends
-abbrev pub start_of : Direction → Join → PortId
-start_of FromA join = join.a
-start_of FromB join = join.b
+abbrev pub direction_start : Direction → Join → PortId
+direction_start FromA join = join.a
+direction_start FromB join = join.b
 
-abbrev pub end_of : Direction → Join → PortId
-end_of FromA join = join.b
-end_of FromB join = join.a
+abbrev pub direction_end : Direction → Join → PortId
+direction_end FromA join = join.b
+direction_end FromB join = join.a
 
 -- the lane begins at this port
 pub record BeginsAt (joins : List Join) (port : PortId) (lane : Lane) : Type 0 where
   pub join : Join
   pub there : slice_get joins lane.link ≡ Some join
-  pub begins : start_of lane.direction join ≡ port
+  pub begins : direction_start lane.direction join ≡ port
 
 -- the port is one of a system that stands at some place; ports are numbered from 1 to 16
-pub record IsPlaced (clocks : List ℕ) (port : PortId) : Type 0 where
+pub record PortIsPlaced (clocks : List ℕ) (port : PortId) : Type 0 where
   pub place : ℕ
   pub there : slice_get clocks place ≡ Some port.clock
   pub first : 1 ≤ port.port
@@ -50,8 +50,8 @@ pub record IsPlan (clocks : List ℕ) (joins : List Join) : Type 0 where
   pub few_systems : length clocks ≤ 512
   pub few_links : length joins ≤ 2048
   pub differ : (i j clock : ℕ) → slice_get clocks i ≡ Some clock → slice_get clocks j ≡ Some clock → i ≡ j
-  pub placed_a : (i : ℕ) (join : Join) → slice_get joins i ≡ Some join → IsPlaced clocks join.a
-  pub placed_b : (i : ℕ) (join : Join) → slice_get joins i ≡ Some join → IsPlaced clocks join.b
+  pub placed_a : (i : ℕ) (join : Join) → slice_get joins i ≡ Some join → PortIsPlaced clocks join.a
+  pub placed_b : (i : ℕ) (join : Join) → slice_get joins i ≡ Some join → PortIsPlaced clocks join.b
   pub apart : (i : ℕ) (join : Join) → slice_get joins i ≡ Some join → join.a.clock ≢ join.b.clock
   pub one_lane : (port : PortId) (k l : Lane) → BeginsAt joins port k → BeginsAt joins port l → k ≡ l
 
@@ -67,13 +67,13 @@ pub record AreRising (clocks rising : List ℕ) : Type 0 where
   pub order : IsNonDecreasing rising
 
 -- these are the places of the systems with these clocks
-abbrev pub ArePlaces : List ℕ → List ℕ → List ℕ → Type 0
-ArePlaces clocks numbers places = map (slice_get clocks) places ≡ map Some numbers
+abbrev pub ArePlacesOfClocks : List ℕ → List ℕ → List ℕ → Type 0
+ArePlacesOfClocks clocks numbers places = map (slice_get clocks) places ≡ map Some numbers
 
 -- the places of the systems at both ends of each link
-pub record AreEnds (clocks : List ℕ) (joins : List Join) (ends : List Ends) : Type 0 where
-  pub a : ArePlaces clocks (map (λ (join : Join). join.a.clock) joins) (map (λ (e : Ends). e.a) ends)
-  pub b : ArePlaces clocks (map (λ (join : Join). join.b.clock) joins) (map (λ (e : Ends). e.b) ends)
+pub record AreEndPlaces (clocks : List ℕ) (joins : List Join) (ends : List Ends) : Type 0 where
+  pub a : ArePlacesOfClocks clocks (map (λ (join : Join). join.a.clock) joins) (map (λ (e : Ends). e.a) ends)
+  pub b : ArePlacesOfClocks clocks (map (λ (join : Join). join.b.clock) joins) (map (λ (e : Ends). e.b) ends)
 
 -- both ends of a link are systems with these clocks
 pub record AreNamed (clocks : List ℕ) (join : Join) : Type 0 where
@@ -99,19 +99,19 @@ pub record AreOuts (k : ℕ) (clocks : List ℕ) (joins : List Join) (outs : Lis
   pub each : (place port clock : ℕ) → slice_get clocks place ≡ Some clock → port ≤ 16
       → IsOut k joins (record { clock = clock; port = port }) (slice_index_or outs (17 * place + port) None)
 
--- the table once both lanes of a link are entered
-abbrev pub entered : ℕ → Join → Ends → List (Option Lane) → List (Option Lane)
-entered link join ends outs =
+-- the table once both lanes of a link are lanes_entered
+abbrev pub lanes_entered : ℕ → Join → Ends → List (Option Lane) → List (Option Lane)
+lanes_entered link join ends outs =
     slice_set
     (slice_set outs (17 * ends.a + join.a.port) (Some (record { link = link; direction = FromA })))
     (17 * ends.b + join.b.port)
     (Some (record { link = link; direction = FromB }))
 
 -- all tables
-pub record AreTables (d : DirectoryState) (rising places : List ℕ) (outs : List (Option Lane))
+pub record AreDirectoryTables (d : DirectoryState) (rising places : List ℕ) (outs : List (Option Lane))
     (ends : List Ends) : Type 0 where
   pub directory : IsDirectory d
   pub order : AreRising d.clocks rising
-  pub ranked : ArePlaces d.clocks rising places
-  pub at_ends : AreEnds d.clocks d.joins ends
+  pub ranked : ArePlacesOfClocks d.clocks rising places
+  pub at_ends : AreEndPlaces d.clocks d.joins ends
   pub lanes : AreOuts (2 * length d.joins) d.clocks d.joins outs

@@ -9,7 +9,7 @@ use Rattle.gptp_world.specs.declared.cable.Lane.{Lane}
 use Rattle.gptp_world.specs.declared.net.Net.{Net as Between}
 use Rattle.gptp_world.specs.Cable.{join_of, net_of, SentOne}
 use Rattle.gptp_world.specs.Directory.{BeginsAt}
-use Rattle.gptp_acts.specs.Sends.{IsUnlinked}
+use Rattle.gptp_acts.specs.Sends.{IsUnlinkedPort}
 use Rattle.gptp_acts.specs.World.{Net}
 
 -- the links and what is pending
@@ -61,7 +61,7 @@ pub record IsOldest (lane : Lane) (octets : List ℕ) (net : Between) : Type 0 w
 
 -- One send: it went onto a link that is up, or there is none.
 pub record Unlinked {F : Type 0} (from : PortId) (fate fate_after : F) (net net_after : Net) : Type 0 where
-  pub unlinked : IsUnlinked net from
+  pub unlinked : IsUnlinkedPort net from
   pub fate_is : fate_after ≡ fate
   pub net_is : net_after ≡ net
 

@@ -4,7 +4,7 @@ use Rattle.gptp_links.specs.declared.bounds.Bounds.{Bounds}
 use Rattle.gptp_links.specs.Bounds.{Fit}
 use Rattle.gptp_links.specs.Fate.{Draw, Draws}
 use Rattle.gptp_setup.specs.declared.timer.Timer.{Timer}
-use Rattle.gptp_system.specs.Input.{Expires as TimerExpires, Priority}
+use Rattle.gptp_system.specs.Input.{TimerRunsOut as TimerExpires, Priority}
 use Rattle.gptp_world.specs.declared.aim.Aim.{Aim}
 use Rattle.gptp_world.specs.declared.aim.Aim.TheVariants as aims
 use Rattle.gptp_world.specs.declared.cable.Lane.{Lane}
@@ -14,7 +14,7 @@ use Rattle.gptp_plan.specs.declared.change.Change.TheVariants as changes
 use Rattle.gptp_acts.specs.declared.done.Done.{Done}
 use Rattle.gptp_world.specs.declared.stage.Stage.{Stage}
 use Rattle.gptp_acts.specs.declared.station.Station.{Station}
-use Rattle.gptp_acts.specs.Act.{Expires}
+use Rattle.gptp_acts.specs.Act.{TimerRunsOut}
 use Rattle.gptp_acts.specs.Acts.{Acts}
 use Rattle.gptp_acts.specs.Changing.{with_bounds, with_setup, with_station, CallsIfLive, ComesUpIf, FailsIf, GoesDownIf, InjectsIf, RecoversIf}
 use Rattle.gptp_world.specs.Delivering.{HasRoomToHear}
@@ -58,23 +58,23 @@ OfLink link w So = (channel : Channel) → slice_get w.net.channels link ≡ Som
 abbrev pub OfSystem : ℕ → WorldState → (Station → Type 0) → Type 0
 OfSystem place w So = (station : Station) → slice_get w.stations place ≡ Some station → So station
 
-abbrev pub Turns : Aim → WorldState → List Draw → WorldState → Type 0
-Turns (aims.LinkDown link) w draws w' = OfLink link w (λ channel. GoesDownIf channel.up link channel w draws w')
-Turns (aims.LinkUp link) w draws w' = OfLink link w (λ channel. ComesUpIf channel.up link channel w draws w')
-Turns (aims.LinkSet link bounds) w draws w' = OfLink link w
+abbrev pub TurnsOver : Aim → WorldState → List Draw → WorldState → Type 0
+TurnsOver (aims.LinkDown link) w draws w' = OfLink link w (λ channel. GoesDownIf channel.up link channel w draws w')
+TurnsOver (aims.LinkUp link) w draws w' = OfLink link w (λ channel. ComesUpIf channel.up link channel w draws w')
+TurnsOver (aims.LinkSet link bounds) w draws w' = OfLink link w
     (λ channel. (draws ≡ []) × (w' ≡ record w { net = with_bounds bounds link channel w.net }))
-Turns (aims.Fail place) w draws w' = OfSystem place w (λ station. FailsIf station.live place station w draws w')
-Turns (aims.Recover place) w draws w' = OfSystem place w (λ station. RecoversIf station.live place w draws w')
-Turns (aims.Priority1 place value) w draws w' = OfSystem place w
+TurnsOver (aims.Fail place) w draws w' = OfSystem place w (λ station. FailsIf station.live place station w draws w')
+TurnsOver (aims.Recover place) w draws w' = OfSystem place w (λ station. RecoversIf station.live place w draws w')
+TurnsOver (aims.Priority1 place value) w draws w' = OfSystem place w
     (λ station. CallsIfLive place (Priority value) (with_station place (with_setup value station) w) draws w')
-Turns aim w draws w' = ⊥
+TurnsOver aim w draws w' = ⊥
 
 -- it was changed so: the fate drew once for each send that a link carries
 pub record Turned {F : Type 0} (answers : Bounds → ℕ → F → Option ℕ → F → Type 0) (aim : Aim) (fate fate_after : F)
     (stage stage_after : Stage) : Type 0 where
   pub draws : List Draw
   pub drawn : Draws answers fate draws fate_after
-  pub turns : Turns aim (world_of stage) draws (world_of stage_after)
+  pub turns : TurnsOver aim (world_of stage) draws (world_of stage_after)
 
 -- these octets were injected on a lane: where its link is up the fate drew once for them
 pub record Injected {F : Type 0} (answers : Bounds → ℕ → F → Option ℕ → F → Type 0) (lane : Lane) (octets : List ℕ)
@@ -94,12 +94,12 @@ pub record Expired {F : Type 0} (answers : Bounds → ℕ → F → Option ℕ �
     (place : ℕ) (timer : Timer) (fate fate_after : F) (stage stage_after : Stage) : Type 0 where
   pub draws : List Draw
   pub drawn : Draws answers fate draws fate_after
-  pub expires : Expires place timer (world_of stage) draws (world_of stage_after)
+  pub expires : TimerRunsOut place timer (world_of stage) draws (world_of stage_after)
 
 -- ---- an act
 
 -- the act was carried out, and this is told of it: the fate drew once for each send that a link carries
-pub record Acted {F : Type 0} (answers : Bounds → ℕ → F → Option ℕ → F → Type 0) (act : Act) (done : Done)
+pub record ActIsDone {F : Type 0} (answers : Bounds → ℕ → F → Option ℕ → F → Type 0) (act : Act) (done : Done)
     (fate fate_after : F) (stage stage_after : Stage) : Type 0 where
   pub draws : List Draw
   pub drawn : Draws answers fate draws fate_after

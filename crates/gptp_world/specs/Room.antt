@@ -4,7 +4,7 @@ use Rattle.gptp_links.specs.declared.link.Direction.{Direction}
 use Rattle.gptp_system.specs.declared.reach.Reach.{Reach}
 use Rattle.gptp_system.specs.declared.reach.Reach.TheVariants as reaches
 use Rattle.gptp_system.specs.declared.sending.Sending.{Sending}
-use Rattle.gptp_system.specs.Reach.{sends_at}
+use Rattle.gptp_system.specs.Reach.{count_sends_at}
 use Rattle.gptp_system.specs.State.{SystemState, clock}
 use Rattle.gptp_vector.specs.declared.port.PortId.{PortId}
 use Rattle.gptp_world.specs.declared.cable.Cable.{Cable}
@@ -23,8 +23,8 @@ pub record Need : Type 0 where
   pub buffers : ℕ
   pub frames : PortId → ℕ
 
-abbrev pub nothing : Need
-nothing = record {
+abbrev pub no_room : Need
+no_room = record {
   entries = 0;
   buffers = 0;
   frames = λ port. 0;
@@ -38,7 +38,7 @@ both first second = record {
 }
 
 abbrev pub repeated : ℕ → Need → Need
-repeated zero need = nothing
+repeated zero need = no_room
 repeated (suc count) need = both need (repeated count need)
 
 -- so many timers are set
@@ -51,7 +51,7 @@ for_timers count = record {
 
 -- how many a system with this clock sends of these from a port
 abbrev pub sends_from : ℕ → List Sending → PortId → ℕ
-sends_from clock xs port = if port.clock == clock then sends_at port.port xs else 0
+sends_from clock xs port = if port.clock == clock then count_sends_at port.port xs else 0
 
 -- these sends go
 abbrev pub for_sends : ℕ → List Sending → Need
@@ -81,7 +81,7 @@ for_call s = for_reach reaches.All s
 
 -- ---- room
 
-pub record HasRoom (need : Need) (net : Between) : Type 0 where
+pub record WorldHasRoom (need : Need) (net : Between) : Type 0 where
   pub entries : need.entries ≤ net.pending.room
   pub buffers : need.buffers ≤ net.buffers.ready
   pub lanes : (port : PortId) (lane : Lane) → BeginsAt net.directory.joins port lane
@@ -91,7 +91,7 @@ pub record HasRoom (need : Need) (net : Between) : Type 0 where
 pub record Uses (need : Need) (net net' : Between) : Type 0 where
   pub directory : net'.directory ≡ net.directory
   pub systems : net'.pending.systems ≡ net.pending.systems
-  pub left : (more : Need) → HasRoom (both need more) net → HasRoom more net'
+  pub left : (more : Need) → WorldHasRoom (both need more) net → WorldHasRoom more net'
 
 -- where there was room on a link for so many more frames, there still is
 abbrev pub KeepsRoomOn : List Cable → List Cable → Type 0
@@ -103,7 +103,7 @@ pub record HasRoomToInject (lane : Lane) (net : Between) : Type 0 where
   pub buffer : 1 ≤ net.buffers.ready
   pub frame : HasRoomOn 1 lane net.cables.items
 
--- nothing changes but the room that there is, and there is no less of it
+-- no_room changes but the room that there is, and there is no less of it
 pub record OnlyRoom (net net' : Between) : Type 0 where
   pub same : between net' ≡ between net
   pub directory : net'.directory ≡ net.directory

@@ -10,7 +10,7 @@ use Rattle.gptp_setup.specs.declared.timer.Timer.{Timer}
 use Rattle.gptp_system.specs.Input.{Input, IsTimely, Steps}
 use Rattle.gptp_system.specs.Reach.{reach}
 use Rattle.gptp_system.specs.State.{SystemState, clock}
-use Rattle.gptp_system.specs.Steps.{IsPortOf, IsTimerOf}
+use Rattle.gptp_system.specs.Steps.{HasPortNumber, IsTimerOf}
 use Rattle.gptp_world.specs.declared.cable.Lane.{Lane}
 use Rattle.gptp_acts.specs.declared.item.Item.{Item}
 use Rattle.gptp_acts.specs.declared.item.Item.TheVariants.{Expiry, Arrival}
@@ -21,7 +21,7 @@ use Rattle.gptp_acts.specs.Act.{in_state, Calls}
 use Rattle.gptp_world.specs.Directory.{BeginsAt}
 use Rattle.gptp_world.specs.Net.{between, IsNet}
 use Rattle.gptp_acts.specs.World.{port_id}
-use Rattle.gptp_world.specs.Room.{both, for_call, for_reach, for_sends, for_timers, HasRoom, Need, Uses}
+use Rattle.gptp_world.specs.Room.{both, for_call, for_reach, for_sends, for_timers, WorldHasRoom, Need, Uses}
 use Rattle.gptp_acts.specs.World.{WorldState}
 
 -- the state of the world
@@ -33,14 +33,14 @@ world_of stage = record {
   net = between stage.net;
 }
 
-abbrev pub clock_at : Station → ℕ
-clock_at station = clock station.system
+abbrev pub clock_at_place : Station → ℕ
+clock_at_place station = clock station.system
 
 -- The directory knows the systems and the links, and what is pending has a place for each. A link joins ports that
 -- systems have. The outbox is empty.
 pub record IsStage (stage : Stage) : Type 0 where
   pub net : IsNet stage.net
-  pub clocks : map clock_at stage.stations.items ≡ stage.net.directory.clocks
+  pub clocks : map clock_at_place stage.stations.items ≡ stage.net.directory.clocks
   pub systems : length stage.stations.items ≤ stage.net.pending.systems
   pub few : (place : ℕ) (station : Station) → slice_get stage.stations.items place ≡ Some station
       → length station.system.ports ≤ 16
@@ -72,7 +72,7 @@ pub record HasTimerAt (place : ℕ) (timer : Timer) (stage : Stage) : Type 0 whe
 pub record HasRoomWithin (r : Reach) (place : ℕ) (stage : Stage) : Type 0 where
   pub station : Station
   pub here : slice_get stage.stations.items place ≡ Some station
-  pub room : HasRoom (for_reach r station.system) stage.net
+  pub room : WorldHasRoom (for_reach r station.system) stage.net
 
 -- whatever it is given
 abbrev pub HasRoomToCall : ℕ → Stage → Type 0
@@ -89,13 +89,13 @@ pub record HasRoomToCallBoth (first second : ℕ) (stage : Stage) : Type 0 where
   pub station_b : Station
   pub here_a : slice_get stage.stations.items first ≡ Some station_a
   pub here_b : slice_get stage.stations.items second ≡ Some station_b
-  pub room : HasRoom (both (for_call station_a.system) (for_call station_b.system)) stage.net
+  pub room : WorldHasRoom (both (for_call station_a.system) (for_call station_b.system)) stage.net
 
 -- a port of the system at a place
 pub record IsPortAt (place port : ℕ) (stage : Stage) : Type 0 where
   pub station : Station
   pub here : slice_get stage.stations.items place ≡ Some station
-  pub port_of : IsPortOf station.system port
+  pub port_of : HasPortNumber station.system port
 
 -- the system at a place can be given this input now
 abbrev pub IsTimelyAt : Input → ℕ → Stage → Type 0
@@ -123,11 +123,11 @@ pub record CarriesOut (place : ℕ) (stage : Stage) : Type 0 where
   pub station : Station
   pub here : slice_get stage.stations.items place ≡ Some station
   pub net : IsNet stage.net
-  pub clocks : map clock_at stage.stations.items ≡ stage.net.directory.clocks
+  pub clocks : map clock_at_place stage.stations.items ≡ stage.net.directory.clocks
   pub systems : length stage.stations.items ≤ stage.net.pending.systems
   pub moment : stage.now ≤ 10 ^ 15
   pub few : length station.system.ports ≤ 16
-  pub room : HasRoom (for_left station.system stage.outbox.items) stage.net
+  pub room : WorldHasRoom (for_left station.system stage.outbox.items) stage.net
 
 -- a call uses no more room than a call can
 abbrev pub CallUses : ℕ → Stage → Between → Type 0

@@ -11,14 +11,14 @@ use Rattle.gptp_acts.specs.declared.station.Station.{Station}
 use Rattle.gptp_acts.specs.Act.{all_timers}
 use Rattle.gptp_acts.specs.Changing.{is_up_at, with_setup, with_station, CallsAll, CallsIfLive, Starts}
 use Rattle.gptp_world.specs.Net.{between, OnlyEntries}
-use Rattle.gptp_world.specs.Room.{both, for_call, for_timers, repeated, HasRoom, Need}
+use Rattle.gptp_world.specs.Room.{both, for_call, for_timers, repeated, WorldHasRoom, Need}
 use Rattle.gptp_acts.specs.Sound.{IsItsSetup}
 use Rattle.gptp_world.specs.Stage.{world_of}
 
 -- ---- one stands for the system at a place
 
 -- it stands there now, and nothing else has changed
-pub record Replaces (place : ℕ) (new : Station) (stage stage_after : Stage) : Type 0 where
+pub record StandsReplaced (place : ℕ) (new : Station) (stage stage_after : Stage) : Type 0 where
   pub stations : stage_after.stations.items ≡ slice_set stage.stations.items place new
   pub net : stage_after.net ≡ stage.net
   pub now : stage_after.now ≡ stage.now
@@ -88,7 +88,7 @@ pub record CameUp {F : Type 0} (answers : Bounds → ℕ → F → Option ℕ �
 pub record HasRoomForPorts (place : ℕ) (stage : Stage) : Type 0 where
   pub station : Station
   pub here : slice_get stage.stations.items place ≡ Some station
-  pub room : HasRoom (repeated (length station.system.ports) (for_call station.system)) stage.net
+  pub room : WorldHasRoom (repeated (length station.system.ports) (for_call station.system)) stage.net
 
 -- a start: all timers are set, and then each port may come up
 abbrev pub for_start : SystemState → Need
@@ -98,7 +98,7 @@ for_start s = both (for_all_timers s) (repeated (length s.ports) (for_call s))
 pub record HasRoomToStart (place : ℕ) (stage : Stage) : Type 0 where
   pub station : Station
   pub here : slice_get stage.stations.items place ≡ Some station
-  pub room : HasRoom (for_start station.system) stage.net
+  pub room : WorldHasRoom (for_start station.system) stage.net
 
 -- the system at a place has started
 pub record Started {F : Type 0} (answers : Bounds → ℕ → F → Option ℕ → F → Type 0) (place : ℕ) (fate fate_after : F)

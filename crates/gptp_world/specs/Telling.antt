@@ -41,7 +41,7 @@ link_input true p = PortUp p
 link_input false p = PortDown p
 
 -- A live system was given an input, and what its call left was carried out; one that has failed was not.
-pub record Told {F : Type 0} (answers : Bounds → ℕ → F → Option ℕ → F → Type 0) (place : ℕ) (input : Input)
+pub record WasTold {F : Type 0} (answers : Bounds → ℕ → F → Option ℕ → F → Type 0) (place : ℕ) (input : Input)
     (fate fate_after : F) (stage stage_after : Stage) : Type 0 where
   pub draws : List Draw
   pub drawn : Draws answers fate draws fate_after

@@ -9,7 +9,7 @@ use Rattle.gptp_system.specs.Touched.{holds, is_always_touched, IsTouchedOf}
 use Rattle.gptp_acts.specs.declared.item.Item.TheVariants.{Expiry}
 use Rattle.gptp_world.specs.declared.stage.Stage.{Stage}
 use Rattle.gptp_acts.specs.declared.station.Station.{Station}
-use Rattle.gptp_acts.specs.Pending.{Entry, listed, times}
+use Rattle.gptp_acts.specs.Pending.{Entry, timer_time, times_of_item}
 use Rattle.gptp_acts.specs.World.{station_due}
 
 -- those that selection can change, of ports the first of which has this number: in the order in which they are put
@@ -22,7 +22,7 @@ selected_from p (q ∷ qs) = timers.Announce p ∷ timers.Age p ∷ selected_fro
 -- each timer of a station is pending when it is due, those aside that may be otherwise
 abbrev pub AreSetBut : (Timer → Bool) → ℕ → Station → List Entry → Type 0
 AreSetBut otherwise place station es =
-    (timer : Timer) → otherwise timer ≡ false → times (Expiry place timer) es ≡ listed (station_due timer station)
+    (timer : Timer) → otherwise timer ≡ false → times_of_item (Expiry place timer) es ≡ timer_time (station_due timer station)
 
 -- so is each of the system at a place
 abbrev pub AreSetAt : (Timer → Bool) → ℕ → Stage → Type 0

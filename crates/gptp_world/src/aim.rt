@@ -40,7 +40,7 @@ impl Stage {
     ghost use Rattle.gptp_acts.specs.declared.station.Station.{Station};
     ghost use Rattle.gptp_acts.specs.World.{Channel};
     ghost use Rattle.gptp_acts.specs.Acts.{set_to, AtLink, AnyLink, AtSystem, AnySystem, IsThere, IsThereToChange};
-    ghost use Rattle.gptp_world.specs.Aim.{IsAimOf, IsAimOfChange, IsLaneAt, IsLinkAt, IsSystemAt};
+    ghost use Rattle.gptp_world.specs.Aim.{IsAimOf, IsAimOfChange, IsLaneAt, IsLinkAt, PlaceHasClock};
     ghost use Rattle.gptp_acts.specs.World.{port_id};
     ghost use Rattle.gptp_world.specs.Stage.{world_of, IsStage};
 
@@ -78,7 +78,7 @@ impl Stage {
     /// The place of the system with a clock, if there is one.
     fn system_at(&self, clock: ClockId) -> Option<usize>
         requires { IsStage self.now }
-        ensures some { IfSome result (IsSystemAt clock (world_of self.entry.now)) }
+        ensures some { IfSome result (PlaceHasClock clock (world_of self.entry.now)) }
         ensures none { IfNone result (AtSystem clock (world_of self.entry.now) AnySystem → ⊥) }
     {
         match self.net.directory.place_of(clock) {

@@ -1,7 +1,7 @@
 //! Frames that arrive.
 
 ghost use Rattle.std.specs.Prelude.{◌≡◌, ◌≤◌};
-ghost use Rattle.gptp_links.specs.Queue.{IsDue, IsTaken};
+ghost use Rattle.gptp_links.specs.Queue.{FrameIsDue, IsTaken};
 ghost use Rattle.gptp_links.specs.State.{queue, ChangesOnly, KeepsRoom};
 
 use crate::cable::{Cable, Lane};
@@ -10,7 +10,7 @@ use gptp_links::Direction;
 
 /// The oldest frame of a link in a direction, which is due.
 fn deliver_on(cable: &mut Cable, direction: Direction, now: u64) -> Vec<u8>
-    requires due { IsDue (queue direction cable.old.link).frames now }
+    requires due { FrameIsDue (queue direction cable.old.link).frames now }
     ensures a { cable.new.a ≡ cable.old.a }
     ensures b { cable.new.b ≡ cable.old.b }
     ensures taken { IsTaken (queue direction cable.old.link).frames result.items (queue direction cable.new.link).frames }
@@ -24,9 +24,9 @@ impl Net {
     ghost use Rattle.std.specs.Prelude.{◌≡◌, ◌≤◌, ℕ, Some, slice_get};
     ghost use Rattle.gptp_world.specs.declared.cable.Cable.{Cable};
     ghost use Rattle.gptp_world.specs.declared.cable.Lane.{Lane};
-    ghost use Rattle.gptp_acts.specs.Act.{Takes};
+    ghost use Rattle.gptp_acts.specs.Act.{TakesFrame};
     ghost use Rattle.gptp_world.specs.Cable.{channel_of};
-    ghost use Rattle.gptp_world.specs.Room.{nothing, Uses};
+    ghost use Rattle.gptp_world.specs.Room.{no_room, Uses};
     ghost use Rattle.gptp_world.specs.Net.{between, IsNet, IsFrameDue};
 
     /// The oldest frame of a lane, which is due now, leaves its link, and is no longer pending.
@@ -35,8 +35,8 @@ impl Net {
         requires due { IsFrameDue lane now self.old }
         ensures net { IsNet self.new }
         ensures takes { (cable : Cable) → slice_get self.old.cables.items lane.link ≡ Some cable
-            → Takes lane.link lane.direction now result.items (channel_of cable) (between self.old) (between self.new) }
-        ensures uses { Uses nothing self.old self.new }
+            → TakesFrame lane.link lane.direction now result.items (channel_of cable) (between self.old) (between self.new) }
+        ensures uses { Uses no_room self.old self.new }
     {
         let octets = deliver_on(&mut self.cables[lane.link], lane.direction, now);
         self.pending.take_arrival(lane.link, lane.direction);

@@ -3,7 +3,7 @@
 ghost use Rattle.std.specs.Prelude.{◌≡◌, ◌+◌, ◌^◌, ◌<◌, ◌≤◌, [], ◌∷◌, ◌++◌};
 ghost use Rattle.std.specs.Option.{option_map};
 ghost use Rattle.slab.specs.Slab.{get, slab_len, HasRoomFor, Updates};
-ghost use Rattle.gptp_world.specs.Chain.{head_of, no_chain, numbers_in, rest_of, with_last, with_next, ChangesOne, IsChained, Joins, SameRoom};
+ghost use Rattle.gptp_world.specs.Chain.{chain_head, no_chain, chain_numbers, rest_of, with_last, with_next, ChangesOne, IsChained, JoinsNumber, SameNodeRoom};
 
 use slab::Slab;
 
@@ -18,7 +18,7 @@ pub(crate) struct Node {
 /// Makes a number lead to another.
 fn set_next(nodes: &mut Slab<Node>, place: usize, next: usize)
     ensures updates { Updates nodes.old nodes.new place (option_map (with_next next) (get nodes.old place)) }
-    ensures room { SameRoom nodes.old nodes.new }
+    ensures room { SameNodeRoom nodes.old nodes.new }
 {
     if let Some(node) = nodes.get_mut(place) {
         node.next = next;
@@ -59,7 +59,7 @@ impl Chain {
         requires chained { IsChained (get nodes.old) self.old }
         requires few { self.old.count ≤ slab_len nodes.old }
         requires room { HasRoomFor nodes.old 1 }
-        ensures numbers { numbers_in (get nodes.new) self.new ≡ numbers_in (get nodes.old) self.old ++ number ∷ [] }
+        ensures numbers { chain_numbers (get nodes.new) self.new ≡ chain_numbers (get nodes.old) self.old ++ number ∷ [] }
         ensures others { ChangesOne (get nodes.old) (get nodes.new) self.old self.new }
         ensures count { self.new.count ≡ self.old.count + 1 }
         ensures len { slab_len nodes.new ≡ slab_len nodes.old + 1 }
@@ -73,8 +73,8 @@ impl Chain {
 
     /// Makes the last number, if there is one, lead to another.
     fn join(&self, nodes: &mut Slab<Node>, place: usize)
-        ensures joined { Joins (get nodes.old) (get nodes.new) self.now place }
-        ensures room { SameRoom nodes.old nodes.new }
+        ensures joined { JoinsNumber (get nodes.old) (get nodes.new) self.now place }
+        ensures room { SameNodeRoom nodes.old nodes.new }
     {
         if self.count > 0 {
             set_next(nodes, self.tail, place);
@@ -96,8 +96,8 @@ impl Chain {
     /// Takes the first number out.
     pub(crate) fn pop(&mut self, nodes: &mut Slab<Node>) -> Option<u64>
         requires chained { IsChained (get nodes.old) self.old }
-        ensures number { result ≡ head_of (numbers_in (get nodes.old) self.old) }
-        ensures rest { numbers_in (get nodes.new) self.new ≡ rest_of (numbers_in (get nodes.old) self.old) }
+        ensures number { result ≡ chain_head (chain_numbers (get nodes.old) self.old) }
+        ensures rest { chain_numbers (get nodes.new) self.new ≡ rest_of (chain_numbers (get nodes.old) self.old) }
         ensures others { ChangesOne (get nodes.old) (get nodes.new) self.old self.new }
         ensures len { slab_len nodes.new + self.old.count ≡ slab_len nodes.old + self.new.count }
         ensures fewer { slab_len nodes.new ≤ slab_len nodes.old }
@@ -113,7 +113,7 @@ impl Chain {
     fn take(&mut self, nodes: &mut Slab<Node>) -> u64
         requires chained { IsChained (get nodes.old) self.old }
         requires some { 0 < self.old.count }
-        ensures taken { numbers_in (get nodes.old) self.old ≡ result ∷ numbers_in (get nodes.new) self.new }
+        ensures taken { chain_numbers (get nodes.old) self.old ≡ result ∷ chain_numbers (get nodes.new) self.new }
         ensures others { ChangesOne (get nodes.old) (get nodes.new) self.old self.new }
         ensures count { self.new.count + 1 ≡ self.old.count }
         ensures len { slab_len nodes.new + 1 ≡ slab_len nodes.old }

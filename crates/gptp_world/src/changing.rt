@@ -10,14 +10,14 @@ impl Net {
     ghost use Rattle.gptp_world.specs.Cable.{channel_of};
     ghost use Rattle.gptp_acts.specs.Changing.{taken_down, brought_up, with_bounds};
     ghost use Rattle.gptp_world.specs.Net.{between, IsNet};
-    ghost use Rattle.gptp_world.specs.Room.{nothing, Uses};
+    ghost use Rattle.gptp_world.specs.Room.{no_room, Uses};
 
     /// The link at a place goes down. All that is in flight on it is lost, and isn't pending any more.
     pub(crate) fn take_down(&mut self, link: usize)
         requires net { IsNet self.old }
         requires link { link < length self.old.cables.items }
         ensures net { IsNet self.new }
-        ensures uses { Uses nothing self.old self.new }
+        ensures uses { Uses no_room self.old self.new }
         ensures down { (cable : Cable) → slice_get self.old.cables.items link ≡ Some cable → between self.new ≡ taken_down link (channel_of cable) (between self.old) }
     {
         self.cables[link].link.down();
@@ -29,7 +29,7 @@ impl Net {
         requires net { IsNet self.old }
         requires link { link < length self.old.cables.items }
         ensures net { IsNet self.new }
-        ensures uses { Uses nothing self.old self.new }
+        ensures uses { Uses no_room self.old self.new }
         ensures up { (cable : Cable) → slice_get self.old.cables.items link ≡ Some cable → between self.new ≡ brought_up link (channel_of cable) (between self.old) }
     {
         self.cables[link].link.up();
@@ -41,7 +41,7 @@ impl Net {
         requires link { link < length self.old.cables.items }
         requires fit { Fit bounds }
         ensures net { IsNet self.new }
-        ensures uses { Uses nothing self.old self.new }
+        ensures uses { Uses no_room self.old self.new }
         ensures bounds { (cable : Cable) → slice_get self.old.cables.items link ≡ Some cable → between self.new ≡ with_bounds bounds link (channel_of cable) (between self.old) }
     {
         self.cables[link].link.set(bounds);

@@ -3,7 +3,7 @@
 ghost use Rattle.std.specs.Prelude.{◌≡◌, ℕ, ◌+◌, ◌*◌, ◌<◌, ◌≤◌, None, Some, IfOk, IfSome, IsSome, Contains, length, slice_get};
 ghost use Rattle.std.specs.List.{All};
 ghost use Rattle.std.specs.List.Sorted.{IsNonDecreasing};
-ghost use Rattle.gptp_world.specs.Directory.{clocks_of, joins_of, end_of, entered, BeginsAt, IsPlan, IsDirectory, AreRising, ArePlaces, AreEnds, AreOuts, AreNamed};
+ghost use Rattle.gptp_world.specs.Directory.{directory_clocks, joins_of, direction_end, lanes_entered, BeginsAt, IsPlan, IsDirectory, AreRising, ArePlacesOfClocks, AreEndPlaces, AreOuts, AreNamed};
 ghost use Rattle.gptp_acts.specs.Views.{rising};
 
 use crate::cable::Lane;
@@ -53,17 +53,17 @@ impl Model for Directory {
 
     ghost Value = { DirectoryState };
 
-    ghost use Rattle.gptp_world.specs.Directory.{AreTables};
+    ghost use Rattle.gptp_world.specs.Directory.{AreDirectoryTables};
 
     ghost view = { λ d. record { clocks = d.clocks.items; joins = d.joins.items } };
 
-    ghost invariant = { λ d. AreTables (record { clocks = d.clocks.items; joins = d.joins.items }) d.rising.items d.ranked.items d.outs.items d.ends.items };
+    ghost invariant = { λ d. AreDirectoryTables (record { clocks = d.clocks.items; joins = d.joins.items }) d.rising.items d.ranked.items d.outs.items d.ends.items };
 }
 
 impl Directory {
     /// Where the systems and links of a network are. Refused for want of memory alone.
     pub(crate) fn new(alloc: Global, network: &Network) -> Result<Self, AllocError>
-        ensures clocks { IfOk result (λ d. d.clocks ≡ clocks_of network.now.systems) }
+        ensures clocks { IfOk result (λ d. d.clocks ≡ directory_clocks network.now.systems) }
         ensures joins { IfOk result (λ d. d.joins ≡ joins_of network.now.links) }
     {
         network.well_formed();
@@ -144,7 +144,7 @@ impl Directory {
     /// The place of the system at which a lane ends. The lane is of a link that is there.
     pub(crate) fn receiver(&self, lane: Lane) -> usize
         requires { lane.link < length self.now.joins }
-        ensures { (join : Join) → slice_get self.now.joins lane.link ≡ Some join → slice_get self.now.clocks result ≡ Some (end_of lane.direction join).clock }
+        ensures { (join : Join) → slice_get self.now.joins lane.link ≡ Some join → slice_get self.now.clocks result ≡ Some (direction_end lane.direction join).clock }
     {
         let ends = self.ends[lane.link];
         match lane.direction {
@@ -156,7 +156,7 @@ impl Directory {
     /// The port at which a lane ends. The lane is of a link that is there.
     pub(crate) fn port_at(&self, lane: Lane) -> PortId
         requires { lane.link < length self.now.joins }
-        ensures { (join : Join) → slice_get self.now.joins lane.link ≡ Some join → result ≡ end_of lane.direction join }
+        ensures { (join : Join) → slice_get self.now.joins lane.link ≡ Some join → result ≡ direction_end lane.direction join }
     {
         let join = self.joins[lane.link];
         match lane.direction {
@@ -168,7 +168,7 @@ impl Directory {
 
 /// The clock of each system of a network.
 fn list_clocks(alloc: Global, network: &Network) -> Result<Vec<ClockId>, AllocError>
-    ensures { IfOk result (λ v. v.items ≡ clocks_of network.now.systems) }
+    ensures { IfOk result (λ v. v.items ≡ directory_clocks network.now.systems) }
 {
     let mut clocks = Vec::new(alloc);
     for place in 0..network.systems() {
@@ -180,7 +180,7 @@ fn list_clocks(alloc: Global, network: &Network) -> Result<Vec<ClockId>, AllocEr
 /// The clock of the system at a place of a network.
 fn clock_in(network: &Network, place: usize) -> ClockId
     requires { place < length network.now.systems }
-    ensures { slice_get (clocks_of network.now.systems) place ≡ Some result }
+    ensures { slice_get (directory_clocks network.now.systems) place ≡ Some result }
 {
     let (identity, _, _, _, _) = network.system_at(place).unwrap();
     identity.clock()
@@ -237,7 +237,7 @@ fn places_of(
     numbers: &[ClockId],
 ) -> Result<Vec<usize>, AllocError>
     requires { All (Contains clocks.now) numbers.now }
-    ensures { IfOk result (λ v. ArePlaces clocks.now numbers.now v.items) }
+    ensures { IfOk result (λ v. ArePlacesOfClocks clocks.now numbers.now v.items) }
 {
     let mut places = Vec::new(alloc);
     for number in numbers {
@@ -258,7 +258,7 @@ fn rank_of(rising: &[ClockId], clock: ClockId) -> Option<usize>
 /// The places of the systems at the ends of each link.
 fn list_ends(alloc: Global, clocks: &[ClockId], joins: &[Join]) -> Result<Vec<Ends>, AllocError>
     requires { All (AreNamed clocks.now) joins.now }
-    ensures { IfOk result (λ v. AreEnds clocks.now joins.now v.items) }
+    ensures { IfOk result (λ v. AreEndPlaces clocks.now joins.now v.items) }
 {
     let mut ends = Vec::new(alloc);
     for join in joins {
@@ -287,7 +287,7 @@ fn list_outs(
     ends: &[Ends],
 ) -> Result<Vec<Option<Lane>>, AllocError>
     requires plan { IsPlan clocks.now joins.now }
-    requires ends { AreEnds clocks.now joins.now ends.now }
+    requires ends { AreEndPlaces clocks.now joins.now ends.now }
     ensures { IfOk result (λ v. AreOuts (2 * length joins.now) clocks.now joins.now v.items) }
 {
     let mut outs = vec![in alloc; None; PORT_SPAN * clocks.len()]?;
@@ -301,7 +301,7 @@ fn list_outs(
 fn enter(outs: &mut Vec<Option<Lane>>, link: usize, join: &Join, ends: &Ends)
     requires a { 17 * ends.now.a + join.now.a.port < length outs.old.items }
     requires b { 17 * ends.now.b + join.now.b.port < length outs.old.items }
-    ensures { outs.new.items ≡ entered link join.now ends.now outs.old.items }
+    ensures { outs.new.items ≡ lanes_entered link join.now ends.now outs.old.items }
 {
     outs[PORT_SPAN * ends.a + usize::from(join.a.port)] = Some(Lane {
         link,

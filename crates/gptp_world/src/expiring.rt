@@ -11,16 +11,16 @@ impl Net {
     ghost use Rattle.std.specs.Prelude.{◌≡◌};
     ghost use Rattle.gptp_acts.specs.declared.item.Item.TheVariants.{Expiry};
     ghost use Rattle.gptp_world.specs.Net.{between, IsNet};
-    ghost use Rattle.gptp_acts.specs.Pending.{without_first, IsKnown};
-    ghost use Rattle.gptp_world.specs.Room.{nothing, Uses};
+    ghost use Rattle.gptp_acts.specs.Pending.{without_first_entry, IsKnownItem};
+    ghost use Rattle.gptp_world.specs.Room.{no_room, Uses};
 
     /// A timer of the system at a place, which expires, is no longer pending.
     fn take_timer(&mut self, place: usize, timer: Timer)
         requires net { IsNet self.old }
-        requires known { IsKnown self.old.pending.systems self.old.pending.links (Expiry place timer) }
+        requires known { IsKnownItem self.old.pending.systems self.old.pending.links (Expiry place timer) }
         ensures net { IsNet self.new }
-        ensures uses { Uses nothing self.old self.new }
-        ensures taken { between self.new ≡ record (between self.old) { pending = without_first (Expiry place timer) (between self.old).pending } }
+        ensures uses { Uses no_room self.old self.new }
+        ensures taken { between self.new ≡ record (between self.old) { pending = without_first_entry (Expiry place timer) (between self.old).pending } }
     {
         self.pending.stop(place, timer);
     }

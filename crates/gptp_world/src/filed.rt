@@ -3,8 +3,8 @@
 ghost use Rattle.std.specs.Prelude.{◌≡◌, ℕ, ◌+◌, ◌-◌, ◌*◌, ◌<◌, ◌≤◌, [], ◌∷◌, ◌++◌, length, IsOk, IfOk, OnOk, None, slice_index_or, slice_set};
 ghost use Rattle.gptp_acts.specs.Item.{timer_kind, timer_port};
 ghost use Rattle.gptp_acts.specs.Pending.{arrival_place};
-ghost use Rattle.gptp_world.specs.Chain.{head_of, rest_of};
-ghost use Rattle.gptp_world.specs.Filed.{queue_at, timer_place, with_queue};
+ghost use Rattle.gptp_world.specs.Chain.{chain_head, rest_of};
+ghost use Rattle.gptp_world.specs.Filed.{queue_at, timer_place, filed_with_queue};
 
 use crate::chain::{Chain, Node};
 use gptp_links::Direction;
@@ -37,11 +37,11 @@ impl Model for Filed {
 
     ghost use Rattle.std.specs.Prelude.{◌-◌, map};
     ghost use Rattle.slab.specs.Slab.{get, slab_len};
-    ghost use Rattle.gptp_world.specs.Chain.{numbers_in, AreChained};
+    ghost use Rattle.gptp_world.specs.Chain.{chain_numbers, AreChained};
 
     ghost view = { λ f. record {
       timers = f.timers.items;
-      queues = map (numbers_in (get f.nodes)) f.queues.items;
+      queues = map (chain_numbers (get f.nodes)) f.queues.items;
       room = f.nodes.capacity - slab_len f.nodes;
     } };
 
@@ -95,7 +95,7 @@ impl Filed {
     pub fn push(&mut self, place: usize, number: u64)
         requires place { place < length self.old.queues }
         requires room { 0 < self.old.room }
-        ensures { self.new ≡ with_queue place (queue_at place self.old ++ number ∷ []) (self.old.room - 1) self.old }
+        ensures { self.new ≡ filed_with_queue place (queue_at place self.old ++ number ∷ []) (self.old.room - 1) self.old }
     {
         self.queues[place].push(&mut self.nodes, number);
     }
@@ -103,8 +103,8 @@ impl Filed {
     /// Takes the first number at a place out.
     pub fn pop(&mut self, place: usize) -> Option<u64>
         requires { place < length self.old.queues }
-        ensures number { result ≡ head_of (queue_at place self.old) }
-        ensures rest { self.new ≡ with_queue place (rest_of (queue_at place self.old)) self.new.room self.old }
+        ensures number { result ≡ chain_head (queue_at place self.old) }
+        ensures rest { self.new ≡ filed_with_queue place (rest_of (queue_at place self.old)) self.new.room self.old }
         ensures room { self.old.room ≤ self.new.room }
     {
         self.queues[place].pop(&mut self.nodes)

@@ -41,7 +41,7 @@ impl Stage {
 
 impl Net {
     ghost use Rattle.std.specs.Prelude.{◌≡◌, length, IfOk};
-    ghost use Rattle.gptp_world.specs.Directory.{clocks_of, joins_of};
+    ghost use Rattle.gptp_world.specs.Directory.{directory_clocks, joins_of};
     ghost use Rattle.gptp_acts.specs.Initial.{idle};
     ghost use Rattle.gptp_world.specs.Net.{between, IsNet};
 
@@ -49,7 +49,7 @@ impl Net {
     fn found(alloc: Global, network: &Network) -> Result<Self, AllocError>
         ensures net { IfOk result IsNet }
         ensures between { IfOk result (λ net. between net ≡ idle network.now) }
-        ensures clocks { IfOk result (λ net. net.directory.clocks ≡ clocks_of network.now.systems) }
+        ensures clocks { IfOk result (λ net. net.directory.clocks ≡ directory_clocks network.now.systems) }
         ensures joins { IfOk result (λ net. net.directory.joins ≡ joins_of network.now.links) }
         ensures systems { IfOk result (λ net. net.pending.systems ≡ length network.now.systems) }
     {

@@ -22,19 +22,19 @@ impl Net {
     ghost use Rattle.std.specs.Prelude.{◌≡◌, ℕ, ◌+◌, ◌*◌, ◌^◌, ◌<◌, ◌≤◌, List, [], ◌∷◌, length, Some, slice_get, IfSome, IfNone, true};
     ghost use Rattle.gptp_system.specs.State.{clock, own};
     ghost use Rattle.gptp_world.specs.declared.cable.Cable.{Cable};
-    ghost use Rattle.gptp_acts.specs.Sends.{written, IsUnlinked};
+    ghost use Rattle.gptp_acts.specs.Sends.{written, IsUnlinkedPort};
     ghost use Rattle.gptp_acts.specs.World.{sender};
     ghost use Rattle.gptp_world.specs.Cable.{channel_of, SentAll, SentOne};
     ghost use Rattle.gptp_world.specs.Net.{between, IsNet, IsUpLane, SentNext};
     ghost use Rattle.gptp_acts.specs.World.{port_id};
-    ghost use Rattle.gptp_world.specs.Room.{for_sends, HasRoom, HasRoomToInject, Uses};
+    ghost use Rattle.gptp_world.specs.Room.{for_sends, WorldHasRoom, HasRoomToInject, Uses};
 
     /// The lane that begins at a port of the system at a place, where that link is up.
     pub(crate) fn up_lane(&self, place: usize, port: u8) -> Option<Lane>
         requires net { IsNet self.now }
         requires place { place < length self.now.directory.clocks }
         ensures some { (clock : ℕ) → slice_get self.now.directory.clocks place ≡ Some clock → IfSome result (IsUpLane self.now (port_id clock port)) }
-        ensures none { (clock : ℕ) → slice_get self.now.directory.clocks place ≡ Some clock → IfNone result (IsUnlinked (between self.now) (port_id clock port)) }
+        ensures none { (clock : ℕ) → slice_get self.now.directory.clocks place ≡ Some clock → IfNone result (IsUnlinkedPort (between self.now) (port_id clock port)) }
     {
         let lane = self.directory.lane_from(place, port)?;
         match self.is_up(lane.link) {
@@ -87,7 +87,7 @@ impl Net {
         requires net { IsNet self.old }
         requires place { slice_get self.old.directory.clocks place ≡ Some (clock system.now) }
         requires early { now ≤ 10 ^ 15 }
-        requires room { HasRoom (for_sends (clock system.now) (send.now ∷ [])) self.old }
+        requires room { WorldHasRoom (for_sends (clock system.now) (send.now ∷ [])) self.old }
         ensures net { IsNet self.new }
         ensures uses { Uses (for_sends (clock system.now) (send.now ∷ [])) self.old self.new }
         ensures sent { SentNext F.answers now (own system.now send.now.port) (written system.now send.now) fate.old fate.new (between self.old) (between self.new) }
@@ -118,7 +118,7 @@ impl Net {
         requires net { IsNet self.old }
         requires place { slice_get self.old.directory.clocks place ≡ Some (clock system.now) }
         requires early { now ≤ 10 ^ 15 }
-        requires room { HasRoom (for_sends (clock system.now) sends.now) self.old }
+        requires room { WorldHasRoom (for_sends (clock system.now) sends.now) self.old }
         ensures net { IsNet self.new }
         ensures uses { Uses (for_sends (clock system.now) sends.now) self.old self.new }
         ensures sent { SentAll F.answers now system.now sends.now fate.old fate.new (between self.old) (between self.new) }

@@ -2,7 +2,7 @@
 
 ghost use Rattle.std.specs.Prelude.{◌≡◌, ◌≤◌, ◌++◌, ◌∷◌, [], length, vec_capacity};
 ghost use Rattle.gptp_messages.specs.Grammar.{PathHasRoom, Written};
-ghost use Rattle.gptp_acts.specs.Sends.{message_of, written};
+ghost use Rattle.gptp_acts.specs.Sends.{sent_message, written};
 ghost use Rattle.gptp_world.specs.Buffers.{room_for};
 
 use gptp_messages::{
@@ -26,7 +26,7 @@ fn write_announce(
     requires few { length path.now ≤ 255 }
     requires empty { out.old.items ≡ [] }
     requires room { 2_116 ≤ vec_capacity out.old }
-    ensures { out.new.items ≡ Written (message_of (path.now ++ last ∷ []) head.now (Body.Announce body.now)) }
+    ensures { out.new.items ≡ Written (sent_message (path.now ++ last ∷ []) head.now (Body.Announce body.now)) }
 {
     let _ = encode_announce_behind(head, body, path, last, out);
 }

@@ -3,10 +3,10 @@
 ghost use Rattle.std.specs.Prelude.{◌≡◌, ℕ, ◌+◌, ◌<◌, ◌≤◌, [], length, not, true, false, Option, IsOk, IfOk, OnOk, IfSome, IfNone, IsTrue};
 ghost use Rattle.std.specs.List.{AllByRecursion};
 ghost use Rattle.gptp_acts.specs.Item.{timer_port};
-ghost use Rattle.gptp_acts.specs.Pending.{listed, put, set_due, times, without, without_first, IsKnown, IsNext};
+ghost use Rattle.gptp_acts.specs.Pending.{timer_time, put, set_due, times_of_item, without, without_first_entry, IsKnownItem, IsNext};
 ghost use Rattle.gptp_acts.specs.declared.item.Item.TheVariants.{Expiry, Arrival};
 ghost use Rattle.gptp_links.specs.declared.link.Direction.TheVariants.{FromA, FromB};
-ghost use Rattle.gptp_scheduler.specs.Pending.{without as without_number};
+ghost use Rattle.gptp_scheduler.specs.Pending.{without_number};
 
 use crate::filed::{Filed, Running, arrival_place, timer_place};
 use gptp_acts::Item;
@@ -46,13 +46,13 @@ pub struct Pending {
 }
 
 impl Model for Pending {
-    ghost use Rattle.gptp_world.specs.Pending.{PendingState};
+    ghost use Rattle.gptp_world.specs.Pending.{PendingView};
 
-    ghost Value = { PendingState };
+    ghost Value = { PendingView };
 
     ghost use Rattle.std.specs.Prelude.{min};
     ghost use Rattle.gptp_acts.specs.Pending.{plain};
-    ghost use Rattle.gptp_world.specs.Filed.{AreFiled};
+    ghost use Rattle.gptp_world.specs.Filed.{PendingIsFiled};
 
     ghost view = { λ p. record {
       systems = p.systems;
@@ -61,7 +61,7 @@ impl Model for Pending {
       room = min p.agenda.room p.filed.room;
     } };
 
-    ghost invariant = { λ p. AreFiled p.systems p.links p.filed p.agenda.entries };
+    ghost invariant = { λ p. PendingIsFiled p.systems p.links p.filed p.agenda.entries };
 }
 
 impl Pending {
@@ -97,8 +97,8 @@ impl Pending {
 
     /// When a timer of a system is due, in ns, where it runs.
     pub fn due(&self, place: usize, timer: Timer) -> Option<u64>
-        requires { IsKnown self.now.systems self.now.links (Expiry place timer) }
-        ensures { times (Expiry place timer) self.now.entries ≡ listed result }
+        requires { IsKnownItem self.now.systems self.now.links (Expiry place timer) }
+        ensures { times_of_item (Expiry place timer) self.now.entries ≡ timer_time result }
     {
         let running = self.filed.timer(timer_place(place, timer))?;
         Some(running.due)
@@ -107,7 +107,7 @@ impl Pending {
     /// A timer of a system is to run out at this time, in ns, or doesn't run: where it is pending so, its entry stays;
     /// otherwise that is cancelled, and a new one put. Takes no memory.
     pub fn set_due(&mut self, place: usize, timer: Timer, due: Option<u64>)
-        requires known { IsKnown self.old.systems self.old.links (Expiry place timer) }
+        requires known { IsKnownItem self.old.systems self.old.links (Expiry place timer) }
         requires room { IfSome due (λ _. 0 < self.old.room) }
         ensures kept { self.new ≡ record self.old { entries = set_due (Expiry place timer) due self.old.entries; room = self.new.room } }
         ensures room { self.old.room ≤ self.new.room + 1 }
@@ -124,8 +124,8 @@ impl Pending {
 
     /// Puts a timer that doesn't run.
     fn start(&mut self, place: usize, timer: Timer, time: u64)
-        requires known { IsKnown self.old.systems self.old.links (Expiry place timer) }
-        requires stopped { times (Expiry place timer) self.old.entries ≡ [] }
+        requires known { IsKnownItem self.old.systems self.old.links (Expiry place timer) }
+        requires stopped { times_of_item (Expiry place timer) self.old.entries ≡ [] }
         requires room { 0 < self.old.room }
         ensures kept { self.new ≡ record self.old { entries = put time (Expiry place timer) self.old.entries; room = self.new.room } }
         ensures room { self.old.room ≤ self.new.room + 1 }
@@ -148,10 +148,10 @@ impl Pending {
 
     /// Cancels a timer, where it runs.
     pub fn stop(&mut self, place: usize, timer: Timer)
-        requires { IsKnown self.old.systems self.old.links (Expiry place timer) }
-        ensures kept { self.new ≡ record self.old { entries = without_first (Expiry place timer) self.old.entries; room = self.new.room } }
+        requires { IsKnownItem self.old.systems self.old.links (Expiry place timer) }
+        ensures kept { self.new ≡ record self.old { entries = without_first_entry (Expiry place timer) self.old.entries; room = self.new.room } }
         ensures room { self.old.room ≤ self.new.room }
-        ensures once { length (times (Expiry place timer) self.old.entries) ≤ 1 }
+        ensures once { length (times_of_item (Expiry place timer) self.old.entries) ≤ 1 }
     {
         self.agenda.numbers_rise();
         let filed = timer_place(place, timer);
@@ -187,9 +187,9 @@ impl Pending {
     /// Takes the first arrival over a link in a direction out, and answers whether there was one.
     pub fn take_arrival(&mut self, link: usize, direction: Direction) -> bool
         requires { link < self.old.links }
-        ensures kept { self.new ≡ record self.old { entries = without_first (Arrival link direction) self.old.entries; room = self.new.room } }
+        ensures kept { self.new ≡ record self.old { entries = without_first_entry (Arrival link direction) self.old.entries; room = self.new.room } }
         ensures room { self.old.room ≤ self.new.room }
-        ensures none { result ≡ false → times (Arrival link direction) self.old.entries ≡ [] }
+        ensures none { result ≡ false → times_of_item (Arrival link direction) self.old.entries ≡ [] }
         ensures one { result ≡ true → length self.new.entries < length self.old.entries }
     {
         self.agenda.numbers_rise();
@@ -225,7 +225,7 @@ impl Pending {
     /// put.
     pub fn next(&self) -> Option<(u64, Item)>
         ensures next { IfSome result (λ due. IsNext self.now.entries due.0 due.1) }
-        ensures known { IfSome result (λ due. IsKnown self.now.systems self.now.links due.1) }
+        ensures known { IfSome result (λ due. IsKnownItem self.now.systems self.now.links due.1) }
         ensures empty { IfNone result (self.now.entries ≡ []) }
     {
         self.agenda.numbers_rise();
@@ -235,14 +235,14 @@ impl Pending {
 
     /// Each timer is pending at most once.
     pub fn timers_run_once(&self)
-        ensures { (place : ℕ) (timer : Timer) → IsKnown self.now.systems self.now.links (Expiry place timer) → length (times (Expiry place timer) self.now.entries) ≤ 1 }
+        ensures { (place : ℕ) (timer : Timer) → IsKnownItem self.now.systems self.now.links (Expiry place timer) → length (times_of_item (Expiry place timer) self.now.entries) ≤ 1 }
     {
         let _ = &self.filed;
     }
 
     /// All that is pending is of the systems and links that there are.
     pub fn items_are_known(&self)
-        ensures { AllByRecursion (λ e. IsKnown self.now.systems self.now.links e.item) self.now.entries }
+        ensures { AllByRecursion (λ e. IsKnownItem self.now.systems self.now.links e.item) self.now.entries }
     {
         let _ = &self.filed;
     }

@@ -39,7 +39,7 @@ impl Stage {
     ghost use Rattle.gptp_world.specs.Credit.{HearUses};
     ghost use Rattle.gptp_world.specs.Delivering.{HasRoomToHear};
     ghost use Rattle.gptp_world.specs.Net.{LinkIs};
-    ghost use Rattle.gptp_world.specs.Performing.{Acted, CanChange, HasRoomForAim, Injected, Turned, Turns};
+    ghost use Rattle.gptp_world.specs.Performing.{ActIsDone, CanChange, HasRoomForAim, Injected, Turned, TurnsOver};
     ghost use Rattle.gptp_acts.specs.Sound.{IsWired};
     ghost use Rattle.gptp_world.specs.Room.{HasRoomToInject};
     ghost use Rattle.gptp_world.specs.Stage.{world_of, IsStage, SystemIs};
@@ -54,7 +54,7 @@ impl Stage {
         requires due { AtPlace lane.link (world_of self.old).net (IsOldestDue lane.direction self.old.now) }
         requires room { HasRoomToHear lane self.old }
         ensures stage { IsStage self.new }
-        ensures arrived { Acted F.answers (Deliver lane.link lane.direction) result fate.old fate.new self.old self.new }
+        ensures arrived { ActIsDone F.answers (Deliver lane.link lane.direction) result fate.old fate.new self.old self.new }
         ensures uses { HearUses lane self.old self.new.net }
     {
         let Reached { at, answer, frame } = self.deliver(lane, fate);
@@ -98,7 +98,7 @@ impl Stage {
         requires link { link < length self.old.net.cables.items }
         requires fit { Fit bounds }
         ensures stage { IsStage self.new }
-        ensures set { Turns (LinkSet link bounds) (world_of self.old) [] (world_of self.new) }
+        ensures set { TurnsOver (LinkSet link bounds) (world_of self.old) [] (world_of self.new) }
     {
         self.net.set_bounds(link, bounds);
     }
@@ -108,7 +108,7 @@ impl Stage {
         requires stage { IsStage self.old }
         requires place { place < length self.old.stations.items }
         ensures stage { IsStage self.new }
-        ensures failed { Turns (Fail place) (world_of self.old) [] (world_of self.new) }
+        ensures failed { TurnsOver (Fail place) (world_of self.old) [] (world_of self.new) }
     {
         if self.stations[place].live {
             self.fail(place);
@@ -171,7 +171,7 @@ impl Stage {
     ghost use Rattle.gptp_world.specs.Aim.{IsAimOf};
     ghost use Rattle.gptp_world.specs.Credit.{IsChange, IsCovered, LeavesCredit, UsesForAim};
     ghost use Rattle.gptp_world.specs.Memory.{AsksForNoMemory};
-    ghost use Rattle.gptp_world.specs.Performing.{Acted, HasRoomForAim};
+    ghost use Rattle.gptp_world.specs.Performing.{ActIsDone, HasRoomForAim};
     ghost use Rattle.gptp_acts.specs.Sound.{IsSound};
     ghost use Rattle.gptp_world.specs.Stage.{world_of, IsStage};
 
@@ -236,7 +236,7 @@ impl Stage {
         requires fit { IsFitAct act.now }
         requires room { HasRoomForAim aim self.old }
         ensures stage { IsStage self.new }
-        ensures acted { Acted F.answers act.now result fate.old fate.new self.old self.new }
+        ensures acted { ActIsDone F.answers act.now result fate.old fate.new self.old self.new }
         ensures uses { UsesForAim aim self.old self.new.net }
     {
         match aim {

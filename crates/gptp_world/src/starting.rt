@@ -10,7 +10,7 @@ impl Stage {
     ghost use Rattle.gptp_acts.specs.declared.station.Station.{Station};
     ghost use Rattle.gptp_acts.specs.Changing.{failed, fresh, with_setup};
     ghost use Rattle.gptp_world.specs.Stage.{world_of, CallUses, HasRoomToCall, IsLiveAt, IsPortAt, IsStage};
-    ghost use Rattle.gptp_world.specs.Starting.{CameUp, CanSetTimers, CanStart, HasRoomForPorts, HasRoomToStart, HasSetTimers, Prioritized, Replaces, Started};
+    ghost use Rattle.gptp_world.specs.Starting.{CameUp, CanSetTimers, CanStart, HasRoomForPorts, HasRoomToStart, HasSetTimers, Prioritized, StandsReplaced, Started};
 
     /// What is pending of the timers of the system at a place follows from its state.
     fn set_timers(&mut self, place: usize)
@@ -58,7 +58,7 @@ impl Stage {
         requires can { CanStart place self.old }
         requires moment { self.old.now ≤ 10 ^ 15 }
         ensures { (station : Station) → slice_get self.old.stations.items place ≡ Some station
-            → Replaces place (fresh self.old.now station) self.old self.new }
+            → StandsReplaced place (fresh self.old.now station) self.old self.new }
     {
         let now = self.now;
         let station = &mut self.stations[place];
@@ -83,7 +83,7 @@ impl Stage {
     fn silence(&mut self, place: usize)
         requires { place < length self.old.stations.items }
         ensures { (station : Station) → slice_get self.old.stations.items place ≡ Some station
-            → Replaces place (record station { live = false }) self.old self.new }
+            → StandsReplaced place (record station { live = false }) self.old self.new }
     {
         self.stations[place].live = false;
     }
@@ -104,7 +104,7 @@ impl Stage {
     fn prepare_priority1(&mut self, place: usize, value: u8)
         requires { place < length self.old.stations.items }
         ensures { (station : Station) → slice_get self.old.stations.items place ≡ Some station
-            → Replaces place (with_setup value station) self.old self.new }
+            → StandsReplaced place (with_setup value station) self.old self.new }
     {
         let setup = &mut self.stations[place].setup;
         setup.identity = setup.identity.with_priority1(value);

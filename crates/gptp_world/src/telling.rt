@@ -1,7 +1,7 @@
 //! Links of a world that go down or come up.
 
 ghost use Rattle.std.specs.Prelude.{◌≡◌, ◌<◌, length, Some, slice_get};
-ghost use Rattle.gptp_world.specs.Directory.{end_of, Join};
+ghost use Rattle.gptp_world.specs.Directory.{direction_end, Join};
 ghost use Rattle.gptp_system.specs.Input.{given};
 ghost use Rattle.gptp_world.specs.Telling.{link_input, AreEndsOf, IsEndAt};
 
@@ -22,7 +22,7 @@ struct End {
 /// The port at which a lane ends. The lane is of a link that is there.
 fn end_at(directory: &Directory, lane: Lane) -> End
     requires { lane.link < length directory.now.joins }
-    ensures { (join : Join) → slice_get directory.now.joins lane.link ≡ Some join → IsEndAt (end_of lane.direction join) result directory.now }
+    ensures { (join : Join) → slice_get directory.now.joins lane.link ≡ Some join → IsEndAt (direction_end lane.direction join) result directory.now }
 {
     directory.well_formed();
     End {
@@ -68,7 +68,7 @@ impl Stage {
     ghost use Rattle.std.specs.Prelude.{◌≡◌, ◌<◌, length, true, false, IsOk, OnOk};
     ghost use Rattle.gptp_world.specs.Net.{LinkIs};
     ghost use Rattle.gptp_world.specs.Stage.{world_of, CallUses, HasRoomToCall, IsPortAt, IsStage};
-    ghost use Rattle.gptp_world.specs.Telling.{link_input, ComeUp, GoneDown, HasRoomAtEnds, Told};
+    ghost use Rattle.gptp_world.specs.Telling.{link_input, ComeUp, GoneDown, HasRoomAtEnds, WasTold};
 
     /// The system at a place is told that the link of a port comes up, or goes down; one that has failed isn't.
     fn tell<F: Fate>(&mut self, place: usize, port: u8, up: bool, fate: &mut F)
@@ -76,7 +76,7 @@ impl Stage {
         requires port { IsPortAt place port self.old }
         requires room { HasRoomToCall place self.old }
         ensures stage { IsStage self.new }
-        ensures told { Told F.answers place (link_input up port) fate.old fate.new self.old self.new }
+        ensures told { WasTold F.answers place (link_input up port) fate.old fate.new self.old self.new }
         ensures uses { CallUses place self.old self.new.net }
     {
         if self.stations[place].live {

@@ -21,7 +21,7 @@ fn due_of(station: &Station, timer: Timer) -> Option<u64>
 
 impl Net {
     ghost use Rattle.std.specs.Prelude.{◌≡◌, ◌≤◌, ◌<◌, ◌+◌, ◌*◌, ◌∷◌, [], length, true};
-    ghost use Rattle.gptp_system.specs.Steps.{IsPortOf, IsTimerOf};
+    ghost use Rattle.gptp_system.specs.Steps.{HasPortNumber, IsTimerOf};
     ghost use Rattle.gptp_setup.specs.declared.timer.Timer.TheVariants as timers;
     ghost use Rattle.gptp_acts.specs.Item.{timer_port};
     ghost use Rattle.gptp_acts.specs.Act.{set_timers};
@@ -47,7 +47,7 @@ impl Net {
     fn set_port_timers(&mut self, place: usize, station: &Station, port: u8)
         requires place { place < self.old.pending.systems }
         requires room { station.now.live ≡ true → 4 ≤ self.old.pending.room }
-        requires port { IsPortOf station.now.system port }
+        requires port { HasPortNumber station.now.system port }
         requires few { port ≤ 16 }
         ensures entries { self.new.pending.entries ≡ set_timers place station.now (timers.Pdelay port ∷ timers.Respond port ∷ timers.Announce port ∷ timers.Age port ∷ []) self.old.pending.entries }
         ensures only { OnlyEntries 4 self.old self.new }
@@ -90,7 +90,7 @@ impl Net {
     fn set_selected_at(&mut self, place: usize, station: &Station, port: u8)
         requires place { place < self.old.pending.systems }
         requires room { 2 ≤ self.old.pending.room }
-        requires port { IsPortOf station.now.system port }
+        requires port { HasPortNumber station.now.system port }
         requires few { port ≤ 16 }
         ensures entries { self.new.pending.entries ≡ set_timers place station.now (timers.Announce port ∷ timers.Age port ∷ []) self.old.pending.entries }
         ensures only { OnlyEntries 2 self.old self.new }

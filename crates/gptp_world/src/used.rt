@@ -13,18 +13,18 @@ use std::alloc::{AllocError, Global};
 impl Stage {
     ghost use Rattle.std.specs.Prelude.{◌≡◌, ◌<◌, ◌++◌, ◌&&◌, length, map, option_map, slice_get, IfOk, OnOk, Some};
     ghost use Rattle.gptp_acts.specs.World.{receiver};
-    ghost use Rattle.gptp_kept.specs.Standing.{has_clock, is_used, live_systems};
+    ghost use Rattle.gptp_kept.specs.Standing.{stations_have_clock, channel_is_used, live_stations};
     ghost use Rattle.gptp_world.specs.declared.cable.Cable.{Cable};
     ghost use Rattle.gptp_world.specs.Cable.{channel_of};
     ghost use Rattle.gptp_world.specs.Scene.{IsFounded};
-    ghost use Rattle.gptp_world.specs.Used.{link_of, used, used_if, used_in};
+    ghost use Rattle.gptp_world.specs.Used.{snapshot_link, used, used_if, used_in};
 
     /// Whether the system lives at which a lane ends.
     fn lives_behind(&self, lane: Lane) -> bool
         requires founded { IsFounded self.now }
         requires lane { lane.link < length self.now.net.cables.items }
         ensures { (cable : Cable) → slice_get self.entry.now.net.cables.items lane.link ≡ Some cable
-            → result ≡ has_clock (live_systems self.entry.now.stations.items) (receiver lane.direction (channel_of cable)).clock }
+            → result ≡ stations_have_clock (live_stations self.entry.now.stations.items) (receiver lane.direction (channel_of cable)).clock }
     {
         self.stations[self.net.directory.receiver(lane)].live
     }
@@ -34,8 +34,8 @@ impl Stage {
         requires founded { IsFounded self.now }
         requires link { link < length self.now.net.cables.items }
         ensures { (cable : Cable) → slice_get self.entry.now.net.cables.items link ≡ Some cable
-            → result ≡ (has_clock (live_systems self.entry.now.stations.items) cable.a.clock
-            && has_clock (live_systems self.entry.now.stations.items) cable.b.clock) }
+            → result ≡ (stations_have_clock (live_stations self.entry.now.stations.items) cable.a.clock
+            && stations_have_clock (live_stations self.entry.now.stations.items) cable.b.clock) }
     {
         let direction = Direction::FromB;
         if !self.lives_behind(Lane { link, direction }) {
@@ -50,7 +50,7 @@ impl Stage {
         requires founded { IsFounded self.now }
         requires link { link < length self.now.net.cables.items }
         ensures { (cable : Cable) → slice_get self.entry.now.net.cables.items link ≡ Some cable
-            → result ≡ is_used (live_systems self.entry.now.stations.items) (channel_of cable) }
+            → result ≡ channel_is_used (live_stations self.entry.now.stations.items) (channel_of cable) }
     {
         if !self.net.is_up(link) {
             return false;
@@ -63,7 +63,7 @@ impl Stage {
         requires founded { IsFounded self.now }
         requires link { link < length self.now.net.cables.items }
         ensures { (cable : Cable) → slice_get self.entry.now.net.cables.items link ≡ Some cable
-            → option_map link_of result ≡ used (live_systems self.entry.now.stations.items) (channel_of cable) }
+            → option_map snapshot_link result ≡ used (live_stations self.entry.now.stations.items) (channel_of cable) }
     {
         if !self.is_in_use(link) {
             return None;
@@ -89,7 +89,7 @@ impl Stage {
     /// The one at a place among them.
     fn used_at(&self, place: usize) -> Option<(PortId, PortId)>
         requires { IsFounded self.now }
-        ensures { option_map link_of result ≡ slice_get (used_in self.entry.now) place }
+        ensures { option_map snapshot_link result ≡ slice_get (used_in self.entry.now) place }
     {
         let mut before = 0;
         for link in 0..self.net.cables.len() {
@@ -108,8 +108,8 @@ impl Stage {
         requires founded { IsFounded self.now }
         requires link { link < length self.now.net.cables.items }
         ensures { (cable : Cable) → slice_get self.entry.now.net.cables.items link ≡ Some cable
-            → OnOk result (map link_of links.new.items ≡ map link_of links.old.items
-            ++ used_if (live_systems self.entry.now.stations.items) (channel_of cable)) }
+            → OnOk result (map snapshot_link links.new.items ≡ map snapshot_link links.old.items
+            ++ used_if (live_stations self.entry.now.stations.items) (channel_of cable)) }
     {
         match self.used_link(link) {
             Some(ports) => Ok(links.push(ports)?),
@@ -120,7 +120,7 @@ impl Stage {
     /// All of them.
     fn list_used(&self, alloc: Global) -> Result<Vec<(PortId, PortId)>, AllocError>
         requires { IsFounded self.now }
-        ensures { IfOk result (λ links. map link_of links.items ≡ used_in self.entry.now) }
+        ensures { IfOk result (λ links. map snapshot_link links.items ≡ used_in self.entry.now) }
     {
         let mut links = Vec::new(alloc);
         for link in 0..self.net.cables.len() {
@@ -133,7 +133,7 @@ impl Stage {
 impl Scene {
     ghost use Rattle.std.specs.Prelude.{◌≡◌, length, map, option_map, slice_get, IfOk};
     ghost use Rattle.gptp_kept.specs.Standing.{snapshot_of};
-    ghost use Rattle.gptp_world.specs.Used.{link_of};
+    ghost use Rattle.gptp_world.specs.Used.{snapshot_link};
 
     /// How many links are up between two live systems.
     pub(crate) fn links(&self) -> usize
@@ -144,14 +144,14 @@ impl Scene {
 
     /// The ports of the one at a place among them, in order of the links. Past the last there is none.
     pub(crate) fn link_at(&self, place: usize) -> Option<(PortId, PortId)>
-        ensures { option_map link_of result ≡ slice_get (snapshot_of self.now).links place }
+        ensures { option_map snapshot_link result ≡ slice_get (snapshot_of self.now).links place }
     {
         self.stage.used_at(place)
     }
 
     /// Those of all of them, in order of the links. Refused for want of memory alone.
     pub(crate) fn list_links(&self, alloc: Global) -> Result<Vec<(PortId, PortId)>, AllocError>
-        ensures { IfOk result (λ links. map link_of links.items ≡ (snapshot_of self.now).links) }
+        ensures { IfOk result (λ links. map snapshot_link links.items ≡ (snapshot_of self.now).links) }
     {
         self.stage.list_used(alloc)
     }

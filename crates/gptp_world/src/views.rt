@@ -2,7 +2,7 @@
 
 ghost use Rattle.std.specs.Prelude.{◌≡◌, IfNone, IfSome};
 ghost use Rattle.gptp_system.specs.Start.{role_at};
-ghost use Rattle.gptp_system.specs.Steps.{IsPortOf};
+ghost use Rattle.gptp_system.specs.Steps.{HasPortNumber};
 ghost use Rattle.gptp_plan.specs.Allowed.{IsFitAct};
 ghost use Rattle.gptp_world.specs.Stage.{world_of, IsStage};
 ghost use Rattle.gptp_world.specs.Stage.{IsPlacedItem};
@@ -22,7 +22,7 @@ impl Scene {
     ghost use Rattle.gptp_plan.specs.Allowed.{IsFitAct};
     ghost use Rattle.gptp_acts.specs.Prompt.{IsPromptIn};
     ghost use Rattle.gptp_acts.specs.Sound.{IsSound};
-    ghost use Rattle.gptp_acts.specs.Views.{Follows, HasPort, HasRole, IsLiveSystem, IsNextAct, ShowsLive, rising_clocks};
+    ghost use Rattle.gptp_acts.specs.Views.{FollowsRoot, HasPort, HasRole, IsLiveSystem, IsNextAct, ShowsLive, rising_clocks};
     ghost use Rattle.gptp_kept.specs.Claimed.{Claimed};
     ghost use Rattle.gptp_kept.specs.Shown.{FollowsAtOnce, FollowsByDistance, FollowsByPaths, FollowsInTime};
     ghost use Rattle.gptp_kept.specs.Shown.{IsCapableInTime, IsEnabledInTime};
@@ -125,7 +125,7 @@ impl Scene {
     /// The root that the live system with a clock follows, how many steps away that is, and the number of its Slave port.
     /// In time these are the settled choice.
     pub(crate) fn follows(&self, clock: ClockId) -> Option<(Identity, u16, Option<u8>)>
-        ensures some { IfSome result (λ f. AtSystem clock self.now (Follows f.0 f.1 f.2)) }
+        ensures some { IfSome result (λ f. AtSystem clock self.now (FollowsRoot f.0 f.1 f.2)) }
         ensures none { IfNone result (AtSystem clock self.now IsLiveSystem → ⊥) }
         ensures settled { IfSome result (λ f. FollowsInTime clock self.now f.0 f.1 f.2) }
         ensures by_paths { IfSome result (λ f. FollowsByPaths clock self.now f.0 f.1 f.2) }
@@ -169,8 +169,8 @@ impl Scene {
 
 /// The role of a port of a system, where it has that port.
 fn role_of(system: &System, port: u16) -> Option<Role>
-    ensures some { IfSome result (λ role. IsPortOf system.now port × (role ≡ role_at system.now port)) }
-    ensures none { IfNone result (IsPortOf system.now port → ⊥) }
+    ensures some { IfSome result (λ role. HasPortNumber system.now port × (role ≡ role_at system.now port)) }
+    ensures none { IfNone result (HasPortNumber system.now port → ⊥) }
 {
     if port == 0 || u16::from(system.ports()) < port {
         return None;

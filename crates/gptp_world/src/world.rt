@@ -36,9 +36,9 @@ impl<F: Fate + Drop> World<F> {
     ghost use Rattle.gptp_kept.specs.Exact.{IsHeardExact};
     ghost use Rattle.gptp_kept.specs.TimedClaim.{AllClaimed};
     ghost use Rattle.gptp_kept.specs.Traces.{AreHeldCleanInTime, AreHeldWholeInTime, AreHeldWholeSooner, IsCleanInTime, IsHeardClean};
-    ghost use Rattle.gptp_acts.specs.Views.{Follows, HasPort, HasRole, IsLiveSystem, IsNextAct, ShowsLive, rising_clocks};
+    ghost use Rattle.gptp_acts.specs.Views.{FollowsRoot, HasPort, HasRole, IsLiveSystem, IsNextAct, ShowsLive, rising_clocks};
     ghost use Rattle.gptp_world.specs.Memory.{AsksForNoMemory};
-    ghost use Rattle.gptp_world.specs.Used.{link_of};
+    ghost use Rattle.gptp_world.specs.Used.{snapshot_link};
 
     /// The world of a network at time 0: all its systems have started, in their order, and their first frames are in flight.
     /// Refused for want of memory alone; then the fate is dropped.
@@ -184,14 +184,14 @@ impl<F: Fate + Drop> World<F> {
     /// the network took them: that of its end a first. `None` past the last. Takes no memory, and counts from the first of
     /// all links on; [`list_links`](Self::list_links) gives all of them in one pass.
     pub fn link_at(&self, place: usize) -> Option<(PortId, PortId)>
-        ensures { option_map link_of result ≡ slice_get (snapshot_of self.now.scene).links place }
+        ensures { option_map snapshot_link result ≡ slice_get (snapshot_of self.now.scene).links place }
     {
         self.scene.link_at(place)
     }
 
     /// The two ports of each of these links, in that order. Refused for want of memory alone.
     pub fn list_links(&self, alloc: Global) -> Result<Vec<(PortId, PortId)>, AllocError>
-        ensures { IfOk result (λ links. map link_of links.items ≡ (snapshot_of self.now.scene).links) }
+        ensures { IfOk result (λ links. map snapshot_link links.items ≡ (snapshot_of self.now.scene).links) }
     {
         self.scene.list_links(alloc)
     }
@@ -260,7 +260,7 @@ impl<F: Fate + Drop> World<F> {
     /// delay of these links they are so after the longer of L + 5 intervals and of 2 and k and M for each of m systems, one
     /// interval more, and M for each of m but one.
     pub fn follows(&self, clock: ClockId) -> Option<(Identity, u16, Option<u8>)>
-        ensures some { IfSome result (λ f. AtSystem clock self.now.scene (Follows f.0 f.1 f.2)) }
+        ensures some { IfSome result (λ f. AtSystem clock self.now.scene (FollowsRoot f.0 f.1 f.2)) }
         ensures none { IfNone result (AtSystem clock self.now.scene IsLiveSystem → ⊥) }
         ensures settled { IfSome result (λ f. FollowsInTime clock self.now.scene f.0 f.1 f.2) }
         ensures by_paths { IfSome result (λ f. FollowsByPaths clock self.now.scene f.0 f.1 f.2) }

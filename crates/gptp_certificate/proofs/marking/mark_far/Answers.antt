@@ -7,7 +7,7 @@ use Rattle.gptp_certificate_text.specs.Certificate.{line_of, lines_of}
 use Rattle.gptp_certificate_text.specs.declared.certificate.SystemLine.{SystemLine as Line}
 use Rattle.gptp_kept.specs.Standing.{snapshot_of}
 use Rattle.gptp_kept.proofs.StandsLemmas.{stands_well}
-use Rattle.gptp_certificate.specs.Marking.{AreMarked, ArePairs, AreStarts, line_roots}
+use Rattle.gptp_certificate.specs.Marking.{LinesAreMarked, ArePairs, AreStarts, line_roots}
 use Rattle.gptp_certificate.specs.Rounds.{AreLeast, value}
 use Rattle.gptp_certificate.proofs.MarkedLemmas.{marked_states, pairs_within, said_all, starts_few}
 use Rattle.gptp_certificate.proofs.marking.mark_far.Goals as goal
@@ -109,10 +109,10 @@ returns g c =
     c.in_ok-links.ensures) in
     let least : AreLeast 1 pairs systems starts numbers =
     subst (λ ps. AreLeast 1 ps systems starts numbers) c.deref-7.ensures.value c.settle_numbers.ensures in
-    let marked : AreMarked (length own) lowest numbers own after =
-    subst (λ n. AreMarked n lowest numbers own after) (sym (length-map lines line_of))
-    (subst (λ xs. AreMarked (length lines) lowest xs own after) c.deref-9.ensures.value
-    (subst (λ xs. AreMarked (length lines) xs c.deref-9.result.now own after) c.deref-8.ensures.value
+    let marked : LinesAreMarked (length own) lowest numbers own after =
+    subst (λ n. LinesAreMarked n lowest numbers own after) (sym (length-map lines line_of))
+    (subst (λ xs. LinesAreMarked (length lines) lowest xs own after) c.deref-9.ensures.value
+    (subst (λ xs. LinesAreMarked (length lines) xs c.deref-9.result.now own after) c.deref-8.ensures.value
     c.mark_each.ensures)) in
     marked_states w own c.requires wf pairs are systems c.count-systems.ensures.count c.count-systems.ensures.few lowest
     low starts numbers begun least after marked

@@ -1,5 +1,5 @@
 use Rattle.std.proofs.Common.{length, sym, subst}
-use Rattle.gptp_certificate.specs.Rounds.{AreWithin}
+use Rattle.gptp_certificate.specs.Rounds.{LinksAreWithin}
 use Rattle.gptp_certificate.proofs.RoundLemmas.{came_next, ends_within, round_next}
 use Rattle.gptp_certificate.proofs.rounds.pass_identities.Goals as goal
 
@@ -7,13 +7,13 @@ pub pass_identity-requires-clause-a : goal.pass_identity-requires-clause-a
 pass_identity-requires-clause-a c =
     let long = c.loop-link.invariant.round.long in
     (ends_within (length c.loop-link.values.items) c.args.links.now c.loop-link.link-index
-    (subst (λ n. AreWithin n c.args.links.now) (sym long) c.requires) c.loop-link-test.true).0
+    (subst (λ n. LinksAreWithin n c.args.links.now) (sym long) c.requires) c.loop-link-test.true).0
 
 pub pass_identity-requires-clause-b : goal.pass_identity-requires-clause-b
 pass_identity-requires-clause-b c =
     let long = c.loop-link.invariant.round.long in
     (ends_within (length c.loop-link.values.items) c.args.links.now c.loop-link.link-index
-    (subst (λ n. AreWithin n c.args.links.now) (sym long) c.requires) c.loop-link-test.true).1
+    (subst (λ n. LinksAreWithin n c.args.links.now) (sym long) c.requires) c.loop-link-test.true).1
 
 pub loop-link-preserved : goal.loop-link-preserved
 loop-link-preserved c =

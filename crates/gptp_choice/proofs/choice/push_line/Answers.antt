@@ -7,7 +7,7 @@ use Rattle.gptp_components.proofs.RankedLemmas.{no_gap}
 use Rattle.gptp_graph.specs.Snapshot.{System}
 use Rattle.gptp_graph.proofs.SystemLemmas.{same_clock}
 use Rattle.gptp_network.specs.Snapshot.{system_of}
-use Rattle.gptp_choice.specs.Lines.{IsLineFor}
+use Rattle.gptp_choice.specs.Lines.{IsChosenLine}
 use Rattle.gptp_choice.proofs.LineLemmas.{pushed_line}
 use Rattle.gptp_choice.proofs.choice.push_line.Goals as goal
 
@@ -38,4 +38,4 @@ returns c =
     let g = c.args.snapshot.now in let s = system_of c.in-Some.system in
     pushed_line g c.args.place c.args.lines.now.items c.push.new.self.items c.in_ok-line.line s c.requires.before
     c.in_ok-push.ensures.items (sym c.in-Some.ensures)
-    (subst (λ v. IsLineFor g v c.in-Some.system.1 (line_of c.in_ok-line.line)) c.clock.ensures c.in_ok-line.ensures)
+    (subst (λ v. IsChosenLine g v c.in-Some.system.1 (line_of c.in_ok-line.line)) c.clock.ensures c.in_ok-line.ensures)

@@ -1,6 +1,6 @@
 use Rattle.std.proofs.Common.{refl}
 use Rattle.std.proofs.lemmas.Result.{IfOk-weaker}
-use Rattle.gptp_time_error.specs.AccuracyText.{accuracy_lines, is_exceeded}
+use Rattle.gptp_time_error.specs.AccuracyText.{accuracy_lines, error_is_exceeded}
 use Rattle.gptp_commands.proofs.accuracy.tell_accuracy.Goals as goal
 
 pub returns-clause-tells : goal.returns-clause-tells
@@ -9,7 +9,7 @@ returns-clause-tells c =
     IfOk-weaker c.show.result _ _ (λ o shown. (
       accuracy_lines c.args.max_error errors,
       record {
-        exceeded = is_exceeded c.args.max_error errors.systems.items;
+        exceeded = error_is_exceeded c.args.max_error errors.systems.items;
         text = record {
           errors = errors;
           are = rw c.moment_of.ensures at c.in_ok-errors.ensures;

@@ -2,7 +2,7 @@ use Rattle.std.proofs.Common.{◌∙◌, ap, option_and_then, sym}
 use Rattle.std.specs.Str.Parse.{ExplainsUnsignedError, HasUnsignedDigitsIfOk, ParsesUnsigned}
 use Rattle.clap.specs.Words.{found_of, one_of, one_text, rows_of}
 use Rattle.clap.proofs.WalkLemmas.{one_text-rows}
-use Rattle.gptp_commands.specs.Options.{number_in}
+use Rattle.gptp_commands.specs.Options.{decimal_in_range}
 use Rattle.gptp_commands.specs.declared.table.Form.TheVariants.{Number}
 use Rattle.gptp_commands.proofs.OptionLemmas.{number_read}
 use Rattle.gptp_commands.proofs.options.number.Goals as goal
@@ -16,5 +16,5 @@ returns-in-Number c =
     least most (one_text found name) c.get_one.result (λ text r parsed. parsed.0) c.get_one.ensures.none
     c.get_one.ensures.value in
     c.number_within.ensures ∙ read
-    ∙ ap (option_and_then (number_in (Number least most))) (one_text-rows found name)
-    ∙ ap (λ form. option_and_then (number_in form) (one_of name (rows_of found))) (sym c.in-Number.is)
+    ∙ ap (option_and_then (decimal_in_range (Number least most))) (one_text-rows found name)
+    ∙ ap (λ form. option_and_then (decimal_in_range form) (one_of name (rows_of found))) (sym c.in-Number.is)

@@ -1,6 +1,6 @@
 use Rattle.std.proofs.Common.{sym, ap, subst, ◌∙◌, arith, length-take-le}
 use Rattle.std.proofs.lemmas.Result.{IfOk-weaker}
-use Rattle.gptp_commands.specs.WhereText.{IsAtLine}
+use Rattle.gptp_commands.specs.WhereText.{PlaceIsLine}
 use Rattle.gptp_commands.proofs.WhereLemmas.{located_end}
 use Rattle.gptp_commands.proofs.place.place_within_limit.Goals as goal
 
@@ -15,7 +15,7 @@ returns-clause-locates c =
     IfOk-weaker c.at_line.result _ _ (λ text said. (
       said.0,
       located_end c.args.document.now c.args.until c.args.input.now said.0 (omega arith)
-          (subst (λ n. IsAtLine n said.0) c.line_behind.ensures said.1),
+          (subst (λ n. PlaceIsLine n said.0) c.line_behind.ensures said.1),
       said.2,
     ))
     c.at_line.ensures.says

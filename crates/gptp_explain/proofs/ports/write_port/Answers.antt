@@ -3,7 +3,7 @@ use Rattle.std.proofs.lemmas.Result.{on_ok_weaker}
 use Rattle.gptp_certificate_text.specs.Certificate.{line_of, port_line_of, role_of}
 use Rattle.gptp_graph.proofs.StatementLemmas.{near_with_port}
 use Rattle.gptp_vector.specs.declared.port.PortId.{PortId}
-use Rattle.gptp_explain.specs.Ports.{port_line}
+use Rattle.gptp_explain.specs.Ports.{explained_port_line}
 use Rattle.gptp_explain.proofs.TextLemmas.{one_role_text}
 use Rattle.gptp_explain.proofs.ports.write_port.Goals as goal
 
@@ -25,7 +25,7 @@ returns c =
     let p : PortId = record { clock = line.clock; port = c.args.port.0 } in
     let role = role_of c.args.port.1 in
     on_ok_weaker c.writeln.result (λ bytes. (
-      port_line p role c.why_of-why.result,
+      explained_port_line p role c.why_of-why.result,
       record {
         role = role;
         settled = (c.requires.choice.settled line c.requires.stated).roles (port_line_of c.args.port) c.requires.port;

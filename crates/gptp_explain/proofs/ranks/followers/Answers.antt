@@ -1,11 +1,11 @@
 use Rattle.std.proofs.Common.{◌≡◌, arith, length, subst, sym}
-use Rattle.gptp_explain.specs.Ranks.{AreFound}
+use Rattle.gptp_explain.specs.Ranks.{FollowersAreFound}
 use Rattle.gptp_explain.proofs.RankLemmas.{are_ranked, none_found}
 use Rattle.gptp_explain.proofs.ranks.followers.Goals as goal
 
 pub loop-place-init : goal.loop-place-init
 loop-place-init c =
-    subst (AreFound c.args.snapshot.now c.args.root 0) (sym c.new-found.ensures.items)
+    subst (FollowersAreFound c.args.snapshot.now c.args.root 0) (sym c.new-found.ensures.items)
     (none_found c.args.snapshot.now c.args.root)
 
 pub returns : goal.returns
@@ -18,6 +18,6 @@ returns c =
       ranked =
           are_ranked g c.args.clock c.args.root c.loop-place.found.items c.sort_unstable.new.self.items
           c.well_formed-2.ensures.network c.requires.root
-          (subst (λ place. AreFound g c.args.root place c.loop-place.found.items) all c.loop-place.invariant)
+          (subst (λ place. FollowersAreFound g c.args.root place c.loop-place.found.items) all c.loop-place.invariant)
           c.sort_unstable.ensures.permutation c.sort_unstable.ensures.sorted;
     }

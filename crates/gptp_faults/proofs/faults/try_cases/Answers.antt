@@ -4,8 +4,8 @@ use Rattle.std.proofs.lemmas.List.{length-append}
 use Rattle.std.proofs.lemmas.Option.{slice_get-get_or}
 use Rattle.gptp_network.specs.Document.{DocumentState}
 use Rattle.gptp_spelling.specs.Lines.{text_of}
-use Rattle.gptp_faults.specs.Progress.{all_begun, begun, part_of}
-use Rattle.gptp_faults.specs.Outcomes.{IsOutcome, IsOutcomeAt, numbers_of, OutcomeState}
+use Rattle.gptp_faults.specs.Progress.{all_begun, begun, part_count}
+use Rattle.gptp_faults.specs.Outcomes.{IsOutcome, IsOutcomeAt, case_numbers, OutcomeState}
 use Rattle.gptp_timeline.specs.Each.{Each}
 use Rattle.gptp_faults.specs.declared.cases.Planned.{Planned}
 use Rattle.gptp_faults.proofs.OutcomeLemmas.{case_passed, case_tried}
@@ -31,7 +31,7 @@ loop-number-preserved g c =
           subst (λ (e : DocumentState). IsOutcome e t number p tried.0) so_far.same tried.1 in
           let after = ap (λ v. v.items) w.outcomes-is ∙ tried.2 in
           record {
-            tried = subst (Each (IsOutcomeAt d t planned) (numbers_of parts part (number + 1))) (sym after)
+            tried = subst (Each (IsOutcomeAt d t planned) (case_numbers parts part (number + 1))) (sym after)
                 (case_tried d t planned parts part number before so_far.tried
                 (sym c.belongs.ensures ∙ w.if-belongs.true) tried.0 (p, there, outcome));
             told = told_more asked count (length before) _ start (written c.loop-number.progress) _
@@ -46,7 +46,7 @@ loop-number-preserved g c =
           }
       | else-belongs w ↦
           record {
-            tried = subst (Each (IsOutcomeAt d t planned) (numbers_of parts part (number + 1)))
+            tried = subst (Each (IsOutcomeAt d t planned) (case_numbers parts part (number + 1)))
                 (sym (ap (λ v. v.items) w.outcomes-is))
                 (case_passed d t planned parts part number before so_far.tried
                 (sym c.belongs.ensures ∙ w.if-belongs.false));
@@ -67,5 +67,5 @@ returns-clause-told g c =
     let all : number ≡ length planned = omega (arith, past, most) in
     told_all options (length planned) c.count_of-count.result (length in_order)
     (g.P.Sink.written c.args.progress.now) (g.P.Sink.written c.loop-number.progress) c.count_of-count.ensures
-    (sym (each_length _ (numbers_of options.parts options.part number) in_order c.loop-number.invariant.tried)
-    ∙ ap (part_of options) all) c.loop-number.invariant.told
+    (sym (each_length _ (case_numbers options.parts options.part number) in_order c.loop-number.invariant.tried)
+    ∙ ap (part_count options) all) c.loop-number.invariant.told

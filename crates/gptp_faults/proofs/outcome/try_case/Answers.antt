@@ -1,9 +1,9 @@
 use Rattle.std.proofs.Common.{◌≡◌, ◌+◌, arith, rules, subst, ◌∙◌}
 use Rattle.gptp_network.specs.Document.{DocumentState}
 use Rattle.gptp_timeline.specs.Ends.{EndState}
-use Rattle.gptp_faults.specs.Extremes.{joined, of_one}
+use Rattle.gptp_faults.specs.Extremes.{greatest_of_two, of_one}
 use Rattle.gptp_faults.specs.Follows.{AreFollows}
-use Rattle.gptp_faults.specs.Runs.{IsRun, runs_of}
+use Rattle.gptp_faults.specs.Runs.{CaseRunEnds, runs_of}
 use Rattle.gptp_faults.proofs.OutcomeLemmas.{all_tried, more_tried, one_tried}
 use Rattle.gptp_faults.proofs.outcome.try_case.Goals as goal
 
@@ -27,13 +27,13 @@ pub loop-run-preserved : goal.loop-run-preserved
 loop-run-preserved c =
     let down = c.in_ok-next_down.next_down in let back = c.in_ok-next_down.next_back in
     let ends : EndState × EndState = (down, back) in let run = c.loop-run.run in
-    let down_is : c.joined-down.result ≡ joined c.loop-run.down (of_one down.stretch) = search rules in
-    let back_is : c.joined-back.result ≡ joined c.loop-run.back (of_one back.stretch) = search rules in
+    let down_is : c.joined-down.result ≡ greatest_of_two c.loop-run.down (of_one down.stretch) = search rules in
+    let back_is : c.joined-back.result ≡ greatest_of_two c.loop-run.back (of_one back.stretch) = search rules in
     let count = c.runs_of-run-end.ensures.is in let below = c.loop-run-test.true in
     record {
       tried = more_tried c.args.document.now c.args.times.now c.args.planned.now run c.loop-run.down c.loop-run.back
           c.joined-down.result c.joined-back.result c.in_ok-follow.follow.items c.loop-run.invariant.tried ends
-          (subst (λ (d : DocumentState). IsRun d c.args.times.now c.args.planned.now run ends) c.loop-run.invariant.same
+          (subst (λ (d : DocumentState). CaseRunEnds d c.args.times.now c.args.planned.now run ends) c.loop-run.invariant.same
           c.in_ok-next_down.ensures.run) down_is back_is;
       most = omega (arith, count, below);
       same = c.in_ok-next_down.ensures.same ∙ c.loop-run.invariant.same;

@@ -1,5 +1,5 @@
 use Rattle.std.proofs.Common.{refl}
-use Rattle.gptp_kept.specs.LinkView.{opposite}
+use Rattle.gptp_kept.specs.LinkView.{other_direction}
 use Rattle.gptp_kept.proofs.LinkDeliveryLemmas.{answerer_hears_seen, asker_hears_seen}
 use Rattle.gptp_kept.proofs.link_acts.own_deliveries_are_heard.Goals as goal
 
@@ -9,4 +9,4 @@ returns-clause-answerers c = λ at octets w w' draws answer l sound k.
 
 pub returns-clause-askers : goal.returns-clause-askers
 returns-clause-askers c = λ at octets w w' draws answer l sound k.
-    asker_hears_seen at.link (opposite at.direction) octets w draws answer w' k sound at l refl refl
+    asker_hears_seen at.link (other_direction at.direction) octets w draws answer w' k sound at l refl refl

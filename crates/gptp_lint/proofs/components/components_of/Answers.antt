@@ -2,7 +2,7 @@
 use Rattle.std.proofs.Common.{[], ap, subst, ◌∙◌}
 use Rattle.gptp_plan.specs.Network.{IsNetwork, NetworkState}
 use Rattle.gptp_lint.specs.Components.{apart_from, nobody_from}
-use Rattle.gptp_lint.specs.Graph.{AreFirst}
+use Rattle.gptp_lint.specs.Graph.{IsFirstGraph}
 use Rattle.gptp_lint.proofs.GraphLemmas.{stands_first}
 use Rattle.gptp_lint.proofs.MomentLemmas.{is_chance}
 use Rattle.gptp_lint.proofs.components.components_of.Goals as goal
@@ -11,7 +11,7 @@ pub follow-requires : goal.follow-requires
 follow-requires c =
     let d = c.args.document.now in
     stands_first d.network c.args.cables.now c.in_ok-graph.graph c.requires
-    (subst (λ (n : NetworkState). AreFirst n c.args.cables.now c.in_ok-graph.graph) c.network-2.ensures
+    (subst (λ (n : NetworkState). IsFirstGraph n c.args.cables.now c.in_ok-graph.graph) c.network-2.ensures
     c.in_ok-graph.ensures)
 
 pub returns : goal.returns

@@ -5,7 +5,7 @@ use Rattle.std.proofs.lemmas.List.{append-nil, drop_all, drop_more}
 use Rattle.gptp_setup.specs.Pace.{lapse_span}
 use Rattle.gptp_plan.specs.Network.{IsNetwork, NetworkState}
 use Rattle.gptp_plan.specs.declared.network.Wire.{Wire}
-use Rattle.gptp_topology.specs.Course.{cable_of, course_of, wire_of}
+use Rattle.gptp_topology.specs.Course.{cable_of, course_of, cable_wire}
 use Rattle.gptp_lint.specs.Trouble.{long_of, longs_of, lossies_of, stretches}
 use Rattle.gptp_lint.specs.Unlinked.{AreUnlinked}
 use Rattle.gptp_lint.proofs.FoundLemmas.{found, told_more}
@@ -21,10 +21,10 @@ loop-cable-preserved c =
     drop_more cables i cable c.loop-cable-test.true ∙ ap (λ u. u ∷ drop (i + 1) cables) (sym c.cable-item.is) in
     record {
       long = told_more (λ (w : Wire). option_to_list (long_of d.network.params (course_of d.events w)))
-          c.loop-cable.long.items c.push_troubles.new.long.items (longs_of d (map wire_of cables)) cable cables i here
+          c.loop-cable.long.items c.push_troubles.new.long.items (longs_of d (map cable_wire cables)) cable cables i here
           c.loop-cable.invariant.long c.in_ok-push_troubles.ensures.long;
       lossy = told_more (λ (w : Wire). stretches w.bounds.link 0 (course_of d.events w)) c.loop-cable.lossy.items
-          c.push_troubles.new.lossy.items (lossies_of d (map wire_of cables)) cable cables i here
+          c.push_troubles.new.lossy.items (lossies_of d (map cable_wire cables)) cable cables i here
           c.loop-cable.invariant.lossy c.in_ok-push_troubles.ensures.lossy;
     }
 
@@ -38,8 +38,8 @@ returns c =
     found d _ cables (subst IsNetwork c.network-network.ensures c.well_formed-2.ensures) c.well_formed-3.ensures.events
     (c.deref-cable-items.ensures.value ∙ c.in_ok-cables.ensures
     ∙ ap (λ (n : NetworkState). map cable_of n.links) c.network-network.ensures)
-    (sym (append-nil long) ∙ ap (λ cs. long ++ longs_of d (map wire_of cs)) (sym end) ∙ c.loop-cable.invariant.long)
-    (sym (append-nil lossy) ∙ ap (λ cs. lossy ++ lossies_of d (map wire_of cs)) (sym end)
+    (sym (append-nil long) ∙ ap (λ cs. long ++ longs_of d (map cable_wire cs)) (sym end) ∙ c.loop-cable.invariant.long)
+    (sym (append-nil lossy) ∙ ap (λ cs. lossy ++ lossies_of d (map cable_wire cs)) (sym end)
     ∙ c.loop-cable.invariant.lossy)
     (subst (λ (n : NetworkState). AreUnlinked n c.in_ok-unlinked.unlinked.items) c.network-network.ensures
     c.in_ok-unlinked.ensures)

@@ -4,7 +4,7 @@ use Rattle.std.specs.Option.{option_to_list}
 use Rattle.std.proofs.lemmas.List.{append-nil}
 use Rattle.std.proofs.lemmas.Result.{on_ok_weaker}
 use Rattle.gptp_plan.specs.Network.{NetworkState}
-use Rattle.gptp_topology.specs.Course.{course_from, course_of, first, naming, wire_of}
+use Rattle.gptp_topology.specs.Course.{course_from, course_of, first, naming, cable_wire}
 use Rattle.gptp_lint.specs.Trouble.{long_of, stretches}
 use Rattle.gptp_lint.proofs.ThinLemmas.{long_is, lossy_is}
 use Rattle.gptp_lint.proofs.findings.push_troubles.Goals as goal
@@ -12,7 +12,7 @@ use Rattle.gptp_lint.proofs.findings.push_troubles.Goals as goal
 pub returns-clause-long : goal.returns-clause-long
 returns-clause-long c =
     let d = c.args.document.now in
-    let w = wire_of c.args.cable.now in
+    let w = cable_wire c.args.cable.now in
     let course =
     c.deref.ensures.value ∙ c.in_ok-course.ensures
     ∙ ap (λ es. course_from (first w) (naming c.args.cable.now es)) c.events.ensures in
@@ -29,7 +29,7 @@ returns-clause-long c =
 pub returns-clause-lossy : goal.returns-clause-lossy
 returns-clause-lossy c =
     let d = c.args.document.now in
-    let w = wire_of c.args.cable.now in
+    let w = cable_wire c.args.cable.now in
     let course =
     c.deref-2.ensures.value ∙ c.in_ok-course.ensures
     ∙ ap (λ es. course_from (first w) (naming c.args.cable.now es)) c.events.ensures in

@@ -2,8 +2,8 @@
 use Rattle.std.proofs.Common.{◌≡◌, ◌<◌, ◌^◌, ◌++◌, ◌∷◌, [], Some, map, slice_get, ap, ap₂, subst, sym, ◌∙◌}
 use Rattle.std.proofs.lemmas.List.{take_all}
 use Rattle.std.proofs.lemmas.Option.{slice_get-get_or}
-use Rattle.gptp_lint.specs.Graph.{HaveOctets}
-use Rattle.gptp_lint.specs.Labels.{alone}
+use Rattle.gptp_lint.specs.Graph.{NodesHaveOctets}
+use Rattle.gptp_lint.specs.Labels.{lone_label}
 use Rattle.gptp_lint.specs.declared.labels.Label.{Label}
 use Rattle.gptp_topology.proofs.MemberLemmas.{mapped_more}
 use Rattle.gptp_lint.proofs.GraphLemmas.{octets_more}
@@ -22,7 +22,7 @@ loop-node-preserved c =
     record {
       are = c.in_ok-push.ensures.items
           ∙ ap₂ (λ ls (l : Label). ls ++ l ∷ []) c.loop-node.invariant.are c.alone.ensures.is
-          ∙ mapped_more alone nodes i node there;
+          ∙ mapped_more lone_label nodes i node there;
       octets = octets_more nodes i node there c.loop-node.invariant.octets
           (subst (λ (l : Label). l.identity < 2 ^ 112) c.alone.ensures.is c.alone.ensures.octets);
     }
@@ -31,6 +31,6 @@ pub returns : goal.returns
 returns c =
     let all = take_all c.loop-node.node-index c.args.nodes.now c.loop-node-test.false in
     record {
-      are = c.loop-node.invariant.are ∙ ap (map alone) all;
-      octets = subst HaveOctets all c.loop-node.invariant.octets;
+      are = c.loop-node.invariant.are ∙ ap (map lone_label) all;
+      octets = subst NodesHaveOctets all c.loop-node.invariant.octets;
     }

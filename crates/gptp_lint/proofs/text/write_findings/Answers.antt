@@ -2,7 +2,7 @@
 use Rattle.std.proofs.Common.{◌≡◌, ◌++◌, ℕ, List, Option, length, map, nat_lt, refl, subst, ap, ap₂, ◌∙◌}
 use Rattle.std.specs.Prelude.{string_bytes}
 use Rattle.std.specs.List.{AllByRecursion, flat_map}
-use Rattle.gptp_lint.specs.LintText.{calm_line, found_lines, late_lines, long_line, lossy_line, other_lines}
+use Rattle.gptp_lint.specs.LintText.{calm_time_line, found_lines, late_lines, long_line, lossy_line, other_lines}
 use Rattle.gptp_lint.specs.Outline.{OutlineState, header_line, outline_of_text}
 use Rattle.gptp_lint.specs.Unread.{unread_line}
 use Rattle.gptp_lint.specs.declared.place.Place.TheVariants.{Member}
@@ -36,7 +36,7 @@ returns c =
     (rw (c.deref-2.ensures.value, links_are) at c.in_ok-write_stretches.ensures)
     (rw c.deref-3.ensures.value at c.in_ok-write_lates.ensures) c.in_ok-write_others.ensures in
     let lines = found_lines input c.args.threshold f unread in (
-      lines ++ map calm_line f.calm.items,
+      lines ++ map calm_time_line f.calm.items,
       record {
         unread = unread;
         near_are = subst (λ t. AllByRecursion (NearIsRead t) unread) c.in_ok-source.ensures.document told.near_are;
@@ -46,6 +46,6 @@ returns c =
             ∙ ap (λ t. nat_lt (length old) (length t)) mid
             ∙ longer old lines;
       },
-      joined old others (string_bytes c.write_calm_times.new.text) lines (map calm_line f.calm.items) mid
+      joined old others (string_bytes c.write_calm_times.new.text) lines (map calm_time_line f.calm.items) mid
           (rw c.deref-4.ensures.value at c.in_ok-write_calm_times.ensures),
     )

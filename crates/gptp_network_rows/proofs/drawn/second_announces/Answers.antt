@@ -1,6 +1,6 @@
 use Rattle.std.proofs.Common.{Some, ap, subst, ◌∙◌}
 use Rattle.gptp_acts.specs.Acts.{AtSystem}
-use Rattle.gptp_acts.specs.Views.{Follows, ShowsLive}
+use Rattle.gptp_acts.specs.Views.{FollowsRoot, ShowsLive}
 use Rattle.gptp_kept.specs.Shown.{FollowsInTime}
 use Rattle.gptp_network_rows.proofs.PairLemmas.{lives, second_announces}
 use Rattle.gptp_network_rows.proofs.drawn.second_announces.Goals as goal
@@ -15,7 +15,7 @@ returns g c =
     let w = c.args.world.now.scene in let s = c.in_ok-system.system.now in
     let followed = c.in_ok-_followed._followed in let shown = c.in_ok-_followed.ensures in
     let found =
-    subst (λ clock. AtSystem clock w (Follows followed.0 followed.1 followed.2)) c.from.ensures shown.some in
+    subst (λ clock. AtSystem clock w (FollowsRoot followed.0 followed.1 followed.2)) c.from.ensures shown.some in
     let settled =
     subst (λ clock. FollowsInTime clock w followed.0 followed.1 followed.2) c.from.ensures shown.settled in
     let shows = subst (λ clock. ShowsLive clock w s) c.from-2.ensures c.in_ok-system.ensures.some in

@@ -1,7 +1,7 @@
 use Rattle.std.proofs.Common.{◌≡◌, ◌+◌, ◌++◌, List, ℕ, length, get_or, set, take, drop, refl, ap, ◌∙◌, arith}
 use Rattle.std.proofs.lemmas.List.{length-take}
 use Rattle.gptp_receipt.specs.declared.held.Held.{Held}
-use Rattle.gptp_roles.specs.Role.{each_port, held_after, is_fresh, role_of}
+use Rattle.gptp_roles.specs.Role.{each_port, held_after_selection, is_fresh, chosen_role}
 use Rattle.gptp_roles.specs.Selection.{clock_of}
 use Rattle.gptp_roles.proofs.ChoiceLemmas.{receiver_of_chosen}
 use Rattle.gptp_roles.proofs.EachLemmas.{each_port-done, each_port-push, get_or-half_done, length-each_from, set-half_done}
@@ -13,7 +13,7 @@ pub push-requires : goal.push-requires
 push-requires c =
     let before = take c.loop-one.one-index c.args.held.now in
     let count = ap length c.loop-one.invariant.roles
-    ∙ length-each_from (role_of c.best_vector-chosen.result c.clock-clock.result) 1 before in
+    ∙ length-each_from (chosen_role c.best_vector-chosen.result c.clock-clock.result) 1 before in
     (omega arith, omega (arith, length-take c.loop-one.one-index c.args.held.now))
 
 pub push-requires-in-loop-one : goal.push-requires-in-loop-one
@@ -28,9 +28,9 @@ loop-one-preserved c =
     let before = c.args.held.now in
     let place = c.loop-one.one-index in
     let one = c.one-item.result in
-    let role = role_of c.best_vector-chosen.result c.clock-clock.result in
+    let role = chosen_role c.best_vector-chosen.result c.clock-clock.result in
     let fresh = is_fresh c.best_vector-chosen.result c.clock-clock.result in
-    let after = held_after c.best_vector-chosen.result c.clock-clock.result in
+    let after = held_after_selection c.best_vector-chosen.result c.clock-clock.result in
     let port : c.loop-one.port + 1 ≡ place + 1 = ap (λ (n : ℕ). n + 1) c.loop-one.invariant.port in
     let within = c.loop-one-test.true in
     let held : get_or c.loop-one.held place one ≡ get_or before place one =
@@ -66,7 +66,7 @@ slave_of-requires c =
 
 pub returns-clause-placed : goal.returns-clause-placed
 returns-clause-placed c =
-    let after = held_after c.best_vector-chosen.result c.clock-clock.result in
+    let after = held_after_selection c.best_vector-chosen.result c.clock-clock.result in
     let held = each_port-done after c.args.held.now c.loop-one.one-index c.loop-one.held c.loop-one-test.false
     c.loop-one.invariant.held in
     rw held (placed_after c.best_vector-chosen.result c.clock-clock.result 1 c.args.held.now c.requires.placed)
@@ -74,10 +74,10 @@ returns-clause-placed c =
 pub returns-clause-slave : goal.returns-clause-slave
 returns-clause-slave c =
     let chosen = c.best_vector-chosen.result in
-    let after = held_after chosen c.clock-clock.result in
+    let after = held_after_selection chosen c.clock-clock.result in
     let held = each_port-done after c.args.held.now c.loop-one.one-index c.loop-one.held c.loop-one-test.false
     c.loop-one.invariant.held in
     let rest = at_rest c.args.identity.now c.args.held.now chosen c.requires.placed c.best_vector-chosen.ensures in
     rw (held, c.slave_of.ensures, c.clock-clock.ensures)
-    (slave_received c.args.identity.now (each_port (held_after chosen (clock_of c.args.identity.now)) c.args.held.now)
+    (slave_received c.args.identity.now (each_port (held_after_selection chosen (clock_of c.args.identity.now)) c.args.held.now)
     chosen rest.placed rest.is_chosen)

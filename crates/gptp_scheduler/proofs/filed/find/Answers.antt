@@ -2,7 +2,7 @@ use Rattle.std.proofs.Common.{◌≡◌, ℕ, ◌≤◌, nat_lt, false, sym, sub
 use Rattle.std.proofs.lemmas.Bool.Decides.{nat_tests}
 use Rattle.std.proofs.lemmas.List.Sorted.{IsPartitionPoint-from_clause}
 use Rattle.std.specs.List.Sorted.{IsPartitionedBy}
-use Rattle.gptp_scheduler.specs.Filed.{IsIn}
+use Rattle.gptp_scheduler.specs.Filed.{IsInSlab}
 use Rattle.gptp_scheduler.specs.declared.filed.Filed.{Filed}
 use Rattle.gptp_scheduler.proofs.FiledLemmas.{in-at, is-filed, not-filed, rises-parted}
 use Rattle.gptp_scheduler.proofs.filed.find.Goals as goal
@@ -27,7 +27,7 @@ returns-then-one-number-clause-found c =
     let one = c.in_ok-one.ensures.lookup.3 in
     let f = c.in_ok-one.one.now in
     is-filed c.args.number f c.args.filed.now c.if-one-number.true
-    (subst (λ (x : Filed). IsIn x c.args.filed.now) (sym (one.1 f))
+    (subst (λ (x : Filed). IsInSlab x c.args.filed.now) (sym (one.1 f))
     (in-at c.args.filed.now c.partition_point-place.result f one.0))
 
 pub returns-else-one-number-clause-nowhere : goal.returns-else-one-number-clause-nowhere

@@ -1,7 +1,7 @@
 use Rattle.std.proofs.Common.{◌≤◌, option_map, suc, sym, ap, subst, arith}
 use Rattle.gptp_certificate_text.specs.Certificate.{line_of, parent_of}
 use Rattle.gptp_accuracy.specs.WayLaws.{longer}
-use Rattle.gptp_time_error.specs.Sums.{AreSummed, AreWithin, link_of}
+use Rattle.gptp_time_error.specs.Sums.{AreSummed, SumsAreWithin, way_link}
 use Rattle.gptp_time_error.proofs.MachineLemmas.{drift_back}
 use Rattle.gptp_time_error.proofs.PassLemmas.{line_link, line_member, summed_first, summed_next}
 use Rattle.gptp_time_error.proofs.StandingLemmas.{delays_within, drift_within}
@@ -17,7 +17,7 @@ behind-requires-clause-sums c =
     let link = line_link c.args.network.now c.args.events.now c.args.snapshot.now line parent c.requires.stands
     c.requires.settled c.requires.bare some in
     let few : steps ≤ 511 = omega (arith, next, link.near) in
-    subst (AreWithin 511) (sym (c.sums_of.ensures done.place done.to done.has done.there))
+    subst (SumsAreWithin 511) (sym (c.sums_of.ensures done.place done.to done.has done.there))
     (within_more steps done.to few done.summed.summed.within)
 
 pub behind-requires-clause-link : goal.behind-requires-clause-link
@@ -50,10 +50,10 @@ returns-in-Some c = λ near.
     c.requires.stands c.requires.settled in
     let same = c.sums_of.ensures done.place done.to done.has done.there in
     summed_next n c.args.events.now c.args.snapshot.now line parent steps next done.to c.behind.result
-    (link_of c.link_to.result) done.summed link.is
+    (way_link c.link_to.result) done.summed link.is
     (c.link_to.ensures.delays link.wire link.wire_there link.end)
     (c.link_to.ensures.drift member there is)
-    (λ w summed. subst (λ p. AreSummed (suc steps) p (longer w (link_of c.link_to.result)) c.behind.result)
+    (λ w summed. subst (λ p. AreSummed (suc steps) p (longer w (way_link c.link_to.result)) c.behind.result)
     c.params.ensures
     (c.behind.ensures w steps (subst (λ p. AreSummed steps p w c.sums_of.result) (sym c.params.ensures)
     (subst (AreSummed steps n.params w) (sym same) summed))))

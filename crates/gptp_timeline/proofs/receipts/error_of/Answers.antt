@@ -4,7 +4,7 @@ use mir.Syntax.{w128}
 use Rattle.gptp_acts.specs.World.{WorldState}
 use Rattle.gptp_roles.specs.Selection.{clock_of}
 use Rattle.gptp_system.specs.State.{local_time, SystemState}
-use Rattle.gptp_timeline.specs.Receipts.{error_of}
+use Rattle.gptp_timeline.specs.Receipts.{offset_error}
 use Rattle.gptp_timeline.specs.Shown.{live_system}
 use Rattle.gptp_timeline.proofs.ShownLemmas.{live_shown, none_shown}
 use Rattle.gptp_timeline.proofs.receipts.error_of.Goals as goal
@@ -12,7 +12,7 @@ use Rattle.gptp_timeline.proofs.receipts.error_of.Goals as goal
 -- the error, by the live system with the clock that the root names
 by_leader : (at : ℕ) (s : SystemState) (w : WorldState) (offset : ℤ) (leader : ℕ) (live : Option SystemState)
     → Some offset ≡ s.offset → leader ≡ clock_of s.root → live_system leader w ≡ live
-    → error_of at s w
+    → offset_error at s w
     ≡ option_map (λ (l : SystemState). offset -ℤ (local_time s at -ℤ local_time l at)) live
 by_leader at s w offset leader live known named is =
     ap (option_and_then (λ (o : ℤ). option_map (λ (l : SystemState). o -ℤ (local_time s at -ℤ local_time l at))

@@ -8,8 +8,8 @@ use Rattle.gptp_plan.specs.Allowed.{AreAllowed, IsAllowed}
 use Rattle.gptp_plan.specs.declared.change.Timed.{Timed}
 use Rattle.gptp_sink.specs.Sink.{AppendsSome}
 use Rattle.gptp_sink.proofs.SinkLemmas.{after_error, appends_both, appends_none, some_behind}
-use Rattle.gptp_timeline.specs.Passing.{first_time, IsSeen, StopsSeen, watch_before}
-use Rattle.gptp_timeline.specs.Timeline.{end_before, is_begun, IsPlan, later_than, none_waits}
+use Rattle.gptp_timeline.specs.Passing.{first_time, StretchIsSeen, StopsSeen, watch_before}
+use Rattle.gptp_timeline.specs.Timeline.{end_before, is_begun, IsTimelinePlan, later_than, none_waits}
 use Rattle.gptp_timeline.proofs.EventLemmas.{all_now, ends_before, ends_in_time, ends_later, fewer_later, filter_each, may_begin, may_next, none_left, now_by}
 use Rattle.gptp_timeline.proofs.ObservedLemmas.{Rests, start_rests}
 use Rattle.gptp_timeline.proofs.PassLemmas.{courses_stay, none_there, seen_all, seen_more, seen_none, seen_some}
@@ -76,8 +76,8 @@ loop-to-preserved g c =
     let new = g.K.Sink.written c.next_stretch.new.sink in
     let i = c.loop-to.invariant in let passed = c.in_ok-kept.ensures.passed in
     let is : first_time (later_than from left) ≡ Some to = sym c.next_time.ensures ∙ c.in-Some.is in
-    let known = subst (λ es. IsPlan exact d from to (is_begun es) passed.0) c.events_by-now.ensures passed.2 in
-    let seen = subst (λ es. IsSeen answers passed.0 es drawn next between after o o_after passed.1)
+    let known = subst (λ es. IsTimelinePlan exact d from to (is_begun es) passed.0) c.events_by-now.ensures passed.2 in
+    let seen = subst (λ es. StretchIsSeen answers passed.0 es drawn next between after o o_after passed.1)
     c.events_by-now.ensures passed.3 in
     let stays = courses_stay answers passed.0.to (events_by from left) seen.acts drawn next between after
     i.gone.rests.named.setups seen.courses in
@@ -141,8 +141,8 @@ returns-clause-passed g c =
     seen_all answers exact d until c.args.options.now names (events_by until d.events) c.args.world.now.fate
     c.args.world.now.scene from until left drawn between c.loop-to.kept o (Appends old mid) (Appends mid new)
     (Appends old new) (appends_both old mid new) c.loop-to.invariant.gone passed.0 next after o_after passed.1 kept
-    (subst (λ es. IsPlan exact d from until (is_begun es) passed.0) all passed.2)
-    (subst (λ es. IsSeen answers passed.0 es drawn next between after o o_after passed.1) all passed.3) passed.4
+    (subst (λ es. IsTimelinePlan exact d from until (is_begun es) passed.0) all passed.2)
+    (subst (λ es. StretchIsSeen answers passed.0 es drawn next between after o o_after passed.1) all passed.3) passed.4
     passed.5
     none refl) c.next_stretch-2.ensures.passed
 

@@ -1,7 +1,7 @@
 use Rattle.std.proofs.Common.{[], ap, ◌∙◌, inl, inr, refl, subst}
 use Rattle.gptp_sink.proofs.SinkLemmas.{after_error, none_of}
 use Rattle.gptp_timeline.specs.LastTwo.{kept_after}
-use Rattle.gptp_timeline.specs.Timeline.{IsPlan}
+use Rattle.gptp_timeline.specs.Timeline.{IsTimelinePlan}
 use Rattle.gptp_timeline.proofs.PassLemmas.{begun_is}
 use Rattle.gptp_timeline.proofs.timeline.next_stretch.Goals as goal
 
@@ -12,7 +12,7 @@ returns-in_err-plan-clause-broken g c =
 pub returns-in_err-end-clause-broken : goal.returns-in_err-end-clause-broken
 returns-in_err-end-clause-broken g c =
     let broken = c.in_err-end.ensures.broken in
-    let known = subst (λ b. IsPlan c.args.exact c.args.document.now c.args.from c.args.to b c.in_ok-plan.plan)
+    let known = subst (λ b. IsTimelinePlan c.args.exact c.args.document.now c.args.from c.args.to b c.in_ok-plan.plan)
     (begun_is c.args.events.now c.is_empty.result c.is_empty.ensures) c.in_ok-plan.ensures.plan in
     after_error c.from_residual-in_err-end.result
     (broken.0, inr (c.in_ok-plan.plan, known, broken.1), broken.2)
@@ -20,7 +20,7 @@ returns-in_err-end-clause-broken g c =
 pub returns-clause-passed : goal.returns-clause-passed
 returns-clause-passed g c =
     let passed = c.in_ok-end.ensures.passed in
-    let known = subst (λ b. IsPlan c.args.exact c.args.document.now c.args.from c.args.to b c.in_ok-plan.plan)
+    let known = subst (λ b. IsTimelinePlan c.args.exact c.args.document.now c.args.from c.args.to b c.in_ok-plan.plan)
     (begun_is c.args.events.now c.is_empty.result c.is_empty.ensures) c.in_ok-plan.ensures.plan in (
       c.in_ok-plan.plan,
       passed.0,

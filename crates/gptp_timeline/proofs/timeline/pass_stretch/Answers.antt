@@ -5,7 +5,7 @@ use Rattle.gptp_world.proofs.FollowLemmas.{text_append}
 use Rattle.gptp_sink.proofs.SinkLemmas.{after_error, appends_both, some_behind}
 use Rattle.gptp_spelling.specs.Lines.{text_of}
 use Rattle.gptp_timeline.specs.Timeline.{end_lines}
-use Rattle.gptp_timeline.specs.Watch.{begun}
+use Rattle.gptp_timeline.specs.Watch.{watch_begun}
 use Rattle.gptp_timeline.proofs.PassLemmas.{if_ok_both, sees_all, sees_some}
 use Rattle.gptp_timeline.proofs.timeline.pass_stretch.Goals as goal
 
@@ -14,7 +14,7 @@ pub returns-in_err-play-clause-broken : goal.returns-in_err-play-clause-broken
 returns-in_err-play-clause-broken g c =
     let broken = c.in_err-play.ensures.broken in
     let old = g.K.Sink.written c.args.sink.now in let new = g.K.Sink.written c.play.new.sink in
-    let began = c.begin.ensures ∙ ap (λ from. begun from c.args.watch.now) c.exact_from.ensures in
+    let began = c.begin.ensures ∙ ap (λ from. watch_begun from c.args.watch.now) c.exact_from.ensures in
     after_error c.from_residual.result (
       broken.3.lines,
       inl (sees_some g.F.Fate.answers c.args.plan.now c.args.events.now c.args.world.now.fate c.args.world.now.scene
@@ -29,7 +29,7 @@ returns-clause-broken g c =
     let played = c.in_ok-play.ensures.played in
     let old = g.K.Sink.written c.args.sink.now in let between = g.K.Sink.written c.play.new.sink in
     let new = g.K.Sink.written c.end_stretch.new.sink in
-    let began = c.begin.ensures ∙ ap (λ from. begun from c.args.watch.now) c.exact_from.ensures in
+    let began = c.begin.ensures ∙ ap (λ from. watch_begun from c.args.watch.now) c.exact_from.ensures in
     let told = played.2.lines in let ends = end_lines c.args.plan.now c.play.new.observer in
     after_error c.end_stretch.result (
       told ++ ends,
@@ -53,7 +53,7 @@ returns-clause-passed g c =
     let played = c.in_ok-play.ensures.played in
     let old = g.K.Sink.written c.args.sink.now in let between = g.K.Sink.written c.play.new.sink in
     let new = g.K.Sink.written c.end_stretch.new.sink in
-    let began = c.begin.ensures ∙ ap (λ from. begun from c.args.watch.now) c.exact_from.ensures in
+    let began = c.begin.ensures ∙ ap (λ from. watch_begun from c.args.watch.now) c.exact_from.ensures in
     let told = played.2.lines in let ends = end_lines c.args.plan.now c.play.new.observer in (
       told,
       sees_all g.F.Fate.answers c.args.plan.now c.args.events.now c.args.world.now.fate c.args.world.now.scene

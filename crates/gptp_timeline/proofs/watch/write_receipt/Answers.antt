@@ -1,7 +1,7 @@
 use Rattle.std.proofs.Common.{◌≡◌, ◌++◌, ◌∷◌, [], List, ℕ, append-nil, sym, subst, ap, ◌∙◌}
 use Rattle.std.specs.Prelude.{OnOk, string_bytes}
 use Rattle.gptp_spelling.specs.Lines.{text_of}
-use Rattle.gptp_timeline.specs.Receipts.{error_of, offset_line}
+use Rattle.gptp_timeline.specs.Receipts.{offset_error, offset_line}
 use Rattle.gptp_timeline.specs.Shown.{live_system}
 use Rattle.gptp_timeline.specs.Watch.{receipt_lines_of}
 use Rattle.gptp_timeline.proofs.LineLemmas.{line_text}
@@ -16,7 +16,7 @@ returns-in-Some g c =
     let lines : receipt_lines_of at w clock (live_system clock w) ≡ line ∷ [] =
     ap (receipt_lines_of at w clock)
     (live_shown clock w s c.well_formed-2.ensures.sound.wired.clocks c.in-Some.ensures.some)
-    ∙ ap (λ o. offset_line at clock o (error_of at s w) ∷ []) (sym c.offset.ensures)
+    ∙ ap (λ o. offset_line at clock o (offset_error at s w) ∷ []) (sym c.offset.ensures)
     ∙ ap (λ e. offset_line at clock c.offset.result e ∷ []) (sym c.error_of.ensures) in
     subst (λ (ls : List (List ℕ)). OnOk c.write_offset.result
     (string_bytes c.write_offset.new.text ≡ text ++ text_of ls)) (sym lines)

@@ -5,7 +5,7 @@ use Rattle.std.proofs.lemmas.Option.{get_or_from_slice_get}
 use Rattle.gptp_lists.proofs.MappedLemmas.{mapped_there}
 use Rattle.gptp_lists.proofs.PlaceLemmas.{member_there}
 use Rattle.gptp_plan.specs.declared.change.Timed.{Timed}
-use Rattle.gptp_topology.specs.Course.{course_from, is_end, named, naming}
+use Rattle.gptp_topology.specs.Course.{course_from, is_cable_end, named, naming}
 use Rattle.gptp_topology.proofs.course.pass_at.Goals as goal
 
 pub returns-then-not-is_end : goal.returns-then-not-is_end
@@ -23,8 +23,8 @@ returns-then-not-is_end c =
     c.index-names-place.is
     ∙ get_or_from_slice_get c.args.names.now place (named t.act) c.index-names-place.result
     (ap (λ ns. slice_get ns place) c.requires.names ∙ mapped_there (λ (u : Timed). named u.act) events place t there) in
-    let other : is_end c.args.cable.now (named t.act) ≡ false =
-    ap (is_end c.args.cable.now) (sym name) ∙ sym c.is_end.ensures ∙ c.if-not-is_end.true in
+    let other : is_cable_end c.args.cable.now (named t.act) ≡ false =
+    ap (is_cable_end c.args.cable.now) (sym name) ∙ sym c.is_end.ensures ∙ c.if-not-is_end.true in
     ap (λ test. c.args.course.now.items ++ course_from c.args.standing.now
     (cond test (t ∷ naming c.args.cable.now (drop (place + 1) events))
     (naming c.args.cable.now (drop (place + 1) events))))

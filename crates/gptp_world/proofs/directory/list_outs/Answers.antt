@@ -2,7 +2,7 @@ use Rattle.std.proofs.Common.{◌≡◌, ℕ, ◌*◌, ◌+◌, ◌<◌, ◌≤�
 use Rattle.std.proofs.lemmas.Option.{slice_get_read, slice_get-get_or, slice_get_within}
 use Rattle.gptp_world.specs.declared.cable.Lane.{Lane}
 use Rattle.gptp_world.specs.declared.directory.Ends.{Ends}
-use Rattle.gptp_world.specs.Directory.{Join, AreEnds, AreOuts}
+use Rattle.gptp_world.specs.Directory.{Join, AreEndPlaces, AreOuts}
 use Rattle.gptp_world.proofs.DirectoryLemmas.{ends_length, end_a_at, end_b_at}
 use Rattle.gptp_world.proofs.LaneLemmas.{both_entered}
 use Rattle.gptp_world.proofs.directory.list_outs.Goals as goal
@@ -11,7 +11,7 @@ there : (joins : List Join) (i : ℕ) (join : Join) → i < length joins → joi
     → slice_get joins i ≡ Some join
 there joins i join l e = slice_get_read joins (length joins) i join refl l e
 
-at : (clocks : List ℕ) (joins : List Join) (ends : List Ends) (i : ℕ) → AreEnds clocks joins ends → i < length joins
+at : (clocks : List ℕ) (joins : List Join) (ends : List Ends) (i : ℕ) → AreEndPlaces clocks joins ends → i < length joins
     → slice_get ends i ≡ Some (slice_index_or ends i (record { a = 0; b = 0 }))
 at clocks joins ends i h l = slice_get-get_or ends i _ (let e = ends_length clocks joins ends h in omega arith)
 

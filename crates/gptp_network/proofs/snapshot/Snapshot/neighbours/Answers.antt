@@ -1,6 +1,6 @@
 -- No port has the number 0; in the end all have been gone through.
 use Rattle.std.proofs.Common.{◌≡◌, ◌+◌, subst, arith}
-use Rattle.gptp_network.specs.PathBound.{AreKnown}
+use Rattle.gptp_network.specs.PathBound.{NeighboursAreKnown}
 use Rattle.gptp_network.proofs.PathBoundLemmas.{known_at_first}
 use Rattle.gptp_network.proofs.snapshot.Snapshot.neighbours.Goals as goal
 
@@ -11,4 +11,4 @@ pub returns : goal.returns
 returns c =
     let end = c.loop-place.auto.place-end in let test = c.loop-place-test.false in
     let all : c.loop-place.place ≡ c.args.ports = omega (arith, end, test) in
-    subst (λ n. AreKnown c.args.self.now c.args.clock (n + 1) c.loop-place.known) all c.loop-place.invariant
+    subst (λ n. NeighboursAreKnown c.args.self.now c.args.clock (n + 1) c.loop-place.known) all c.loop-place.invariant

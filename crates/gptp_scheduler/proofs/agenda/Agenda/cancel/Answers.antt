@@ -1,6 +1,6 @@
 use Rattle.std.proofs.Common.{◌≡◌, Some, refl, sym, ap, subst, ◌∙◌, arith}
 use Rattle.slab.specs.Slab.{get}
-use Rattle.gptp_scheduler.specs.Pending.{entry, entry_at, without}
+use Rattle.gptp_scheduler.specs.Pending.{entry, entry_at, without_number}
 use Rattle.gptp_scheduler.specs.Filed.{listed}
 use Rattle.gptp_scheduler.proofs.AgendaLemmas.{agenda-taken, entry-filed, entry-there, first-stays, lives-held, lives-not, lives-some, stands-held, taken-listed}
 use Rattle.gptp_scheduler.proofs.EntryLemmas.{absent}
@@ -101,4 +101,4 @@ returns-clause-taken g c =
     (c.earliest_left-self-inside.ensures.wheel c.self.inside.base
     (c.take-node.ensures.wheel c.self.inside.base c.self.invariant.0.wheel))
     c.earliest_left-self-inside.result c.earliest_left-self-inside.ensures.earliest
-    ∙ ap (λ n. without n (listed (get c.self.inside.nodes) c.self.inside.filed.items)) number)
+    ∙ ap (λ n. without_number n (listed (get c.self.inside.nodes) c.self.inside.filed.items)) number)

@@ -1,7 +1,7 @@
 use Rattle.std.proofs.Common.{◌≡◌, None, Some, refl, sym, ap, subst, ◌∙◌, inl, inr, arith}
 use Rattle.std.proofs.lemmas.Option.{same_Some}
 use Rattle.slab.specs.Slab.{get}
-use Rattle.gptp_scheduler.specs.Chain.{entry_of, placed}
+use Rattle.gptp_scheduler.specs.Chain.{chain_entry, placed}
 use Rattle.gptp_scheduler.specs.Places.{IsPlace}
 use Rattle.gptp_scheduler.proofs.AgendaLemmas.{entry-filed-gone, entry-filed-node, entry-filed-other}
 use Rattle.gptp_scheduler.proofs.FiledLemmas.{entry-nowhere}
@@ -42,7 +42,7 @@ returns-then-node-number-clause-stands g c e is =
     c.self.inside.first c.self.invariant.0 c.args.number c.in_ok-key.key.place c.in_ok-node.node.now found there
     c.if-node-number.true in
     let entries = rw (← c.self.view_is) at is in
-    let time = ap (λ x. x.time) (same_Some (entry_of (placed c.in_ok-node.node.now)) e (sym one ∙ entries)) in
+    let time = ap (λ x. x.time) (same_Some (chain_entry (placed c.in_ok-node.node.now)) e (sym one ∙ entries)) in
     rw (← c.self.view_is)
     (subst (λ t. IsPlace c.self.inside.base t c.in_ok-node.node.now.slot) time
     (c.self.invariant.0.wheel.places c.in_ok-key.key.place (placed c.in_ok-node.node.now)

@@ -7,7 +7,7 @@ use Rattle.gptp_receipt.specs.Qualification.{Qualified}
 use Rattle.gptp_system.specs.State.{own, change, clock, held_at}
 use Rattle.gptp_system.specs.Ready.{state_of}
 use Rattle.std.specs.Prelude.{not}
-use Rattle.gptp_system.specs.Announcing.{answer_to_heard, is_taken}
+use Rattle.gptp_system.specs.Announcing.{answer_to_heard, replaces_held}
 use Rattle.gptp_system.proofs.AgainLemmas.{selects_again_or_not}
 use Rattle.gptp_system.proofs.ChangedLemmas.{change-length}
 use Rattle.gptp_system.proofs.ReadyLemmas.{held_ready, hearing_keeps}
@@ -42,7 +42,7 @@ returns-clause-step c =
     let heard : c.hear_at-heard.result ≡ comparison (held_at (state_of s) c.args.port) me a =
     rw (c.own-own.ensures, c.as_mut_slice.ensures.value) at c.hear_at-heard.ensures.heard in
     let again = c.hears_again-again.result in
-    let moves = c.can_change.ensures ∙ ap (λ heard. is_taken heard && not again) heard in
+    let moves = c.can_change.ensures ∙ ap (λ heard. replaces_held heard && not again) heard in
     let items = items-with_items s.held c.hear_at-heard.new.held kept ∙ is in
     let capable : c.is_capable.result ≡ true = search rules in
     let qualified : Qualified a c.own-own.result.clock = search rules in

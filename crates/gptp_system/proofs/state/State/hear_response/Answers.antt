@@ -1,7 +1,7 @@
 use Rattle.std.proofs.Common.{◌-◌, ℕ, ℤ, Option, refl, sym, ap, ◌∙◌, subst}
 use Rattle.gptp_pdelay.specs.Peer.{after_response, response_step}
 use Rattle.gptp_system.specs.declared.port.Port.{Port}
-use Rattle.gptp_system.specs.Measuring.{answer_of, step_at}
+use Rattle.gptp_system.specs.Measuring.{measuring_answer, step_at}
 use Rattle.gptp_system.specs.Ready.{IsReady, state_of}
 use Rattle.gptp_system.specs.State.{number, with_peer}
 use Rattle.gptp_system.proofs.MeasuringLemmas.{response_keeps, step_ready}
@@ -21,8 +21,8 @@ returns-clause-step c =
     record {
       becomes = record { state = written ∙ time; silent = refl };
       answer_is = c.response.ensures.answer
-          ∙ sym (ap (λ (o : Option Port). answer_of (step_at (response_step m c.local_time-t4.result) o)) at)
-          ∙ ap (λ (t : ℤ). answer_of (step_at (response_step m t) (number s.ports.items c.args.port)))
+          ∙ sym (ap (λ (o : Option Port). measuring_answer (step_at (response_step m c.local_time-t4.result) o)) at)
+          ∙ ap (λ (t : ℤ). measuring_answer (step_at (response_step m t) (number s.ports.items c.args.port)))
           c.local_time-t4.ensures.time;
     }
 

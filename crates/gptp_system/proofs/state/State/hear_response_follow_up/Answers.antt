@@ -1,7 +1,7 @@
 use Rattle.std.proofs.Common.{◌-◌, ℕ, Option, sym, ap, ◌∙◌}
 use Rattle.gptp_pdelay.specs.Peer.{after_follow_up, follow_up_step}
 use Rattle.gptp_system.specs.declared.port.Port.{Port}
-use Rattle.gptp_system.specs.Measuring.{answer_of, is_turned, step_at}
+use Rattle.gptp_system.specs.Measuring.{measuring_answer, is_turned, step_at}
 use Rattle.gptp_system.specs.Ready.{state_of}
 use Rattle.gptp_system.proofs.MeasuringLemmas.{follow_up_keeps, has_turned, stepped_ready}
 use Rattle.gptp_system.proofs.WrittenLemmas.{number_at}
@@ -28,7 +28,7 @@ returns-clause-step c =
           c.requires.least c.requires.most c.deref_mut.ensures.value place c.follow_up-changed.ensures.port
           c.follow_up-changed.ensures.changed c.settle.ensures.settled;
       answer_is = c.follow_up-changed.ensures.answer
-          ∙ sym (ap (λ (o : Option Port). answer_of (step_at (follow_up_step m) o)) at);
+          ∙ sym (ap (λ (o : Option Port). measuring_answer (step_at (follow_up_step m) o)) at);
     }
 
 pub returns-clause-turned : goal.returns-clause-turned

@@ -1,7 +1,7 @@
 use Rattle.std.proofs.Common.{◌≡◌, length, ap, ◌∙◌, sym, arith}
 use Rattle.arrayvec.specs.ArrayVec.{array_vec_len}
 use Rattle.arrayvec.proofs.ArrayVecLemmas.{items-with_items}
-use Rattle.gptp_roles.specs.Role.{held_after, is_fresh}
+use Rattle.gptp_roles.specs.Role.{held_after_selection, is_fresh}
 use Rattle.gptp_roles.specs.Selection.{IsSelection, clock_of}
 use Rattle.gptp_roles.proofs.EachLemmas.{length-each_from}
 use Rattle.gptp_system.specs.Ready.{state_of}
@@ -30,7 +30,7 @@ returns-clause-selects c =
     omega (
       arith,
       ap length selection.held,
-      length-each_from (held_after selection.chosen (clock_of s.identity)) 1
+      length-each_from (held_after_selection selection.chosen (clock_of s.identity)) 1
           s.held.items,
     ) in
     let held-is = items-with_items s.held c.select-selected.new.held held-kept in
@@ -71,7 +71,7 @@ returns-clause-ready c =
     omega (
       arith,
       ap length chosen.held,
-      length-each_from (held_after chosen.chosen (clock_of s.identity)) 1
+      length-each_from (held_after_selection chosen.chosen (clock_of s.identity)) 1
           c.as_mut_slice.result.now,
       ap length c.as_mut_slice.ensures.value,
     ) in

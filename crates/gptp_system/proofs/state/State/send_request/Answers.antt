@@ -6,7 +6,7 @@ use Rattle.gptp_system.specs.declared.sending.Sending.{Sending}
 use Rattle.gptp_setup.specs.Intervals.{interval_of}
 use Rattle.gptp_system.specs.Measuring.{asking}
 use Rattle.gptp_system.specs.Ready.{IsReady, state_of}
-use Rattle.gptp_system.specs.Sends.{request, with_send}
+use Rattle.gptp_system.specs.Sends.{pdelay_request, with_send}
 use Rattle.gptp_system.specs.State.{local_time, on_port, own}
 use Rattle.gptp_system.proofs.MeasuringLemmas.{log_back}
 use Rattle.gptp_system.proofs.WrittenLemmas.{number_at, port_ready, port_written}
@@ -37,9 +37,9 @@ returns-clause-sends c =
     let log = log_back s.params.pdelay c.requires.ready.params.pdelay in
     let message =
     c.request.ensures
-    ∙ ap (λ (from : PortId). request from (to_z w8 (of_z w8 s.params.pdelay)) c.ask-sequence.result) c.own.ensures
-    ∙ ap (λ (z : ℤ). request (own (state_of s) c.args.port) z c.ask-sequence.result) log
-    ∙ ap (λ (n : ℕ). request (own (state_of s) c.args.port) s.params.pdelay n) sequence in
+    ∙ ap (λ (from : PortId). pdelay_request from (to_z w8 (of_z w8 s.params.pdelay)) c.ask-sequence.result) c.own.ensures
+    ∙ ap (λ (z : ℤ). pdelay_request (own (state_of s) c.args.port) z c.ask-sequence.result) log
+    ∙ ap (λ (n : ℕ). pdelay_request (own (state_of s) c.args.port) s.params.pdelay n) sequence in
     c.insert.ensures ∙ ap (λ (one : Sending). with_send one c.args.outbox.now.items) message
 
 pub returns-clause-ready : goal.returns-clause-ready

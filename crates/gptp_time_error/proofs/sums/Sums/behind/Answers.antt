@@ -1,4 +1,4 @@
-use Rattle.gptp_time_error.specs.Sums.{link_of}
+use Rattle.gptp_time_error.specs.Sums.{way_link}
 use Rattle.gptp_time_error.proofs.MachineLemmas.{IsMade, given_within, is_behind, log_back}
 use Rattle.gptp_time_error.proofs.SumLemmas.{interval_long, sums_behind}
 use Rattle.gptp_time_error.proofs.sums.Sums.behind.Goals as goal
@@ -13,7 +13,7 @@ pub returns : goal.returns
 returns c = λ w links summed.
     let p = c.args.params.now in
     let s = c.args.self.now in
-    let l = link_of c.args.link.now in
+    let l = way_link c.args.link.now in
     let made : IsMade p s l c.interval_of.result c.rate_error.result c.link_error.result c.rates_error.result
     c.wait_error.result c.steady_rate.result c.from.result =
     record {

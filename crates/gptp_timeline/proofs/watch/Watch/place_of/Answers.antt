@@ -1,7 +1,7 @@
 -- The closure gives a system's clock.
 use Rattle.std.proofs.Common.{rules, ◌∙◌, ap, sym, subst}
 use Rattle.std.proofs.lemmas.List.Sorted.{answers_always}
-use Rattle.gptp_timeline.specs.Watch.{place_from, RisesByClock, WatchState}
+use Rattle.gptp_timeline.specs.Watch.{place_from, WatchedRise, WatchState}
 use Rattle.gptp_timeline.proofs.PlaceLemmas.{clock_of_watched, searched}
 use Rattle.gptp_timeline.proofs.watch.Watch.place_of.Goals as goal
 
@@ -11,6 +11,6 @@ returns-clause-is c =
     let by_clock = facts.position clock_of_watched (answers_always _ _ _ (λ f a r g called. search rules)) in
     let kept = c.deref.ensures.value in
     c.ok.ensures.value
-    ∙ searched c.deref.result.now c.args.clock (subst RisesByClock (sym kept) c.self.invariant)
+    ∙ searched c.deref.result.now c.args.clock (subst WatchedRise (sym kept) c.self.invariant)
     c.binary_search_by_key.result facts.bound by_clock
     ∙ ap (place_from c.args.clock 0) (kept ∙ ap (λ (o : WatchState). o.systems) c.self.view_is)

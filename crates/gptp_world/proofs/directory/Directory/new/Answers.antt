@@ -1,13 +1,13 @@
 use Rattle.std.proofs.Common.{◌≡◌, ℕ, List, sym, subst, ◌∙◌}
-use Rattle.gptp_world.specs.Directory.{Join, clocks_of, joins_of, IsPlan, AreRising}
+use Rattle.gptp_world.specs.Directory.{Join, directory_clocks, joins_of, IsPlan, AreRising}
 use Rattle.gptp_plan.specs.Network.{NetworkState, IsNetwork}
 use Rattle.gptp_world.proofs.DirectoryLemmas.{plan_of, all_named, all_rising, tables_of}
 use Rattle.gptp_world.proofs.directory.Directory.new.Goals as goal
 
-plan_at : (n : NetworkState) (clocks : List ℕ) (joins : List Join) → IsNetwork n → clocks ≡ clocks_of n.systems
+plan_at : (n : NetworkState) (clocks : List ℕ) (joins : List Join) → IsNetwork n → clocks ≡ directory_clocks n.systems
     → joins ≡ joins_of n.links → IsPlan clocks joins
 plan_at n clocks joins h e f =
-    subst (λ v. IsPlan v joins) (sym e) (subst (λ v. IsPlan (clocks_of n.systems) v) (sym f) (plan_of n h))
+    subst (λ v. IsPlan v joins) (sym e) (subst (λ v. IsPlan (directory_clocks n.systems) v) (sym f) (plan_of n h))
 
 rising_at : (clocks others rising numbers : List ℕ) → others ≡ clocks → numbers ≡ rising → AreRising clocks rising
     → AreRising others numbers

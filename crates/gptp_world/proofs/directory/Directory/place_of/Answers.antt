@@ -1,11 +1,11 @@
 use Rattle.std.proofs.Common.{◌≡◌, ℕ, true, false, List, Some, Contains, length, slice_get, slice_index_or, refl, sym, ap, ◌∙◌, subst, arith}
 use Rattle.std.proofs.lemmas.Option.{slice_get_within, slice_get_read}
-use Rattle.gptp_world.specs.Directory.{DirectoryState, ArePlaces}
+use Rattle.gptp_world.specs.Directory.{DirectoryState, ArePlacesOfClocks}
 use Rattle.gptp_lists.proofs.MappedLemmas.{contains_there}
 use Rattle.gptp_world.proofs.DirectoryLemmas.{rank_there, same_at, places_length}
 use Rattle.gptp_world.proofs.directory.Directory.place_of.Goals as goal
 
-there : (clocks rising ranked : List ℕ) (k clock p : ℕ) → ArePlaces clocks rising ranked
+there : (clocks rising ranked : List ℕ) (k clock p : ℕ) → ArePlacesOfClocks clocks rising ranked
     → slice_get rising k ≡ Some clock
     → p ≡ slice_index_or ranked k p → slice_get clocks p ≡ Some clock
 there clocks rising ranked k clock p h e is =

@@ -2,7 +2,7 @@ use Rattle.std.proofs.Common.{◌≡◌, ◌+◌, [], ◌∷◌, ◌++◌, take,
 use Rattle.std.proofs.lemmas.List.{drop_more, take_more, take-append-drop}
 use Rattle.gptp_system.specs.State.{clock}
 use Rattle.gptp_world.specs.Net.{between}
-use Rattle.gptp_world.specs.Room.{both, for_sends, HasRoom}
+use Rattle.gptp_world.specs.Room.{both, for_sends, WorldHasRoom}
 use Rattle.gptp_world.proofs.NeedLemmas.{covered, left_of, sends_covered, unsent, uses_both, uses_less}
 use Rattle.gptp_world.proofs.SendsLemmas.{sent_next, sent_none}
 use Rattle.gptp_world.proofs.net.Net.send_all.Goals as goal
@@ -21,12 +21,12 @@ send_next-requires-clause-room g c =
     let d = drop_more xs i x c.loop-send-test.true in
     let here : drop i xs ≡ x ∷ drop (i + 1) xs = d ∙ ap (λ y. y ∷ drop (i + 1) xs) (sym c.send-item.is) in
     let all : xs ≡ take i xs ++ (x ∷ drop (i + 1) xs) = sym (take-append-drop i xs) ∙ ap (λ ys. take i xs ++ ys) here in
-    let has : HasRoom (for_sends number (take i xs ++ (x ∷ drop (i + 1) xs))) net = rw (← all) c.requires.room in
-    let left : HasRoom (for_sends number (x ∷ drop (i + 1) xs)) c.loop-send.self =
+    let has : WorldHasRoom (for_sends number (take i xs ++ (x ∷ drop (i + 1) xs))) net = rw (← all) c.requires.room in
+    let left : WorldHasRoom (for_sends number (x ∷ drop (i + 1) xs)) c.loop-send.self =
     left_of (for_sends number (take i xs)) (for_sends number (x ∷ drop (i + 1) xs)) net c.loop-send.self
     c.loop-send.invariant.uses
     (covered _ _ net (sends_covered number (take i xs) (x ∷ drop (i + 1) xs)) has) in
-    let first : HasRoom (both (for_sends number (x ∷ [])) (for_sends number (drop (i + 1) xs))) c.loop-send.self =
+    let first : WorldHasRoom (both (for_sends number (x ∷ [])) (for_sends number (drop (i + 1) xs))) c.loop-send.self =
     covered _ _ c.loop-send.self (sends_covered number (x ∷ []) (drop (i + 1) xs)) left in
     covered _ (for_sends number (x ∷ [])) c.loop-send.self
     (record { entries = omega arith; buffers = omega arith; frames = λ port. omega arith }) first

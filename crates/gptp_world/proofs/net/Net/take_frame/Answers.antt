@@ -1,7 +1,7 @@
 use Rattle.std.proofs.Common.{◌≡◌, Some, refl, ap, sym, ◌∙◌, arith}
 use Rattle.std.proofs.lemmas.List.{length-set}
 use Rattle.std.proofs.lemmas.Option.{same_Some}
-use Rattle.gptp_world.specs.Pending.{PendingState}
+use Rattle.gptp_world.specs.Pending.{PendingView}
 use Rattle.gptp_lists.proofs.PlaceLemmas.{read}
 use Rattle.gptp_world.proofs.ArrivingLemmas.{joins_kept, taken}
 use Rattle.gptp_world.proofs.NeedLemmas.{uses_nothing}
@@ -14,7 +14,7 @@ returns-clause-net c =
     let is : one ≡ due.cable = c.index_mut.ensures.value ∙ read cables c.args.lane.link due.cable one due.here in
     let here = due.here ∙ ap Some (sym is) in
     let e = c.deliver_on-octets.ensures in
-    let links = ap (λ (p : PendingState). p.links) c.take_arrival.ensures.kept in
+    let links = ap (λ (p : PendingView). p.links) c.take_arrival.ensures.kept in
     let joins = joins_kept cables c.args.lane.link one c.deliver_on-octets.new.cable here e.a e.b in
     let fits = c.requires.net.links in
     record {
@@ -29,7 +29,7 @@ returns-clause-takes c = λ cable there.
     let same : due.cable ≡ one = same_Some due.cable one (sym due.here ∙ (there ∙ ap Some (sym is))) in
     let here = there ∙ ap Some (sym is) in
     let e = c.deliver_on-octets.ensures in
-    let entries = ap (λ (p : PendingState). p.entries) c.take_arrival.ensures.kept in
+    let entries = ap (λ (p : PendingView). p.entries) c.take_arrival.ensures.kept in
     rw (← is) (taken c.args.lane c.args.now c.deliver_on-octets.result.items cables one c.deliver_on-octets.new.cable
     c.args.self.now.pending c.take_arrival.new.self due.oldest due.rest here e.a e.b e.others
     (rw (← same) due.front) due.due_now e.taken entries)
@@ -40,6 +40,6 @@ returns-clause-uses c =
     let is : one ≡ due.cable = c.index_mut.ensures.value ∙ read cables c.args.lane.link due.cable one due.here in
     let here = due.here ∙ ap Some (sym is) in
     let e = c.deliver_on-octets.ensures in let gone = c.take_arrival.ensures in
-    let systems = ap (λ (p : PendingState). p.systems) gone.kept in
+    let systems = ap (λ (p : PendingView). p.systems) gone.kept in
     uses_nothing c.args.self.now _ refl systems gone.room (omega arith)
     (kept_on cables c.args.lane.link one c.deliver_on-octets.new.cable here e.room)

@@ -1,7 +1,7 @@
 use Rattle.std.proofs.Common.{refl, sym, ap, ◌∙◌, arith}
 use Rattle.gptp_acts.specs.declared.item.Item.TheVariants.{Arrival}
 use Rattle.gptp_acts.specs.Pending.{without}
-use Rattle.gptp_world.specs.Pending.{PendingState}
+use Rattle.gptp_world.specs.Pending.{PendingView}
 use Rattle.gptp_world.proofs.PendingLemmas.{same_state}
 use Rattle.gptp_acts.proofs.PendingLemmas.{without-first, without-none, without_first-none}
 use Rattle.gptp_world.proofs.pending.Pending.cancel_direction.Goals as goal
@@ -12,9 +12,9 @@ loop-direction-preserved c =
     let so_far = c.loop-direction.invariant in
     let took = c.take_arrival.ensures in
     record {
-      systems = ap (λ (p : PendingState). p.systems) took.kept ∙ so_far.systems;
-      links = ap (λ (p : PendingState). p.links) took.kept ∙ so_far.links;
-      entries = ap (λ (p : PendingState). without item p.entries) took.kept
+      systems = ap (λ (p : PendingView). p.systems) took.kept ∙ so_far.systems;
+      links = ap (λ (p : PendingView). p.links) took.kept ∙ so_far.links;
+      entries = ap (λ (p : PendingView). without item p.entries) took.kept
           ∙ without-first item c.loop-direction.self.entries
           ∙ so_far.entries;
       room = omega (arith, took.room, so_far.room);
@@ -26,8 +26,8 @@ returns-clause-kept c =
     let so_far = c.loop-direction.invariant in
     let took = c.take_arrival.ensures in
     let none = took.none c.loop-direction-test.false in
-    same_state _ _ (ap (λ (p : PendingState). p.systems) took.kept ∙ so_far.systems)
-    (ap (λ (p : PendingState). p.links) took.kept ∙ so_far.links)
-    (ap (λ (p : PendingState). p.entries) took.kept ∙ without_first-none item c.loop-direction.self.entries none
+    same_state _ _ (ap (λ (p : PendingView). p.systems) took.kept ∙ so_far.systems)
+    (ap (λ (p : PendingView). p.links) took.kept ∙ so_far.links)
+    (ap (λ (p : PendingView). p.entries) took.kept ∙ without_first-none item c.loop-direction.self.entries none
     ∙ sym (without-none item c.loop-direction.self.entries none) ∙ so_far.entries)
     refl

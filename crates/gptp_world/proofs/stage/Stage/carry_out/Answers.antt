@@ -4,7 +4,7 @@ use Rattle.gptp_acts.specs.Act.{all_timers, in_state}
 use Rattle.gptp_world.specs.Cable.{SentAll}
 use Rattle.gptp_acts.specs.declared.station.Station.{Station}
 use Rattle.gptp_world.specs.Net.{between}
-use Rattle.gptp_world.specs.Room.{for_sends, for_timers, HasRoom, Uses}
+use Rattle.gptp_world.specs.Room.{for_sends, for_timers, WorldHasRoom, Uses}
 use Rattle.gptp_world.specs.Stage.{for_left}
 use Rattle.gptp_world.proofs.NeedLemmas.{left_of, uses_both, uses_timers}
 use Rattle.gptp_lists.proofs.PlaceLemmas.{read, get-set_same}
@@ -18,7 +18,7 @@ send_all-requires-clause-room g c =
     c.index-station.ensures
     ∙ read c.args.self.now.stations.items c.args.place c.requires.carries.station one c.requires.carries.here in
     let used = 4 * length one.system.ports + 3 in
-    let room : HasRoom (for_left one.system c.args.self.now.outbox.items) net = rw is c.requires.carries.room in
+    let room : WorldHasRoom (for_left one.system c.args.self.now.outbox.items) net = rw is c.requires.carries.room in
     rw c.as_slice.ensures.value
     (left_of (for_timers used) (for_sends (clock one.system) c.args.self.now.outbox.items) net
     c.set_touched.new.self (uses_timers used net c.set_touched.new.self c.set_touched.ensures.only) room)

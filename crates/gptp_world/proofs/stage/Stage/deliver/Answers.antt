@@ -3,7 +3,7 @@ use Rattle.gptp_system.specs.Reach.{frame_reach}
 use Rattle.gptp_system.specs.Steps.{IsUp}
 use Rattle.gptp_vector.specs.declared.port.PortId.{PortId}
 use Rattle.gptp_world.specs.Cable.{channel_of, join_of}
-use Rattle.gptp_world.specs.Directory.{end_of, DirectoryState}
+use Rattle.gptp_world.specs.Directory.{direction_end, DirectoryState}
 use Rattle.gptp_world.specs.Net.{between, IsOldest}
 use Rattle.gptp_world.specs.Room.{for_reach}
 use Rattle.gptp_world.proofs.CreditLemmas.{after_nothing}
@@ -34,7 +34,7 @@ hear_if_live-answer-requires-clause-place g c =
     let there = known_join net lane.link due.cable c.requires.stage.net due.here in
     let same = c.take_frame-frame.ensures.uses.directory in
     let place = c.receiver-place.ensures join (ap (λ (d : DirectoryState). slice_get d.joins lane.link) same ∙ there) in
-    place_within c.args.self.now c.receiver-place.result (end_of lane.direction join).clock c.requires.stage
+    place_within c.args.self.now c.receiver-place.result (direction_end lane.direction join).clock c.requires.stage
     (ap (λ (d : DirectoryState). slice_get d.clocks c.receiver-place.result) (sym same) ∙ place)
 
 pub hear_if_live-answer-requires-clause-heard : goal.hear_if_live-answer-requires-clause-heard
@@ -46,9 +46,9 @@ hear_if_live-answer-requires-clause-heard g c = λ station here live.
     let after = ap (λ (d : DirectoryState). slice_get d.joins lane.link) same ∙ there in
     let place = c.receiver-place.ensures join after in
     let at = c.port_at-at.ensures join after in
-    let port : c.narrowed.result ≡ (end_of lane.direction join).port = c.narrowed.ensures
+    let port : c.narrowed.result ≡ (direction_end lane.direction join).port = c.narrowed.ensures
     ∙ ap (λ (p : PortId). p.port) at in
-    let up : IsUp station.system (end_of lane.direction join).port =
+    let up : IsUp station.system (direction_end lane.direction join).port =
     c.requires.hears join c.receiver-place.result there
     (ap (λ (d : DirectoryState). slice_get d.clocks c.receiver-place.result) (sym same) ∙ place) station here live in
     rw port up
@@ -87,7 +87,7 @@ returns-clause-delivered g c =
     let after = ap (λ (d : DirectoryState). slice_get d.joins lane.link) same ∙ there in
     let place = c.receiver-place.ensures join after in
     let at = c.port_at-at.ensures join after in
-    let stands = station_at c.args.self.now c.receiver-place.result (end_of lane.direction join).clock c.requires.stage
+    let stands = station_at c.args.self.now c.receiver-place.result (direction_end lane.direction join).clock c.requires.stage
     (ap (λ (d : DirectoryState). slice_get d.clocks c.receiver-place.result) (sym same) ∙ place) in
     let ends = end_same lane.direction due.cable in
     let port = c.narrowed.ensures ∙ ap (λ (p : PortId). p.port) (at ∙ ends) in
@@ -120,7 +120,7 @@ returns-clause-uses g c =
     let placed = ap (λ (d : DirectoryState). slice_get d.clocks c.receiver-place.result) (sym same) ∙ place in
     let octets = c.deref.result.now in
     let takes = c.take_frame-frame.ensures.takes due.cable due.here in
-    let stands = station_at c.args.self.now c.receiver-place.result (end_of lane.direction join).clock c.requires.stage
+    let stands = station_at c.args.self.now c.receiver-place.result (direction_end lane.direction join).clock c.requires.stage
     placed in
     record {
       join = join;

@@ -1,7 +1,7 @@
 use Rattle.std.proofs.Common.{◌<◌, ◌++◌, List, length, ap, sym, ◌∙◌, arith}
 use Rattle.gptp_graph.specs.Snapshot.{Link}
 use Rattle.gptp_lists.proofs.PlaceLemmas.{member_there}
-use Rattle.gptp_kept.specs.Standing.{live_systems}
+use Rattle.gptp_kept.specs.Standing.{live_stations}
 use Rattle.gptp_world.specs.Cable.{channel_of}
 use Rattle.gptp_world.specs.Used.{used_if}
 use Rattle.gptp_world.proofs.UsedLemmas.{one_more}
@@ -13,7 +13,7 @@ loop-link-preserved c =
     let all = c.len-link-end.ensures in let known = stage.net.cables.ok.0 in
     let within : link < length stage.net.cables.items = omega arith in
     let (cable, here) = member_there stage.net.cables.items link within in
-    let last = used_if (live_systems stage.stations.items) (channel_of cable) in
+    let last = used_if (live_stations stage.stations.items) (channel_of cable) in
     c.in_ok-push_used.ensures cable here
     ∙ ap (λ (ls : List Link). ls ++ last) c.loop-link.invariant
     ∙ sym (one_more stage link cable here)
