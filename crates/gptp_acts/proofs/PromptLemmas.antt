@@ -15,9 +15,9 @@ use Rattle.gptp_acts.specs.declared.station.Station.{Station}
 use Rattle.gptp_acts.specs.Course.{Begun}
 use Rattle.gptp_acts.specs.Initial.{initial, station_of}
 use Rattle.gptp_plan.specs.Network.{NetworkState, pace_of, smallest_of}
-use Rattle.gptp_plan.specs.Prompt.{ArePromptActs, IsPromptAct}
+use Rattle.gptp_plan.specs.Prompt.{ArePromptActs, DelayFitsInterval}
 use Rattle.gptp_plan.proofs.LogLemmas.{In-flat_map, interval_least}
-use Rattle.gptp_acts.specs.Prompt.{ArePromptIn, IsPromptIn, NoneFaster}
+use Rattle.gptp_acts.specs.Prompt.{AllDelaysFitIntervals, DelaysFitIntervals, NoneFaster}
 use Rattle.gptp_acts.specs.Sound.{HaveTheirSetups}
 use Rattle.gptp_acts.specs.Views.{IsActOf, IsNextAct}
 use Rattle.gptp_acts.specs.World.{WorldState}
@@ -31,18 +31,18 @@ stays_none_faster least w w' stays none place new log there member =
     let was = stays.stations place new there in
     none place was.old log was.here (subst (In log) was.same.intervals member)
 
-pub stays_prompt : (act : Act) (w w' : WorldState) → Stays w w' → IsPromptIn w act → IsPromptIn w' act
+pub stays_prompt : (act : Act) (w w' : WorldState) → Stays w w' → DelaysFitIntervals w act → DelaysFitIntervals w' act
 stays_prompt act w w' stays prompt place new log there member =
     let was = stays.stations place new there in
     prompt place was.old log was.here (subst (In log) was.same.intervals member)
 
-pub stay_prompt : (acts : List Timed) (w w' : WorldState) → Stays w w' → ArePromptIn w acts → ArePromptIn w' acts
+pub stay_prompt : (acts : List Timed) (w w' : WorldState) → Stays w w' → AllDelaysFitIntervals w acts → AllDelaysFitIntervals w' acts
 stay_prompt acts w w' stays prompt place timed here = stays_prompt timed.act w w' stays (prompt place timed here)
 
 -- ---- worlds of one network
 
 -- what is prompt for a time is so for a longer one
-pub prompt_longer : (most longer : ℕ) (act : Act) → most ≤ longer → IsPromptAct most act → IsPromptAct longer act
+pub prompt_longer : (most longer : ℕ) (act : Act) → most ≤ longer → DelayFitsInterval most act → DelayFitsInterval longer act
 prompt_longer most longer (Deliver link direction) less prompt = tt
 prompt_longer most longer (Expire number timer) less prompt = tt
 prompt_longer most longer (Changing (LinkDown number port)) less prompt = tt
@@ -54,13 +54,13 @@ prompt_longer most longer (Changing (Priority1 number value)) less prompt = tt
 prompt_longer most longer (Changing (Inject number port octets)) less prompt = tt
 
 -- what is prompt for an interval below which no port announces is so in the world
-pub prompt_within : (least : ℕ) (act : Act) (w : WorldState) → NoneFaster least w → IsPromptAct least act
-    → IsPromptIn w act
+pub prompt_within : (least : ℕ) (act : Act) (w : WorldState) → NoneFaster least w → DelayFitsInterval least act
+    → DelaysFitIntervals w act
 prompt_within least act w none prompt place station log here member =
     prompt_longer least (interval_of log) act (none place station log here member) prompt
 
 pub all_prompt : (least : ℕ) (acts : List Timed) (w : WorldState) → NoneFaster least w → ArePromptActs least acts
-    → ArePromptIn w acts
+    → AllDelaysFitIntervals w acts
 all_prompt least acts w none prompt place timed here = prompt_within least timed.act w none (prompt place timed here)
 
 initial_none_faster : (n : NetworkState) → NoneFaster (interval_of (smallest_of n)) (initial n)
@@ -82,10 +82,10 @@ begun_none_faster answers n fate fate_after w setups k =
 -- ---- what is next
 
 -- a delivery sets no bounds, and an expiry neither
-is_prompt : (most : ℕ) (item : Item) (act : Act) (w : WorldState) → IsActOf item w act → IsPromptAct most act
-is_prompt most (Arrival link direction) act w is = subst (IsPromptAct most) (sym is) tt
-is_prompt most (Expiry place timer) act w (station, here, is) = subst (IsPromptAct most) (sym is) tt
+is_prompt : (most : ℕ) (item : Item) (act : Act) (w : WorldState) → IsActOf item w act → DelayFitsInterval most act
+is_prompt most (Arrival link direction) act w is = subst (DelayFitsInterval most) (sym is) tt
+is_prompt most (Expiry place timer) act w (station, here, is) = subst (DelayFitsInterval most) (sym is) tt
 
-pub next_prompt : (w : WorldState) (timed : Timed) → IsNextAct w timed → IsPromptIn w timed.act
+pub next_prompt : (w : WorldState) (timed : Timed) → IsNextAct w timed → DelaysFitIntervals w timed.act
 next_prompt w timed next place station log here member =
     is_prompt (interval_of log) next.item timed.act w next.act

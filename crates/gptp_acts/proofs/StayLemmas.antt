@@ -14,7 +14,7 @@ use Rattle.gptp_system.specs.Input.{Input, PortUp, PortDown, Priority, Frame as 
 use Rattle.gptp_system.specs.Start.{started}
 use Rattle.gptp_system.specs.State.{SystemState, clock}
 use Rattle.gptp_system.proofs.StartLemmas.{length-new_ports}
-use Rattle.gptp_system.proofs.TouchedLemmas.{priority_clock}
+use Rattle.gptp_system.proofs.TimersChangedLemmas.{priority_clock}
 use Rattle.gptp_plan.specs.declared.change.Act.{Act}
 use Rattle.gptp_plan.specs.declared.change.Act.TheVariants.{Deliver, Expire, Change as Changing}
 use Rattle.gptp_plan.specs.declared.change.Change.{Change}

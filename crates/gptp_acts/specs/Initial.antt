@@ -1,16 +1,16 @@
 -- The world that a network makes, before its systems start (profile).
 use Rattle.std.specs.Prelude.{false, List, [], map}
-use Rattle.gptp_setup.specs.Pace.{Pace}
+use Rattle.gptp_setup.specs.SettlingParams.{SettlingParams}
 use Rattle.gptp_setup.specs.declared.setup.Setup.{Setup}
 use Rattle.gptp_system.specs.Start.{started}
-use Rattle.gptp_plan.specs.declared.network.Member.{Member}
-use Rattle.gptp_plan.specs.declared.network.Wire.{Wire}
+use Rattle.gptp_plan.specs.declared.network.SystemSpec.{SystemSpec}
+use Rattle.gptp_plan.specs.declared.network.LinkSpec.{LinkSpec}
 use Rattle.gptp_acts.specs.declared.station.Station.{Station}
 use Rattle.gptp_plan.specs.Network.{NetworkState, pace_of}
 use Rattle.gptp_acts.specs.World.{Channel, Net, WorldState}
 
 -- what a system of a network starts with: its ports announce at their own intervals, none above the largest
-abbrev pub setup_of : Pace → Member → Setup
+abbrev pub setup_of : SettlingParams → SystemSpec → Setup
 setup_of pace member = record {
   identity = member.identity;
   ports = member.ports;
@@ -22,7 +22,7 @@ setup_of pace member = record {
 }
 
 -- it isn't live yet
-abbrev pub station_of : Pace → Member → Station
+abbrev pub station_of : SettlingParams → SystemSpec → Station
 station_of pace member = record {
   setup = setup_of pace member;
   system = started (setup_of pace member) 0;
@@ -30,7 +30,7 @@ station_of pace member = record {
 }
 
 -- a link, with nothing in flight
-abbrev pub channel_from : Wire → Channel
+abbrev pub channel_from : LinkSpec → Channel
 channel_from wire = record {
   a = wire.a;
   b = wire.b;

@@ -5,7 +5,7 @@ use Rattle.std.proofs.lemmas.Option.{same_Some, slice_get_within}
 use native.Mathlib.Decide.{dec_lt}
 use Rattle.gptp_lists.specs.Members.{Different, In}
 use Rattle.gptp_lists.proofs.MappedLemmas.{mapped, mapped_there}
-use Rattle.gptp_lists.proofs.MemberLemmas.{In-map, In-slice_get, from_map, slice_get-In}
+use Rattle.gptp_lists.proofs.SystemSpecLemmas.{In-map, In-slice_get, from_map, slice_get-In}
 use Rattle.gptp_lists.proofs.PlaceLemmas.{member_there, read}
 use Rattle.gptp_graph.specs.Labelling.{SystemLine, line_clocks}
 use Rattle.gptp_graph.specs.Marking.{AreFarSteps, IsFar, IsLowestRoot, IsStatedBeside, LeadsToNear, Statement}

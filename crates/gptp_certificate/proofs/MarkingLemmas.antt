@@ -6,7 +6,7 @@ use native.Mathlib.Decide.{dec_lt}
 use Rattle.std.specs.List.{All}
 use Rattle.std.specs.List.Sorted.{IsNonDecreasing}
 use Rattle.gptp_lists.specs.Members.{In}
-use Rattle.gptp_lists.proofs.MemberLemmas.{In-map, In-slice_get, slice_get-In}
+use Rattle.gptp_lists.proofs.SystemSpecLemmas.{In-map, In-slice_get, slice_get-In}
 use Rattle.gptp_lists.proofs.MappedLemmas.{contains_there, mapped_there}
 use Rattle.gptp_lists.proofs.PlaceLemmas.{before, get-set_other, get-set_same, map-set, read, same_place}
 use Rattle.gptp_graph.specs.Labelling.{SystemLine}

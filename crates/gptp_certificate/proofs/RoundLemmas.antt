@@ -4,7 +4,7 @@ use Rattle.std.proofs.lemmas.List.{length-set}
 use Rattle.gptp_lists.specs.Members.{In}
 use Rattle.std.proofs.lemmas.Option.{slice_get-get_or}
 use Rattle.gptp_lists.proofs.MappedLemmas.{taken}
-use Rattle.gptp_lists.proofs.MemberLemmas.{In-parts, In-slice_get}
+use Rattle.gptp_lists.proofs.SystemSpecLemmas.{In-parts, In-slice_get}
 use Rattle.gptp_lists.proofs.PlaceLemmas.{get-set_same, read, same_place}
 use Rattle.std.proofs.lemmas.List.{get_or-set_other}
 use Rattle.gptp_certificate.specs.Rounds.{value, LinksAreWithin, CameOver, HasCome, Leads, PassRound, ValuesPass, LinkTouches}

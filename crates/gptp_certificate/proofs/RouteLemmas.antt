@@ -2,7 +2,7 @@
 use Rattle.std.proofs.Common.{◌≡◌, ℕ, zero, suc, List, [], ◌∷◌, length, Option, Some, slice_get, refl, sym, ap, subst, ◌∙◌, inl, inr}
 use Rattle.std.proofs.lemmas.Option.{none-some, same_Some, slice_get_within}
 use Rattle.gptp_lists.specs.Members.{Different, In}
-use Rattle.gptp_lists.proofs.MemberLemmas.{In-map, In-slice_get, from_map}
+use Rattle.gptp_lists.proofs.SystemSpecLemmas.{In-map, In-slice_get, from_map}
 use Rattle.gptp_graph.specs.Path.{Route}
 use Rattle.gptp_graph.specs.Snapshot.{Adjacent, Joins, Link, Snapshot, port_of}
 use Rattle.gptp_certificate.specs.Marking.{ArePairs, clocks_at, clocks_in}

@@ -16,7 +16,7 @@ use Rattle.gptp_graph.specs.Snapshot.{IsWellFormed, Snapshot, System, clocks, po
 use Rattle.gptp_graph.proofs.DistanceLemmas.{IsDistance-unique}
 use Rattle.gptp_graph.proofs.ExistenceLemmas.{best_exists, distance_exists}
 use Rattle.gptp_graph.proofs.MarkingLemmas.{far_is, far_steps, is_far, lowest_root}
-use Rattle.gptp_lists.proofs.MemberLemmas.{In-slice_get, from_map, slice_get-In}
+use Rattle.gptp_lists.proofs.SystemSpecLemmas.{In-slice_get, from_map, slice_get-In}
 use Rattle.gptp_graph.proofs.RisingLemmas.{Different-rising}
 use Rattle.gptp_vector.specs.declared.port.PortId.{PortId}
 use Rattle.gptp_roles.specs.declared.role.Role.{Role}
@@ -34,8 +34,8 @@ use Rattle.gptp_kept.proofs.StandsLemmas.{stands_well}
 use Rattle.gptp_kept.proofs.SystemLemmas.{clock_in, live_from, live_there}
 use Rattle.gptp_kept.specs.Settled.{IsSettledSystem, Settled, followed_link}
 use Rattle.gptp_kept.specs.Settled as graphs
-use Rattle.gptp_kept.specs.Claimed.{Claimed}
-use Rattle.gptp_kept.proofs.ClaimedLemmas.{claimed_settled}
+use Rattle.gptp_kept.specs.SettlingInvariant.{SettlingInvariant}
+use Rattle.gptp_kept.proofs.SettlingInvariantLemmas.{claimed_settled}
 use Rattle.gptp_certificate_text.specs.Certificate.{IsCertificate, parent_of, role_of}
 use Rattle.gptp_certificate.specs.Settled.{IsRightInTime}
 use Rattle.gptp_certificate.specs.Stated.{IsFarLine, IsStatedLine, IsNearLine, States, stated_line, stated_port}
@@ -255,7 +255,7 @@ module _ (w : WorldState) (wf : IsWellFormed (snapshot_of w)) (settled : Settled
   }
 
 -- so they are right in time
-pub right_in_time : (w : WorldState) (lines : List SystemLine) → Claimed w → States w lines → IsRightInTime w lines
+pub right_in_time : (w : WorldState) (lines : List SystemLine) → SettlingInvariant w → States w lines → IsRightInTime w lines
 right_in_time w lines claimed states calm =
     let world = claimed.is.world in
     settled_choice w (stands_well w world.sound world.between world.legible) (claimed_settled w claimed calm)

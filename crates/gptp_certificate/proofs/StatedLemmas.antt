@@ -6,7 +6,7 @@ use Rattle.std.specs.List.{range_with_len}
 use Rattle.gptp_graph.specs.Labelling.{PortLine, SystemLine, line_clocks}
 use Rattle.gptp_lists.specs.Members.{In}
 use Rattle.gptp_graph.specs.Order.{IsRising}
-use Rattle.gptp_lists.proofs.MemberLemmas.{In-left, In-map, In-parts, In-right, In-slice_get, from_map, slice_get-In}
+use Rattle.gptp_lists.proofs.SystemSpecLemmas.{In-left, In-map, In-parts, In-right, In-slice_get, from_map, slice_get-In}
 use Rattle.gptp_system.specs.State.{SystemState, clock}
 use Rattle.gptp_acts.specs.Acts.{AtSystem}
 use Rattle.gptp_acts.specs.Sound.{HaveOwnClocks}

@@ -91,8 +91,8 @@ fn list_pairs<F: Fate + Drop>(
     clocks: &[ClockId],
 ) -> Result<Vec<(usize, usize)>, AllocError>
     requires rising { IsRising clocks.now }
-    requires all { (v : ℕ) → In v (all_clocks (snapshot_of world.now.scene)) → In v clocks.now }
-    ensures { IfOk result (λ pairs. ArePairs clocks.now (snapshot_of world.now.scene).links pairs.items) }
+    requires all { (v : ℕ) → In v (all_clocks (snapshot_of world.now.world_core)) → In v clocks.now }
+    ensures { IfOk result (λ pairs. ArePairs clocks.now (snapshot_of world.now.world_core).links pairs.items) }
 {
     world.well_formed();
     let links = world.list_links(alloc)?;
@@ -182,8 +182,8 @@ pub(crate) fn mark_far<F: Fate + Drop>(
     world: &World<F>,
     lines: &mut Vec<SystemLine>,
 ) -> Result<(), AllocError>
-    requires { AreSaid world.now.scene (lines_of lines.old.items) }
-    ensures { OnOk result (States world.now.scene (lines_of lines.new.items)) }
+    requires { AreSaid world.now.world_core (lines_of lines.old.items) }
+    ensures { OnOk result (States world.now.world_core (lines_of lines.new.items)) }
 {
     world.well_formed();
     let systems = world.count();

@@ -82,8 +82,8 @@ fn state_clock<F: Fate + Drop>(
     own: ClockId,
     lines: &mut Vec<SystemLine>,
 ) -> Result<(), AllocError>
-    requires { AtSystem own world.now.scene AnySystem }
-    ensures { OnOk result (Adds own world.now.scene (lines_of lines.old.items) (lines_of lines.new.items)) }
+    requires { AtSystem own world.now.world_core AnySystem }
+    ensures { OnOk result (Adds own world.now.world_core (lines_of lines.old.items) (lines_of lines.new.items)) }
 {
     match world.system(own) {
         Some(system) => push_line(alloc, lines, own, system),
@@ -98,8 +98,8 @@ fn state_at<F: Fate + Drop>(
     place: usize,
     lines: &mut Vec<SystemLine>,
 ) -> Result<(), AllocError>
-    ensures { OnOk result ((own : ℕ) → slice_get (rising_clocks world.now.scene) place ≡ Some own
-        → Adds own world.now.scene (lines_of lines.old.items) (lines_of lines.new.items)) }
+    ensures { OnOk result ((own : ℕ) → slice_get (rising_clocks world.now.world_core) place ≡ Some own
+        → Adds own world.now.world_core (lines_of lines.old.items) (lines_of lines.new.items)) }
 {
     match world.clock_at(place) {
         Some(own) => state_clock(alloc, world, own, lines),
@@ -112,7 +112,7 @@ fn list_lines<F: Fate + Drop>(
     alloc: Global,
     world: &World<F>,
 ) -> Result<Vec<SystemLine>, AllocError>
-    ensures { IfOk result (λ lines. AreSaid world.now.scene (lines_of lines.items)) }
+    ensures { IfOk result (λ lines. AreSaid world.now.world_core (lines_of lines.items)) }
 {
     world.well_formed();
     let mut lines = Vec::new(alloc);
@@ -133,8 +133,8 @@ pub fn write_certificate<F: Fate + Drop>(
     world: &World<F>,
 ) -> Result<Certificate, AllocError>
     ensures version { IfOk result (λ certificate. certificate.version ≡ 2) }
-    ensures states { IfOk result (λ certificate. States world.now.scene certificate.lines) }
-    ensures right { IfOk result (λ certificate. IsRightInTime world.now.scene certificate.lines) }
+    ensures states { IfOk result (λ certificate. States world.now.world_core certificate.lines) }
+    ensures right { IfOk result (λ certificate. IsRightInTime world.now.world_core certificate.lines) }
 {
     world.well_formed();
     let mut lines = list_lines(alloc, world)?;

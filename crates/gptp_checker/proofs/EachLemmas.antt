@@ -2,7 +2,7 @@
 use Rattle.std.proofs.Common.{◌↔◌, zero, suc, Bool, IsTrue, [], ◌∷◌, ◌++◌, take, drop, ap, inl, inr, ◌≡◌, ◌<◌, ◌≤◌, ◌+◌, ℕ, List, Option, Some, None, IfSome, IfNone, option_map, length, slice_get, sym, subst, ◌∙◌, arith}
 use Rattle.std.proofs.lemmas.Option.{slice_get_within}
 use Rattle.gptp_lists.specs.Members.{In}
-use Rattle.gptp_lists.proofs.MemberLemmas.{slice_get-In}
+use Rattle.gptp_lists.proofs.SystemSpecLemmas.{slice_get-In}
 
 -- of each member before place n
 pub record HoldBefore {X : Type 0} (P : X → Type 0) (xs : List X) (n : ℕ) : Type 0 where

@@ -6,7 +6,7 @@ use Rattle.gptp_graph.specs.Snapshot.{Snapshot, PortIdentity, Link, port_of, Joi
 use Rattle.gptp_graph.specs.Parent.{ParentLink}
 use Rattle.gptp_graph.specs.Labelling.{PortLine, SystemLine, HasItsSystems}
 use Rattle.gptp_graph.specs.LocalTests.{PassesTooFar, PassesRoot, PassesSteps, PassesParent, PassesLink, PassesIdentity, PassesTie, PassesRole}
-use Rattle.gptp_lists.proofs.MemberLemmas.{from_map}
+use Rattle.gptp_lists.proofs.SystemSpecLemmas.{from_map}
 use Rattle.gptp_graph.proofs.StatementLemmas.{near_with_parent}
 use Rattle.gptp_certificate_text.specs.Certificate.{IsVersion}
 use Rattle.gptp_checker.specs.LineTests.{HasNearer, IsNoLower, EndLeadsNearer, PassesLine, PassesEachLine, AgreeAcross, AgreeOver}

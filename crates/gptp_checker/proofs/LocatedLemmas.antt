@@ -3,7 +3,7 @@ use Rattle.std.proofs.Common.{◌≡◌, ◌≢◌, ◌<◌, ◌+◌, ◌↔◌,
 use Rattle.std.specs.List.{range_with_len}
 use Rattle.gptp_lists.specs.Members.{In}
 use Rattle.gptp_lists.proofs.MappedLemmas.{mapped_there, same_there, some_same}
-use Rattle.gptp_lists.proofs.MemberLemmas.{In-map, In-slice_get, from_map, same_image, slice_get-In}
+use Rattle.gptp_lists.proofs.SystemSpecLemmas.{In-map, In-slice_get, from_map, same_image, slice_get-In}
 use Rattle.gptp_graph.specs.Order.{IsRising}
 use Rattle.gptp_graph.specs.Labelling.{PortLine, SystemLine, HasItsSystems, IsBare, line_clocks, port_numbers}
 use Rattle.gptp_graph.specs.LocalTests.{PassesSystems}

@@ -1,7 +1,7 @@
 -- A fault of a certificate has one first place.
 use Rattle.std.proofs.Common.{◌≡◌, ◌<◌, ℕ, List, inl, inr, sym, ap, subst, ◌∙◌, arith}
 use Rattle.gptp_lists.proofs.MappedLemmas.{some_same}
-use Rattle.gptp_lists.proofs.MemberLemmas.{same_image}
+use Rattle.gptp_lists.proofs.SystemSpecLemmas.{same_image}
 use Rattle.gptp_graph.specs.Labelling.{PortLine, SystemLine, line_clocks}
 use Rattle.gptp_graph.specs.LocalTests.{HasStatedRole}
 use Rattle.gptp_graph.specs.Order.{IsRising}

@@ -7,7 +7,7 @@ use Rattle.gptp_lists.specs.Members.{In}
 use Rattle.gptp_graph.specs.Order.{IsRising}
 use Rattle.gptp_graph.specs.Snapshot.{System, Snapshot, clocks}
 use Rattle.gptp_graph.specs.Labelling.{SystemLine, line_clocks, port_numbers, IsBare, HasItsSystems}
-use Rattle.gptp_lists.proofs.MemberLemmas.{In-map, from_map, same_image, In-slice_get, slice_get-In}
+use Rattle.gptp_lists.proofs.SystemSpecLemmas.{In-map, from_map, same_image, In-slice_get, slice_get-In}
 use Rattle.gptp_graph.proofs.RisingLemmas.{Different-rising, same_rising}
 use Rattle.gptp_graph.proofs.StatementLemmas.{line_clock, line_of}
 use Rattle.gptp_checker.specs.Places.{IsLineFor, AgreeAt, IsLineAt}

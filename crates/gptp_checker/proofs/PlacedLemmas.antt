@@ -3,7 +3,7 @@ use Rattle.std.proofs.Common.{◌≡◌, ◌⊎◌, ◌+◌, ℕ, false, List, [
 use Rattle.std.specs.List.{range_with_len}
 use native.Mathlib.Decide.{ℕ_discrete, dec_le}
 use Rattle.gptp_lists.specs.Members.{In}
-use Rattle.gptp_lists.proofs.MemberLemmas.{In-left, In-map, In-right}
+use Rattle.gptp_lists.proofs.SystemSpecLemmas.{In-left, In-map, In-right}
 use Rattle.gptp_graph.specs.Labelling.{PortLine, SystemLine, line_clocks, port_numbers}
 use Rattle.gptp_graph.specs.LocalTests.{HasStatedRole, PassesLink, PassesSystems}
 use Rattle.gptp_graph.specs.Order.{IsLower, IsRising}

@@ -6,7 +6,7 @@ use Rattle.std.proofs.lemmas.List.{length-map}
 use Rattle.std.proofs.lemmas.List.FromFn.{length-range_with_len}
 use Rattle.std.proofs.lemmas.Nat.{mod_below}
 use Rattle.gptp_lists.specs.Members.{In}
-use Rattle.gptp_lists.proofs.MemberLemmas.{In-map, from_map, pigeonhole}
+use Rattle.gptp_lists.proofs.SystemSpecLemmas.{In-map, from_map, pigeonhole}
 use Rattle.gptp_graph.specs.Labelling.{PortLine, SystemLine, line_clocks}
 use Rattle.gptp_graph.specs.Parent.{IsParent, ParentLink}
 use Rattle.gptp_graph.specs.SettledChoice.{IsParentIfAny}

@@ -5,7 +5,7 @@ use Rattle.std.proofs.lemmas.List.{length-map}
 use Rattle.std.proofs.lemmas.Option.{same_Some, slice_get_within}
 use Rattle.gptp_lists.specs.Members.{Different, In}
 use Rattle.gptp_lists.proofs.MappedLemmas.{mapped, mapped_there, taken}
-use Rattle.gptp_lists.proofs.MemberLemmas.{In-slice_get, slice_get-In}
+use Rattle.gptp_lists.proofs.SystemSpecLemmas.{In-slice_get, slice_get-In}
 use Rattle.gptp_graph.specs.Distance.{IsDistance}
 use Rattle.gptp_graph.specs.Labelling.{IsLineOf, PortLine, SystemLine, line_clocks, port_numbers}
 use Rattle.gptp_graph.specs.Order.{IsRising}

@@ -5,7 +5,7 @@ use Rattle.gptp_acts.specs.Views.{rising_clocks}
 use Rattle.gptp_acts.specs.World.{WorldState}
 use Rattle.gptp_links.specs.declared.bounds.Bounds.{Bounds}
 use Rattle.gptp_lists.specs.Members.{In}
-use Rattle.gptp_lists.proofs.MemberLemmas.{In-right}
+use Rattle.gptp_lists.proofs.SystemSpecLemmas.{In-right}
 use Rattle.gptp_network.specs.Adding.{with_event}
 use Rattle.gptp_network.specs.Document.{DocumentState, Means}
 use Rattle.gptp_network.specs.Snapshot.{events_by}

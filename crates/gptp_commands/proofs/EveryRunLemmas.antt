@@ -14,7 +14,7 @@ use Rattle.gptp_plan.specs.Network.{IsNetwork, pace_of}
 use Rattle.gptp_plan.specs.SettlingTime.{settles}
 use Rattle.gptp_plan.specs.SyncWait.{sync_paths}
 use Rattle.gptp_plan.specs.declared.change.Timed.{Timed}
-use Rattle.gptp_plan.specs.declared.network.Member.{Member}
+use Rattle.gptp_plan.specs.declared.network.SystemSpec.{SystemSpec}
 use Rattle.gptp_plan.proofs.InUseLemmas.{short_delay}
 use Rattle.gptp_plan.proofs.LogLemmas.{largest_log, smallest_log}
 use Rattle.gptp_plan.proofs.SyncWaitLemmas.{short_time}
@@ -24,9 +24,9 @@ use Rattle.gptp_network.specs.Events.{AreEvents}
 use Rattle.gptp_network.proofs.EventLemmas.{early_from, events_allowed}
 use Rattle.gptp_network.proofs.MeantLemmas.{meant_document}
 use Rattle.gptp_network.proofs.PassLemmas.{count_more}
-use Rattle.gptp_kept.specs.Claimed.{Claimed}
+use Rattle.gptp_kept.specs.SettlingInvariant.{SettlingInvariant}
 use Rattle.gptp_certificate_text.specs.CertificateText.{certificate_lines}
-use Rattle.gptp_reached.proofs.ClaimedLemmas.{played_claimed}
+use Rattle.gptp_reached.proofs.SettlingInvariantLemmas.{played_claimed}
 use Rattle.gptp_reached.proofs.OctetLemmas.{documents_playable}
 use Rattle.gptp_outcome.proofs.LineExistLemmas.{documents_lead}
 use Rattle.gptp_outcome.proofs.StatedExistLemmas.{states_exist}
@@ -41,10 +41,10 @@ use Rattle.gptp_commands.proofs.RunLemmas.{runs_settle}
 
 -- ---- a run ends in time
 
-live_few : (events : List Timed) (members : List Member) → count_live members events ≤ length members
+live_few : (events : List Timed) (members : List SystemSpec) → count_live members events ≤ length members
 live_few events [] = omega arith
 live_few events (m ∷ members) =
-    let more = count_more (λ (x : Member). (system_after events x).live) m members in
+    let more = count_more (λ (x : SystemSpec). (system_after events x).live) m members in
     let rest = live_few events members in
     let one : cond (system_after events m).live 1 0 ≤ 1 = by (system_after events m).live in
     omega (arith, more, rest, one)
@@ -73,7 +73,7 @@ ends_in_time (Some until) settled moment in_time = moment
 
 -- ---- a run
 
-certificate_exists : (asked : Bool) (w : WorldState) → Claimed w → (lines : List (List ℕ)) × CertifiesIf asked w lines
+certificate_exists : (asked : Bool) (w : WorldState) → SettlingInvariant w → (lines : List (List ℕ)) × CertifiesIf asked w lines
 certificate_exists true w claimed =
     let (stated, states) = states_exist w claimed in (certificate_lines 2 stated, (stated, states, refl))
 certificate_exists false w claimed = ([], refl)

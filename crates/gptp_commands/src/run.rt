@@ -80,9 +80,9 @@ fn write_all<F: Fate + Drop, K: Sink>(
     sink: &mut K,
 ) -> Result<(), Cut>
     ensures some { OnErr result ((lines : List (List ℕ))
-        × ((lines ≡ []) ⊎ Reports document.now until world.now.scene lines)
+        × ((lines ≡ []) ⊎ Reports document.now until world.now.world_core lines)
         × AppendsSome (K.written sink.old) (K.written sink.new) (text_of lines)) }
-    ensures whole { OnOk result ((lines : List (List ℕ)) × Reports document.now until world.now.scene lines
+    ensures whole { OnOk result ((lines : List (List ℕ)) × Reports document.now until world.now.world_core lines
         × Appends (K.written sink.old) (K.written sink.new) (text_of lines)) }
     ensures works { result ≢ Err Cut.Write → K.failures sink.new ≡ K.failures sink.old }
     ensures fails { result ≡ Err Cut.Write → K.failures sink.new ≢ K.failures sink.old }
@@ -102,9 +102,9 @@ fn write_certified<F: Fate + Drop, K: Sink>(
     sink: &mut K,
 ) -> Result<(), Cut>
     ensures some { OnErr result ((lines : List (List ℕ))
-        × ((lines ≡ []) ⊎ TellsRun document.now until true world.now.scene lines)
+        × ((lines ≡ []) ⊎ TellsRun document.now until true world.now.world_core lines)
         × AppendsSome (K.written sink.old) (K.written sink.new) (text_of lines)) }
-    ensures whole { OnOk result ((lines : List (List ℕ)) × TellsRun document.now until true world.now.scene lines
+    ensures whole { OnOk result ((lines : List (List ℕ)) × TellsRun document.now until true world.now.world_core lines
         × Appends (K.written sink.old) (K.written sink.new) (text_of lines)) }
     ensures works { result ≢ Err Cut.Write → K.failures sink.new ≡ K.failures sink.old }
     ensures fails { result ≡ Err Cut.Write → K.failures sink.new ≢ K.failures sink.old }
@@ -124,9 +124,9 @@ fn tell<F: Fate + Drop, K: Sink>(
     sink: &mut K,
 ) -> Result<(), Cut>
     ensures some { OnErr result ((lines : List (List ℕ))
-        × ((lines ≡ []) ⊎ TellsRun document.now until certified world.now.scene lines)
+        × ((lines ≡ []) ⊎ TellsRun document.now until certified world.now.world_core lines)
         × AppendsSome (K.written sink.old) (K.written sink.new) (text_of lines)) }
-    ensures whole { OnOk result ((lines : List (List ℕ)) × TellsRun document.now until certified world.now.scene lines
+    ensures whole { OnOk result ((lines : List (List ℕ)) × TellsRun document.now until certified world.now.world_core lines
         × Appends (K.written sink.old) (K.written sink.new) (text_of lines)) }
     ensures works { result ≢ Err Cut.Write → K.failures sink.new ≡ K.failures sink.old }
     ensures fails { result ≡ Err Cut.Write → K.failures sink.new ≢ K.failures sink.old }

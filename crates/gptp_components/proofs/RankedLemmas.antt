@@ -7,7 +7,7 @@ use Rattle.std.proofs.lemmas.List.Sorted.{IsNonDecreasingBy-from_sort, IsPermuta
 use Rattle.std.proofs.lemmas.Option.{get_or_from_slice_get, same_Some, slice_get_within}
 use Rattle.gptp_lists.specs.Members.{In}
 use Rattle.gptp_lists.proofs.MappedLemmas.{taken}
-use Rattle.gptp_lists.proofs.MemberLemmas.{In-map, In-parts, In-slice_get, from_map, slice_get-In}
+use Rattle.gptp_lists.proofs.SystemSpecLemmas.{In-map, In-parts, In-slice_get, from_map, slice_get-In}
 use Rattle.gptp_graph.specs.Best.{IsBest}
 use Rattle.gptp_graph.specs.Order.{IsRising}
 use Rattle.gptp_graph.specs.Path.{Reaches}

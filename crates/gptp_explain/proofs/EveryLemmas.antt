@@ -3,7 +3,7 @@ use Rattle.std.proofs.Common.{◌≡◌, ◌⊎◌, ◌+◌, ◌<◌, ℕ, zero,
 use Rattle.std.specs.List.{range_with_len}
 use native.Mathlib.Decide.{ℕ_discrete, dec_lt}
 use Rattle.gptp_lists.specs.Members.{Different, In}
-use Rattle.gptp_lists.proofs.MemberLemmas.{In-map, from_map}
+use Rattle.gptp_lists.proofs.SystemSpecLemmas.{In-map, from_map}
 use Rattle.gptp_graph.specs.Distance.{IsDistance}
 use Rattle.gptp_graph.specs.Order.{IsRising}
 use Rattle.gptp_graph.specs.Parent.{IsParent, ParentLink}
@@ -21,7 +21,7 @@ use Rattle.gptp_graph.proofs.RoleLemmas.{settled_role_exists}
 use Rattle.gptp_graph.proofs.SystemLemmas.{In-clocks, same_identity, system_of}
 use Rattle.gptp_plan.specs.Change.{link_after}
 use Rattle.gptp_plan.specs.Network.{IsEnd}
-use Rattle.gptp_plan.specs.declared.network.Wire.{Wire}
+use Rattle.gptp_plan.specs.declared.network.LinkSpec.{LinkSpec}
 use Rattle.gptp_vector.specs.declared.port.PortId.{PortId}
 use Rattle.gptp_network.specs.Document.{DocumentState}
 use Rattle.gptp_network.specs.Snapshot.{IsSnapshot, events_by, port_identity}
@@ -46,16 +46,16 @@ port_dec p q =
     (dec_both (ℕ_discrete p.clock q.clock) (ℕ_discrete p.port q.port))
 
 module _ (d : DocumentState) (at : ℕ) (p : PortId) where
-  leads_on : (w : Wire) → IsEnd p w → (q : PortId) × JoinsPorts w p q
+  leads_on : (w : LinkSpec) → IsEnd p w → (q : PortId) × JoinsPorts w p q
   leads_on w (inl is) = (w.b, inl (is, refl))
   leads_on w (inr is) = (w.a, inr (is, refl))
 
-  by_up : (w : Wire) (q : PortId) (up : Bool) → In w d.network.links → JoinsPorts w p q
+  by_up : (w : LinkSpec) (q : PortId) (up : Bool) → In w d.network.links → JoinsPorts w p q
       → (link_after (events_by at d.events) w).up ≡ up → (why : Why) × IsKnownLink d at p why
   by_up w q false one leads is = (Down q, record { wire = w; one = one; leads = leads; stands = is })
   by_up w q true one leads is = (Failed q, record { wire = w; one = one; leads = leads; stands = is })
 
-  end_dec : (w : Wire) → Dec (IsEnd p w)
+  end_dec : (w : LinkSpec) → Dec (IsEnd p w)
   end_dec w = dec_either (port_dec w.a p) (port_dec w.b p)
 
   known_exists : (why : Why) × IsKnownLink d at p why

@@ -3,7 +3,7 @@ use Rattle.std.proofs.Common.{◌≡◌, ◌+◌, ℕ, Bool, true, false, List, 
 use Rattle.std.specs.List.{range_with_len}
 use Rattle.std.proofs.lemmas.Option.{same_Some}
 use Rattle.gptp_lists.specs.Members.{In}
-use Rattle.gptp_lists.proofs.MemberLemmas.{In-map, slice_get-In}
+use Rattle.gptp_lists.proofs.SystemSpecLemmas.{In-map, slice_get-In}
 use Rattle.gptp_graph.specs.Distance.{IsDistance}
 use Rattle.gptp_graph.specs.Order.{IsRising}
 use Rattle.gptp_graph.specs.Parent.{ParentLink}
@@ -17,7 +17,7 @@ use Rattle.gptp_graph.proofs.RoleLemmas.{RoleBy-unique}
 use Rattle.gptp_graph.proofs.SystemLemmas.{same_clock}
 use Rattle.gptp_plan.specs.Change.{link_after}
 use Rattle.gptp_plan.specs.Network.{IsEnd, IsNetwork}
-use Rattle.gptp_plan.specs.declared.network.Wire.{Wire}
+use Rattle.gptp_plan.specs.declared.network.LinkSpec.{LinkSpec}
 use Rattle.gptp_vector.specs.declared.port.PortId.{PortId}
 use Rattle.gptp_network.specs.Document.{DocumentState}
 use Rattle.gptp_network.specs.Snapshot.{events_by, port_identity}
@@ -34,12 +34,12 @@ use Rattle.gptp_explain.specs.declared.why.Why.TheVariants.{Down, Failed, Loses,
 -- ---- the link of a document at a port
 
 -- it ends there
-pub end_of : (p q : PortId) (w : Wire) → JoinsPorts w p q → IsEnd p w
+pub end_of : (p q : PortId) (w : LinkSpec) → JoinsPorts w p q → IsEnd p w
 end_of p q w (inl ends) = inl ends.0
 end_of p q w (inr ends) = inr ends.0
 
 module _ (d : DocumentState) (network : IsNetwork d.network) (p : PortId) where
-  one_wire : (v w : Wire) → In v d.network.links → In w d.network.links → IsEnd p v → IsEnd p w → v ≡ w
+  one_wire : (v w : LinkSpec) → In v d.network.links → In w d.network.links → IsEnd p v → IsEnd p w → v ≡ w
   one_wire v w one other here there =
       let (i, at) = slice_get-In v d.network.links one in
       let (j, over) = slice_get-In w d.network.links other in
@@ -47,13 +47,13 @@ module _ (d : DocumentState) (network : IsNetwork d.network) (p : PortId) where
       same_Some v w (sym at ∙ ap (slice_get d.network.links) place ∙ over)
 
   -- its ends differ
-  apart : (w : Wire) → In w d.network.links → w.a ≡ w.b → ⊥
+  apart : (w : LinkSpec) → In w d.network.links → w.a ≡ w.b → ⊥
   apart w one same =
       let (i, at) = slice_get-In w d.network.links one in
       (network.links i w at).apart (ap (λ (q : PortId). q.clock) same)
 
   -- so it leads to one port
-  other_end : (w : Wire) (q r : PortId) → In w d.network.links → JoinsPorts w p q → JoinsPorts w p r → q ≡ r
+  other_end : (w : LinkSpec) (q r : PortId) → In w d.network.links → JoinsPorts w p q → JoinsPorts w p r → q ≡ r
   other_end w q r one (inl x) (inl y) = sym x.1 ∙ y.1
   other_end w q r one (inl x) (inr y) = absurd (apart w one (x.0 ∙ sym y.0))
   other_end w q r one (inr x) (inl y) = absurd (apart w one (y.0 ∙ sym x.0))
@@ -65,8 +65,8 @@ module _ (d : DocumentState) (network : IsNetwork d.network) (p : PortId) where
     one_end q r s t x y =
         let same : y.wire ≡ x.wire =
         one_wire y.wire x.wire y.one x.one (end_of p r y.wire y.leads) (end_of p q x.wire x.leads) in (
-          other_end x.wire q r x.one x.leads (subst (λ (w : Wire). JoinsPorts w p r) same y.leads),
-          sym x.stands ∙ ap (λ (w : Wire). (link_after (events_by at d.events) w).up) (sym same) ∙ y.stands,
+          other_end x.wire q r x.one x.leads (subst (λ (w : LinkSpec). JoinsPorts w p r) same y.leads),
+          sym x.stands ∙ ap (λ (w : LinkSpec). (link_after (events_by at d.events) w).up) (sym same) ∙ y.stands,
         )
 
     -- what is known of it is one thing

@@ -1,7 +1,7 @@
 -- Why ports have their settled roles.
 use Rattle.std.proofs.Common.{◌≡◌, ◌⊎◌, ◌<◌, ◌+◌, ℕ, zero, suc, true, false, Option, Some, None, List, slice_get, refl, sym, ap, subst, ◌∙◌, inl, inr, arith}
 use Rattle.gptp_lists.specs.Members.{In}
-use Rattle.gptp_lists.proofs.MemberLemmas.{In-slice_get, slice_get-In}
+use Rattle.gptp_lists.proofs.SystemSpecLemmas.{In-slice_get, slice_get-In}
 use Rattle.gptp_graph.specs.Snapshot.{Snapshot, IsLinked, IsWellFormed, Joins, clocks}
 use Rattle.gptp_graph.specs.Distance.{IsDistance}
 use Rattle.gptp_graph.specs.Labelling.{SystemLine}
@@ -13,7 +13,7 @@ use Rattle.gptp_graph.proofs.DistanceLemmas.{best_at_zero}
 use Rattle.gptp_graph.proofs.ParentLemmas.{parent_exists}
 use Rattle.gptp_plan.specs.Change.{link_after}
 use Rattle.gptp_plan.specs.declared.change.Timed.{Timed}
-use Rattle.gptp_plan.specs.declared.network.Wire.{Wire}
+use Rattle.gptp_plan.specs.declared.network.LinkSpec.{LinkSpec}
 use Rattle.gptp_network.specs.Document.{DocumentState}
 use Rattle.gptp_network.specs.Snapshot.{IsSnapshot, events_by, link_of, port_identity}
 use Rattle.gptp_vector.specs.declared.port.PortId.{PortId}
@@ -115,7 +115,7 @@ module _ (g : Snapshot) (line : SystemLine) (p : PortId) where
 
 module _ (d : DocumentState) (at : ℕ) (p : PortId) where
   -- what is known of the link at a place
-  pub known_there : (w : Wire) (there : PortId) (why : Why) (place : ℕ) → slice_get d.network.links place ≡ Some w
+  pub known_there : (w : LinkSpec) (there : PortId) (why : Why) (place : ℕ) → slice_get d.network.links place ≡ Some w
       → JoinsPorts w p there → (events : List Timed) → events ≡ events_by at d.events
       → ((why ≡ Down there) × ((link_after events w).up ≡ false))
       ⊎ ((why ≡ Failed there) × ((link_after events w).up ≡ true))
@@ -138,7 +138,7 @@ module _ (d : DocumentState) (at : ℕ) (p : PortId) where
       subst (IsKnownLink d at p) (sym is) known
 
   -- where no link leads from the port
-  pub none_known : ((place : ℕ) (w : Wire) (there : PortId) → slice_get d.network.links place ≡ Some w
+  pub none_known : ((place : ℕ) (w : LinkSpec) (there : PortId) → slice_get d.network.links place ≡ Some w
       → JoinsPorts w p there → ⊥)
       → IsKnownLink d at p Unlinked
   none_known none w there one leads =
@@ -150,7 +150,7 @@ module _ (d : DocumentState) (at : ℕ) (p : PortId) where
   has_failed g why stands live unlinked known there is lives =
       up (subst (IsKnownLink d at p) is known)
     where
-      used : (a b : PortId) (w : Wire) → In w d.network.links → w.a ≡ a → w.b ≡ b
+      used : (a b : PortId) (w : LinkSpec) → In w d.network.links → w.a ≡ a → w.b ≡ b
           → (link_after (events_by at d.events) w).up ≡ true → In a.clock (clocks g) → In b.clock (clocks g)
           → In (link_of (a, b)) g.links
       used a b w one is_a is_b up here over =

@@ -2,12 +2,12 @@
 use Rattle.std.proofs.Common.{◌≡◌, ◌⊎◌, ◌==◌, ◌&&◌, ◌||◌, ℕ, Bool, true, false, cond, List, [], ◌∷◌, filter, map, Option, Some, None, eq-eqb, refl, sym, ap, ap₂, subst, ◌∙◌, inl, inr}
 use Rattle.std.specs.List.{cons_option, filter_map}
 use Rattle.gptp_lists.specs.Members.{In}
-use Rattle.gptp_lists.proofs.MemberLemmas.{In-map, from_map}
+use Rattle.gptp_lists.proofs.SystemSpecLemmas.{In-map, from_map}
 use Rattle.gptp_graph.specs.Snapshot.{Snapshot, System, clocks}
 use Rattle.gptp_vector.specs.declared.port.PortId.{PortId}
 use Rattle.gptp_plan.specs.Change.{joined_after, link_after}
 use Rattle.gptp_plan.specs.declared.change.Timed.{Timed}
-use Rattle.gptp_plan.specs.declared.network.Wire.{Wire}
+use Rattle.gptp_plan.specs.declared.network.LinkSpec.{LinkSpec}
 use Rattle.gptp_network.specs.Snapshot.{has_clock, joins_two, link_of, used_links}
 
 kept_one : {X : Type 0} (p : X → Bool) (x y : X) (xs : List X) (t : Bool) → p y ≡ t
@@ -58,12 +58,12 @@ clock_there g v member =
     subst (λ w. has_clock g.systems w ≡ true) is (has_one g.systems s live)
 
 -- so is a link that is up
-pub joined_up : (events : List Timed) (w : Wire) (a b : PortId) → w.a ≡ a → w.b ≡ b
+pub joined_up : (events : List Timed) (w : LinkSpec) (a b : PortId) → w.a ≡ a → w.b ≡ b
     → (link_after events w).up ≡ true → joined_after events w ≡ Some (a, b)
 joined_up events w a b is_a is_b up = rw up (ap₂ (λ (p q : PortId). Some (p, q)) is_a is_b)
 
 -- and where both its ends live, it is one of the snapshot
-pub in_used : (links : List Wire) (events : List Timed) (systems : List System) (w : Wire) (a b : PortId)
+pub in_used : (links : List LinkSpec) (events : List Timed) (systems : List System) (w : LinkSpec) (a b : PortId)
     → In w links → joined_after events w ≡ Some (a, b) → has_clock systems a.clock ≡ true
     → has_clock systems b.clock ≡ true → In (link_of (a, b)) (used_links links events systems)
 in_used links events systems w a b one joined here over =

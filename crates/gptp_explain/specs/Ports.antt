@@ -9,7 +9,7 @@ use Rattle.gptp_graph.specs.SettledRole.{Disabled, IsSettledRole, Master, Passiv
 use Rattle.gptp_graph.specs.Snapshot.{Joins, Snapshot, clocks}
 use Rattle.gptp_vector.specs.declared.port.PortId.{PortId}
 use Rattle.gptp_plan.specs.Change.{link_after}
-use Rattle.gptp_plan.specs.declared.network.Wire.{Wire}
+use Rattle.gptp_plan.specs.declared.network.LinkSpec.{LinkSpec}
 use Rattle.gptp_certificate_text.specs.Forms.{role_word}
 use Rattle.gptp_network.specs.Document.{DocumentState}
 use Rattle.gptp_network.specs.Snapshot.{events_by, port_identity}
@@ -21,16 +21,16 @@ use Rattle.gptp_explain.specs.declared.why.Why.TheVariants.{Unlinked, Down, Fail
 -- ---- a port at which no link is up between two live systems
 
 -- the link leads from the one port to the other, whichever of them it names first
-abbrev pub JoinsPorts : Wire → PortId → PortId → Type 0
+abbrev pub JoinsPorts : LinkSpec → PortId → PortId → Type 0
 JoinsPorts w p q = ((w.a ≡ p) × (w.b ≡ q)) ⊎ ((w.b ≡ p) × (w.a ≡ q))
 
 -- the document has no link at the port
 abbrev pub HasNoLink : DocumentState → PortId → Type 0
-HasNoLink d p = (w : Wire) (q : PortId) → In w d.network.links → JoinsPorts w p q → ⊥
+HasNoLink d p = (w : LinkSpec) (q : PortId) → In w d.network.links → JoinsPorts w p q → ⊥
 
 -- a link of the document leads from the one port to the other, and at the time it is up or down
 pub record IsDocumentLink (d : DocumentState) (at : ℕ) (p q : PortId) (up : Bool) : Type 0 where
-  pub wire : Wire
+  pub wire : LinkSpec
   pub one : In wire d.network.links
   pub leads : JoinsPorts wire p q
   pub stands : (link_after (events_by at d.events) wire).up ≡ up

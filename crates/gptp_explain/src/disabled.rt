@@ -6,7 +6,7 @@ ghost use Rattle.gptp_lists.specs.Members.{In};
 ghost use Rattle.gptp_network.specs.Events.{AreInOrder};
 ghost use Rattle.gptp_network.specs.Snapshot.{IsSnapshot, events_by, port_identity};
 ghost use Rattle.gptp_plan.specs.Change.{link_after};
-ghost use Rattle.gptp_plan.specs.declared.network.Wire.{Wire};
+ghost use Rattle.gptp_plan.specs.declared.network.LinkSpec.{LinkSpec};
 ghost use Rattle.gptp_explain.specs.Ports.{OtherEndHasFailed, IsKnownLink, JoinsPorts};
 
 use crate::why::Why;
@@ -25,9 +25,9 @@ fn events_by(events: &[Timed], until: u64) -> &[Timed]
 
 /// The port at the other end of the link at a place, where the port is one of its ends.
 fn beyond(network: &Network, place: usize, port: &PortId) -> Option<PortId>
-    ensures some { IfSome result (λ there. (w : Wire) × (slice_get network.now.links place ≡ Some w)
+    ensures some { IfSome result (λ there. (w : LinkSpec) × (slice_get network.now.links place ≡ Some w)
         × JoinsPorts w port.now there) }
-    ensures none { IfNone result ((w : Wire) (there : PortId) → slice_get network.now.links place ≡ Some w
+    ensures none { IfNone result ((w : LinkSpec) (there : PortId) → slice_get network.now.links place ≡ Some w
         → JoinsPorts w port.now there → ⊥) }
 {
     let (a, b, _, _) = network.link_at(place)?;
@@ -42,7 +42,7 @@ fn beyond(network: &Network, place: usize, port: &PortId) -> Option<PortId>
 
 /// What is known of the link at a place, which leads to this port, after these events: it is down, or up.
 fn known_at(network: &Network, events: &[Timed], place: usize, there: PortId) -> Why
-    ensures { (w : Wire) → slice_get network.now.links place ≡ Some w
+    ensures { (w : LinkSpec) → slice_get network.now.links place ≡ Some w
         → ((result ≡ Why.Down there) × ((link_after events.now w).up ≡ false))
         ⊎ ((result ≡ Why.Failed there) × ((link_after events.now w).up ≡ true)) }
 {

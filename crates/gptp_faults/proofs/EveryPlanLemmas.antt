@@ -16,7 +16,7 @@ use Rattle.gptp_plan.specs.SyncWait.{sync_paths}
 use Rattle.gptp_plan.specs.declared.sync_wait.SyncPaths.{SyncPaths}
 use Rattle.gptp_plan.proofs.LogLemmas.{largest_log}
 use Rattle.gptp_setup.specs.Intervals.{IsLog, interval_of}
-use Rattle.gptp_setup.specs.Pace.{Pace}
+use Rattle.gptp_setup.specs.SettlingParams.{SettlingParams}
 use Rattle.gptp_setup.proofs.IntervalLemmas.{interval_positive}
 use Rattle.gptp_timeline.specs.Each.{Each}
 use Rattle.gptp_faults.specs.Cases.{AreCases, fault_of, link_cases, system_cases}
@@ -102,7 +102,7 @@ planned_exist d options t cases network =
 -- ---- a fault stays some time
 
 -- a network takes some time to settle
-pub span_some : (p : Pace) (paths : SyncPaths) (n : ℕ) → IsLog p.largest → 0 < settling_span_with p paths n
+pub span_some : (p : SettlingParams) (paths : SyncPaths) (n : ℕ) → IsLog p.largest → 0 < settling_span_with p paths n
 span_some p paths n log =
     let interval = interval_positive p.largest log in
     let some : 1 * 1 ≤ settling_span p n =

@@ -8,7 +8,7 @@ use Rattle.std.proofs.lemmas.List.Sorted.{IsPermutation-cons, IsPermutation-midd
 use native.Mathlib.Decide.{dec_lt}
 use Rattle.gptp_graph.specs.Order.{IsRising}
 use Rattle.gptp_lists.specs.Members.{In}
-use Rattle.gptp_lists.proofs.MemberLemmas.{from_map}
+use Rattle.gptp_lists.proofs.SystemSpecLemmas.{from_map}
 use Rattle.gptp_timeline.specs.Stretch.{times}
 use Rattle.gptp_faults.specs.Follows.{AreFollows, followed}
 use Rattle.gptp_faults.specs.Outcomes.{OutcomeState}

@@ -4,9 +4,9 @@ use Rattle.std.specs.List.{list_any}
 use Rattle.std.proofs.lemmas.Bool.Decides.{nat_tests}
 use Rattle.std.proofs.lemmas.Option.{same_Some}
 use Rattle.gptp_graph.specs.Snapshot.{Link, Snapshot}
-use Rattle.gptp_kept.specs.LegibleLaws.{SetsAnOctet}
+use Rattle.gptp_kept.specs.EncodableLaws.{SetsAnOctet}
 use Rattle.gptp_lists.specs.Members.{In}
-use Rattle.gptp_lists.proofs.MemberLemmas.{from_map, In-parts}
+use Rattle.gptp_lists.proofs.SystemSpecLemmas.{from_map, In-parts}
 use Rattle.gptp_lists.proofs.PlaceLemmas.{behind}
 use Rattle.gptp_network.specs.Adding.{with_event}
 use Rattle.gptp_network.specs.Document.{DocumentState}
@@ -22,8 +22,8 @@ use Rattle.gptp_plan.specs.declared.change.Act.{Act}
 use Rattle.gptp_plan.specs.declared.change.Act.TheVariants as acts
 use Rattle.gptp_plan.specs.declared.change.Change.{Change}
 use Rattle.gptp_plan.specs.declared.change.Timed.{Timed}
-use Rattle.gptp_plan.specs.declared.network.Member.{Member}
-use Rattle.gptp_plan.specs.declared.network.Wire.{Wire}
+use Rattle.gptp_plan.specs.declared.network.SystemSpec.{SystemSpec}
+use Rattle.gptp_plan.specs.declared.network.LinkSpec.{LinkSpec}
 use Rattle.gptp_reached.specs.PlayedLaws.{IsPlayable}
 use Rattle.gptp_reached.proofs.EventLemmas.{last_behind}
 use Rattle.gptp_roles.specs.Selection.{clock_of}
@@ -73,7 +73,7 @@ module _ (d : DocumentState) (kind : Option Only) (all : List Case) (are : AreCa
       let (w, wire, up) = from_filter_map _ pair d.network.links joined in
       let ends : (w.a, w.b) ≡ pair = given_if _ (w.a, w.b) pair up in
       let taken : is_taken d.network.links w.a ≡ true =
-      some_passes (λ (x : Wire). same_port x.a w.a || same_port x.b w.a) w d.network.links wire
+      some_passes (λ (x : LinkSpec). same_port x.a w.a || same_port x.b w.a) w d.network.links wire
       (rw (port_itself w.a) refl) in
       let whole : link_case (link_of (w.a, w.b)) ≡ c = ap (λ p. link_case (link_of p)) ends ∙ ap link_case link ∙ is in
       subst (CanFail d) whole (taken, taken)
@@ -87,7 +87,7 @@ module _ (d : DocumentState) (kind : Option Only) (all : List Case) (are : AreCa
       let clock : clock_of m.identity ≡ clock_of pair.0 =
       sym (clock_after d.events m) ∙ ap (λ (p : ℕ × ℕ). clock_of p.0) same in
       let there : members_have_clock d.network.systems (clock_of pair.0) ≡ true =
-      some_passes (λ (x : Member). clock_of x.identity == clock_of pair.0) m d.network.systems at
+      some_passes (λ (x : SystemSpec). clock_of x.identity == clock_of pair.0) m d.network.systems at
       (rw clock (same_itself (clock_of pair.0))) in
       subst (CanFail d) is (there, there)
 

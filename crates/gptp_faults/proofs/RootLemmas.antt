@@ -10,7 +10,7 @@ use Rattle.std.proofs.lemmas.List.Sums.{sum_by-append, sum_by-cons}
 use Rattle.std.proofs.lemmas.Option.{get_or_from_slice_get, slice_get_within}
 use Rattle.gptp_graph.specs.Order.{IsRising}
 use Rattle.gptp_lists.specs.Members.{In}
-use Rattle.gptp_lists.proofs.MemberLemmas.{from_map, In-left, In-parts, In-right, slice_get-In}
+use Rattle.gptp_lists.proofs.SystemSpecLemmas.{from_map, In-left, In-parts, In-right, slice_get-In}
 use Rattle.gptp_network.proofs.SnapshotLemmas.{In-permutation}
 use Rattle.gptp_timeline.specs.Stretch.{times}
 use Rattle.gptp_faults.specs.Follows.{AreFollows, followed}

@@ -3,7 +3,7 @@ use Rattle.std.proofs.Common.{◌≡◌, ◌⊎◌, ℕ, List, [], ◌∷◌, sy
 use Rattle.gptp_lists.specs.Members.{In, Different}
 use Rattle.gptp_graph.specs.Snapshot.{System, PortIdentity, Link, Snapshot, IsWellFormed, clocks, port_of, Joins, Adjacent}
 use Rattle.gptp_graph.specs.Parent.{ParentLink, JoinsAt}
-use Rattle.gptp_lists.proofs.MemberLemmas.{In-map}
+use Rattle.gptp_lists.proofs.SystemSpecLemmas.{In-map}
 
 -- a link joins either end to the other
 pub Joins-sym : (g : Snapshot) (p q : PortIdentity) → Joins g p q → Joins g q p

@@ -5,7 +5,7 @@ use Rattle.std.proofs.lemmas.Bool.{and_from, and_parts, or_cases, or_left, or_ri
 use Rattle.std.proofs.lemmas.List.Sums.{length-filter}
 use Rattle.std.proofs.Math.Nat.{le-min}
 use Rattle.gptp_lists.specs.Members.{In, Different}
-use Rattle.gptp_lists.proofs.MemberLemmas.{pigeonhole}
+use Rattle.gptp_lists.proofs.SystemSpecLemmas.{pigeonhole}
 use Rattle.gptp_graph.specs.Snapshot.{Link, Snapshot, IsWellFormed, clocks, port_of, Adjacent}
 use Rattle.gptp_graph.specs.Path.{Route}
 use Rattle.gptp_graph.specs.Distance.{IsDistance}

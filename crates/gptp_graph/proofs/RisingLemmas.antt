@@ -3,7 +3,7 @@ use Rattle.std.proofs.Common.{◌≡◌, ◌<◌, ℕ, List, [], ◌∷◌, map,
 use native.Mathlib.Decide.{dec_lt}
 use Rattle.gptp_lists.specs.Members.{In, Different}
 use Rattle.gptp_graph.specs.Order.{IsRising}
-use Rattle.gptp_lists.proofs.MemberLemmas.{In-map, from_map}
+use Rattle.gptp_lists.proofs.SystemSpecLemmas.{In-map, from_map}
 
 -- rising numbers differ
 pub Different-rising : (xs : List ℕ) → IsRising xs → Different xs

@@ -8,7 +8,7 @@ use Rattle.gptp_graph.specs.SettledRole.{IsSlavePort, IsMasterPort}
 use Rattle.gptp_graph.specs.Labelling.{PortLine, SystemLine, HasItsSystems}
 use Rattle.gptp_graph.specs.SettledChoice.{IsParentIfAny}
 use Rattle.gptp_graph.specs.LocalTests.{StatesSteps, StatesSlave, StatesMaster}
-use Rattle.gptp_lists.proofs.MemberLemmas.{same_image}
+use Rattle.gptp_lists.proofs.SystemSpecLemmas.{same_image}
 use Rattle.gptp_graph.proofs.SystemLemmas.{In-clocks, system_of}
 use Rattle.gptp_graph.proofs.DistanceLemmas.{IsDistance-unique, IsDistance-clock}
 use Rattle.gptp_graph.proofs.ParentLemmas.{IsParent-unique}

@@ -3,7 +3,7 @@ use Rattle.std.proofs.Common.{◌≡◌, ◌≤◌, ℕ, List, length, ap, subst
 use Rattle.std.proofs.lemmas.List.{length-map}
 use Rattle.gptp_lists.specs.Members.{In, Different}
 use Rattle.gptp_graph.specs.Snapshot.{System, Snapshot, IsWellFormed, clocks}
-use Rattle.gptp_lists.proofs.MemberLemmas.{In-map, from_map, same_image, pigeonhole}
+use Rattle.gptp_lists.proofs.SystemSpecLemmas.{In-map, from_map, same_image, pigeonhole}
 
 -- different clocks of a snapshot are no more than it has systems
 pub length-different : (g : Snapshot) (vs : List ℕ) → Different vs → ((v : ℕ) → In v vs → In v (clocks g))

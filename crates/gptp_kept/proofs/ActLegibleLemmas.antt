@@ -11,7 +11,7 @@ use Rattle.gptp_plan.specs.declared.change.Act.TheVariants.{Deliver, Expire, Cha
 use Rattle.gptp_plan.specs.declared.change.Change.{Change}
 use Rattle.gptp_plan.specs.declared.change.Change.TheVariants.{LinkDown, LinkUp, LinkSet, Fail, Recover, Priority1, Inject}
 use Rattle.gptp_acts.specs.declared.done.Done.{Done}
-use Rattle.gptp_plan.specs.declared.network.Wire.{Wire}
+use Rattle.gptp_plan.specs.declared.network.LinkSpec.{LinkSpec}
 use Rattle.gptp_acts.specs.declared.station.Station.{Station}
 use Rattle.gptp_acts.specs.Acts.{Acts, Changes, set_to}
 use Rattle.gptp_acts.specs.Initial.{channel_from, channels_of, initial, setup_of, station_of, stations_of}
@@ -21,9 +21,9 @@ use Rattle.gptp_acts.specs.Changing.{StartsAll}
 use Rattle.gptp_acts.specs.Sound.{IsSound}
 use Rattle.gptp_acts.specs.World.{Channel, WorldState, port_id, world_queue, sender}
 use Rattle.gptp_lists.proofs.MappedLemmas.{mapped}
-use Rattle.gptp_kept.specs.Legible.{ChannelFits, IsLegible, SayWhatFits, StationFits}
-use Rattle.gptp_kept.specs.LegibleLaws.{SetsAnOctet}
-use Rattle.gptp_kept.proofs.LegibleLemmas.{delivers_legible, expires_legible}
+use Rattle.gptp_kept.specs.Encodable.{ChannelFits, IsEncodable, SayWhatFits, StationFits}
+use Rattle.gptp_kept.specs.EncodableLaws.{SetsAnOctet}
+use Rattle.gptp_kept.proofs.EncodableLemmas.{delivers_legible, expires_legible}
 use Rattle.gptp_kept.proofs.AnsweringLemmas.{IsAnswering, new_fits, recovers_answering, sound_answers, starts_all_answering}
 use Rattle.gptp_kept.proofs.ChangeLegibleLemmas.{bounds_legible, comes_up_answering, fails_legible, goes_down_answering, injects_legible, prioritized_answering}
 use Rattle.gptp_kept.proofs.SeenOctetLemmas.{octets_say_what_fits}
@@ -36,7 +36,7 @@ ends_among w link channel sound here direction place station there named =
     sound.wired.ports link place direction channel station here there named
 
 -- the time of the last change is nothing that is read
-marked_answers : (w : WorldState) → IsSound w → IsLegible w → IsAnswering (record w { last_change = w.time })
+marked_answers : (w : WorldState) → IsSound w → IsEncodable w → IsAnswering (record w { last_change = w.time })
 marked_answers w sound legible =
     let is = sound_answers w sound legible in
     record {
@@ -44,8 +44,8 @@ marked_answers w sound legible =
       legible = record { stations = legible.stations; links = legible.links };
     }
 
-changes_legible : (change : Change) (w : WorldState) (draws : List Draw) (w' : WorldState) → IsSound w → IsLegible w
-    → SetsAnOctet (Changing change) → Changes change (record w { last_change = w.time }) draws w' → IsLegible w'
+changes_legible : (change : Change) (w : WorldState) (draws : List Draw) (w' : WorldState) → IsSound w → IsEncodable w
+    → SetsAnOctet (Changing change) → Changes change (record w { last_change = w.time }) draws w' → IsEncodable w'
 changes_legible (LinkDown number port) w draws w' sound legible octet k =
     (goes_down_answering k.place k.channel (record w { last_change = w.time }) draws w' k.is.here
     (marked_answers w sound legible) (ends_among w k.place k.channel sound k.is.here FromA)
@@ -55,7 +55,7 @@ changes_legible (LinkUp number port) w draws w' sound legible octet k =
     (marked_answers w sound legible) (ends_among w k.place k.channel sound k.is.here FromA)
     (ends_among w k.place k.channel sound k.is.here FromB) k.channel.up k.so).legible
 changes_legible (LinkSet number port min max loss) w draws w' sound legible octet k =
-    subst IsLegible (sym k.so.1)
+    subst IsEncodable (sym k.so.1)
     (bounds_legible (set_to min max loss k.channel) k.place k.channel (record w { last_change = w.time }) k.is.here
     (marked_answers w sound legible).legible)
 changes_legible (Fail number) w draws w' sound legible octet k =
@@ -72,7 +72,7 @@ changes_legible (Inject number port octets) w draws w' sound legible octet k =
     (octets_say_what_fits octets octet) (marked_answers w sound legible).legible k.so
 
 pub acts_legible : (act : Act) (w : WorldState) (draws : List Draw) (done : Done) (w' : WorldState) → IsSound w
-    → IsLegible w → SetsAnOctet act → Acts act w draws done w' → IsLegible w'
+    → IsEncodable w → SetsAnOctet act → Acts act w draws done w' → IsEncodable w'
 acts_legible (Deliver link direction) w draws done w' sound legible octet k =
     delivers_legible link direction k.octets w draws k.answer w' sound legible k.delivers
 acts_legible (Expire number timer) w draws done w' sound legible octet (told, k) =
@@ -81,13 +81,13 @@ acts_legible (Changing change) w draws done w' sound legible octet (told, k) =
     changes_legible change w draws w' sound legible octet k
 
 pub starts_legible : (places : List ℕ) (w : WorldState) (draws : List Draw) (w' : WorldState) → IsSound w
-    → IsLegible w → StartsAll places w draws w' → IsLegible w'
+    → IsEncodable w → StartsAll places w draws w' → IsEncodable w'
 starts_legible places w draws w' sound legible k =
     (starts_all_answering places w draws w' (sound_answers w sound legible) k).legible
 
 -- ---- the world that a network makes
 
-pub initial_legible : (n : NetworkState) → IsNetwork n → IsLegible (initial n)
+pub initial_legible : (n : NetworkState) → IsNetwork n → IsEncodable (initial n)
 initial_legible n is = record { stations = stations; links = links }
   where
     stations : (place : ℕ) (station : Station) → slice_get (stations_of n) place ≡ Some station → StationFits station
@@ -100,7 +100,7 @@ initial_legible n is = record { stations = stations; links = links }
         let (wire, stands, same) = mapped channel_from n.links link channel there in
         subst ChannelFits same (wire_fits wire (is.links link wire stands).apart)
       where
-        wire_fits : (wire : Wire) → wire.a.clock ≢ wire.b.clock → ChannelFits (channel_from wire)
+        wire_fits : (wire : LinkSpec) → wire.a.clock ≢ wire.b.clock → ChannelFits (channel_from wire)
         wire_fits wire apart = record { ends = λ e. apart (ap (λ (p : PortId). p.clock) e); frames = by }
           where
             by : (direction : Direction) (f : Frame) → In f (world_queue direction (channel_from wire)) → SayWhatFits f.octets

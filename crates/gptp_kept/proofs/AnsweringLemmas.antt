@@ -25,8 +25,8 @@ use Rattle.gptp_lists.proofs.PlaceLemmas.{get-set_all, get-set_same}
 use Rattle.gptp_acts.proofs.StayLemmas.{called_same, fresh_same}
 use Rattle.gptp_acts.proofs.SteadyLemmas.{started_steady, steps_steady}
 use Rattle.gptp_acts.proofs.UpLemmas.{brought_ports}
-use Rattle.gptp_kept.specs.Legible.{IsLegible, StationFits}
-use Rattle.gptp_kept.proofs.LegibleLemmas.{calls_legible}
+use Rattle.gptp_kept.specs.Encodable.{IsEncodable, StationFits}
+use Rattle.gptp_kept.proofs.EncodableLemmas.{calls_legible}
 use Rattle.gptp_kept.proofs.TouchLemmas.{InputFits}
 
 -- ---- calls one after another
@@ -40,9 +40,9 @@ pub record CanAnswer (station : Station) : Type 0 where
 -- a legible world in which every system can be called
 pub record IsAnswering (w : WorldState) : Type 0 where
   pub stations : (place : ℕ) (station : Station) → slice_get w.stations place ≡ Some station → CanAnswer station
-  pub legible : IsLegible w
+  pub legible : IsEncodable w
 
-pub sound_answers : (w : WorldState) → IsSound w → IsLegible w → IsAnswering w
+pub sound_answers : (w : WorldState) → IsSound w → IsEncodable w → IsAnswering w
 sound_answers w sound legible = record {
   stations = λ place station here.
       let on = sound.on_time.stations place station here in

@@ -4,7 +4,7 @@ use Rattle.std.specs.List.{range_with_len}
 use Rattle.gptp_links.specs.declared.bounds.Bounds.{Bounds}
 use Rattle.gptp_links.specs.Fate.{Draw}
 use Rattle.gptp_setup.specs.Intervals.{interval_of}
-use Rattle.gptp_setup.specs.Pace.{Pace, largest_interval}
+use Rattle.gptp_setup.specs.SettlingParams.{SettlingParams, largest_interval}
 use Rattle.gptp_setup.proofs.IntervalLemmas.{interval_positive}
 use Rattle.gptp_plan.specs.declared.change.Act.TheVariants.{Change as Changing}
 use Rattle.gptp_plan.specs.declared.change.Change.{Change}
@@ -25,14 +25,14 @@ use Rattle.gptp_kept.specs.LinkView.{IsLinkOf, LinkPlace, link_setting}
 use Rattle.gptp_kept.proofs.ChangeKeptLemmas.{initially_measured, starts_measured}
 use Rattle.gptp_kept.proofs.LinkStandLemmas.{links_seen}
 use Rattle.gptp_kept.proofs.WatchLemmas.{watch_begins}
-use Rattle.gptp_kept.specs.Holds.{IsWorld}
+use Rattle.gptp_kept.specs.SettlesAsMachine.{IsWorld}
 use Rattle.gptp_kept.proofs.OutlineLemmas.{change_is_last, starts_are_last}
-use Rattle.gptp_kept.specs.Watch.{Watches}
+use Rattle.gptp_kept.specs.Watch.{GoodLinksMeasure}
 
 -- ---- one world
 
 -- the limits of the network leave an exchange over the link its time
-enough : (p : Pace) (w : WorldState) → KeepPace p → IsWorld p w → (at : LinkPlace) → (l : IsLinkOf at w)
+enough : (p : SettlingParams) (w : WorldState) → KeepPace p → IsWorld p w → (at : LinkPlace) → (l : IsLinkOf at w)
     → IsGood (link_setting at w l) (w.last_change + largest_interval p) (w.last_change + 2 * largest_interval p)
 enough p w pace is at l =
     timing_is_enough (link_setting at w l) l.asking.station.setup.params.threshold w.last_change (largest_interval p)
@@ -52,8 +52,8 @@ enough p w pace is at l =
     period = rw asking pace.requests
 
 -- where no time has passed since the last change, each good link in use is watched
-fresh_watches : (p : Pace) (w : WorldState) → KeepPace p → w.last_change ≡ w.time → IsWorld p w → LinkIsMeasured w
-    → Watches p w
+fresh_watches : (p : SettlingParams) (w : WorldState) → KeepPace p → w.last_change ≡ w.time → IsWorld p w → LinkIsMeasured w
+    → GoodLinksMeasure p w
 fresh_watches p w pace now is measured at stands =
     watch_begins at (w.last_change + largest_interval p) (w.last_change + 2 * largest_interval p) w l is.sound
     measured gone past before (enough p w pace is at l)
@@ -72,13 +72,13 @@ fresh_watches p w pace now is measured at stands =
 
 -- ---- after a change, and at first
 
-pub changes_begin : (p : Pace) (change : Change) (w : WorldState) (draws : List Draw) (done : Done) (w' : WorldState)
-    → KeepPace p → Acts (Changing change) w draws done w' → IsWorld p w' → LinkIsMeasured w' → Watches p w'
+pub changes_begin : (p : SettlingParams) (change : Change) (w : WorldState) (draws : List Draw) (done : Done) (w' : WorldState)
+    → KeepPace p → Acts (Changing change) w draws done w' → IsWorld p w' → LinkIsMeasured w' → GoodLinksMeasure p w'
 changes_begin p change w draws done w' pace k = fresh_watches p w' pace (change_is_last change w draws done w' k)
 
 pub first_begins : {F : Type 0} (answers : Bounds → ℕ → F → Option ℕ → F → Type 0) (n : NetworkState)
     (fate fate_after : F) (w : WorldState) → IsNetwork n → Begun answers n fate fate_after w → IsWorld (pace_of n) w
-    → LinkIsMeasured w → Watches (pace_of n) w
+    → LinkIsMeasured w → GoodLinksMeasure (pace_of n) w
 first_begins answers n fate fate_after w network k =
     fresh_watches (pace_of n) w (keeps_pace n network)
     (starts_are_last (range_with_len 0 (length n.systems)) (initial n) k.draws w refl k.starts)

@@ -8,7 +8,7 @@ use Rattle.gptp_system.specs.State.{clock}
 use Rattle.gptp_system.proofs.StartLemmas.{length-new_ports}
 use Rattle.gptp_plan.specs.declared.change.Act.{Act}
 use Rattle.gptp_acts.specs.declared.done.Done.{Done}
-use Rattle.gptp_plan.specs.declared.network.Wire.{Wire}
+use Rattle.gptp_plan.specs.declared.network.LinkSpec.{LinkSpec}
 use Rattle.gptp_acts.specs.declared.station.Station.{Station}
 use Rattle.gptp_acts.specs.Acts.{Acts}
 use Rattle.gptp_acts.specs.Changing.{StartsAll}
@@ -38,7 +38,7 @@ port_made n is port k =
       is = record { least = k.first; most = subst (λ count. port.port ≤ count) (sym ports) k.last };
     }
 
-wire_made : (n : NetworkState) → IsNetwork n → (place : ℕ) (wire : Wire) → IsWire n place wire
+wire_made : (n : NetworkState) → IsNetwork n → (place : ℕ) (wire : LinkSpec) → IsWire n place wire
     → JoinsTwoOf (stations_of n) (channel_from wire)
 wire_made n network place wire is =
     record { a = port_made n network wire.a is.a; b = port_made n network wire.b is.b; apart = is.apart }

@@ -2,9 +2,9 @@
 use Rattle.std.proofs.Common.{◌≡◌, ◌≤◌, ◌<◌, ℕ, zero, suc, Bool, true, false, List, [], ◌∷◌, length, Some, slice_get, refl, sym, ap, subst, ◌∙◌, inl, inr, arith}
 use Rattle.std.specs.Prelude.{if◌then◌else◌}
 use Rattle.std.proofs.lemmas.Option.{none-some, same_Some}
-use Rattle.gptp_setup.specs.Pace.{Pace}
+use Rattle.gptp_setup.specs.SettlingParams.{SettlingParams}
 use Rattle.gptp_lists.specs.Members.{In}
-use Rattle.gptp_lists.proofs.MemberLemmas.{In-map, from_map}
+use Rattle.gptp_lists.proofs.SystemSpecLemmas.{In-map, from_map}
 use Rattle.gptp_graph.specs.Best.{IsBest}
 use Rattle.gptp_graph.specs.Distance.{IsDistance}
 use Rattle.gptp_graph.specs.Marking.{Statement}
@@ -25,14 +25,14 @@ use Rattle.gptp_settling.proofs.SettledLemmas.{systems_bounded}
 use Rattle.gptp_kept.specs.Bounded.{IsBoundedWorld, statement_of, statements, statements_of}
 use Rattle.gptp_kept.specs.Calm.{SettlingTimes, at_once, in_turn, network_with, paths_with, sound_from}
 use Rattle.gptp_kept.specs.CalmFor.{IsCalmFor, at_once_span, span_over}
-use Rattle.gptp_kept.specs.Claimed.{Claimed}
-use Rattle.gptp_kept.specs.Holds.{IsWorld, start_of}
+use Rattle.gptp_kept.specs.SettlingInvariant.{SettlingInvariant}
+use Rattle.gptp_kept.specs.SettlesAsMachine.{IsWorld, start_of}
 use Rattle.gptp_kept.specs.Settled.{Settled}
 use Rattle.gptp_kept.specs.Standing.{live_stations, snapshot_of, standing_system}
 use Rattle.gptp_kept.specs.View.{says_announce, station_view, view}
 use Rattle.gptp_kept.proofs.ClaimLemmas.{claim_capable}
-use Rattle.gptp_kept.proofs.ClaimedLemmas.{reach_of, set_alike, settled_at_once, settled_by_paths, span_within}
-use Rattle.gptp_kept.proofs.HoldsLemmas.{is_calm, is_network, is_quick_calm, is_quick_network, systems_bound}
+use Rattle.gptp_kept.proofs.SettlingInvariantLemmas.{reach_of, set_alike, settled_at_once, settled_by_paths, span_within}
+use Rattle.gptp_kept.proofs.SettlesAsMachineLemmas.{is_calm, is_network, is_quick_calm, is_quick_network, systems_bound}
 use Rattle.gptp_kept.proofs.PlaceLemmas.{station_there}
 use Rattle.gptp_kept.proofs.SettledLemmas.{span_ends}
 use Rattle.gptp_kept.proofs.StandsLemmas.{stands_well}
@@ -115,7 +115,7 @@ AreAbove w = (place : ℕ) (station : Station) → slice_get w.stations place �
     → IsAbove w station
 
 -- they are where the world, as the machine sees it, holds what is sound
-pub are_above : (p : Pace) (m start : ℕ) (times : SettlingTimes) (w : WorldState)
+pub are_above : (p : SettlingParams) (m start : ℕ) (times : SettlingTimes) (w : WorldState)
     → IsSettlingNetwork (network_with p m start times w) → Calm (network_with p m start times w) (view w)
     → Invariant says_announce (network_with p m start times w) (view w) → sound_from p m start times w ≤ w.time
     → AreAbove w
@@ -148,7 +148,7 @@ module _ (w : WorldState) (wf : IsWellFormed (snapshot_of w)) (settled : Settled
 -- ---- the world
 
 -- it is bounded where it has settled, and nobody has a root below the best's
-pub bounded_by : (p : Pace) (w : WorldState) → IsWorld p w → Settled w → AreAbove w → IsBoundedWorld w
+pub bounded_by : (p : SettlingParams) (w : WorldState) → IsWorld p w → Settled w → AreAbove w → IsBoundedWorld w
 bounded_by p w is settled above = record {
   stated = stated w;
   no_other = stated_lives w;
@@ -159,7 +159,7 @@ bounded_by p w is settled above = record {
       (above at.place at.station at.here at.live));
 }
 
-pub bounded_by_paths : (m : ℕ) (w : WorldState) → Claimed w → BoundsPaths (snapshot_of w) m
+pub bounded_by_paths : (m : ℕ) (w : WorldState) → SettlingInvariant w → BoundsPaths (snapshot_of w) m
     → IsCalmFor (span_over m) w → IsBoundedWorld w
 bounded_by_paths m w claimed bounded calm = bounded_by claimed.pace w claimed.is.world
     (settled_by_paths m w claimed bounded calm) (λ place station here live.
@@ -172,7 +172,7 @@ bounded_by_paths m w claimed bounded calm = bounded_by claimed.pace w claimed.is
     (is_network calm.pace r.reach w is.world r.bounded) (is_calm calm.pace r.reach w is.world r.quiet.links capable)
     (is.settling r.reach r.bounded r.quiet).invariant (omega (arith, ends)) place station here live)
 
-pub bounded_at_once : (m : ℕ) (w : WorldState) → Claimed w → BoundsPaths (snapshot_of w) m
+pub bounded_at_once : (m : ℕ) (w : WorldState) → SettlingInvariant w → BoundsPaths (snapshot_of w) m
     → (calm : IsCalmFor (at_once_span m) w) → NothingLapses calm.pace.params → IsBoundedWorld w
 bounded_at_once m w claimed bounded calm off = bounded_by claimed.pace w claimed.is.world
     (settled_at_once m w claimed bounded calm off) (λ place station here live.
@@ -185,7 +185,7 @@ bounded_at_once m w claimed bounded calm off = bounded_by claimed.pace w claimed
     (omega (arith, late)) place station here live)
 
 -- so it is by the number of live systems
-pub claimed_bounded : (w : WorldState) → Claimed w → IsCalmFor settling_span_with w → IsBoundedWorld w
+pub claimed_bounded : (w : WorldState) → SettlingInvariant w → IsCalmFor settling_span_with w → IsBoundedWorld w
 claimed_bounded w claimed calm =
     bounded_by_paths (length (snapshot_of w).systems) w claimed (systems_bound claimed.pace w claimed.is.world)
     (record { pace = calm.pace; set = calm.set; quiet = calm.quiet; late = calm.late })

@@ -4,13 +4,13 @@ use Rattle.std.specs.Prelude.{if◌then◌else◌}
 use Rattle.std.proofs.lemmas.Bool.{and_from}
 use Rattle.gptp_lists.specs.Members.{In}
 use Rattle.gptp_graph.specs.Snapshot.{Joins, System, clocks}
-use Rattle.gptp_lists.proofs.MemberLemmas.{from_map}
+use Rattle.gptp_lists.proofs.SystemSpecLemmas.{from_map}
 use Rattle.gptp_links.specs.declared.link.Direction.{Direction}
 use Rattle.gptp_links.specs.declared.link.Direction.TheVariants.{FromA, FromB}
 use Rattle.gptp_links.specs.Queue.{Frame}
 use Rattle.gptp_setup.specs.Intervals.{IsLog}
-use Rattle.gptp_setup.specs.Pace.{Pace, largest_interval, longest_span}
-use Rattle.gptp_setup.proofs.PaceLemmas.{span_longest}
+use Rattle.gptp_setup.specs.SettlingParams.{SettlingParams, largest_interval, longest_span}
+use Rattle.gptp_setup.proofs.SettlingParamsLemmas.{span_longest}
 use Rattle.gptp_system.specs.Follows.{SystemIsRoot, SystemFollowsPort}
 use Rattle.gptp_system.specs.State.{clock}
 use Rattle.gptp_acts.specs.Ahead.{IsSteady}
@@ -23,7 +23,7 @@ use Rattle.gptp_settling.specs.Network.{network_setting}
 use Rattle.gptp_settling.specs.Station.{Reception as SeenReception, Station as SeenStation, HoldsAt}
 use native.Mathlib.Decide.{dec_le}
 use Rattle.gptp_kept.specs.Known.{IsKnown}
-use Rattle.gptp_kept.specs.Legible.{IsLegible}
+use Rattle.gptp_kept.specs.Encodable.{IsEncodable}
 use Rattle.gptp_kept.proofs.DelayLemmas.{delay_of_used}
 use Rattle.gptp_kept.proofs.KnownAtRestLemmas.{systems_follow}
 use Rattle.gptp_kept.proofs.DueLemmas.{frames_on_links, ports_known}
@@ -111,7 +111,7 @@ follows_seen station steady (inr k) =
       trace = k.path;
     })
 
-module _ (p : Pace) (m start : ℕ) (w : WorldState) (sound : IsSound w) (legible : IsLegible w) (known : IsKnown p w)
+module _ (p : SettlingParams) (m start : ℕ) (w : WorldState) (sound : IsSound w) (legible : IsEncodable w) (known : IsKnown p w)
   where
     abbrev k : NetworkSetting
     k = network_setting (network_of p m start w)
@@ -183,7 +183,7 @@ module _ (p : Pace) (m start : ℕ) (w : WorldState) (sound : IsSound w) (legibl
     }
 
 -- so it is at every pace, where frames of before the change are gone by the start
-pub facts_with : (p : Pace) (m start : ℕ) (times : SettlingTimes) (w : WorldState) → IsSound w → IsLegible w
+pub facts_with : (p : SettlingParams) (m start : ℕ) (times : SettlingTimes) (w : WorldState) → IsSound w → IsEncodable w
     → IsKnown p w
     → w.last_change + 2 * largest_interval p ≤ start → StationFacts (network_setting (network_with p m start times w)) (view w)
 facts_with p m start times w sound legible known old = record {

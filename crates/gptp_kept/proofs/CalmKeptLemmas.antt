@@ -10,7 +10,7 @@ use Rattle.gptp_links.specs.declared.link.Direction.TheVariants.{FromA, FromB}
 use Rattle.gptp_links.specs.Fate.{Draw}
 use Rattle.gptp_system.specs.declared.answer.Answer.{Answer}
 use Rattle.gptp_setup.specs.declared.setup.Params.{Params}
-use Rattle.gptp_setup.specs.Pace.{Pace, lapse_span, largest_interval}
+use Rattle.gptp_setup.specs.SettlingParams.{SettlingParams, lapse_span, largest_interval}
 use Rattle.gptp_setup.specs.declared.setup.Setup.{Setup}
 use Rattle.gptp_setup.specs.declared.timer.Timer.{Timer}
 use Rattle.gptp_setup.specs.Intervals.{interval_of}
@@ -125,7 +125,7 @@ net_keeps w net links = record {
 }
 
 -- a network by what Sync has to cross
-abbrev network_by : Pace → ℕ → ℕ → SyncPaths → WorldState → Network
+abbrev network_by : SettlingParams → ℕ → ℕ → SyncPaths → WorldState → Network
 network_by p m start paths w = network_with p m start (in_turn p paths) w
 
 module _ (w w' : WorldState) (k : KeepsNetwork w w') where
@@ -158,7 +158,7 @@ module _ (w w' : WorldState) (k : KeepsNetwork w w') where
   pub same_paths : sync_paths_of w' ≡ sync_paths_of w
   same_paths = λ i. record { systems = path_bound (same_snapshot i); delay = delay_kept i }
 
-  pub same_network_with : (p : Pace) (m start : ℕ) (times : SettlingTimes)
+  pub same_network_with : (p : SettlingParams) (m start : ℕ) (times : SettlingTimes)
       → network_with p m start times w' ≡ network_with p m start times w
   same_network_with p m start times = λ i. record {
     graph = same_snapshot i;
@@ -192,13 +192,13 @@ module _ (w w' : WorldState) (k : KeepsNetwork w w') where
       sound_kept = λ i. max (if times.past then k.change i + 2 * largest_interval p
           + m * (p.params.timeout * largest_interval p + delay_kept i) else 0) start
 
-  pub same_at_once : (p : Pace) (m start : ℕ) → network_at_once p m start w' ≡ network_at_once p m start w
+  pub same_at_once : (p : SettlingParams) (m start : ℕ) → network_at_once p m start w' ≡ network_at_once p m start w
   same_at_once p m start =
       ap (λ delay. network_with p m start
       (record { slack = largest_interval p; step = delay; wait = 0; lag = 0; past = true }) w') delay_kept
       ∙ same_network_with p m start (at_once p w)
 
-  pub same_network : (p : Pace) (m start : ℕ) → network_of p m start w' ≡ network_of p m start w
+  pub same_network : (p : SettlingParams) (m start : ℕ) → network_of p m start w' ≡ network_of p m start w
   same_network p m start =
       ap (λ delay. network_by p m start (record { systems = m; delay = delay }) w') delay_kept
       ∙ same_network_with p m start (in_turn p (paths_with m w))

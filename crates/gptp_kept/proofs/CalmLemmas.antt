@@ -9,7 +9,7 @@ use Rattle.gptp_links.specs.declared.link.Direction.TheVariants.{FromA, FromB}
 use Rattle.gptp_receipt.specs.declared.held.Held.{Held}
 use Rattle.gptp_system.specs.declared.port.Port.{Port}
 use Rattle.gptp_setup.specs.Intervals.{AreParams, interval_of}
-use Rattle.gptp_setup.specs.Pace.{Pace, largest_interval, span_by}
+use Rattle.gptp_setup.specs.SettlingParams.{SettlingParams, largest_interval, span_by}
 use Rattle.gptp_system.specs.State.{clock, is_mine}
 use Rattle.gptp_acts.specs.declared.station.Station.{Station}
 use Rattle.gptp_acts.specs.Sound.{IsSound}
@@ -25,7 +25,7 @@ use Rattle.gptp_settling.proofs.TimesLemmas.{times_fit}
 use Rattle.gptp_settling.proofs.SyncLemmas.{none_lapses}
 use Rattle.gptp_kept.specs.Known.{IsKnown, IsSetTo}
 use Rattle.gptp_kept.proofs.DueLemmas.{frames_not_late, ports_known}
-use Rattle.gptp_kept.specs.Legible.{IsLegible}
+use Rattle.gptp_kept.specs.Encodable.{IsEncodable}
 use Rattle.gptp_kept.specs.View.{held_view, port_identity_number, lane_place, lane_view, lanes_view, port_view, says_sync, span_at, station_view, view}
 use Rattle.gptp_kept.proofs.SeenLaneLemmas.{lane_from, lane_there}
 use Rattle.gptp_kept.proofs.MidLemmas.{seen_on}
@@ -49,12 +49,12 @@ use Rattle.gptp_kept.proofs.WayLemmas.{IsWay, one_way, way_of}
 -- ---- the network
 
 -- the interval of a port at a link is no longer than the largest
-pub linked_interval : (p : Pace) (w : WorldState) → IsSound w → IsKnown p w → (port : PortIdentity)
+pub linked_interval : (p : SettlingParams) (w : WorldState) → IsSound w → IsKnown p w → (port : PortIdentity)
     → IsLinked (snapshot_of w) port → interval_of (log_of w.stations port) ≤ largest_interval p
 linked_interval p w sound known port linked =
     log_shorter p w known.set (log_of w.stations port) (linked_log p w sound known.set port linked)
 
-module _ (p : Pace) (m start : ℕ) (w : WorldState) (sound : IsSound w) (between : AreBetween w) (legible : IsLegible w)
+module _ (p : SettlingParams) (m start : ℕ) (w : WorldState) (sound : IsSound w) (between : AreBetween w) (legible : IsEncodable w)
     (known : IsKnown p w) (bounded : BoundsPaths (snapshot_of w) m) where
   -- a step of distance takes long enough for the wait for a Sync, the largest announce interval and the greatest delay
   pub network : w.last_change + 2 * largest_interval p ≤ start → IsSettlingNetwork (network_of p m start w)
@@ -107,7 +107,7 @@ same_direction FromB FromA same = sym same
 
 -- ---- the state
 
-module _ (p : Pace) (m start : ℕ) (times : SettlingTimes) (w : WorldState) (sound : IsSound w) (legible : IsLegible w)
+module _ (p : SettlingParams) (m start : ℕ) (times : SettlingTimes) (w : WorldState) (sound : IsSound w) (legible : IsEncodable w)
     (known : IsKnown p w) (quiet : HaveQuietLinks p.params w)
     (facts_are : StationFacts (network_setting (network_with p m start times w)) (view w))
     (capable : AreCapableFrom start w) where
@@ -259,7 +259,7 @@ module _ (p : Pace) (m start : ℕ) (times : SettlingTimes) (w : WorldState) (so
   }
 
 -- where there is no syncReceiptTimeout
-module _ (p : Pace) (n : Network) (w : WorldState) (known : IsKnown p w) (off : IsOff p.params) where
+module _ (p : SettlingParams) (n : Network) (w : WorldState) (known : IsKnown p w) (off : IsOff p.params) where
   -- no Lapse timer runs
   no_timer : (i : ℕ) (seen : SeenStation) → slice_get (view w).stations i ≡ Some seen → seen.lapse ≡ None
   no_timer i seen there =

@@ -1,6 +1,6 @@
 -- An act without change keeps the claim, and so does time that passes.
 use Rattle.std.proofs.Common.{◌≡◌, ◌≢◌, ◌≤◌, ◌+◌, ◌*◌, ℕ, List, Option, Some, slice_get, sym, ap, subst, ◌∙◌}
-use Rattle.gptp_setup.specs.Pace.{Pace, largest_interval}
+use Rattle.gptp_setup.specs.SettlingParams.{SettlingParams, largest_interval}
 use Rattle.gptp_lists.specs.Members.{In}
 use Rattle.gptp_graph.specs.Snapshot.{System}
 use Rattle.gptp_vector.specs.declared.port.PortId.{PortId}
@@ -20,7 +20,7 @@ use Rattle.gptp_plan.specs.Allowed.{IsFitAct}
 use Rattle.gptp_acts.specs.Course.{WasDone}
 use Rattle.gptp_plan.specs.Params.{KeepPace}
 use Rattle.gptp_acts.specs.Pending.{NothingBefore}
-use Rattle.gptp_acts.specs.Prompt.{IsPromptIn}
+use Rattle.gptp_acts.specs.Prompt.{DelaysFitIntervals}
 use Rattle.gptp_acts.specs.Sound.{HaveOwnClocks, IsSound}
 use Rattle.gptp_acts.specs.World.{Channel, WorldState, receiver, sender}
 use Rattle.gptp_acts.proofs.BareLemmas.{bare}
@@ -31,17 +31,17 @@ use Rattle.gptp_kept.specs.LinkView.{LinkPlace}
 use Rattle.gptp_kept.specs.Watched.{IsWatched}
 use Rattle.gptp_kept.proofs.ChangeKeptLemmas.{acts_measured, later_measured}
 use Rattle.gptp_kept.proofs.WatchLemmas.{watch_goes_on, watch_kept}
-use Rattle.gptp_kept.specs.LegibleLaws.{SetsAnOctet}
+use Rattle.gptp_kept.specs.EncodableLaws.{SetsAnOctet}
 use Rattle.gptp_kept.specs.SeenLaws.{IsNoChange}
 use Rattle.gptp_kept.specs.Calm.{clock_place}
 use Rattle.gptp_kept.specs.Standing.{standing_system}
 use Rattle.gptp_kept.proofs.FoundLemmas.{place_is}
 use Rattle.gptp_kept.proofs.CalmKeptLemmas.{KeepsNetwork, acts_keep}
 use Rattle.gptp_kept.proofs.SystemLemmas.{live_from, live_there}
-use Rattle.gptp_kept.specs.Holds.{IsWorld}
+use Rattle.gptp_kept.specs.SettlesAsMachine.{IsWorld}
 use Rattle.gptp_kept.specs.Known.{AreSet}
 use Rattle.gptp_kept.proofs.SettledWorldLemmas.{done_stays, ready_stays, still_acts_stay}
-use Rattle.gptp_kept.specs.Watch.{Watches}
+use Rattle.gptp_kept.specs.Watch.{GoodLinksMeasure}
 use Rattle.gptp_kept.proofs.BeginLemmas.{changes_begin}
 
 -- ---- where all stood
@@ -57,14 +57,14 @@ same_receiver FromA x y same = ap (λ (c : Channel). c.b) same
 same_receiver FromB x y same = ap (λ (c : Channel). c.a) same
 
 -- all stations start with the parameters of their network
-abbrev pub HaveParams : Pace → WorldState → Type 0
+abbrev pub HaveParams : SettlingParams → WorldState → Type 0
 HaveParams p w = (place : ℕ) (station : Station) → slice_get w.stations place ≡ Some station
     → station.setup.params ≡ p.params
 
-pub known_params : (p : Pace) (w : WorldState) → AreSet p w → HaveParams p w
+pub known_params : (p : SettlingParams) (w : WorldState) → AreSet p w → HaveParams p w
 known_params p w set place station there = (set place station there).starts.params
 
-module _ (p : Pace) (w w' : WorldState) (clocks : HaveOwnClocks w) (set : HaveParams p w) (clocks' : HaveOwnClocks w')
+module _ (p : SettlingParams) (w w' : WorldState) (clocks : HaveOwnClocks w) (set : HaveParams p w) (clocks' : HaveOwnClocks w')
     (set' : HaveParams p w') (k : KeepsNetwork w w') where
   -- a link stood there, with the same ends and bounds
   link_stood : (link : ℕ) (channel : Channel) → slice_get w'.net.channels link ≡ Some channel
@@ -119,7 +119,7 @@ module _ (p : Pace) (w w' : WorldState) (clocks : HaveOwnClocks w) (set : HavePa
         good = rw (bounds, answers, asks) stands.good;
       }
 
-pub stood : (p : Pace) (w w' : WorldState) → IsWorld p w → IsWorld p w' → KeepsNetwork w w' → (at : LinkPlace)
+pub stood : (p : SettlingParams) (w w' : WorldState) → IsWorld p w → IsWorld p w' → KeepsNetwork w w' → (at : LinkPlace)
     → LinkStandsAt at w' → LinkStandsAt at w
 stood p w w' is is' =
     stood_among p w w' is.sound.wired.clocks (known_params p w is.known.set) is'.sound.wired.clocks
@@ -133,8 +133,8 @@ no_change (Deliver link direction) none change same = absurd cc
 no_change (Expire number timer) none change same = absurd cc
 no_change (Changing other) none change same = absurd none
 
-pub acts_watch : (p : Pace) (act : Act) (w : WorldState) (draws : List Draw) (done : Done) (w' : WorldState)
-    → IsNoChange act → Acts act w draws done w' → IsWorld p w → Watches p w → Watches p w'
+pub acts_watch : (p : SettlingParams) (act : Act) (w : WorldState) (draws : List Draw) (done : Done) (w' : WorldState)
+    → IsNoChange act → Acts act w draws done w' → IsWorld p w → GoodLinksMeasure p w → GoodLinksMeasure p w'
 acts_watch p act w draws done w' none k is watches at stands =
     let keeps = acts_keep act w draws done w' none k in
     let is' = still_acts_stay p act w draws done w' none k is in
@@ -144,8 +144,8 @@ acts_watch p act w draws done w' none k is watches at stands =
     (watch_kept at (w.last_change + interval) (w.last_change + 2 * interval) act w w' draws done is.sound
     (no_change act none) k before)
 
-pub later_watches : (p : Pace) (w : WorldState) (time : ℕ) → w.time ≤ time → NothingBefore time w.net.pending
-    → IsWorld p w → Watches p w → Watches p (at_time time w)
+pub later_watches : (p : SettlingParams) (w : WorldState) (time : ℕ) → w.time ≤ time → NothingBefore time w.net.pending
+    → IsWorld p w → GoodLinksMeasure p w → GoodLinksMeasure p (at_time time w)
 later_watches p w time later first is watches at stands =
     let interval = largest_interval p in
     watch_goes_on at (w.last_change + interval) (w.last_change + 2 * interval) time w is.sound later first
@@ -175,22 +175,22 @@ done_measured answers timed fate fate_after w w' done octet k sound is =
     (later_sound w timed.at w.last_change sound timely.first) (later_measured timed.at w timely.now is) octet k.acts
 
 -- and each good link in use is watched, after a change too
-pub done_watches : {F : Type 0} (answers : Bounds → ℕ → F → Option ℕ → F → Type 0) (p : Pace) (timed : Timed)
+pub done_watches : {F : Type 0} (answers : Bounds → ℕ → F → Option ℕ → F → Type 0) (p : SettlingParams) (timed : Timed)
     (fate fate_after : F) (w w' : WorldState) (done : Done) → KeepPace p → IsFitAct timed.act
-    → IsPromptIn w timed.act → SetsAnOctet timed.act → WasDone answers timed fate fate_after w w' done → IsWorld p w
-    → LinkIsMeasured w → Watches p w → Watches p w'
+    → DelaysFitIntervals w timed.act → SetsAnOctet timed.act → WasDone answers timed fate fate_after w w' done → IsWorld p w
+    → LinkIsMeasured w → GoodLinksMeasure p w → GoodLinksMeasure p w'
 done_watches answers p timed fate fate_after w w' done pace fit prompt octet k is measured watches =
     by timed.act k.acts
   where
     then : WorldState
     then = at_time timed.at w
 
-    still : (act : Act) → IsNoChange act → Acts act then k.draws done w' → Watches p w'
+    still : (act : Act) → IsNoChange act → Acts act then k.draws done w' → GoodLinksMeasure p w'
     still act none acts =
         acts_watch p act then k.draws done w' none acts (ready_stays p timed.act timed.at w k.ready is)
         (later_watches p w timed.at k.ready.timely.now k.ready.timely.first is watches)
 
-    by : (act : Act) → Acts act then k.draws done w' → Watches p w'
+    by : (act : Act) → Acts act then k.draws done w' → GoodLinksMeasure p w'
     by (Deliver link direction) acts = still (Deliver link direction) tt acts
     by (Expire number timer) acts = still (Expire number timer) tt acts
     by (Changing change) acts =

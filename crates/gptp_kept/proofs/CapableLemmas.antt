@@ -4,7 +4,7 @@ use Rattle.gptp_graph.specs.Snapshot.{IsLinked, Joins, PortIdentity}
 use Rattle.gptp_pdelay.specs.Peer.{is_capable}
 use Rattle.gptp_receipt.specs.declared.held.Held.{Held}
 use Rattle.gptp_system.specs.declared.port.Port.{Port}
-use Rattle.gptp_setup.specs.Pace.{Pace, largest_interval}
+use Rattle.gptp_setup.specs.SettlingParams.{SettlingParams, largest_interval}
 use Rattle.gptp_system.specs.State.{own}
 use Rattle.gptp_acts.specs.declared.station.Station.{Station}
 use Rattle.gptp_plan.specs.Params.{KeepPace}
@@ -14,14 +14,14 @@ use Rattle.gptp_kept.proofs.WatchLemmas.{watched_capable}
 use Rattle.gptp_kept.specs.View.{port_identity_number}
 use Rattle.gptp_kept.specs.Calm.{HaveQuietLinks}
 use Rattle.gptp_kept.specs.Standing.{snapshot_of}
-use Rattle.gptp_kept.specs.Holds.{IsWorld, start_of}
-use Rattle.gptp_kept.specs.Watch.{AreUsedCapable, IsCapablePort, Watches}
+use Rattle.gptp_kept.specs.SettlesAsMachine.{IsWorld, start_of}
+use Rattle.gptp_kept.specs.Watch.{AreUsedCapable, IsCapablePort, GoodLinksMeasure}
 use Rattle.gptp_kept.proofs.UsedLinkLemmas.{used_watched}
 
 -- ---- a port at a link of the snapshot
 
-module _ (p : Pace) (w : WorldState) (pace : KeepPace p) (is : IsWorld p w) (quiet : HaveQuietLinks p.params w)
-    (watches : Watches p w) (late : start_of p w ≤ w.time) (place : ℕ) (station : Station)
+module _ (p : SettlingParams) (w : WorldState) (pace : KeepPace p) (is : IsWorld p w) (quiet : HaveQuietLinks p.params w)
+    (watches : GoodLinksMeasure p w) (late : start_of p w ≤ w.time) (place : ℕ) (station : Station)
     (here : slice_get w.stations place ≡ Some station) (live : station.live ≡ true) where
   -- the link is watched, so its port is capable
   link_capable : (i : ℕ) (q : Port) (to : PortIdentity) → slice_get station.system.ports i ≡ Some q
@@ -41,7 +41,7 @@ module _ (p : Pace) (w : WorldState) (pace : KeepPace p) (is : IsWorld p w) (qui
       let capable = link_capable i q to there joins in
       record { capable = capable; enabled = (shown.each i h q holds there).on capable }
 
-pub used_capable : (p : Pace) (w : WorldState) → KeepPace p → IsWorld p w → HaveQuietLinks p.params w → Watches p w
+pub used_capable : (p : SettlingParams) (w : WorldState) → KeepPace p → IsWorld p w → HaveQuietLinks p.params w → GoodLinksMeasure p w
     → start_of p w ≤ w.time → AreUsedCapable w
 used_capable p w pace is quiet watches late place station here live =
     port_capable p w pace is quiet watches late place station here live

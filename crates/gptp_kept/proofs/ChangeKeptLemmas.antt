@@ -15,7 +15,7 @@ use Rattle.gptp_system.proofs.InTimeLemmas.{later_in_time}
 use Rattle.gptp_plan.specs.declared.change.Act.TheVariants.{Deliver, Expire, Change as Changing}
 use Rattle.gptp_plan.specs.declared.change.Change.{Change}
 use Rattle.gptp_plan.specs.declared.change.Change.TheVariants.{LinkDown, LinkUp, LinkSet, Fail, Recover, Priority1, Inject}
-use Rattle.gptp_plan.specs.declared.network.Wire.{Wire}
+use Rattle.gptp_plan.specs.declared.network.LinkSpec.{LinkSpec}
 use Rattle.gptp_plan.specs.Network.{pace_of}
 use Rattle.gptp_acts.specs.declared.station.Station.{Station}
 use Rattle.gptp_acts.specs.Act.{Delivers, TimerRunsOut, Hears, all_timers}
@@ -30,7 +30,7 @@ use Rattle.gptp_lists.proofs.MappedLemmas.{mapped, same_there}
 use Rattle.gptp_lists.proofs.PlaceLemmas.{get-set_all}
 use Rattle.gptp_acts.proofs.SoundLemmas.{delivered_up}
 use Rattle.gptp_acts.proofs.StayLemmas.{failed_stays, stays_setups, with_setup_stays}
-use Rattle.gptp_kept.specs.LegibleLaws.{SetsAnOctet}
+use Rattle.gptp_kept.specs.EncodableLaws.{SetsAnOctet}
 use Rattle.gptp_kept.specs.LinkLaws.{InitiallyMeasured, MeasuredHoldsLater, MeasuredIsKept, StartsMeasured}
 use Rattle.gptp_kept.specs.Measured.{AllFit, IsStationMeasured}
 use Rattle.gptp_kept.specs.LinkView.{RequestSaysWhatFits}
@@ -280,7 +280,7 @@ initially_measured n = record {
       (still wire);
 }
   where
-    still : (wire : Wire) (direction : Direction) (f : Frame) → In f (world_queue direction (channel_from wire))
+    still : (wire : LinkSpec) (direction : Direction) (f : Frame) → In f (world_queue direction (channel_from wire))
         → RequestSaysWhatFits f.octets
     still wire FromA f member = absurd member
     still wire FromB f member = absurd member

@@ -9,34 +9,34 @@ use Rattle.gptp_links.specs.Fate.{Draw}
 use Rattle.gptp_links.specs.Queue.{Frame}
 use Rattle.gptp_system.specs.Input.{PortUp, PortDown, Priority}
 use Rattle.gptp_system.specs.Start.{started}
-use Rattle.gptp_system.proofs.TouchedLemmas.{priority_clock}
+use Rattle.gptp_system.proofs.TimersChangedLemmas.{priority_clock}
 use Rattle.gptp_acts.specs.declared.station.Station.{Station}
 use Rattle.gptp_acts.specs.Ahead.{IsPortAmong}
 use Rattle.gptp_acts.specs.Changing.{CallsIfLive, ComesUpIf, FailsIf, GoesDownIf, InjectsIf, brought_up, lost, taken_down, with_bounds, with_setup, with_station}
 use Rattle.gptp_acts.specs.World.{Channel, Net, WorldState, world_queue}
 use Rattle.gptp_lists.proofs.PlaceLemmas.{get-set_all}
-use Rattle.gptp_kept.specs.Legible.{ChannelFits, IsLegible, SayWhatFits, StationFits}
-use Rattle.gptp_kept.proofs.LegibleLemmas.{LinksFit, entered_fits, net_legible, set_fits}
+use Rattle.gptp_kept.specs.Encodable.{ChannelFits, IsEncodable, SayWhatFits, StationFits}
+use Rattle.gptp_kept.proofs.EncodableLemmas.{LinksFit, entered_fits, net_legible, set_fits}
 use Rattle.gptp_kept.proofs.AnsweringLemmas.{CanAnswer, IsAnswering, calls_if_live_answering, tells_answering}
 
 -- ---- changes of a system
 
 -- one system becomes another
 pub station_legible : (place : ℕ) (old new : Station) (w : WorldState) → slice_get w.stations place ≡ Some old
-    → StationFits new → IsLegible w → IsLegible (with_station place new w)
+    → StationFits new → IsEncodable w → IsEncodable (with_station place new w)
 station_legible place old new w here fits legible = record {
   stations = get-set_all StationFits w.stations place old new here fits legible.stations;
   links = legible.links;
 }
 
 pub fails_legible : (live : Bool) (place : ℕ) (station : Station) (w : WorldState) (draws : List Draw) (w' : WorldState)
-    → slice_get w.stations place ≡ Some station → IsLegible w → FailsIf live place station w draws w' → IsLegible w'
+    → slice_get w.stations place ≡ Some station → IsEncodable w → FailsIf live place station w draws w' → IsEncodable w'
 fails_legible true place station w draws w' here legible (none, same) =
     let old = legible.stations place station here in
     let off = station_legible place station (record station { live = false }) w here
     (record { system = old.system; setup = old.setup }) legible in
-    subst IsLegible (sym same) (record { stations = off.stations; links = off.links })
-fails_legible false place station w draws w' here legible (none, same) = subst IsLegible (sym same) legible
+    subst IsEncodable (sym same) (record { stations = off.stations; links = off.links })
+fails_legible false place station w draws w' here legible (none, same) = subst IsEncodable (sym same) legible
 
 pub prioritized_answering : (value place : ℕ) (station : Station) (w : WorldState) (draws : List Draw) (w' : WorldState)
     → value < 256 → slice_get w.stations place ≡ Some station → IsAnswering w
@@ -79,7 +79,7 @@ prioritized_answering value place station w draws w' octet here is k =
 -- one link becomes another
 pub link_legible : (place : ℕ) (old new : Channel) (w : WorldState) (net : Net)
     → net.channels ≡ slice_set w.net.channels place new → slice_get w.net.channels place ≡ Some old → ChannelFits new
-    → IsLegible w → IsLegible (record w { net = net })
+    → IsEncodable w → IsEncodable (record w { net = net })
 link_legible place old new w net is here fits legible = record {
   stations = legible.stations;
   links = subst LinksFit (sym is) (set_fits w.net.channels place old new here fits legible.links);
@@ -110,21 +110,21 @@ bounds_fits bounds channel fits = record { ends = fits.ends; frames = by }
     by FromB = fits.frames FromB
 
 pub bounds_legible : (bounds : Bounds) (place : ℕ) (channel : Channel) (w : WorldState)
-    → slice_get w.net.channels place ≡ Some channel → IsLegible w
-    → IsLegible (record w { net = with_bounds bounds place channel w.net })
+    → slice_get w.net.channels place ≡ Some channel → IsEncodable w
+    → IsEncodable (record w { net = with_bounds bounds place channel w.net })
 bounds_legible bounds place channel w here legible =
     link_legible place channel (record channel { bounds = bounds }) w (with_bounds bounds place channel w.net) refl here
     (bounds_fits bounds channel (legible.links place channel here)) legible
 
 -- what octets say fits
 pub injects_legible : (up : Bool) (from : PortId) (octets : List ℕ) (w : WorldState) (draws : List Draw)
-    (w' : WorldState) → SayWhatFits octets → IsLegible w → InjectsIf up from octets w draws w' → IsLegible w'
-injects_legible false from octets w draws w' says legible (none, same) = subst IsLegible (sym same) legible
+    (w' : WorldState) → SayWhatFits octets → IsEncodable w → InjectsIf up from octets w draws w' → IsEncodable w'
+injects_legible false from octets w draws w' says legible (none, same) = subst IsEncodable (sym same) legible
 injects_legible true from octets w draws w' says legible k =
     let one = k.sent in
     let entered =
     entered_fits w.time one.place one.direction one.channel octets k.draw.answer w.net one.here says legible.links in
-    subst IsLegible (sym k.is)
+    subst IsEncodable (sym k.is)
     (net_legible w k.net (subst (λ (n : Net). LinksFit n.channels) (sym one.after) entered) legible)
 
 module _ (place : ℕ) (channel : Channel) (w : WorldState) (draws : List Draw) (w' : WorldState)

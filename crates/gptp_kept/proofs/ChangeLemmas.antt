@@ -8,7 +8,7 @@ use Rattle.gptp_links.specs.declared.link.Direction.TheVariants.{FromA, FromB}
 use Rattle.gptp_links.specs.Fate.{Draw}
 use Rattle.gptp_roles.specs.Selection.{clock_of}
 use Rattle.gptp_system.specs.declared.port.Port.{Port}
-use Rattle.gptp_setup.specs.Pace.{Pace}
+use Rattle.gptp_setup.specs.SettlingParams.{SettlingParams}
 use Rattle.gptp_setup.specs.declared.setup.Setup.{Setup}
 use Rattle.gptp_setup.specs.Intervals.{AreIntervals, interval_of}
 use Rattle.gptp_system.specs.Input.{Input, IsTimely, PortUp, PortDown, Priority}
@@ -25,7 +25,7 @@ use Rattle.gptp_acts.specs.Act.{all_timers}
 use Rattle.gptp_acts.specs.Acts.{set_to, Changes}
 use Rattle.gptp_acts.specs.Ahead.{HasPorts, IsPortAmong}
 use Rattle.gptp_acts.specs.Changing.{CallsAll, CallsIfLive, ComesUpIf, FailsIf, GoesDownIf, InjectsIf, RecoversIf, Starts, StartsAll, TellsEnds, brought_up, failed, fresh, taken_down, up_ports, with_bounds, with_setup, with_station}
-use Rattle.gptp_plan.specs.Prompt.{IsPromptAct}
+use Rattle.gptp_plan.specs.Prompt.{DelayFitsInterval}
 use Rattle.gptp_acts.specs.Sound.{IsWired}
 use Rattle.gptp_acts.specs.World.{Channel, WorldState, port_id, sender}
 use Rattle.gptp_acts.proofs.AgreeLemmas.{replaced}
@@ -63,7 +63,7 @@ ends_are w link channel wired here direction place station there named =
 
 -- ---- calls one after another
 
-calls_if_live_kept : (p : Pace) (So : ℤ → Type 0) (place : ℕ) (input : Input) (w : WorldState) (draws : List Draw)
+calls_if_live_kept : (p : SettlingParams) (So : ℤ → Type 0) (place : ℕ) (input : Input) (w : WorldState) (draws : List Draw)
     (w' : WorldState)
     → ((station : Station) → slice_get w.stations place ≡ Some station → IsTimely station.system w.time input)
     → IsKept p So w → CallsIfLive place input w draws w' → IsKept p So w'
@@ -72,14 +72,14 @@ calls_if_live_kept p So place input w draws w' timely kept (inl (answer, calls))
 calls_if_live_kept p So place input w draws w' timely kept (inr (failed, none, is)) = subst (IsKept p So) (sym is) kept
 
 -- an input at a port of the system at a place, which has as many ports as this one
-tells_kept : (p : Pace) (So : ℤ → Type 0) (input : ℕ → Input) → IsOfPort input → (s : SystemState) (place n : ℕ)
+tells_kept : (p : SettlingParams) (So : ℤ → Type 0) (input : ℕ → Input) → IsOfPort input → (s : SystemState) (place n : ℕ)
     (w : WorldState) (draws : List Draw) (w' : WorldState) → HasPorts place (length s.ports) w → HasPortNumber s n
     → IsKept p So w → CallsIfLive place (input n) w draws w' → IsKept p So w'
 tells_kept p So input timely s place n w draws w' has port =
     calls_if_live_kept p So place (input n) w draws w'
     (λ station there. timely station.system w.time n (port_at s place n w has port station there))
 
-tells_ends_kept : (p : Pace) (So : ℤ → Type 0) (input : ℕ → Input) (channel : Channel) (w : WorldState)
+tells_ends_kept : (p : SettlingParams) (So : ℤ → Type 0) (input : ℕ → Input) (channel : Channel) (w : WorldState)
     (draws : List Draw) (w' : WorldState)
     → IsOfPort input → ((direction : Direction) → IsPortAmong (sender direction channel) w.stations)
     → IsKept p So w → TellsEnds input channel w draws w' → IsKept p So w'
@@ -99,7 +99,7 @@ tells_ends_kept p So input channel w draws w' timely ends kept k =
         (length k.station_b.system.ports) (has_its_ports k.place_b w k.station_b k.is_b.here)
 
 -- ports of the system at a place come up, one after another
-calls_all_kept : (p : Pace) (So : ℤ → Type 0) (s : SystemState) (place : ℕ) (ns : List ℕ) (w : WorldState)
+calls_all_kept : (p : SettlingParams) (So : ℤ → Type 0) (s : SystemState) (place : ℕ) (ns : List ℕ) (w : WorldState)
     (draws : List Draw) (w' : WorldState) → HasPorts place (length s.ports) w → ((n : ℕ) → In n ns → HasPortNumber s n)
     → IsKept p So w → CallsAll place (map PortUp ns) w draws w' → IsKept p So w'
 calls_all_kept p So s place [] w draws w' has ports kept (none, is) = subst (IsKept p So) (sym is) kept
@@ -114,7 +114,7 @@ calls_all_kept p So s place (n ∷ ns) w draws w' has ports kept (first, rest, b
 -- ---- starts
 
 -- a system that starts has the parameters and the intervals of its setup
-pub started_set : (p : Pace) (setup : Setup) (now : ℕ) (live : Bool) → setup.params ≡ p.params
+pub started_set : (p : SettlingParams) (setup : Setup) (now : ℕ) (live : Bool) → setup.params ≡ p.params
     → setup.largest ≡ p.largest → AreIntervals setup
     → IsSetTo p (record { setup = setup; system = started setup now; live = live })
 started_set p setup now live params largest intervals = record {
@@ -128,7 +128,7 @@ started_set p setup now live params largest intervals = record {
   lapses = λ nothing. refl;
 }
 
-starts_kept : (p : Pace) (So : ℤ → Type 0) (place : ℕ) (w : WorldState) (draws : List Draw) (w' : WorldState)
+starts_kept : (p : SettlingParams) (So : ℤ → Type 0) (place : ℕ) (w : WorldState) (draws : List Draw) (w' : WorldState)
     → IsKept p So w → Starts place w draws w' → IsKept p So w'
 starts_kept p So place w draws w' kept k =
     calls_all_kept p So new.system place (up_ports new w.net) begun draws w'
@@ -156,13 +156,13 @@ starts_kept p So place w draws w' kept k =
           measuring = λ live. started_measure p.params k.station.setup w.time old.set.starts.params;
         }) kept)
 
-pub starts_all_kept : (p : Pace) (So : ℤ → Type 0) (places : List ℕ) (w : WorldState) (draws : List Draw)
+pub starts_all_kept : (p : SettlingParams) (So : ℤ → Type 0) (places : List ℕ) (w : WorldState) (draws : List Draw)
     (w' : WorldState) → IsKept p So w → StartsAll places w draws w' → IsKept p So w'
 starts_all_kept p So [] w draws w' kept (none, is) = subst (IsKept p So) (sym is) kept
 starts_all_kept p So (place ∷ places) w draws w' kept (first, rest, between, is, one, more) =
     starts_all_kept p So places between rest w' (starts_kept p So place w first between kept one) more
 
-recovers_kept : (p : Pace) (So : ℤ → Type 0) (live : Bool) (place : ℕ) (w : WorldState) (draws : List Draw)
+recovers_kept : (p : SettlingParams) (So : ℤ → Type 0) (live : Bool) (place : ℕ) (w : WorldState) (draws : List Draw)
     (w' : WorldState) → IsKept p So w → RecoversIf live place w draws w' → IsKept p So w'
 recovers_kept p So true place w draws w' kept (none, is) = subst (IsKept p So) (sym is) kept
 recovers_kept p So false place w draws w' kept k = starts_kept p So place w draws w' kept k
@@ -170,7 +170,7 @@ recovers_kept p So false place w draws w' kept k = starts_kept p So place w draw
 -- ---- systems
 
 -- a station becomes another that starts with the same but perhaps for its identity, and with the same system
-same_system : (p : Pace) (So : ℤ → Type 0) (now : ℕ) (old new : Station) → IsKeptStation p So now old
+same_system : (p : SettlingParams) (So : ℤ → Type 0) (now : ℕ) (old new : Station) → IsKeptStation p So now old
     → new.system ≡ old.system → HasPace p new → AreIntervals new.setup
     → new.setup.intervals.items ≡ old.setup.intervals.items → (new.live ≡ true → old.live ≡ true)
     → IsKeptStation p So now new
@@ -191,7 +191,7 @@ same_system p So now old new is system starts intervals same live = record {
   time = λ now_live. rw system (is.time (live now_live));
 }
 
-fails_kept : (p : Pace) (So : ℤ → Type 0) (live : Bool) (place : ℕ) (station : Station) (w : WorldState)
+fails_kept : (p : SettlingParams) (So : ℤ → Type 0) (live : Bool) (place : ℕ) (station : Station) (w : WorldState)
     (draws : List Draw) (w' : WorldState) → slice_get w.stations place ≡ Some station → IsKept p So w
     → FailsIf live place station w draws w' → IsKept p So w'
 fails_kept p So true place station w draws w' here kept (none, is) =
@@ -206,7 +206,7 @@ fails_kept p So true place station w draws w' here kept (none, is) =
 fails_kept p So false place station w draws w' here kept (none, is) = subst (IsKept p So) (sym is) kept
 
 -- a system with another priority1
-prioritized_kept : (p : Pace) (So : ℤ → Type 0) (value place : ℕ) (station : Station) (w : WorldState)
+prioritized_kept : (p : SettlingParams) (So : ℤ → Type 0) (value place : ℕ) (station : Station) (w : WorldState)
     (draws : List Draw) (w' : WorldState) → slice_get w.stations place ≡ Some station → IsKept p So w
     → CallsIfLive place (Priority value) (with_station place (with_setup value station) w) draws w' → IsKept p So w'
 prioritized_kept p So value place station w draws w' here kept k =
@@ -221,7 +221,7 @@ prioritized_kept p So value place station w draws w' here kept k =
 
 -- ---- links
 
-goes_down_kept : (p : Pace) (So : ℤ → Type 0) (up : Bool) (place : ℕ) (channel : Channel) (w : WorldState)
+goes_down_kept : (p : SettlingParams) (So : ℤ → Type 0) (up : Bool) (place : ℕ) (channel : Channel) (w : WorldState)
     (draws : List Draw) (w' : WorldState) → slice_get w.net.channels place ≡ Some channel → IsWired w → IsKept p So w
     → GoesDownIf up place channel w draws w' → IsKept p So w'
 goes_down_kept p So false place channel w draws w' here wired kept (none, is) = subst (IsKept p So) (sym is) kept
@@ -230,7 +230,7 @@ goes_down_kept p So true place channel w draws w' here wired kept k =
     (λ s now n of. of) (ends_are w place channel wired here)
     (net_kept p So w (taken_down place channel w.net) (lost_keep w.time w.net.channels place channel here) kept) k
 
-comes_up_kept : (p : Pace) (So : ℤ → Type 0) (up : Bool) (place : ℕ) (channel : Channel) (w : WorldState)
+comes_up_kept : (p : SettlingParams) (So : ℤ → Type 0) (up : Bool) (place : ℕ) (channel : Channel) (w : WorldState)
     (draws : List Draw) (w' : WorldState) → slice_get w.net.channels place ≡ Some channel → IsWired w → IsKept p So w
     → ComesUpIf up place channel w draws w' → IsKept p So w'
 comes_up_kept p So true place channel w draws w' here wired kept (none, is) = subst (IsKept p So) (sym is) kept
@@ -241,7 +241,7 @@ comes_up_kept p So false place channel w draws w' here wired kept k =
 
 -- At the time of the last change the frames in flight are due within every announce interval, whatever the bounds
 -- become.
-bounds_kept : (p : Pace) (So : ℤ → Type 0) (bounds : Bounds) (place : ℕ) (channel : Channel) (w : WorldState)
+bounds_kept : (p : SettlingParams) (So : ℤ → Type 0) (bounds : Bounds) (place : ℕ) (channel : Channel) (w : WorldState)
     → slice_get w.net.channels place ≡ Some channel → w.last_change ≡ w.time
     → ((log : ℤ) → So log → bounds.max ≤ interval_of log) → IsKept p So w
     → IsKept p So (record w { net = with_bounds bounds place channel w.net })
@@ -272,7 +272,7 @@ bounds_kept p So bounds place channel w here now prompt kept = record {
     near = kept.near p.largest kept.largest place channel here
 
 -- octets that enter a link are due within its greatest delay
-injects_kept : (p : Pace) (So : ℤ → Type 0) (up : Bool) (from : PortId) (octets : List ℕ) (w : WorldState)
+injects_kept : (p : SettlingParams) (So : ℤ → Type 0) (up : Bool) (from : PortId) (octets : List ℕ) (w : WorldState)
     (draws : List Draw) (w' : WorldState) → IsKept p So w → InjectsIf up from octets w draws w' → IsKept p So w'
 injects_kept p So false from octets w draws w' kept (none, is) = subst (IsKept p So) (sym is) kept
 injects_kept p So true from octets w draws w' kept k =
@@ -282,7 +282,7 @@ injects_kept p So true from octets w draws w' kept k =
 -- ---- all changes
 
 -- A change is the last one from then on: all frames are due within the largest announce interval of it.
-pub changed_kept : (p : Pace) (So : ℤ → Type 0) (w : WorldState) → IsKept p So w
+pub changed_kept : (p : SettlingParams) (So : ℤ → Type 0) (w : WorldState) → IsKept p So w
     → IsKept p So (record w { last_change = w.time })
 changed_kept p So w kept = record {
   change = omega arith;
@@ -298,8 +298,8 @@ changed_kept p So w kept = record {
       };
 }
 
-pub changes_kept : (p : Pace) (So : ℤ → Type 0) (c : Change) (w : WorldState) (draws : List Draw) (w' : WorldState)
-    → IsWired w → w.last_change ≡ w.time → ((log : ℤ) → So log → IsPromptAct (interval_of log) (Changing c))
+pub changes_kept : (p : SettlingParams) (So : ℤ → Type 0) (c : Change) (w : WorldState) (draws : List Draw) (w' : WorldState)
+    → IsWired w → w.last_change ≡ w.time → ((log : ℤ) → So log → DelayFitsInterval (interval_of log) (Changing c))
     → IsKept p So w → Changes c w draws w' → IsKept p So w'
 changes_kept p So (LinkDown number port) w draws w' wired now prompt kept k =
     goes_down_kept p So k.channel.up k.place k.channel w draws w' k.is.here wired kept k.so

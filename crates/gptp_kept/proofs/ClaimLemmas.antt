@@ -1,7 +1,7 @@
 -- The claim begins with the world of a network, and is kept.
 use Rattle.std.proofs.Common.{◌≢◌, ◌≤◌, ℕ, Option, length, refl}
 use Rattle.std.specs.List.{range_with_len}
-use Rattle.gptp_setup.specs.Pace.{Pace}
+use Rattle.gptp_setup.specs.SettlingParams.{SettlingParams}
 use Rattle.gptp_links.specs.declared.bounds.Bounds.{Bounds}
 use Rattle.gptp_plan.specs.declared.change.Act.{Act}
 use Rattle.gptp_plan.specs.declared.change.Act.TheVariants.{Deliver, Expire, Change as Changing}
@@ -18,27 +18,27 @@ use Rattle.gptp_acts.specs.Pending.{NothingBefore}
 use Rattle.gptp_acts.specs.Sound.{IsSound}
 use Rattle.gptp_acts.specs.World.{WorldState}
 use Rattle.gptp_acts.proofs.SoundLemmas.{later_sound, starts_sound}
-use Rattle.gptp_acts.specs.Prompt.{IsPromptIn}
+use Rattle.gptp_acts.specs.Prompt.{DelaysFitIntervals}
 use Rattle.gptp_kept.proofs.KnownLemmas.{begins_known}
 use Rattle.gptp_kept.specs.Measured.{LinkIsMeasured}
 use Rattle.gptp_kept.proofs.ChangeKeptLemmas.{later_measured}
-use Rattle.gptp_kept.specs.LegibleLaws.{SetsAnOctet}
+use Rattle.gptp_kept.specs.EncodableLaws.{SetsAnOctet}
 use Rattle.gptp_kept.proofs.ActLegibleLemmas.{initial_legible, starts_legible}
 use Rattle.gptp_kept.proofs.BetweenLemmas.{networks_between, starts_between}
-use Rattle.gptp_kept.specs.Holds.{BecomeCapable, IsWorld}
-use Rattle.gptp_kept.proofs.HoldsLemmas.{done_holds, first_begins as holds_first, later_holds}
+use Rattle.gptp_kept.specs.SettlesAsMachine.{BecomeCapable, IsWorld}
+use Rattle.gptp_kept.proofs.SettlesAsMachineLemmas.{done_holds, first_begins as holds_first, later_holds}
 use Rattle.gptp_kept.proofs.OutlineLemmas.{change_is_last, starts_are_last}
 use Rattle.gptp_kept.proofs.SettledWorldLemmas.{done_stays, time_stays}
 use Rattle.gptp_kept.proofs.BeginLemmas.{first_begins as watches_first, first_measured}
 use Rattle.gptp_kept.proofs.CapableKeptLemmas.{done_measured, done_watches, later_watches}
-use Rattle.gptp_kept.specs.Unanswered.{AreSilent}
+use Rattle.gptp_kept.specs.Unanswered.{FailedNeighboursAreSilent}
 use Rattle.gptp_kept.proofs.UnansweredWorldLemmas.{acts_leave_silent, silent_at_first, silent_later}
-use Rattle.gptp_kept.specs.Claimed.{IsClaimed}
+use Rattle.gptp_kept.specs.SettlingInvariant.{KeepsAll}
 use Rattle.gptp_kept.proofs.ClaimedCapableLemmas.{are_capable}
 
 -- ---- one world
 
-pub claim_capable : (p : Pace) (w : WorldState) → IsClaimed p w → BecomeCapable p w
+pub claim_capable : (p : SettlingParams) (w : WorldState) → KeepsAll p w → BecomeCapable p w
 claim_capable p w is = are_capable p w is.pace is.world is.watched is.silent
 
 -- ---- it begins
@@ -58,7 +58,7 @@ first_world answers n fate fate_after w network sound k =
 
 pub claim_begins : {F : Type 0} (answers : Bounds → ℕ → F → Option ℕ → F → Type 0) (n : NetworkState)
     (fate fate_after : F) (w : WorldState) → IsNetwork n → IsSound (initial n)
-    → Begun answers n fate fate_after w → IsClaimed (pace_of n) w
+    → Begun answers n fate fate_after w → KeepsAll (pace_of n) w
 claim_begins answers n fate fate_after w network sound k =
     let world = first_world answers n fate fate_after w network sound k in
     let measured = first_measured answers n fate fate_after w sound k in
@@ -74,8 +74,8 @@ claim_begins answers n fate fate_after w network sound k =
 
 -- ---- time passes
 
-pub claim_later : (p : Pace) (w : WorldState) (time : ℕ) → w.time ≤ time → NothingBefore time w.net.pending
-    → IsClaimed p w → IsClaimed p (at_time time w)
+pub claim_later : (p : SettlingParams) (w : WorldState) (time : ℕ) → w.time ≤ time → NothingBefore time w.net.pending
+    → KeepsAll p w → KeepsAll p (at_time time w)
 claim_later p w time later first is =
     let sound = later_sound w time w.last_change is.world.sound first in
     let world = time_stays p w time later sound is.world in
@@ -93,15 +93,15 @@ claim_later p w time later first is =
 
 -- ---- from act to act
 
-module _ {F : Type 0} (answers : Bounds → ℕ → F → Option ℕ → F → Type 0) (p : Pace) (timed : Timed)
+module _ {F : Type 0} (answers : Bounds → ℕ → F → Option ℕ → F → Type 0) (p : SettlingParams) (timed : Timed)
     (fate fate_after : F) (w w' : WorldState) (done : Done) (fit : IsFitAct timed.act)
-    (prompt : IsPromptIn w timed.act) (octet : SetsAnOctet timed.act)
-    (k : WasDone answers timed fate fate_after w w' done) (is : IsClaimed p w) where
+    (prompt : DelaysFitIntervals w timed.act) (octet : SetsAnOctet timed.act)
+    (k : WasDone answers timed fate fate_after w w' done) (is : KeepsAll p w) where
   abbrev then : WorldState
   then = at_time timed.at w
 
   -- just before the act
-  claim_then : IsClaimed p then
+  claim_then : KeepsAll p then
   claim_then =
       let timely = k.ready.timely in
       claim_later p w timed.at timely.now timely.first is
@@ -113,23 +113,23 @@ module _ {F : Type 0} (answers : Bounds → ℕ → F → Option ℕ → F → T
   measured_after = done_measured answers timed fate fate_after w w' done octet k is.world.sound is.measured
 
   -- a change begins the silence anew
-  silent_after : AreSilent p w'
+  silent_after : FailedNeighboursAreSilent p w'
   silent_after = by timed.act k.acts
     where
       still : (act : Act) → ((change : Change) → act ≢ Changing change) → Acts act then k.draws done w'
-          → AreSilent p w'
+          → FailedNeighboursAreSilent p w'
       still act none acts =
           acts_leave_silent p act then w' k.draws done claim_then.world.sound claim_then.measured
           claim_then.world.known none acts claim_then.silent
 
-      by : (act : Act) → Acts act then k.draws done w' → AreSilent p w'
+      by : (act : Act) → Acts act then k.draws done w' → FailedNeighboursAreSilent p w'
       by (Deliver link direction) acts = still (Deliver link direction) (λ change same. absurd cc) acts
       by (Expire number timer) acts = still (Expire number timer) (λ change same. absurd cc) acts
       by (Changing change) acts =
           silent_at_first p w' world_after.sound measured_after world_after.known
           (change_is_last change then k.draws done w' acts)
 
-  pub claim_kept : IsClaimed p w'
+  pub claim_kept : KeepsAll p w'
   claim_kept =
       let watched =
       done_watches answers p timed fate fate_after w w' done is.pace fit prompt octet k is.world is.measured

@@ -1,8 +1,8 @@
 -- From the start on a port is capable exactly where a link of the snapshot is at it.
 use Rattle.std.proofs.Common.{◌≡◌, ◌⊎◌, ◌≤◌, ℕ, suc, Bool, true, false, List, Option, Some, None, slice_get, refl, sym, ap, subst, ◌∙◌, inl, inr}
-use Rattle.gptp_setup.specs.Pace.{Pace}
+use Rattle.gptp_setup.specs.SettlingParams.{SettlingParams}
 use Rattle.gptp_graph.specs.Snapshot.{IsLinked, Joins, Snapshot}
-use Rattle.gptp_lists.proofs.MemberLemmas.{In-map}
+use Rattle.gptp_lists.proofs.SystemSpecLemmas.{In-map}
 use Rattle.gptp_vector.specs.declared.port.PortId.{PortId}
 use Rattle.gptp_links.specs.declared.link.Direction.{Direction}
 use Rattle.gptp_links.specs.declared.link.Direction.TheVariants.{FromA, FromB}
@@ -23,10 +23,10 @@ use Rattle.gptp_kept.specs.Calm.{HaveQuietLinks}
 use Rattle.gptp_kept.specs.Standing.{StationsHavePort, JoinsTwoOf, stations_have_clock, channel_is_used, live_stations, snapshot_of, standing_system}
 use Rattle.gptp_kept.proofs.SystemLemmas.{clock_in, clock_there, live_there}
 use Rattle.gptp_kept.proofs.WayLemmas.{used_joins}
-use Rattle.gptp_kept.specs.Holds.{BecomeCapable, IsWorld, start_of}
-use Rattle.gptp_kept.specs.Watch.{IsCapablePort, Watches}
+use Rattle.gptp_kept.specs.SettlesAsMachine.{BecomeCapable, IsWorld, start_of}
+use Rattle.gptp_kept.specs.Watch.{IsCapablePort, GoodLinksMeasure}
 use Rattle.gptp_kept.proofs.CapableLemmas.{used_capable}
-use Rattle.gptp_kept.specs.Unanswered.{AreSilent, StandsUnanswered}
+use Rattle.gptp_kept.specs.Unanswered.{FailedNeighboursAreSilent, StandsUnanswered}
 use Rattle.gptp_kept.proofs.UnansweredWorldLemmas.{silent_incapable}
 use Rattle.gptp_kept.specs.CalmFor.{ArePortsSettled, IsPortSettled}
 
@@ -57,7 +57,7 @@ used_if stations FromB channel up from to = rw (up, from, to) refl
 
 -- ---- one port
 
-module _ (p : Pace) (w : WorldState) (is : IsWorld p w)
+module _ (p : SettlingParams) (w : WorldState) (is : IsWorld p w)
     (incapable : (at : LinkPlace) (s : StandsUnanswered at w) (q : Port)
     → number s.asking.station.system.ports (sender at.direction s.channel).port ≡ Some q → is_capable q.peer ≡ false)
     (place : ℕ) (station : Station) (here : slice_get w.stations place ≡ Some station)
@@ -162,7 +162,7 @@ module _ (g : Snapshot) (itself : PortId) (h : Held) (q : Port) (shown : IsShown
       by (inl linked) on = linked
       by (inr off) on = absurd (not_both q on off)
 
-pub ports_settled : (p : Pace) (w : WorldState) → KeepPace p → IsWorld p w → Watches p w → AreSilent p w
+pub ports_settled : (p : SettlingParams) (w : WorldState) → KeepPace p → IsWorld p w → GoodLinksMeasure p w → FailedNeighboursAreSilent p w
     → HaveQuietLinks p.params w → start_of p w ≤ w.time → ArePortsSettled w
 ports_settled p w pace is watched silent quiet late place station here live i h q stands there =
     port_settled (snapshot_of w) (own station.system (suc i)) h q
@@ -176,7 +176,7 @@ ports_settled p w pace is watched silent quiet late place station here live i h 
     used = used_capable p w pace is quiet watched late place station here live i h q stands there
 
 -- so the ports are capable as the machine of gptp_settling wants them
-pub are_capable : (p : Pace) (w : WorldState) → KeepPace p → IsWorld p w → Watches p w → AreSilent p w
+pub are_capable : (p : SettlingParams) (w : WorldState) → KeepPace p → IsWorld p w → GoodLinksMeasure p w → FailedNeighboursAreSilent p w
     → BecomeCapable p w
 are_capable p w pace is watched silent quiet late place station here live i h q stands there =
     let settled = ports_settled p w pace is watched silent quiet late place station here live i h q stands there in

@@ -15,7 +15,7 @@ use Rattle.gptp_lists.proofs.PlaceLemmas.{get-set_same, set_each}
 use Rattle.gptp_acts.proofs.StayLemmas.{sender_same}
 use Rattle.gptp_acts.proofs.SteadyLemmas.{same_clock}
 use Rattle.gptp_kept.specs.Linked.{BeginsLink, MeasureLinks}
-use Rattle.gptp_kept.proofs.RunningLemmas.{KeepLinks, calls_links, keep_links, set_links}
+use Rattle.gptp_kept.proofs.ArmedTimerLemmas.{KeepLinks, calls_links, keep_links, set_links}
 use Rattle.gptp_kept.proofs.OnLinkLemmas.{IsDueThere, calls_measure, net_measure}
 
 -- a system is called where it is live, and a port comes up only where a link that is up begins

@@ -4,7 +4,7 @@ use Rattle.std.specs.Prelude.{if◌then◌else◌, max}
 use Rattle.std.proofs.lemmas.Option.{none-some, same_Some}
 use Rattle.gptp_graph.specs.Snapshot.{System}
 use Rattle.gptp_setup.specs.Intervals.{AreParams, interval_of}
-use Rattle.gptp_setup.specs.Pace.{Pace, largest_interval, span_by}
+use Rattle.gptp_setup.specs.SettlingParams.{SettlingParams, largest_interval, span_by}
 use Rattle.gptp_acts.specs.World.{Channel, WorldState}
 use Rattle.gptp_kept.specs.Known.{IsKnown, IsLogAmong}
 use Rattle.gptp_kept.specs.Calm.{greatest_channel_delay}
@@ -45,14 +45,14 @@ delay_of_used systems (first ∷ channels) (suc link) channel here used =
     by false later = later
 
 -- so it is at most the largest announce interval
-pub delay_short : (p : Pace) (w : WorldState) → IsKnown p w
+pub delay_short : (p : SettlingParams) (w : WorldState) → IsKnown p w
     → greatest_channel_delay (live_stations w.stations) w.net.channels ≤ largest_interval p
 delay_short p w known =
     delay_within (live_stations w.stations) w.net.channels (largest_interval p)
     (λ link channel here. (known.near link channel here).most)
 
 -- and what names the interval of a port stays longer than that interval and that delay
-pub receipts_stay : (p : Pace) (w : WorldState) → AreParams p.params → IsKnown p w → (log : ℤ)
+pub receipts_stay : (p : SettlingParams) (w : WorldState) → AreParams p.params → IsKnown p w → (log : ℤ)
     → IsLogAmong w.stations log
     → interval_of log + greatest_channel_delay (live_stations w.stations) w.net.channels
     < span_by p.params.timeout p.largest log

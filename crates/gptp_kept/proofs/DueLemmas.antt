@@ -12,7 +12,7 @@ use Rattle.gptp_system.specs.declared.port.Port.{Port}
 use Rattle.gptp_setup.specs.declared.setup.Params.{Params}
 use Rattle.gptp_setup.specs.declared.timer.Timer.TheVariants as timers
 use Rattle.gptp_setup.specs.Intervals.{AreParams, interval_of}
-use Rattle.gptp_setup.specs.Pace.{Pace, largest_interval, span_by}
+use Rattle.gptp_setup.specs.SettlingParams.{SettlingParams, largest_interval, span_by}
 use Rattle.gptp_system.specs.Measures.{measure_at}
 use Rattle.gptp_system.specs.State.{SystemState, age_due, announce_due, due, is_mine}
 use Rattle.gptp_system.specs.Steps.{IsUp}
@@ -57,7 +57,7 @@ frames_not_late w sound link direction channel f here among =
     (subst (AllByRecursion (λ t. w.time ≤ t)) (agrees_arrivals w sound.agrees link direction channel here) pending)
     among
 
-pub frames_fresh : (p : Pace) (w : WorldState) → IsSound w → IsKnown p w
+pub frames_fresh : (p : SettlingParams) (w : WorldState) → IsSound w → IsKnown p w
     → w.last_change + largest_interval p ≤ w.time
     → OfEachFrame (λ channel f. IsSoonAfter w.time channel.bounds.max f.due) w
 frames_fresh p w sound known passed link direction channel f here among = record {
@@ -90,7 +90,7 @@ module _ (s : SystemState) (i : ℕ) (h : Held) (q : Port) (stands : slice_get s
   respond_is = rw there refl
 
 -- a port whose timers aren't late, and run out in time, is known
-port_known : (p : Pace) (now : ℕ) (station : Station) (i : ℕ) (h : Held) (q : Port) → IsSetTo p station
+port_known : (p : SettlingParams) (now : ℕ) (station : Station) (i : ℕ) (h : Held) (q : Port) → IsSetTo p station
     → slice_get station.system.held i ≡ Some h → slice_get station.system.ports i ≡ Some q
     → NoneLate now station.system → IsPortInTime station.system.params now h q → IsPortKnown p now h q
 port_known p now station i h q set stands there late soon = record {
@@ -119,7 +119,7 @@ port_known p now station i h q set stands there late soon = record {
         subst (λ span. now ≤ r.at + span) (span_is p station set r.interval)
         (late (timers.Age (suc i)) (r.at + span_at s r.interval) (age_is s i h q stands there ∙ ages))
 
-pub ports_known : (p : Pace) (w : WorldState) → IsSound w → IsKnown p w
+pub ports_known : (p : SettlingParams) (w : WorldState) → IsSound w → IsKnown p w
     → OfEachPort (λ itself h q. IsPortKnown p w.time h q) w
 ports_known p w sound known place station here live i h q stands there =
     port_known p w.time station i h q (known.set place station here) stands there
@@ -127,7 +127,7 @@ ports_known p w sound known place station here live i h q stands there =
     ((known.in_time place station here live).each i h q stands there)
 
 -- three announce intervals are longer than one and a delay
-pub receipts_outlast : (p : Pace) (w : WorldState) → AreParams p.params → IsKnown p w → (log : ℤ)
+pub receipts_outlast : (p : SettlingParams) (w : WorldState) → AreParams p.params → IsKnown p w → (log : ℤ)
     → IsLogAmong w.stations log → (link : ℕ) (channel : Channel) → slice_get w.net.channels link ≡ Some channel
     → interval_of log + channel.bounds.max < span_by p.params.timeout p.largest log
 receipts_outlast p w params known log among link channel here =
@@ -141,7 +141,7 @@ receipts_outlast p w params known log among link channel here =
 idle_off : (q : Port) → IsIdle (measure_at q) → is_capable q.peer ≡ false
 idle_off q idle = rw idle.last refl
 
-pub unlinked_disabled : (p : Pace) (w : WorldState) → IsSound w → IsKnown p w
+pub unlinked_disabled : (p : SettlingParams) (w : WorldState) → IsSound w → IsKnown p w
     → OfEachPort (λ itself h q. IsUnlinkedPort w.net itself → h ≡ helds.Disabled) w
 unlinked_disabled p w sound known place station here live i h q stands there unlinked = by q.pdelay refl
   where

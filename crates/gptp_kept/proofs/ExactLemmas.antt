@@ -12,7 +12,7 @@ use Rattle.gptp_links.specs.declared.bounds.Bounds.{Bounds}
 use Rattle.gptp_links.specs.declared.link.Direction.{Direction}
 use Rattle.gptp_links.specs.Fate.{Draw}
 use Rattle.gptp_setup.specs.declared.setup.Params.{Params}
-use Rattle.gptp_setup.specs.Pace.{Pace}
+use Rattle.gptp_setup.specs.SettlingParams.{SettlingParams}
 use Rattle.gptp_plan.specs.Allowed.{IsFitAct}
 use Rattle.gptp_plan.specs.declared.change.Act.{Act}
 use Rattle.gptp_plan.specs.declared.change.Act.TheVariants.{Deliver, Expire, Change as Changing}
@@ -30,7 +30,7 @@ use Rattle.gptp_acts.specs.declared.done.Done.TheVariants.{Quiet, Heard}
 use Rattle.gptp_acts.specs.declared.station.Station.{Station}
 use Rattle.gptp_acts.specs.Initial.{initial}
 use Rattle.gptp_acts.specs.Pending.{NothingBefore}
-use Rattle.gptp_acts.specs.Prompt.{HavePace, IsPromptIn}
+use Rattle.gptp_acts.specs.Prompt.{HavePace, DelaysFitIntervals}
 use Rattle.gptp_acts.specs.Sound.{IsSound}
 use Rattle.gptp_acts.specs.Views.{ShowsLive}
 use Rattle.gptp_acts.specs.World.{WorldState, port_id}
@@ -39,12 +39,12 @@ use Rattle.gptp_timing.specs.Follower.{from}
 use Rattle.gptp_timing.specs.Tree.{IsWayTo}
 use Rattle.gptp_kept.specs.Calm.{IsQuietWorld, clock_place, sync_paths_of}
 use Rattle.gptp_kept.specs.CalmFor.{IsCalmFor}
-use Rattle.gptp_kept.specs.Claimed.{Claimed, IsClaimed}
+use Rattle.gptp_kept.specs.SettlingInvariant.{SettlingInvariant, KeepsAll}
 use Rattle.gptp_kept.specs.Exact.{IsAhead, IsWayError, IsHeardExact, exact_span}
 use Rattle.gptp_kept.specs.Followers.{HasWay, follower_clock, follower_setting, follower_parts}
-use Rattle.gptp_kept.specs.LegibleLaws.{SetsAnOctet}
+use Rattle.gptp_kept.specs.EncodableLaws.{SetsAnOctet}
 use Rattle.gptp_kept.specs.Standing.{snapshot_of}
-use Rattle.gptp_kept.specs.TimedClaim.{AllClaimed, CarriesWhereCalm, IsCalmBy}
+use Rattle.gptp_kept.specs.TimedClaim.{WorldInvariant, CarriesWhereCalm, IsCalmBy}
 use Rattle.gptp_kept.specs.TimedLaws.{IsRootOf}
 use Rattle.gptp_kept.proofs.CalmKeptLemmas.{acts_keep}
 use Rattle.gptp_kept.proofs.ClaimLemmas.{claim_begins, claim_kept, claim_later}
@@ -56,15 +56,15 @@ use Rattle.gptp_kept.proofs.FoundLemmas.{place_is}
 
 pub all_begins : {F : Type 0} (answers : Bounds → ℕ → F → Option ℕ → F → Type 0) (n : NetworkState)
     (fate fate_after : F) (w : WorldState) → IsNetwork n → IsSound (initial n)
-    → Begun answers n fate fate_after w → AllClaimed w
+    → Begun answers n fate fate_after w → WorldInvariant w
 all_begins answers n fate fate_after w network sound k = record {
   pace = pace_of n;
   is = claim_begins answers n fate fate_after w network sound k;
   carries = carries_begins answers n fate fate_after w network sound k;
 }
 
-pub all_later : (w : WorldState) (time : ℕ) → w.time ≤ time → NothingBefore time w.net.pending → AllClaimed w
-    → AllClaimed (at time w)
+pub all_later : (w : WorldState) (time : ℕ) → w.time ≤ time → NothingBefore time w.net.pending → WorldInvariant w
+    → WorldInvariant (at time w)
 all_later w time later first all = record {
   pace = all.pace;
   is = claim_later all.pace w time later first all.is;
@@ -72,8 +72,8 @@ all_later w time later first all = record {
 }
 
 pub all_kept : {F : Type 0} (answers : Bounds → ℕ → F → Option ℕ → F → Type 0) (timed : Timed)
-    (fate fate_after : F) (w w' : WorldState) (done : Done) → IsFitAct timed.act → IsPromptIn w timed.act
-    → SetsAnOctet timed.act → WasDone answers timed fate fate_after w w' done → AllClaimed w → AllClaimed w'
+    (fate fate_after : F) (w w' : WorldState) (done : Done) → IsFitAct timed.act → DelaysFitIntervals w timed.act
+    → SetsAnOctet timed.act → WasDone answers timed fate fate_after w w' done → WorldInvariant w → WorldInvariant w'
 all_kept answers timed fate fate_after w w' done fit prompt octet k all = record {
   pace = all.pace;
   is = claim_kept answers all.pace timed fate fate_after w w' done fit prompt octet k all.is;
@@ -81,18 +81,18 @@ all_kept answers timed fate fate_after w w' done fit prompt octet k all = record
 }
 
 -- it holds what every world keeps
-pub claimed_of : (w : WorldState) → AllClaimed w → Claimed w
+pub claimed_of : (w : WorldState) → WorldInvariant w → SettlingInvariant w
 claimed_of w all = record { pace = all.pace; is = all.is }
 
 -- a world with a system has the parameters and the largest interval that its systems start with
-all_alike : (w : WorldState) → AllClaimed w → (p : Pace) → HavePace p w → (place : ℕ) (station : Station)
-    → slice_get w.stations place ≡ Some station → IsClaimed p w × CarriesWhereCalm p w
+all_alike : (w : WorldState) → WorldInvariant w → (p : SettlingParams) → HavePace p w → (place : ℕ) (station : Station)
+    → slice_get w.stations place ≡ Some station → KeepsAll p w × CarriesWhereCalm p w
 all_alike w all p have place station here =
     let known = (all.is.world.known.set place station here).starts in
     let is = have place station here in
     let params = sym known.params ∙ is.params in
     let largest = sym known.largest ∙ is.largest in
-    subst (λ q. IsClaimed q w × CarriesWhereCalm q w)
+    subst (λ q. KeepsAll q w × CarriesWhereCalm q w)
     (λ i. record { params = params i; largest = largest i }) (all.is, all.carries)
 
 -- ---- at another time
@@ -141,11 +141,11 @@ stood link direction w draws done w' sound k place place' station station' here 
     ∙ sym (place_is w sound.wired.clocks place station here)
 
 module _ (link : ℕ) (direction : Direction) (w w' : WorldState) (draws : List Draw) (number port : ℕ)
-    (octets : List ℕ) (done : Done) (p : Pace) (m steps error : ℕ) (ahead offset : ℤ) (s : SystemState)
+    (octets : List ℕ) (done : Done) (p : SettlingParams) (m steps error : ℕ) (ahead offset : ℤ) (s : SystemState)
     (k : Acts (Deliver link direction) w draws done w')
     (tells : TellsHearing (port_id number port) (Some answers.Used) octets done)
     (message : FollowUp) (reads : Reads octets (messages.FollowUp message)) (shows : ShowsLive number w' s)
-    (left : s.offset ≡ Some offset) (claimed : IsClaimed p w) (carries : CarriesWhereCalm p w)
+    (left : s.offset ≡ Some offset) (claimed : KeepsAll p w) (carries : CarriesWhereCalm p w)
     (calm : IsCalmFor (exact_span m (suc steps)) w) (of_pace : calm.pace ≡ p) (early : w.time ≤ 10 ^ 18)
     (bounded : BoundsPaths (snapshot_of w) m) (near : IsNear (snapshot_of w) number)
     (way : IsWayError p.params w number (suc steps) error) (is_ahead : IsAhead w number w.time ahead) where
@@ -154,14 +154,14 @@ module _ (link : ℕ) (direction : Direction) (w w' : WorldState) (draws : List 
 
   calm_by : IsCalmBy p m settled w
   calm_by = record {
-    quiet = subst (λ (q : Pace). IsQuietWorld q.params w) of_pace calm.quiet;
+    quiet = subst (λ (q : SettlingParams). IsQuietWorld q.params w) of_pace calm.quiet;
     bounded = bounded;
     passed = let same : settled ≤ settled = omega arith in same;
   }
 
   late : settled + suc steps * (p.params.threshold + p.params.residence) ≤ w.time
   late =
-      let span : Pace → ℕ = λ q. exact_span m (suc steps) q (sync_paths_of w) (length (snapshot_of w).systems) in
+      let span : SettlingParams → ℕ = λ q. exact_span m (suc steps) q (sync_paths_of w) (length (snapshot_of w).systems) in
       let passed = subst (λ q. w.last_change + span q ≤ w.time) of_pace calm.late in
       omega (arith, passed)
 
@@ -233,11 +233,11 @@ module _ (link : ℕ) (direction : Direction) (w w' : WorldState) (draws : List 
 -- ---- every act
 
 module _ {F : Type 0} (answers : Bounds → ℕ → F → Option ℕ → F → Type 0) (timed : Timed) (fate fate_after : F)
-    (w w' : WorldState) (all : AllClaimed w) (early : timed.at ≤ 10 ^ 18) where
+    (w w' : WorldState) (all : WorldInvariant w) (early : timed.at ≤ 10 ^ 18) where
   abbrev then : WorldState
   then = at timed.at w
 
-  delivered : (link : ℕ) (direction : Direction) (draws : List Draw) (done : Done) → AllClaimed then
+  delivered : (link : ℕ) (direction : Direction) (draws : List Draw) (done : Done) → WorldInvariant then
       → Acts (Deliver link direction) then draws done w' → IsHeardExact w timed.at w' done
   delivered link direction draws Quiet all k = tt
   delivered link direction draws (Heard number port answer frame) all k = λ message s offset reads used shows left m

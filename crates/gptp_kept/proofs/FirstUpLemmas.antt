@@ -9,7 +9,7 @@ use Rattle.gptp_links.specs.declared.link.Direction.{Direction}
 use Rattle.gptp_links.specs.declared.link.Direction.TheVariants.{FromA, FromB}
 use Rattle.gptp_links.specs.Fate.{Draw}
 use Rattle.gptp_links.specs.Queue.{Frame}
-use Rattle.gptp_setup.specs.Pace.{Pace}
+use Rattle.gptp_setup.specs.SettlingParams.{SettlingParams}
 use Rattle.gptp_system.specs.declared.answer.Answer.{Answer}
 use Rattle.gptp_system.specs.Input.{PortUp}
 use Rattle.gptp_system.specs.State.{clock, number, own}
@@ -57,7 +57,7 @@ begins_at : (port : PortId) (place : ℕ) (net : Net) (channel : Channel) → Is
     → (direction : Direction) × (sender direction channel ≡ port)
 begins_at port place net channel is = elim is.joined [ inl a ↦ (FromA, a) | inr b ↦ (FromB, b) ]
 
-module _ (p : Pace) (at : LinkPlace) (w : WorldState) (sound : IsSound w) (measured : LinkIsMeasured w)
+module _ (p : SettlingParams) (at : LinkPlace) (w : WorldState) (sound : IsSound w) (measured : LinkIsMeasured w)
     (known : IsKnown p w) (s : StandsDown at w) where
   abbrev up_channel : Channel
   up_channel = record s.channel { up = true }

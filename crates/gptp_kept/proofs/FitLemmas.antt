@@ -5,7 +5,7 @@ use Rattle.std.proofs.lemmas.List.{length-append}
 use Rattle.std.proofs.lemmas.Nat.{mod_below}
 use Rattle.std.proofs.lemmas.Option.{none-some, slice_get_within}
 use Rattle.gptp_lists.specs.Members.{In}
-use Rattle.gptp_lists.proofs.MemberLemmas.{In-parts}
+use Rattle.gptp_lists.proofs.SystemSpecLemmas.{In-parts}
 use Rattle.gptp_messages.specs.declared.announce.AnnounceView.{AnnounceView}
 use Rattle.gptp_receipt.specs.declared.held.Held.{Held}
 use Rattle.gptp_receipt.specs.declared.held.Reception.{Reception}
@@ -19,7 +19,7 @@ use Rattle.gptp_system.specs.State.{SystemState, clock, trace}
 use Rattle.gptp_system.specs.Touch.{Touch, Hear}
 use Rattle.gptp_system.proofs.FollowLemmas.{follows}
 use Rattle.gptp_lists.proofs.PlaceLemmas.{member_there}
-use Rattle.gptp_kept.specs.Legible.{AreClocks, ReceptionFits, SaysWhatFits, SystemFits}
+use Rattle.gptp_kept.specs.Encodable.{AreClocks, ReceptionFits, SaysWhatFits, SystemFits}
 use Rattle.gptp_kept.proofs.ReactLemmas.{mid_received}
 
 -- ---- steps

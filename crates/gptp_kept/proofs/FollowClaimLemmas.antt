@@ -3,7 +3,7 @@ use Rattle.std.proofs.Common.{◌≡◌, ◌⊎◌, inl, inr, ◌<◌, ◌≤◌
 use Rattle.std.proofs.lemmas.Bool.{cases_lt}
 use Rattle.gptp_links.specs.declared.bounds.Bounds.{Bounds}
 use Rattle.gptp_links.specs.Fate.{Draw}
-use Rattle.gptp_setup.specs.Pace.{Pace}
+use Rattle.gptp_setup.specs.SettlingParams.{SettlingParams}
 use Rattle.gptp_setup.proofs.IntervalLemmas.{interval_positive}
 use Rattle.gptp_plan.specs.Allowed.{IsFitAct}
 use Rattle.gptp_plan.specs.declared.change.Act.{Act}
@@ -17,21 +17,21 @@ use Rattle.gptp_acts.specs.Acts.{Acts, at}
 use Rattle.gptp_acts.specs.Course.{Begun, WasDone}
 use Rattle.gptp_acts.specs.declared.done.Done.{Done}
 use Rattle.gptp_acts.specs.Initial.{initial}
-use Rattle.gptp_acts.specs.Prompt.{IsPromptIn}
+use Rattle.gptp_acts.specs.Prompt.{DelaysFitIntervals}
 use Rattle.gptp_acts.specs.Sound.{IsSound}
 use Rattle.gptp_acts.specs.World.{WorldState, receiver}
 use Rattle.gptp_graph.specs.PathBound.{BoundsPaths, path_bound}
 use Rattle.gptp_kept.specs.Calm.{sync_paths_of}
 use Rattle.gptp_kept.specs.CalmFor.{IsCalmFor, span_over}
-use Rattle.gptp_kept.specs.Claimed.{IsClaimed}
-use Rattle.gptp_kept.specs.LegibleLaws.{SetsAnOctet}
+use Rattle.gptp_kept.specs.SettlingInvariant.{KeepsAll}
+use Rattle.gptp_kept.specs.EncodableLaws.{SetsAnOctet}
 use Rattle.gptp_kept.specs.SeenLaws.{IsNoChange}
 use Rattle.gptp_kept.specs.Standing.{snapshot_of}
 use Rattle.gptp_kept.specs.Timed.{AllMeasureRight, CarriesTime, IsSettledFrom}
 use Rattle.gptp_kept.specs.TimedClaim.{CarriesWhereCalm, IsCalmBy}
 use Rattle.gptp_kept.specs.TimedClaimLaws.{CalmOffsetsAreExact, CarriesLater}
 use Rattle.gptp_kept.proofs.CalmKeptLemmas.{KeepsNetwork, acts_keep, earlier_quiet, same_paths, same_snapshot, stays_quiet}
-use Rattle.gptp_kept.proofs.ClaimedLemmas.{over_capable, settled_by_paths}
+use Rattle.gptp_kept.proofs.SettlingInvariantLemmas.{over_capable, settled_by_paths}
 use Rattle.gptp_kept.proofs.ClaimLemmas.{claim_begins, claim_kept, claim_later}
 use Rattle.gptp_kept.proofs.FollowLaterLemmas.{time_begins, time_carries}
 use Rattle.gptp_kept.proofs.FollowMeasureLemmas.{measured_right}
@@ -43,7 +43,7 @@ use Rattle.gptp_kept.proofs.OutlineLemmas.{change_is_last, starts_are_last}
 -- ---- a calm world
 
 -- it has been calm for the settling span of m systems
-calm_for : (p : Pace) (m settled : ℕ) (w : WorldState) → IsClaimed p w → IsCalmBy p m settled w → settled ≤ w.time
+calm_for : (p : SettlingParams) (m settled : ℕ) (w : WorldState) → KeepsAll p w → IsCalmBy p m settled w → settled ≤ w.time
     → IsCalmFor (span_over m) w
 calm_for p m settled w claimed calm late = record {
   pace = p;
@@ -53,14 +53,14 @@ calm_for p m settled w claimed calm late = record {
 }
 
 -- so it is settled since that time, and its ports have measured right
-pub settled_from : (p : Pace) (m settled : ℕ) (w : WorldState) → IsClaimed p w → IsCalmBy p m settled w
+pub settled_from : (p : SettlingParams) (m settled : ℕ) (w : WorldState) → KeepsAll p w → IsCalmBy p m settled w
     → settled ≤ w.time → w.time ≤ 10 ^ 18 → IsSettledFrom p settled p.params.threshold w
 settled_from p m settled w claimed calm late shown =
     claimed_is_settled_from p settled w claimed calm.quiet.links
     (settled_by_paths m w (record { pace = p; is = claimed }) calm.bounded (calm_for p m settled w claimed calm late))
     (let passed = calm.passed in omega (arith, passed)) late shown
 
-right_from : (p : Pace) (m settled : ℕ) (w : WorldState) → IsClaimed p w → IsCalmBy p m settled w → settled ≤ w.time
+right_from : (p : SettlingParams) (m settled : ℕ) (w : WorldState) → KeepsAll p w → IsCalmBy p m settled w → settled ≤ w.time
     → w.time ≤ 10 ^ 18 → AllMeasureRight p.params w
 right_from p m settled w claimed calm late shown =
     measured_right p settled p.params.threshold w (settled_from p m settled w claimed calm late shown)
@@ -70,7 +70,7 @@ right_from p m settled w claimed calm late shown =
 -- ---- as a change happens
 
 -- no world has settled at its last change
-at_once : (p : Pace) (w : WorldState) → IsClaimed p w → w.last_change ≡ w.time → CarriesWhereCalm p w
+at_once : (p : SettlingParams) (w : WorldState) → KeepsAll p w → w.last_change ≡ w.time → CarriesWhereCalm p w
 at_once p w claimed now m settled calm late shown =
     let passed = calm.passed in
     let some = interval_positive p.largest claimed.pace.largest in
@@ -86,7 +86,7 @@ carries_begins answers n fate fate_after w network sound k =
 -- ---- as time passes
 
 -- a world that is calm later is so now
-calm_earlier : (p : Pace) (m settled : ℕ) (w : WorldState) (time : ℕ) → IsCalmBy p m settled (at time w)
+calm_earlier : (p : SettlingParams) (m settled : ℕ) (w : WorldState) (time : ℕ) → IsCalmBy p m settled (at time w)
     → IsCalmBy p m settled w
 calm_earlier p m settled w time calm = record {
   quiet = earlier_quiet p.params (path_bound (snapshot_of w)) w time calm.quiet;
@@ -132,7 +132,7 @@ keeps_back w w' k = record {
   change = sym k.change;
 }
 
-calm_before : (p : Pace) (m settled : ℕ) (w w' : WorldState) → KeepsNetwork w w' → IsCalmBy p m settled w'
+calm_before : (p : SettlingParams) (m settled : ℕ) (w w' : WorldState) → KeepsNetwork w w' → IsCalmBy p m settled w'
     → IsCalmBy p m settled w
 calm_before p m settled w w' k calm = record {
   quiet = stays_quiet w' w (keeps_back w w' k) p.params calm.quiet;
@@ -143,18 +143,18 @@ calm_before p m settled w w' k calm = record {
       omega (arith, passed, same, more);
 }
 
-module _ {F : Type 0} (answers : Bounds → ℕ → F → Option ℕ → F → Type 0) (p : Pace) (timed : Timed)
+module _ {F : Type 0} (answers : Bounds → ℕ → F → Option ℕ → F → Type 0) (p : SettlingParams) (timed : Timed)
     (fate fate_after : F) (w w' : WorldState) (done : Done) (fit : IsFitAct timed.act)
-    (prompt : IsPromptIn w timed.act) (octet : SetsAnOctet timed.act)
-    (k : WasDone answers timed fate fate_after w w' done) (claimed : IsClaimed p w) (before : CarriesWhereCalm p w)
+    (prompt : DelaysFitIntervals w timed.act) (octet : SetsAnOctet timed.act)
+    (k : WasDone answers timed fate fate_after w w' done) (claimed : KeepsAll p w) (before : CarriesWhereCalm p w)
   where
     abbrev then : WorldState
     then = at timed.at w
 
-    claimed_then : IsClaimed p then
+    claimed_then : KeepsAll p then
     claimed_then = claim_later p w timed.at k.ready.timely.now k.ready.timely.first claimed
 
-    claimed_after : IsClaimed p w'
+    claimed_after : KeepsAll p w'
     claimed_after = claim_kept answers p timed fate fate_after w w' done fit prompt octet k claimed
 
     -- where nothing changes

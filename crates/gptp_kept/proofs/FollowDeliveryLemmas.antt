@@ -15,7 +15,7 @@ use Rattle.gptp_lists.proofs.MappedLemmas.{same_there}
 use Rattle.gptp_lists.proofs.PlaceLemmas.{get-set_other, get-set_same, same_place}
 use Rattle.gptp_setup.specs.declared.timer.Timer.TheVariants as timers
 use Rattle.gptp_setup.specs.declared.setup.Params.{Params}
-use Rattle.gptp_setup.specs.Pace.{Pace}
+use Rattle.gptp_setup.specs.SettlingParams.{SettlingParams}
 use Rattle.gptp_settling.specs.Settled.{IsSlaveOf}
 use Rattle.gptp_system.specs.declared.answer.Answer.{Answer}
 use Rattle.gptp_system.specs.Input.{Frame as FrameHeard, Steps}
@@ -79,7 +79,7 @@ queue_other one other frames channel differs = elim (which_way one other) [
 
 -- ---- a delivery
 
-module _ (p : Pace) (settled longest : ℕ) (w : WorldState) (is : IsSettledFrom p settled longest w)
+module _ (p : SettlingParams) (settled longest : ℕ) (w : WorldState) (is : IsSettledFrom p settled longest w)
     (carries : CarriesTime p.params settled longest w) (link : ℕ) (direction : Direction) (octets : List ℕ)
     (draws : List Draw) (answer : Option Answer) (w' : WorldState)
     (d : Delivers link direction octets w draws answer w') where
@@ -445,7 +445,7 @@ module _ (p : Pace) (settled longest : ℕ) (w : WorldState) (is : IsSettledFrom
           roots_emptied;
     }
 
-pub delivery_carries : (p : Pace) (settled longest : ℕ) (w w' : WorldState) → IsSettledFrom p settled longest w
+pub delivery_carries : (p : SettlingParams) (settled longest : ℕ) (w w' : WorldState) → IsSettledFrom p settled longest w
     → IsSettledFrom p settled longest w' → CarriesTime p.params settled longest w → (link : ℕ) (direction : Direction)
     (octets : List ℕ) (draws : List Draw) (answer : Option Answer) → Delivers link direction octets w draws answer w'
     → CarriesTime p.params settled longest w'

@@ -8,7 +8,7 @@ use Rattle.gptp_links.specs.Fate.{Draw}
 use Rattle.gptp_setup.specs.declared.setup.Params.{Params}
 use Rattle.gptp_setup.specs.declared.timer.Timer.{Timer}
 use Rattle.gptp_setup.specs.declared.timer.Timer.TheVariants as timers
-use Rattle.gptp_setup.specs.Pace.{Pace}
+use Rattle.gptp_setup.specs.SettlingParams.{SettlingParams}
 use Rattle.gptp_system.specs.declared.answer.Answer.{Answer}
 use Rattle.gptp_system.specs.Input.{Input, Steps, TimerRunsOut as TimerExpires}
 use Rattle.gptp_system.specs.Messages.{AreSent}
@@ -83,7 +83,7 @@ known_ran s s' t k runs = by k.same k.relay
 
 -- ---- an expiry
 
-module _ (p : Pace) (settled longest : ℕ) (w w' : WorldState) (is : IsSettledFrom p settled longest w)
+module _ (p : SettlingParams) (settled longest : ℕ) (w w' : WorldState) (is : IsSettledFrom p settled longest w)
     (is' : IsSettledFrom p settled longest w') (right : AllMeasureRight p.params w)
     (carries : CarriesTime p.params settled longest w) (place : ℕ) (timer : Timer) (draws : List Draw)
     (e : TimerRunsOut place timer w draws w') where

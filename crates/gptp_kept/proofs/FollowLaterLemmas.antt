@@ -3,7 +3,7 @@ use Rattle.std.proofs.Common.{◌≡◌, ◌<◌, ◌+◌, ℕ, refl, sym, ap, s
 use Rattle.gptp_lists.specs.Members.{In}
 use Rattle.gptp_links.specs.Queue.{Frame}
 use Rattle.gptp_setup.specs.declared.setup.Params.{Params}
-use Rattle.gptp_setup.specs.Pace.{Pace}
+use Rattle.gptp_setup.specs.SettlingParams.{SettlingParams}
 use Rattle.gptp_acts.specs.Acts.{at as at_time}
 use Rattle.gptp_acts.specs.World.{WorldState, world_queue}
 use Rattle.gptp_measuring.specs.Lanes.{LaneFrame as SeenFrame}
@@ -53,7 +53,7 @@ time_carries p settled longest w time later carries = record {
   roots = carries.roots;
 }
 
-module _ (p : Pace) (settled longest : ℕ) (w : WorldState) (time : ℕ) (early : w.time < settled) (known : IsKnown p w)
+module _ (p : SettlingParams) (settled longest : ℕ) (w : WorldState) (time : ℕ) (early : w.time < settled) (known : IsKnown p w)
     (is : IsSettledFrom p settled longest (at_time time w)) where
   abbrev later : WorldState
   later = at_time time w

@@ -9,7 +9,7 @@ use Rattle.gptp_pdelay.specs.Peer.{delay_of, rate_of_peer}
 use Rattle.gptp_pdelay.specs.declared.exchange.Measurement.{Measurement}
 use Rattle.gptp_setup.specs.declared.setup.Params.{Params}
 use Rattle.gptp_setup.specs.Intervals.{interval_of}
-use Rattle.gptp_setup.specs.Pace.{Pace}
+use Rattle.gptp_setup.specs.SettlingParams.{SettlingParams}
 use Rattle.gptp_system.specs.declared.port.Port.{Port}
 use Rattle.gptp_system.specs.State.{SystemState, number, own}
 use Rattle.gptp_system.specs.Syncing.{delay_at, root_rate_at, slave_delay, slave_rate}
@@ -48,7 +48,7 @@ delay_seen s i q one slave there last =
     ∙ ap (λ o. option_map_or (λ (y : Port). option_map_or (λ d. d) (delay_of y.peer) (pos 0)) o (pos 0)) there
     ∙ ap (λ o. option_map_or (λ d. d) (option_map (λ (y : Measurement). y.delay) o) (pos 0)) last
 
-module _ (p : Pace) (settled longest : ℕ) (w : WorldState) (is : IsSettledFrom p settled longest w) (at : LinkPlace)
+module _ (p : SettlingParams) (settled longest : ℕ) (w : WorldState) (is : IsSettledFrom p settled longest w) (at : LinkPlace)
     (f : IsFollower at w) (steps : ℕ) (h : HasWay p.params at w f steps) where
   abbrev x : Parts
   x = follower_parts p.params w
@@ -148,7 +148,7 @@ module _ (p : Pace) (settled longest : ℕ) (w : WorldState) (is : IsSettledFrom
         let delay = delay_seen s i q one slave there last in
         same_measured (slave_rate s) one.rate (slave_delay s) one.delay rate delay is_right
 
-pub measured_right : (p : Pace) (settled longest : ℕ) (w : WorldState) → IsSettledFrom p settled longest w
+pub measured_right : (p : SettlingParams) (settled longest : ℕ) (w : WorldState) → IsSettledFrom p settled longest w
     → HaveMeasuredLinks w → AllMeasureRight p.params w
 measured_right p settled longest w is all at f steps h =
     by_number p settled longest w is at f steps h all (receiver at.direction f.channel).port refl

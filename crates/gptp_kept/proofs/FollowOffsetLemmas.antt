@@ -18,7 +18,7 @@ use Rattle.gptp_links.specs.Queue.{Frame, frame}
 use Rattle.gptp_correction.specs.declared.sync_in.SyncInfo.{SyncInfo}
 use Rattle.gptp_correction.specs.Correction.{held_sum}
 use Rattle.gptp_correction.specs.SyncIn.{KeptSync, belongs, information, together}
-use Rattle.gptp_setup.specs.Pace.{Pace, has_sync_timeout}
+use Rattle.gptp_setup.specs.SettlingParams.{SettlingParams, has_sync_timeout}
 use Rattle.gptp_system.specs.declared.answer.Answer.{Answer}
 use Rattle.gptp_system.specs.declared.answer.Answer.TheVariants as answers
 use Rattle.gptp_system.specs.declared.sending.Sending.{Sending}
@@ -160,7 +160,7 @@ module _ (p : ℕ) (m : FollowUpFields) (octets : List ℕ) (now : ℕ) (s s' : 
 
 -- ---- at a system that follows
 
-module _ (p : Pace) (settled longest : ℕ) (w : WorldState) (is : IsSettledFrom p settled longest w)
+module _ (p : SettlingParams) (settled longest : ℕ) (w : WorldState) (is : IsSettledFrom p settled longest w)
     (right : AllMeasureRight p.params w) (carries : CarriesTime p.params settled longest w) (place : LinkPlace)
     (f : IsFollower place w) (steps : ℕ) (h : HasWay p.params place w f steps) (octets : List ℕ) (rest : List Frame)
     (front : world_queue place.direction f.channel ≡ frame w.time octets ∷ rest) (m : FollowUpFields)
@@ -271,7 +271,7 @@ record IsUsedHere (w : WorldState) (place : LinkPlace) (f : IsFollower place w) 
   front : world_queue place.direction f.channel ≡ frame w.time octets ∷ rest
   used : IsUsed (receiver place.direction f.channel).port m (follower_state place w f) after
 
-module _ (p : Pace) (settled longest : ℕ) (w : WorldState) (is : IsSettledFrom p settled longest w) (place : LinkPlace)
+module _ (p : SettlingParams) (settled longest : ℕ) (w : WorldState) (is : IsSettledFrom p settled longest w) (place : LinkPlace)
     (f : IsFollower place w) (link : ℕ) (direction : Direction) (octets : List ℕ) (draws : List Draw)
     (answer : Option Answer) (w' : WorldState) (d : Delivers link direction octets w draws answer w')
     (named : follower_clock place w f ≡ (receiver direction d.channel).clock) (m : FollowUpFields)

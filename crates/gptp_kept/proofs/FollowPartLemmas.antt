@@ -23,7 +23,7 @@ use Rattle.gptp_acts.specs.World.{Channel, WorldState, receiver, sender}
 use Rattle.gptp_timing.specs.TreeLaws.{ArePartsOf}
 use Rattle.gptp_kept.specs.Calm.{delay_in, greatest_channel_delay, has_port_id, clock_place, setups_of}
 use Rattle.gptp_kept.specs.Followers.{bound_at, follower_parts, set_up_with}
-use Rattle.gptp_kept.specs.Legible.{IsLegible}
+use Rattle.gptp_kept.specs.Encodable.{IsEncodable}
 use Rattle.gptp_kept.specs.LinkView.{other_direction}
 use Rattle.gptp_kept.specs.Measured.{LinkIsMeasured}
 use Rattle.gptp_kept.specs.Standing.{channel_is_used, live_stations}
@@ -139,7 +139,7 @@ bound_found f systems (first ∷ channels) (suc link) direction channel port her
     by false is (other, way, at, there, from, same) = (suc other, way, at, there, from, same)
 
 -- that of the link, at the port that receives
-pub bound_is : (f : Bounds → ℕ) (w : WorldState) → IsSound w → IsLegible w → (link : ℕ) (direction : Direction)
+pub bound_is : (f : Bounds → ℕ) (w : WorldState) → IsSound w → IsEncodable w → (link : ℕ) (direction : Direction)
     (channel : Channel) → slice_get w.net.channels link ≡ Some channel
     → channel_is_used (live_stations w.stations) channel ≡ true
     → bound_at f (live_stations w.stations) w.net.channels (port_identity_number (receiver direction channel))

@@ -16,7 +16,7 @@ use Rattle.gptp_pdelay.specs.Clock.{local_clock}
 use Rattle.gptp_correction.specs.declared.correction.Relayed.{Relayed}
 use Rattle.gptp_correction.specs.declared.sync_in.SyncInfo.{SyncInfo}
 use Rattle.gptp_correction.specs.Correction.{bridge, carried, carried_on, held_sum, relayed, BridgeFits}
-use Rattle.gptp_setup.specs.Pace.{Pace}
+use Rattle.gptp_setup.specs.SettlingParams.{SettlingParams}
 use Rattle.gptp_system.specs.declared.sending.Sending.{Sending}
 use Rattle.gptp_system.specs.State.{SystemState, can_lead, clock, local_time}
 use Rattle.gptp_system.specs.Syncing.{HopFits, IsRelayed, IsSentOn, IsToldAtLimits, LeadsTime, hop_of, is_leading, own_time, slave_delay, slave_rate, told_by}
@@ -85,7 +85,7 @@ says_on now s s' sends k = by k.sends_it
 
 -- ---- the parent of a system
 
-module _ (p : Pace) (settled longest : ℕ) (w : WorldState) (is : IsSettledFrom p settled longest w) where
+module _ (p : SettlingParams) (settled longest : ℕ) (w : WorldState) (is : IsSettledFrom p settled longest w) where
   abbrev x : Parts
   x = follower_parts p.params w
 
@@ -146,7 +146,7 @@ pub record TellsRight (k : FollowerSetting) (now : ℕ) (s : SystemState) (sends
   pub fits : from k ≤ now + (followers.parent_link k).most → ToldFits told
 
 -- its own time, where it is_leading
-pub leader_right : (p : Pace) (settled longest : ℕ) (w : WorldState) → IsSettledFrom p settled longest w
+pub leader_right : (p : SettlingParams) (settled longest : ℕ) (w : WorldState) → IsSettledFrom p settled longest w
     → (at : LinkPlace) (f : IsFollower at w) (steps : ℕ) (h : HasWay p.params at w f steps) (s' : SystemState)
     (sends : List Sending) → is_leading (state_above at w f) ≡ true → LeadsTime w.time (state_above at w f) s' sends
     → TellsRight (follower_setting p.params settled longest at w f steps h) w.time (state_above at w f) sends
@@ -184,7 +184,7 @@ record BridgeFitsTold (told : Relayed) : Type 0 where
 
 -- ---- a bridge
 
-module _ (p : Pace) (settled longest : ℕ) (w : WorldState) (is : IsSettledFrom p settled longest w)
+module _ (p : SettlingParams) (settled longest : ℕ) (w : WorldState) (is : IsSettledFrom p settled longest w)
     (right : AllMeasureRight p.params w) (carries : CarriesTime p.params settled longest w) (at : LinkPlace)
     (f : IsFollower at w) (steps : ℕ) (h : HasWay p.params at w f (suc steps)) where
   abbrev kset : FollowerSetting
@@ -335,7 +335,7 @@ module _ (p : Pace) (settled longest : ℕ) (w : WorldState) (is : IsSettledFrom
       }
 
 -- what the Relay timer of any parent sends on
-pub relay_right : (p : Pace) (settled longest : ℕ) (w : WorldState) → IsSettledFrom p settled longest w
+pub relay_right : (p : SettlingParams) (settled longest : ℕ) (w : WorldState) → IsSettledFrom p settled longest w
     → AllMeasureRight p.params w → CarriesTime p.params settled longest w → (at : LinkPlace) (f : IsFollower at w)
     (steps : ℕ) (h : HasWay p.params at w f steps) (s' : SystemState) (sends : List Sending)
     → (state_above at w f).relay ≡ Some w.time → SendsOn w.time (state_above at w f) s' sends

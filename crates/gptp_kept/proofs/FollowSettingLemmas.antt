@@ -2,7 +2,7 @@
 use Rattle.std.proofs.Common.{◌≡◌, ℕ, suc, sym, ap, ◌∙◌}
 use Rattle.gptp_graph.specs.Snapshot.{Snapshot}
 use Rattle.gptp_pdelay.specs.Clock.{local_clock}
-use Rattle.gptp_setup.specs.Pace.{Pace}
+use Rattle.gptp_setup.specs.SettlingParams.{SettlingParams}
 use Rattle.gptp_system.specs.State.{local_time}
 use Rattle.gptp_acts.specs.World.{WorldState, sender}
 use Rattle.gptp_accuracy.specs.TimeError.{WayLink}
@@ -18,7 +18,7 @@ use Rattle.gptp_kept.specs.Timed.{IsSettledFrom}
 use Rattle.gptp_kept.specs.View.{port_identity_number}
 use Rattle.gptp_kept.proofs.FollowPartLemmas.{bound_is, clock_shown, parts_fit}
 
-module _ (p : Pace) (settled longest : ℕ) (w : WorldState) (is : IsSettledFrom p settled longest w) (at : LinkPlace)
+module _ (p : SettlingParams) (settled longest : ℕ) (w : WorldState) (is : IsSettledFrom p settled longest w) (at : LinkPlace)
     (f : IsFollower at w) (steps : ℕ) (h : HasWay p.params at w f steps) where
   abbrev x : Parts
   x = follower_parts p.params w

@@ -4,14 +4,14 @@ use Rattle.std.specs.Option.{option_map}
 use Rattle.std.proofs.lemmas.List.{append-nil}
 use Rattle.gptp_lists.specs.Members.{In}
 use Rattle.gptp_lists.proofs.MappedLemmas.{same_there}
-use Rattle.gptp_lists.proofs.MemberLemmas.{In-right}
+use Rattle.gptp_lists.proofs.SystemSpecLemmas.{In-right}
 use Rattle.gptp_lists.proofs.PlaceLemmas.{same_place}
 use Rattle.gptp_graph.specs.SettledChoice.{IsBestIdentity}
 use Rattle.gptp_vector.specs.declared.port.PortId.{PortId}
 use Rattle.gptp_messages.specs.Frame.{PortFits}
 use Rattle.gptp_links.specs.declared.bounds.Bounds.{Bounds}
 use Rattle.gptp_links.specs.Queue.{AreDueInOrder, Frame}
-use Rattle.gptp_setup.specs.Pace.{Pace}
+use Rattle.gptp_setup.specs.SettlingParams.{SettlingParams}
 use Rattle.gptp_system.specs.declared.sending.Sending.{Sending}
 use Rattle.gptp_system.specs.State.{SystemState, clock, own}
 use Rattle.gptp_acts.specs.declared.station.Station.{Station}
@@ -53,7 +53,7 @@ pub record RelayStops (now : ℕ) (s s' : SystemState) : Type 0 where
   pub sync_in : s'.sync_in ≡ s.sync_in
   pub relay : s'.relay ≡ None
 
-module _ (p : Pace) (settled longest : ℕ) (w w' : WorldState) (is : IsSettledFrom p settled longest w)
+module _ (p : SettlingParams) (settled longest : ℕ) (w w' : WorldState) (is : IsSettledFrom p settled longest w)
     (is' : IsSettledFrom p settled longest w') (keeps : KeepsNetwork w w') (time : w'.time ≡ w.time) (at : LinkPlace)
     (f : IsFollower at w) (f' : IsFollower at w') (a : f'.channel.a ≡ f.channel.a) (b : f'.channel.b ≡ f.channel.b)
     (bounds : f'.channel.bounds ≡ f.channel.bounds) where

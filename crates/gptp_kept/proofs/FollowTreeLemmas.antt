@@ -15,7 +15,7 @@ use Rattle.gptp_receipt.specs.declared.held.Reception.{Reception}
 use Rattle.gptp_receipt.specs.Held.{received}
 use Rattle.gptp_lists.proofs.MappedLemmas.{alike}
 use Rattle.gptp_lists.proofs.PlaceLemmas.{get-set_other, get-set_same, same_place}
-use Rattle.gptp_setup.specs.Pace.{Pace}
+use Rattle.gptp_setup.specs.SettlingParams.{SettlingParams}
 use Rattle.gptp_system.specs.declared.answer.Answer.{Answer}
 use Rattle.gptp_system.specs.Input.{Input}
 use Rattle.gptp_system.specs.State.{SystemState, clock, held_at, parent, held_source}
@@ -43,7 +43,7 @@ use Rattle.gptp_kept.proofs.SyncCallLemmas.{slave_takes}
 
 -- ---- one settled world
 
-pub well_formed : (p : Pace) (settled longest : ℕ) (w : WorldState) → IsSettledFrom p settled longest w
+pub well_formed : (p : SettlingParams) (settled longest : ℕ) (w : WorldState) → IsSettledFrom p settled longest w
     → IsWellFormed (snapshot_of w)
 well_formed p settled longest w is = stands_well w is.world.sound is.world.between is.world.legible
 
@@ -54,7 +54,7 @@ parent_from x n r slave holds =
     ap (option_and_then (λ q. option_map (λ source. (q, source)) (held_source (held_at x q)))) slave
     ∙ ap (λ o. option_map (λ source. (n, source)) (option_map (λ (y : Reception). y.vector.source) o)) holds
 
-module _ (p : Pace) (settled longest : ℕ) (w : WorldState) (is : IsSettledFrom p settled longest w) (at : LinkPlace)
+module _ (p : SettlingParams) (settled longest : ℕ) (w : WorldState) (is : IsSettledFrom p settled longest w) (at : LinkPlace)
     (f : IsFollower at w) where
   abbrev s : SystemState
   s = follower_state at w f

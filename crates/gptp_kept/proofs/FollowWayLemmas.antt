@@ -12,7 +12,7 @@ use Rattle.gptp_lists.proofs.MappedLemmas.{mapped}
 use Rattle.gptp_pdelay.specs.Clock.{IsDrift, IsTime}
 use Rattle.gptp_pdelay.proofs.ClockLemmas.{clock_shows_time}
 use Rattle.gptp_setup.specs.declared.setup.Setup.{Setup}
-use Rattle.gptp_setup.specs.Pace.{Pace}
+use Rattle.gptp_setup.specs.SettlingParams.{SettlingParams}
 use Rattle.gptp_system.specs.State.{clock}
 use Rattle.gptp_acts.specs.declared.station.Station.{Station}
 use Rattle.gptp_acts.specs.World.{WorldState, receiver, sender}
@@ -91,7 +91,7 @@ phases_fit stations each number = by (slice_get (setups_of stations) (clock_plac
 
 -- ---- the way of a system that follows
 
-module _ (p : Pace) (settled longest : ℕ) (w : WorldState) (is : IsSettledFrom p settled longest w) (at : LinkPlace)
+module _ (p : SettlingParams) (settled longest : ℕ) (w : WorldState) (is : IsSettledFrom p settled longest w) (at : LinkPlace)
     (f : IsFollower at w) (steps : ℕ) (h : HasWay p.params at w f steps) where
   abbrev x : Parts
   x = follower_parts p.params w
@@ -179,7 +179,7 @@ pub record Follows (w : WorldState) (place : ℕ) (station : Station) : Type 0 w
   pub own_is : follower.own.station ≡ station
   pub named : (receiver at.direction follower.channel).clock ≡ clock station.system
 
-pub follows_parent : (p : Pace) (settled longest : ℕ) (w : WorldState) → IsSettledFrom p settled longest w → (place : ℕ)
+pub follows_parent : (p : SettlingParams) (settled longest : ℕ) (w : WorldState) → IsSettledFrom p settled longest w → (place : ℕ)
     (station : Station) → slice_get w.stations place ≡ Some station → station.live ≡ true
     → IsNear (snapshot_of w) (clock station.system) → (l : ParentLink)
     → IsParent (snapshot_of w) (clock station.system) l → Follows w place station

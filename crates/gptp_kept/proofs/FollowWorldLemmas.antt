@@ -9,7 +9,7 @@ use Rattle.gptp_graph.proofs.TreeLemmas.{parent_of_other}
 use Rattle.gptp_links.specs.declared.bounds.Bounds.{Bounds}
 use Rattle.gptp_plan.specs.declared.change.Act.TheVariants.{Deliver, Expire, Change as Changing}
 use Rattle.gptp_plan.specs.declared.change.Timed.{Timed}
-use Rattle.gptp_setup.specs.Pace.{Pace}
+use Rattle.gptp_setup.specs.SettlingParams.{SettlingParams}
 use Rattle.gptp_system.specs.State.{clock}
 use Rattle.gptp_acts.specs.Acts.{at}
 use Rattle.gptp_acts.specs.Course.{WasDone}
@@ -40,7 +40,7 @@ acts_carry_time p settled longest (Changing change) w draws done w' none k is is
 
 -- so it is from act to act
 module _ {F : Type 0} (answers : Bounds → ℕ → F → Option ℕ → F → Type 0) where
-  pub done_carries : (p : Pace) (settled longest : ℕ) (timed : Timed) (fate fate_after : F) (w w' : WorldState)
+  pub done_carries : (p : SettlingParams) (settled longest : ℕ) (timed : Timed) (fate fate_after : F) (w w' : WorldState)
       (done : Done) → IsNoChange timed.act → WasDone answers timed fate fate_after w w' done → IsKnown p w
       → IsSettledFrom p settled longest (at timed.at w) → AllMeasureRight p.params (at timed.at w)
       → IsSettledFrom p settled longest w' → (settled ≤ w.time → CarriesTime p.params settled longest w)

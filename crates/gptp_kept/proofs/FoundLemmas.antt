@@ -12,7 +12,7 @@ use Rattle.gptp_acts.specs.declared.station.Station.{Station}
 use Rattle.gptp_acts.specs.Sound.{HaveOwnClocks, IsSound}
 use Rattle.gptp_acts.specs.World.{Channel, WorldState, sender}
 use Rattle.gptp_settling.specs.Frame.{Lane}
-use Rattle.gptp_kept.specs.Legible.{IsLegible}
+use Rattle.gptp_kept.specs.Encodable.{IsEncodable}
 use Rattle.gptp_kept.specs.View.{port_identity_number, lane_place, lane_view, lanes_view}
 use Rattle.gptp_kept.proofs.SeenLaneLemmas.{lane_there}
 use Rattle.gptp_kept.proofs.SendLemmas.{world_apart}
@@ -101,7 +101,7 @@ lane_found (first ∷ channels) port (suc link) direction channel here begins =
     first_or_later first channels port (λ off_a off_b. later)
 
 -- and no other lane begins there
-pub lane_is : (w : WorldState) → IsSound w → IsLegible w → (link : ℕ) (direction : Direction) (channel : Channel)
+pub lane_is : (w : WorldState) → IsSound w → IsEncodable w → (link : ℕ) (direction : Direction) (channel : Channel)
     → slice_get w.net.channels link ≡ Some channel
     → lane_place link direction ≡ lane_of w.net.channels (port_identity_number (sender direction channel))
 lane_is w sound legible link direction channel here =

@@ -18,7 +18,7 @@ use Rattle.gptp_lists.proofs.MappedLemmas.{same_there}
 use Rattle.gptp_lists.proofs.PlaceLemmas.{get-set_other, same_place}
 use Rattle.gptp_acts.proofs.StayLemmas.{calls_if_live_stay, stays_clocks}
 use Rattle.gptp_kept.specs.Linked.{BeginsLink, MeasureLinks}
-use Rattle.gptp_kept.proofs.RunningLemmas.{came_up, went_down}
+use Rattle.gptp_kept.proofs.ArmedTimerLemmas.{came_up, went_down}
 use Rattle.gptp_kept.proofs.OnLinkLemmas.{MeasureBut, calls_but, either_way, none_but}
 use Rattle.gptp_kept.proofs.ComesUpLemmas.{IsAt, calls_if_live_at, is_at}
 

@@ -3,7 +3,7 @@ use Rattle.std.proofs.Common.{◌≡◌, ℕ, ℤ, ◌≤◌, List, Option, Some
 use Rattle.gptp_links.specs.declared.link.Direction.{Direction}
 use Rattle.gptp_links.specs.Fate.{Draw}
 use Rattle.gptp_system.specs.declared.answer.Answer.{Answer}
-use Rattle.gptp_setup.specs.Pace.{Pace}
+use Rattle.gptp_setup.specs.SettlingParams.{SettlingParams}
 use Rattle.gptp_setup.specs.declared.timer.Timer.{Timer}
 use Rattle.gptp_system.specs.Input.{Frame as FrameHeard, TimerRunsOut as TimerExpires}
 use Rattle.gptp_system.specs.State.{due}
@@ -21,7 +21,7 @@ use Rattle.gptp_kept.proofs.LimitLemmas.{keep_all, takes_keep}
 
 -- ---- a delivery
 
-module _ (p : Pace) (So : ℤ → Type 0) (link : ℕ) (direction : Direction) (octets : List ℕ) (w : WorldState)
+module _ (p : SettlingParams) (So : ℤ → Type 0) (link : ℕ) (direction : Direction) (octets : List ℕ) (w : WorldState)
     (draws : List Draw) (answer : Option Answer) (w' : WorldState) (wired : IsWired w)
     (k : Delivers link direction octets w draws answer w') where
   -- the world without the frame, and the port that it reaches
@@ -62,7 +62,7 @@ out_due place timer w draws w' k =
     sym (live_due k.calls.station timer k.calls.live) ∙ ap (station_due timer) same ∙ k.now_due in
     let least : w.time ≤ w.time = omega arith in rw now least
 
-pub expires_kept : (p : Pace) (So : ℤ → Type 0) (place : ℕ) (timer : Timer) (w : WorldState) (draws : List Draw)
+pub expires_kept : (p : SettlingParams) (So : ℤ → Type 0) (place : ℕ) (timer : Timer) (w : WorldState) (draws : List Draw)
     (w' : WorldState) → TimerRunsOut place timer w draws w' → IsKept p So w → IsKept p So w'
 expires_kept p So place timer w draws w' k kept =
     calls_kept p So place (TimerExpires timer) (stopped place timer w) draws k.answer w' k.calls

@@ -12,7 +12,7 @@ use Rattle.gptp_setup.specs.declared.setup.Params.{Params}
 use Rattle.gptp_system.specs.Facts.{Keeps}
 use Rattle.gptp_system.specs.Input.{Input, IsTimely, Steps}
 use Rattle.gptp_setup.specs.Intervals.{AreParams, interval_of}
-use Rattle.gptp_setup.specs.Pace.{Pace, largest_interval}
+use Rattle.gptp_setup.specs.SettlingParams.{SettlingParams, largest_interval}
 use Rattle.gptp_system.specs.State.{SystemState}
 use Rattle.gptp_system.specs.Times.{IsInTime, RunsOn, LapseRunsOn, WaitsAnew}
 use Rattle.gptp_system.proofs.InTimeLemmas.{stays_in_time}
@@ -40,7 +40,7 @@ use Rattle.gptp_kept.proofs.TimeStepLemmas.{knows_on}
 -- A station can start, for ports with such intervals alone, and its system is steady and has the network's parameters.
 -- Where it is live its timers run out in time, its ports measure by those parameters, and the time that it knows is in
 -- order.
-pub record IsKeptStation (p : Pace) (So : ℤ → Type 0) (now : ℕ) (station : Station) : Type 0 where
+pub record IsKeptStation (p : SettlingParams) (So : ℤ → Type 0) (now : ℕ) (station : Station) : Type 0 where
   pub setup : AreParams station.setup.params
   pub steady : IsSteady station.system
   pub set : IsSetTo p station
@@ -49,7 +49,7 @@ pub record IsKeptStation (p : Pace) (So : ℤ → Type 0) (now : ℕ) (station :
   pub measuring : station.live ≡ true → PortsMeasure p.params station.system
   pub time : station.live ≡ true → KnowsTime station.system
 
-abbrev pub AreKeptStations : Pace → (ℤ → Type 0) → ℕ → List Station → Type 0
+abbrev pub AreKeptStations : SettlingParams → (ℤ → Type 0) → ℕ → List Station → Type 0
 AreKeptStations p So now stations =
     (place : ℕ) (station : Station) → slice_get stations place ≡ Some station → IsKeptStation p So now station
 
@@ -58,10 +58,10 @@ AreKeptStations p So now stations =
 abbrev pub near_limit : ℤ → ℕ → Bounds → ℕ
 near_limit log now bounds = now + interval_of log
 
-abbrev pub fresh_limit : Pace → ℕ → ℕ → Bounds → ℕ
+abbrev pub fresh_limit : SettlingParams → ℕ → ℕ → Bounds → ℕ
 fresh_limit p now last_change bounds = max (now + bounds.max) (last_change + largest_interval p)
 
-pub record IsKept (p : Pace) (So : ℤ → Type 0) (w : WorldState) : Type 0 where
+pub record IsKept (p : SettlingParams) (So : ℤ → Type 0) (w : WorldState) : Type 0 where
   pub change : w.last_change ≤ w.time
   pub stations : AreKeptStations p So w.time w.stations
   pub largest : So p.largest
@@ -69,7 +69,7 @@ pub record IsKept (p : Pace) (So : ℤ → Type 0) (w : WorldState) : Type 0 whe
   pub fresh : AreLimited (fresh_limit p w.time w.last_change) w.time w.net.channels
 
 -- the intervals that count in a network: the largest, and those of its ports
-abbrev pub IsCounted : Pace → List Station → ℤ → Type 0
+abbrev pub IsCounted : SettlingParams → List Station → ℤ → Type 0
 IsCounted p stations log = (log ≡ p.largest) ⊎ IsLogAmong stations log
 
 -- links that are short are within the limit of that interval
@@ -93,7 +93,7 @@ near_short log w near link channel here =
     }
 
 -- what is known, item by item
-pub known_kept : (p : Pace) (w : WorldState) → IsWorldOnTime w → IsKnown p w → IsKept p (IsCounted p w.stations) w
+pub known_kept : (p : SettlingParams) (w : WorldState) → IsWorldOnTime w → IsKnown p w → IsKept p (IsCounted p w.stations) w
 known_kept p w on known = record {
   change = known.fresh.change;
   stations = λ place station here.
@@ -121,7 +121,7 @@ known_kept p w on known = record {
     near log (inr among) = short_near log w (known.prompt log among)
 
 -- and so it is known, where ports measure only at links that are up
-pub kept_known : (p : Pace) (So : ℤ → Type 0) (w : WorldState) → IsKept p So w → MeasureLinks w → IsKnown p w
+pub kept_known : (p : SettlingParams) (So : ℤ → Type 0) (w : WorldState) → IsKept p So w → MeasureLinks w → IsKnown p w
 kept_known p So w kept links = record {
   set = λ place station here. (kept.stations place station here).set;
   prompt = λ log at.
@@ -141,7 +141,7 @@ kept_known p So w kept links = record {
 -- ---- what becomes other
 
 -- the links alone
-pub net_kept : (p : Pace) (So : ℤ → Type 0) (w : WorldState) (net : Net)
+pub net_kept : (p : SettlingParams) (So : ℤ → Type 0) (w : WorldState) (net : Net)
     → KeepLimits w.time w.net.channels net.channels → IsKept p So w → IsKept p So (record w { net = net })
 net_kept p So w net keep kept = record {
   change = kept.change;
@@ -152,7 +152,7 @@ net_kept p So w net keep kept = record {
 }
 
 -- one station
-pub station_kept : (p : Pace) (So : ℤ → Type 0) (place : ℕ) (old new : Station) (w : WorldState)
+pub station_kept : (p : SettlingParams) (So : ℤ → Type 0) (place : ℕ) (old new : Station) (w : WorldState)
     → slice_get w.stations place ≡ Some old → IsKeptStation p So w.time new → IsKept p So w
     → IsKept p So (record w { stations = slice_set w.stations place new })
 station_kept p So place old new w here is kept = record {
@@ -192,7 +192,7 @@ stays_off input now s s' sends answer steps nothing off = by s'.lapse refl
     by None is = is
     by (Some t) is = absurd (ran t (runs.lapse t is))
 
-module _ (p : Pace) (So : ℤ → Type 0) (place : ℕ) (input : Input) (w : WorldState) (draws : List Draw) (answer : Answer)
+module _ (p : SettlingParams) (So : ℤ → Type 0) (place : ℕ) (input : Input) (w : WorldState) (draws : List Draw) (answer : Answer)
     (w' : WorldState) (calls : Calls place input w draws answer w') where
   -- the system as the call leaves it
   called_station : IsTimely calls.station.system w.time input → IsKeptStation p So w.time calls.station

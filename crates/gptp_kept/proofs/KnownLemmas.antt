@@ -5,31 +5,31 @@ use Rattle.gptp_links.specs.declared.bounds.Bounds.{Bounds}
 use Rattle.gptp_links.specs.Fate.{Draw}
 use Rattle.gptp_setup.specs.declared.setup.Setup.{Setup}
 use Rattle.gptp_setup.specs.Intervals.{IsLogUpTo, interval_of, AreIntervals}
-use Rattle.gptp_setup.specs.Pace.{Pace, largest_interval}
+use Rattle.gptp_setup.specs.SettlingParams.{SettlingParams, largest_interval}
 use Rattle.gptp_setup.proofs.IntervalLemmas.{interval_rises}
 use Rattle.gptp_plan.specs.declared.change.Act.{Act}
 use Rattle.gptp_plan.specs.declared.change.Act.TheVariants.{Deliver, Expire, Change as Changing}
 use Rattle.gptp_plan.specs.declared.change.Timed.{Timed}
 use Rattle.gptp_acts.specs.declared.done.Done.{Done}
-use Rattle.gptp_plan.specs.declared.network.Member.{Member}
-use Rattle.gptp_plan.specs.declared.network.Wire.{Wire}
+use Rattle.gptp_plan.specs.declared.network.SystemSpec.{SystemSpec}
+use Rattle.gptp_plan.specs.declared.network.LinkSpec.{LinkSpec}
 use Rattle.gptp_acts.specs.declared.station.Station.{Station}
 use Rattle.gptp_acts.specs.Acts.{Acts, at}
 use Rattle.gptp_acts.specs.Course.{Begun, WasDone}
 use Rattle.gptp_acts.specs.Initial.{channel_from, initial, setup_of, station_of}
 use Rattle.gptp_plan.specs.Network.{IsNetwork, NetworkState, largest_of, logs_of, pace_of}
-use Rattle.gptp_plan.specs.Prompt.{IsPromptAct}
+use Rattle.gptp_plan.specs.Prompt.{DelayFitsInterval}
 use Rattle.gptp_plan.proofs.LogLemmas.{In-flat_map, largest_greatest, largest_log, logs_within}
 use Rattle.gptp_acts.specs.Sound.{IsSound}
 use Rattle.gptp_acts.specs.World.{WorldState}
 use Rattle.gptp_lists.proofs.MappedLemmas.{mapped}
 use Rattle.gptp_lists.specs.Members.{In}
-use Rattle.gptp_lists.proofs.MemberLemmas.{In-slice_get}
+use Rattle.gptp_lists.proofs.SystemSpecLemmas.{In-slice_get}
 use Rattle.gptp_lists.proofs.PlaceLemmas.{member_there}
 use Rattle.gptp_acts.proofs.SoundLemmas.{later_sound}
 use Rattle.gptp_acts.proofs.SteadyLemmas.{started_steady}
 use Rattle.gptp_acts.proofs.WiredLemmas.{time_wired}
-use Rattle.gptp_acts.specs.Prompt.{IsPromptIn}
+use Rattle.gptp_acts.specs.Prompt.{DelaysFitIntervals}
 use Rattle.gptp_kept.specs.Known.{IsKnown}
 use Rattle.gptp_kept.specs.Linked.{MeasureLinks}
 use Rattle.gptp_kept.proofs.KnownActLemmas.{delivers_kept, expires_kept}
@@ -42,8 +42,8 @@ use Rattle.gptp_kept.proofs.StartsLemmas.{starts_all_measure}
 
 -- ---- acts
 
-acts_kept : (p : Pace) (So : ℤ → Type 0) (act : Act) (w : WorldState) (draws : List Draw) (done : Done)
-    (w' : WorldState) → IsSound w → ((log : ℤ) → So log → IsPromptAct (interval_of log) act)
+acts_kept : (p : SettlingParams) (So : ℤ → Type 0) (act : Act) (w : WorldState) (draws : List Draw) (done : Done)
+    (w' : WorldState) → IsSound w → ((log : ℤ) → So log → DelayFitsInterval (interval_of log) act)
     → Acts act w draws done w' → IsKept p So w → IsKept p So w'
 acts_kept p So (Deliver link direction) w draws done w' sound prompt k kept =
     delivers_kept p So link direction k.octets w draws k.answer w' sound.wired k.delivers kept
@@ -54,13 +54,13 @@ acts_kept p So (Changing c) w draws done w' sound prompt k kept =
     prompt (changed_kept p So w kept) k.1
 
 -- such an act is prompt for each interval that counts
-counted_prompt : (p : Pace) (act : Act) (w : WorldState) → IsPromptAct (largest_interval p) act → IsPromptIn w act
-    → (log : ℤ) → IsCounted p w.stations log → IsPromptAct (interval_of log) act
-counted_prompt p act w most prompt log (inl same) = subst (λ l. IsPromptAct (interval_of l) act) (sym same) most
+counted_prompt : (p : SettlingParams) (act : Act) (w : WorldState) → DelayFitsInterval (largest_interval p) act → DelaysFitIntervals w act
+    → (log : ℤ) → IsCounted p w.stations log → DelayFitsInterval (interval_of log) act
+counted_prompt p act w most prompt log (inl same) = subst (λ l. DelayFitsInterval (interval_of l) act) (sym same) most
 counted_prompt p act w most prompt log (inr at) = prompt at.place at.station log at.here at.among
 
-pub acts_known : (p : Pace) (act : Act) (w : WorldState) (draws : List Draw) (done : Done) (w' : WorldState)
-    → IsSound w → IsPromptAct (largest_interval p) act → IsPromptIn w act → Acts act w draws done w' → IsKnown p w
+pub acts_known : (p : SettlingParams) (act : Act) (w : WorldState) (draws : List Draw) (done : Done) (w' : WorldState)
+    → IsSound w → DelayFitsInterval (largest_interval p) act → DelaysFitIntervals w act → Acts act w draws done w' → IsKnown p w
     → IsKnown p w'
 acts_known p act w draws done w' sound most prompt k known =
     let counted = IsCounted p w.stations in
@@ -69,9 +69,9 @@ acts_known p act w draws done w' sound most prompt k known =
     (known_kept p w sound.on_time known))
     (acts_measure act w draws done w' sound.wired k known.links)
 
-pub done_known : {F : Type 0} (answers : Bounds → ℕ → F → Option ℕ → F → Type 0) (p : Pace) (timed : Timed)
+pub done_known : {F : Type 0} (answers : Bounds → ℕ → F → Option ℕ → F → Type 0) (p : SettlingParams) (timed : Timed)
     (fate fate_after : F) (w w' : WorldState) (done : Done) → IsSound w
-    → IsPromptAct (largest_interval p) timed.act → IsPromptIn w timed.act
+    → DelayFitsInterval (largest_interval p) timed.act → DelaysFitIntervals w timed.act
     → WasDone answers timed fate fate_after w w' done → IsKnown p w → IsKnown p w'
 done_known answers p timed fate fate_after w w' done sound most prompt k known =
     let timely = k.ready.timely in
@@ -85,17 +85,17 @@ abbrev IsOf : NetworkState → ℤ → Type 0
 IsOf n log = (log ≡ largest_of n) ⊎ In log (logs_of n)
 
 -- those of a system are among them
-log_of_system : (n : NetworkState) (place : ℕ) (m : Member) → slice_get n.systems place ≡ Some m → (log : ℤ)
+log_of_system : (n : NetworkState) (place : ℕ) (m : SystemSpec) → slice_get n.systems place ≡ Some m → (log : ℤ)
     → In log m.intervals.items → In log (logs_of n)
 log_of_system n place m there log among =
-    In-flat_map (λ (x : Member). x.intervals.items) log n.systems place m there among
+    In-flat_map (λ (x : SystemSpec). x.intervals.items) log n.systems place m there among
 
 all_among : (So : ℤ → Type 0) (logs : List ℤ) → ((log : ℤ) → In log logs → So log) → AllByRecursion So logs
 all_among So [] each = tt
 all_among So (log ∷ logs) each = (each log (inl refl), all_among So logs (λ x among. each x (inr among)))
 
 -- a system as the network has it, before it starts
-initial_station : (n : NetworkState) → IsNetwork n → (place : ℕ) (m : Member) → slice_get n.systems place ≡ Some m
+initial_station : (n : NetworkState) → IsNetwork n → (place : ℕ) (m : SystemSpec) → slice_get n.systems place ≡ Some m
     → IsKeptStation (pace_of n) (IsOf n) 0 (station_of (pace_of n) m)
 initial_station n is place m there =
     let setup : Setup = setup_of (pace_of n) m in
@@ -121,20 +121,20 @@ initial_station n is place m there =
     }
 
 -- a link as the network has it: nothing is in flight
-initial_channel : (wire : Wire) (limit : Bounds → ℕ) → 0 + wire.bounds.max ≤ limit wire.bounds
+initial_channel : (wire : LinkSpec) (limit : Bounds → ℕ) → 0 + wire.bounds.max ≤ limit wire.bounds
     → IsLimited limit 0 (channel_from wire)
 initial_channel wire limit room =
     record { room = room; from_a = λ f among. absurd among; from_b = λ f among. absurd among }
 
 initial_limited : (n : NetworkState) (limit : Bounds → ℕ)
-    → ((place : ℕ) (wire : Wire) → slice_get n.links place ≡ Some wire → 0 + wire.bounds.max ≤ limit wire.bounds)
+    → ((place : ℕ) (wire : LinkSpec) → slice_get n.links place ≡ Some wire → 0 + wire.bounds.max ≤ limit wire.bounds)
     → AreLimited limit 0 (initial n).net.channels
 initial_limited n limit room link channel here =
     let wire = mapped channel_from n.links link channel here in
     subst (IsLimited limit 0) wire.2 (initial_channel wire.0 limit (room link wire.0 wire.1))
 
 -- a link has no delay above any of the intervals; above the largest neither, since a port is at its end
-wire_prompt : (n : NetworkState) → IsNetwork n → (place : ℕ) (wire : Wire) → slice_get n.links place ≡ Some wire
+wire_prompt : (n : NetworkState) → IsNetwork n → (place : ℕ) (wire : LinkSpec) → slice_get n.links place ≡ Some wire
     → (log : ℤ) → IsOf n log → wire.bounds.max ≤ interval_of log
 wire_prompt n is place wire here log (inr among) = (is.links place wire here).prompt log among
 wire_prompt n is place wire here log (inl same) =

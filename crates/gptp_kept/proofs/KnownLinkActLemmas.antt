@@ -25,7 +25,7 @@ use Rattle.gptp_acts.specs.World.{Channel, WorldState, port_id, receiver}
 use Rattle.gptp_acts.proofs.WiredLemmas.{time_wired}
 use Rattle.gptp_kept.specs.Linked.{MeasureLinks}
 use Rattle.gptp_kept.proofs.KnownActLemmas.{out_due}
-use Rattle.gptp_kept.proofs.RunningLemmas.{sends_one_links, set_links, takes_links}
+use Rattle.gptp_kept.proofs.ArmedTimerLemmas.{sends_one_links, set_links, takes_links}
 use Rattle.gptp_kept.proofs.OnLinkLemmas.{calls_measure, net_measure, replaced_measure, station_measure}
 use Rattle.gptp_kept.proofs.ComesUpLemmas.{calls_if_live_measure, comes_up_measures}
 use Rattle.gptp_kept.proofs.GoesDownLemmas.{goes_down_measures}

@@ -1,6 +1,6 @@
 -- Time that passes keeps what is known of a world.
 use Rattle.std.proofs.Common.{ℕ, ◌≤◌, arith}
-use Rattle.gptp_setup.specs.Pace.{Pace, largest_interval}
+use Rattle.gptp_setup.specs.SettlingParams.{SettlingParams, largest_interval}
 use Rattle.gptp_setup.specs.Intervals.{interval_of}
 use Rattle.gptp_system.proofs.InTimeLemmas.{later_in_time}
 use Rattle.gptp_acts.specs.Acts.{at}
@@ -8,14 +8,14 @@ use Rattle.gptp_acts.specs.World.{WorldState}
 use Rattle.gptp_kept.specs.Known.{AreFresh, IsKnown}
 use Rattle.gptp_kept.proofs.ShortLemmas.{later_short}
 
-later_fresh : (p : Pace) (w : WorldState) (t : ℕ) → w.time ≤ t → AreFresh p w → AreFresh p (at t w)
+later_fresh : (p : SettlingParams) (w : WorldState) (t : ℕ) → w.time ≤ t → AreFresh p w → AreFresh p (at t w)
 later_fresh p w t later fresh = record {
   change = let before = fresh.change in omega arith;
   frames = λ link direction channel f here among.
       let soon = fresh.frames link direction channel f here among in omega arith;
 }
 
-pub later_known : (p : Pace) (w : WorldState) (t : ℕ) → w.time ≤ t → IsKnown p w → IsKnown p (at t w)
+pub later_known : (p : SettlingParams) (w : WorldState) (t : ℕ) → w.time ≤ t → IsKnown p w → IsKnown p (at t w)
 later_known p w t later known = record {
   set = known.set;
   prompt = λ log among. later_short (interval_of log) t w later (known.prompt log among);

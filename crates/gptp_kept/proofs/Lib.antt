@@ -7,7 +7,7 @@ pub mod MeasuringLemmas
 pub mod KnownKeptLemmas
 pub mod KnownActLemmas
 pub mod ChangeLemmas
-pub mod RunningLemmas
+pub mod ArmedTimerLemmas
 pub mod OnLinkLemmas
 pub mod ComesUpLemmas
 pub mod GoesDownLemmas
@@ -30,7 +30,7 @@ pub mod SeenCallLemmas
 pub mod SeenExpiryLemmas
 pub mod SeenDeliveryLemmas
 pub mod SeenActLemmas
-pub mod LegibleLemmas
+pub mod EncodableLemmas
 pub mod AnsweringLemmas
 pub mod ChangeLegibleLemmas
 pub mod ActLegibleLemmas
@@ -57,7 +57,7 @@ pub mod SyncHeardLemmas
 pub mod SyncLaneLemmas
 pub mod SyncCallLemmas
 pub mod SyncActLemmas
-pub mod HoldsLemmas
+pub mod SettlesAsMachineLemmas
 pub mod SoundCallLemmas
 pub mod SoundWorldLemmas
 pub mod StartFirstLemmas
@@ -106,7 +106,7 @@ pub mod UsedLinkLemmas
 pub mod CapableLemmas
 pub mod ClaimedCapableLemmas
 pub mod ClaimLemmas
-pub mod ClaimedLemmas
+pub mod SettlingInvariantLemmas
 pub mod MeasuredLinkLemmas
 pub mod ShownLemmas
 pub mod TraceLemmas

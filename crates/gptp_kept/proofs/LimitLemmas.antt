@@ -1,7 +1,7 @@
 -- Links on which each frame is due by a limit, which follows from their bounds; what is sent and delivered keeps it.
 use Rattle.std.proofs.Common.{◌≡◌, ◌⊎◌, ℕ, ◌+◌, ◌≤◌, true, List, [], ◌∷◌, ◌++◌, Option, Some, None, slice_get, slice_set, refl, sym, subst, inl, inr, arith}
 use Rattle.gptp_lists.specs.Members.{In}
-use Rattle.gptp_lists.proofs.MemberLemmas.{In-parts}
+use Rattle.gptp_lists.proofs.SystemSpecLemmas.{In-parts}
 use Rattle.gptp_vector.specs.declared.port.PortId.{PortId}
 use Rattle.gptp_links.specs.declared.bounds.Bounds.{Bounds}
 use Rattle.gptp_links.specs.declared.link.Direction.{Direction}

@@ -9,7 +9,7 @@ use Rattle.gptp_plan.specs.declared.change.Act.TheVariants.{Change as Changing}
 use Rattle.gptp_plan.specs.declared.change.Change.TheVariants.{LinkUp}
 use Rattle.gptp_setup.specs.declared.setup.Params.{Params}
 use Rattle.gptp_setup.specs.Intervals.{interval_of}
-use Rattle.gptp_setup.specs.Pace.{Pace}
+use Rattle.gptp_setup.specs.SettlingParams.{SettlingParams}
 use Rattle.gptp_system.specs.Input.{PortUp}
 use Rattle.gptp_acts.specs.declared.done.Done.{Done}
 use Rattle.gptp_acts.specs.Acts.{Acts, AtLink}
@@ -20,7 +20,7 @@ use Rattle.gptp_kept.specs.Elsewhere.{IsOtherLink}
 use Rattle.gptp_kept.specs.Unanswered.{StandsUnanswered}
 use Rattle.gptp_kept.proofs.SilentElsewhereLemmas.{changed_silent, up_silences}
 use Rattle.gptp_kept.specs.FirstAt.{IsFirstAt, StandsDown}
-use Rattle.gptp_kept.specs.Holds.{IsWorld}
+use Rattle.gptp_kept.specs.SettlesAsMachine.{IsWorld}
 use Rattle.gptp_kept.specs.LinkView.{LinkPlace, link_setting}
 use Rattle.gptp_kept.specs.Measured.{LinkIsMeasured, LinkStandsAt}
 use Rattle.gptp_kept.specs.NewsWorld.{AreReadyBy, AreSilentBy, IsReadyBy}
@@ -59,7 +59,7 @@ tells_leave channel w draws w' k =
       time = two.time ∙ one.time;
     }
 
-module _ (p : Pace) (start number port : ℕ) (w : WorldState) (draws : List Draw) (done : Done) (w' : WorldState)
+module _ (p : SettlingParams) (start number port : ℕ) (w : WorldState) (draws : List Draw) (done : Done) (w' : WorldState)
     (pace : KeepPace p) (is : IsWorld p w) (is' : IsWorld p w') (measured : LinkIsMeasured w)
     (silent : AreSilentBy p start w)
     (ready : AreReadyBy p start w) (apart : (at : LinkPlace) → StandsUnanswered at w' → IsOtherLink at

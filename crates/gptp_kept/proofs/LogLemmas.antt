@@ -4,7 +4,7 @@ use Rattle.std.specs.Option.{option_map_or}
 use Rattle.gptp_graph.specs.Snapshot.{IsLinked, PortIdentity, System, port_of}
 use Rattle.gptp_lists.proofs.MappedLemmas.{mapped_there}
 use Rattle.gptp_lists.proofs.PlaceLemmas.{member_there}
-use Rattle.gptp_setup.specs.Pace.{Pace}
+use Rattle.gptp_setup.specs.SettlingParams.{SettlingParams}
 use Rattle.gptp_setup.specs.declared.setup.Setup.{Setup}
 use Rattle.gptp_system.specs.State.{clock}
 use Rattle.gptp_system.specs.Steps.{HasPortNumber}
@@ -32,7 +32,7 @@ log_is w own place station here n =
     ap (λ o. option_map_or (λ (x : Setup). log_at x n) o (pos 0)) at
 
 -- a port of a system that the world has
-module _ (p : Pace) (w : WorldState) (sound : IsSound w) (set : AreSet p w) (place : ℕ) (station : Station)
+module _ (p : SettlingParams) (w : WorldState) (sound : IsSound w) (set : AreSet p w) (place : ℕ) (station : Station)
     (here : slice_get w.stations place ≡ Some station) where
   port_log : (n : ℕ) → HasPortNumber station.system n
       → IsLogAmong w.stations (log_of w.stations (port_of (clock station.system) n))
@@ -45,7 +45,7 @@ module _ (p : Pace) (w : WorldState) (sound : IsSound w) (set : AreSet p w) (pla
       subst (IsLogAmong w.stations) (sym log) (log_among p w.stations place station here is_set i q there)
 
 -- a port at a link of the snapshot announces at the interval of a port
-pub linked_log : (p : Pace) (w : WorldState) → IsSound w → AreSet p w → (port : PortIdentity)
+pub linked_log : (p : SettlingParams) (w : WorldState) → IsSound w → AreSet p w → (port : PortIdentity)
     → IsLinked (snapshot_of w) port → IsLogAmong w.stations (log_of w.stations port)
 linked_log p w sound set port (to, joins) =
     let way = way_of w port to joins in

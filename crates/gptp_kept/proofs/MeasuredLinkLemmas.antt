@@ -1,22 +1,22 @@
 -- Each port of a live system has measured the links of the snapshot that are at it.
 use Rattle.std.proofs.Common.{◌≤◌, ◌+◌, ◌*◌, subst, arith}
-use Rattle.gptp_setup.specs.Pace.{Pace, largest_interval}
+use Rattle.gptp_setup.specs.SettlingParams.{SettlingParams, largest_interval}
 use Rattle.gptp_system.specs.declared.port.Port.{Port}
 use Rattle.gptp_plan.specs.Params.{KeepPace}
 use Rattle.gptp_acts.specs.World.{WorldState}
 use Rattle.gptp_measuring.specs.Measured.{HasMeasured}
 use Rattle.gptp_kept.specs.Calm.{HaveQuietLinks}
 use Rattle.gptp_kept.specs.CalmFor.{IsCalmFor, capable_span}
-use Rattle.gptp_kept.specs.Claimed.{Claimed}
-use Rattle.gptp_kept.specs.Holds.{IsWorld}
+use Rattle.gptp_kept.specs.SettlingInvariant.{SettlingInvariant}
+use Rattle.gptp_kept.specs.SettlesAsMachine.{IsWorld}
 use Rattle.gptp_kept.specs.LinkView.{least_delay, link_setting}
 use Rattle.gptp_kept.specs.MeasuredLinks.{HaveMeasuredLinks}
-use Rattle.gptp_kept.specs.Watch.{Watches}
-use Rattle.gptp_kept.proofs.ClaimedLemmas.{set_alike}
+use Rattle.gptp_kept.specs.Watch.{GoodLinksMeasure}
+use Rattle.gptp_kept.proofs.SettlingInvariantLemmas.{set_alike}
 use Rattle.gptp_kept.proofs.UsedLinkLemmas.{used_watched}
 use Rattle.gptp_kept.proofs.WatchLemmas.{watched_measure}
 
-pub used_measured : (p : Pace) (w : WorldState) → KeepPace p → IsWorld p w → HaveQuietLinks p.params w → Watches p w
+pub used_measured : (p : SettlingParams) (w : WorldState) → KeepPace p → IsWorld p w → HaveQuietLinks p.params w → GoodLinksMeasure p w
     → w.last_change + 5 * largest_interval p ≤ w.time → HaveMeasuredLinks w
 used_measured p w pace is quiet watches late place station here live i h q holds there to joins =
     let x = used_watched p w pace is quiet watches place station here live i q to there joins in
@@ -31,7 +31,7 @@ used_measured p w pace is quiet watches late place station here live i h q holds
           (watched_measure x.at w.last_change (largest_interval p) w x.watched x.period late);
     }
 
-pub claimed_measured : (w : WorldState) → Claimed w → IsCalmFor capable_span w → HaveMeasuredLinks w
+pub claimed_measured : (w : WorldState) → SettlingInvariant w → IsCalmFor capable_span w → HaveMeasuredLinks w
 claimed_measured w claimed calm place station here =
     let is = set_alike w claimed calm.pace calm.set place station here in
     let passed = calm.late in

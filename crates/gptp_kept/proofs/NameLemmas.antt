@@ -7,7 +7,7 @@ use Rattle.gptp_acts.specs.Views.{put_rising, rising, rising_clocks}
 use Rattle.gptp_acts.specs.World.{WorldState}
 use Rattle.gptp_graph.specs.Order.{IsRising}
 use Rattle.gptp_lists.specs.Members.{Different, In}
-use Rattle.gptp_lists.proofs.MemberLemmas.{from_map, slice_get-In}
+use Rattle.gptp_lists.proofs.SystemSpecLemmas.{from_map, slice_get-In}
 use Rattle.gptp_system.specs.State.{clock}
 
 -- ---- numbers in rising order have the same members, and rise where they differ

@@ -8,7 +8,7 @@ use Rattle.gptp_links.specs.declared.bounds.Bounds.{Bounds}
 use Rattle.gptp_links.specs.Fate.{Draw}
 use Rattle.gptp_plan.specs.declared.change.Act.TheVariants.{Change as Changing}
 use Rattle.gptp_plan.specs.declared.change.Change.TheVariants.{Priority1}
-use Rattle.gptp_setup.specs.Pace.{Pace, largest_interval}
+use Rattle.gptp_setup.specs.SettlingParams.{SettlingParams, largest_interval}
 use Rattle.gptp_system.specs.Input.{Priority}
 use Rattle.gptp_acts.specs.declared.done.Done.{Done}
 use Rattle.gptp_acts.specs.declared.station.Station.{Station}
@@ -17,7 +17,7 @@ use Rattle.gptp_acts.specs.Changing.{CallsIfLive, with_setup, with_station}
 use Rattle.gptp_acts.specs.World.{Channel, WorldState, receiver, sender}
 use Rattle.gptp_acts.proofs.BareLemmas.{DifferInFlight, bare, calls_bare}
 use Rattle.gptp_acts.proofs.StayLemmas.{Stays, acts_stay}
-use Rattle.gptp_kept.specs.Holds.{IsWorld}
+use Rattle.gptp_kept.specs.SettlesAsMachine.{IsWorld}
 use Rattle.gptp_kept.proofs.OutlineLemmas.{change_is_last}
 use Rattle.gptp_setup.proofs.IntervalLemmas.{interval_positive}
 use Rattle.gptp_kept.specs.LinkView.{LinkPlace}
@@ -35,7 +35,7 @@ watched_ready p start w watches past by at stands =
     inr (w.last_change + largest_interval p, w.last_change + 2 * largest_interval p, watches at stands, past, by)
 
 -- what is ready by a time is so by a later one
-later_ready : (p : Pace) (start later : ℕ) (at : LinkPlace) (w : WorldState) → start ≤ later → IsReadyBy p start at w
+later_ready : (p : SettlingParams) (start later : ℕ) (at : LinkPlace) (w : WorldState) → start ≤ later → IsReadyBy p start at w
     → IsReadyBy p later at w
 later_ready p start later at w more (inl (first, (l, by))) = inl (first, (l, omega (arith, by, more)))
 later_ready p start later at w more (inr (gone, since, l, past, by)) =
@@ -61,7 +61,7 @@ news_done answers p start timed fate fate_after w w' done none octet k news =
 -- ---- a better priority1
 
 -- where the links differ in what is in flight alone, what stands stood
-stood_live : (p : Pace) (w w' : WorldState) → HaveParams p w → HaveParams p w' → AllLive w → Stays w w'
+stood_live : (p : SettlingParams) (w w' : WorldState) → HaveParams p w → HaveParams p w' → AllLive w → Stays w w'
     → DifferInFlight w.net.channels w'.net.channels → (at : LinkPlace) → LinkStandsAt at w' → LinkStandsAt at w
 stood_live p w w' set set' live stays links at stands =
     let (old, here, same) = alike bare bare w.net.channels w'.net.channels (sym links) at.link stands.channel
@@ -99,7 +99,7 @@ stood_live p w w' set set' live stays links at stands =
         → then.station.setup.params ≡ now.station.setup.params
     alike_params place number was now then = set place then.station then.here ∙ sym (set' place now.station now.here)
 
-module _ (p : Pace) (start number value : ℕ) (w : WorldState) (draws : List Draw) (done : Done) (w' : WorldState)
+module _ (p : SettlingParams) (start number value : ℕ) (w : WorldState) (draws : List Draw) (done : Done) (w' : WorldState)
     (is : IsWorld p w) (is' : IsWorld p w') (measured : LinkIsMeasured w) (live : AllLive w) (ready : AreReadyBy p start w)
     (octet : value < 256) (acts : Acts (Changing (Priority1 number value)) w draws done w') where
   abbrev now : WorldState

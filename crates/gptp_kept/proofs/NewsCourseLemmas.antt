@@ -7,7 +7,7 @@ use Rattle.gptp_plan.specs.declared.change.Act.{Act}
 use Rattle.gptp_acts.specs.declared.item.Item.{Item}
 use Rattle.gptp_acts.specs.declared.item.Item.TheVariants.{Arrival, Expiry}
 use Rattle.gptp_setup.specs.Intervals.{interval_of}
-use Rattle.gptp_setup.specs.Pace.{Pace, largest_interval}
+use Rattle.gptp_setup.specs.SettlingParams.{SettlingParams, largest_interval}
 use Rattle.gptp_acts.specs.Acts.{at as at_time}
 use Rattle.gptp_acts.specs.Advancing.{Advanced, Advances, Told}
 use Rattle.gptp_acts.specs.Views.{IsActOf}
@@ -15,7 +15,7 @@ use Rattle.gptp_acts.specs.World.{WorldState}
 use Rattle.gptp_acts.proofs.AdvanceLemmas.{nothing_sooner}
 use Rattle.gptp_kept.specs.Bounded.{IsBoundedWorld}
 use Rattle.gptp_kept.specs.Calm.{HaveQuietLinks}
-use Rattle.gptp_kept.specs.LegibleLaws.{SetsAnOctet}
+use Rattle.gptp_kept.specs.EncodableLaws.{SetsAnOctet}
 use Rattle.gptp_kept.specs.NewsCourse.{GainSettles, HasSettledBy, LinkUpSettles, NewsAdvance, SettlesFrom, BegunSettles, capable_from}
 use Rattle.gptp_kept.specs.NewsWorld.{AreSilentBy, IsNews}
 use Rattle.gptp_kept.specs.SeenLaws.{IsNoChange}
@@ -42,12 +42,12 @@ later_keeps : (time : ℕ) (w : WorldState) → KeepsNetwork w (at_time time w)
 later_keeps time w = record { systems = refl; places = λ number. refl; setups = refl; links = refl; change = refl }
 
 -- what is so after a course
-record IsAfter (p : Pace) (start until : ℕ) (w w' : WorldState) : Type 0 where
+record IsAfter (p : SettlingParams) (start until : ℕ) (w w' : WorldState) : Type 0 where
   news : IsNews p start w'
   keeps : KeepsNetwork w w'
   early : w'.time ≤ until
 
-module _ {F : Type 0} (answers : Bounds → ℕ → F → Option ℕ → F → Type 0) (p : Pace) (start until : ℕ) where
+module _ {F : Type 0} (answers : Bounds → ℕ → F → Option ℕ → F → Type 0) (p : SettlingParams) (start until : ℕ) where
   advances_news : (told : List Told) (fate fate_after : F) (w w' : WorldState) → w.time ≤ until
       → Advances answers until told fate fate_after w w' → IsNews p start w → IsAfter p start until w w'
   advances_news [] fate fate_after w w' early (none, same) news =
@@ -87,7 +87,7 @@ news_advance answers p start until told fate fate_after w w' k news =
 
 -- ---- it has settled
 
-settles_by : (p : Pace) (m start : ℕ) (w : WorldState) → IsNews p start w → HaveQuietLinks p.params w
+settles_by : (p : SettlingParams) (m start : ℕ) (w : WorldState) → IsNews p start w → HaveQuietLinks p.params w
     → BoundsPaths (snapshot_of w) m → HasSettledBy p m start w → Settled w × IsBoundedWorld w
 settles_by p m start w news quiet bounded (inl (off, late)) =
     let settled = news_worlds_settle p start m w news off quiet bounded late in
@@ -100,7 +100,7 @@ settles_by p m start w news quiet bounded (inr (short, late)) =
     )
 
 -- the start is that of the world at the end, whose network is the same
-same_from : (p : Pace) (time : ℕ) (w w' : WorldState) → KeepsNetwork w w'
+same_from : (p : SettlingParams) (time : ℕ) (w w' : WorldState) → KeepsNetwork w w'
     → capable_from p w' time ≡ capable_from p w time
 same_from p time w w' keeps =
     ap (λ delay. time + interval_of p.params.pdelay + (delay + p.params.turnaround + delay) + 1) (delay_kept w w' keeps)

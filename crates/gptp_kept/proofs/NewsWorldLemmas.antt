@@ -2,7 +2,7 @@
 use Rattle.std.proofs.Common.{◌≡◌, ◌≤◌, ◌⊎◌, ◌<◌, ◌+◌, ◌*◌, ℕ, zero, suc, Bool, true, false, List, Some, slice_get, refl, sym, ap, subst, ◌∙◌, inl, inr, arith}
 use Rattle.gptp_lists.specs.Members.{In}
 use Rattle.gptp_lists.proofs.MappedLemmas.{same_there, some_same}
-use Rattle.gptp_lists.proofs.MemberLemmas.{In-map}
+use Rattle.gptp_lists.proofs.SystemSpecLemmas.{In-map}
 use Rattle.gptp_graph.specs.PathBound.{BoundsPaths}
 use Rattle.std.specs.Prelude.{if◌then◌else◌}
 use native.Mathlib.Nat.{mul-zero}
@@ -16,7 +16,7 @@ use Rattle.gptp_plan.specs.declared.change.Act.{Act}
 use Rattle.gptp_plan.specs.declared.change.Act.TheVariants.{Deliver, Expire, Change as Changing}
 use Rattle.gptp_setup.specs.Intervals.{interval_of}
 use Rattle.gptp_plan.specs.SyncWait.{sync_wait}
-use Rattle.gptp_setup.specs.Pace.{Pace, lapse_span, largest_interval}
+use Rattle.gptp_setup.specs.SettlingParams.{SettlingParams, lapse_span, largest_interval}
 use Rattle.gptp_system.specs.declared.port.Port.{Port}
 use Rattle.gptp_system.specs.State.{clock, number, own}
 use Rattle.gptp_acts.specs.declared.done.Done.{Done}
@@ -50,7 +50,7 @@ use Rattle.gptp_settling.proofs.SoundEverywhereLemmas.{on_links}
 use Rattle.gptp_settling.proofs.LevelLemmas.{invariant_begins, invariant_kept, no_early_ports}
 use Rattle.gptp_settling.proofs.SoundLemmas.{received_fits}
 use Rattle.gptp_kept.specs.Calm.{AreCapableFrom, HaveQuietLinks, SettlingTimes, delay_in, network_with, paths_with}
-use Rattle.gptp_kept.specs.Holds.{IsWorld}
+use Rattle.gptp_kept.specs.SettlesAsMachine.{IsWorld}
 use Rattle.gptp_kept.specs.Known.{IsKnown}
 use Rattle.gptp_kept.specs.LinkView.{IsLinkOf, LinkPlace, link_frame_view as measured_view, link_identity, other_direction, pair, link_setting}
 use Rattle.gptp_kept.specs.Measured.{StationIsLiveAt, LinkIsMeasured, LinkStandsAt}
@@ -63,7 +63,7 @@ use Rattle.gptp_kept.specs.View.{lanes_view, says_announce, says_sync, view}
 use Rattle.gptp_kept.proofs.BoundedLemmas.{AreAbove, are_above}
 use Rattle.gptp_kept.proofs.CalmFactLemmas.{facts, frame_from}
 use Rattle.gptp_kept.proofs.CalmKeptLemmas.{KeepsNetwork, acts_keep, delay_kept, links_quiet, same_network_with}
-use Rattle.gptp_kept.proofs.HoldsLemmas.{claims_when_ready, kept_back}
+use Rattle.gptp_kept.proofs.SettlesAsMachineLemmas.{claims_when_ready, kept_back}
 use Rattle.gptp_settling.specs.SoundLaws.{IsSoundOnLinks}
 use Rattle.gptp_kept.specs.ElsewhereLaws.{LeavesAlone}
 use Rattle.gptp_kept.specs.Calm.{network_with}
@@ -110,7 +110,7 @@ lives_there w number has =
       };
     }
 
-module _ (p : Pace) (w : WorldState) (is : IsWorld p w) (quiet : HaveQuietLinks p.params w) (from to : PortIdentity)
+module _ (p : SettlingParams) (w : WorldState) (is : IsWorld p w) (quiet : HaveQuietLinks p.params w) (from to : PortIdentity)
     (joins : Joins (snapshot_of w) from to) (way : IsWay w from to) where
   asks_there : Lives (sender way.direction way.channel).clock w
   asks_there = lives_there w _ (sender_lives (live_stations w.stations) way.direction way.channel way.used)
@@ -156,11 +156,11 @@ module _ (p : Pace) (w : WorldState) (is : IsWorld p w) (quiet : HaveQuietLinks 
 
 -- ---- a link that is ready
 
-abbrev link_in : (p : Pace) (start : ℕ) (at : LinkPlace) (w : WorldState) → IsReadyBy p start at w → IsLinkOf at w
+abbrev link_in : (p : SettlingParams) (start : ℕ) (at : LinkPlace) (w : WorldState) → IsReadyBy p start at w → IsLinkOf at w
 link_in p start at w (inl (first, (l, by))) = l.link
 link_in p start at w (inr (gone, since, l, past, by)) = l.link
 
-ready_capable : (p : Pace) (start : ℕ) (at : LinkPlace) (w : WorldState) → IsKnown p w → (r : IsReadyBy p start at w)
+ready_capable : (p : SettlingParams) (start : ℕ) (at : LinkPlace) (w : WorldState) → IsKnown p w → (r : IsReadyBy p start at w)
     → start ≤ w.time → is_capable (link_in p start at w r).asking.state.peer ≡ true
 ready_capable p start at w known (inl (first, (l, by))) late = (first_full at first w l (omega (arith, by, late))).0
 ready_capable p start at w known (inr (gone, since, l, past, by)) late =
@@ -170,7 +170,7 @@ ready_capable p start at w known (inr (gone, since, l, past, by)) late =
     (watched_stay_capable at gone since w l (omega (arith, by, late, period))).0
 
 -- an act that leaves the link alone leaves it ready
-pub ready_goes_through : (p : Pace) (start : ℕ) (at : LinkPlace) (act : Act) (w w' : WorldState) (draws : List Draw)
+pub ready_goes_through : (p : SettlingParams) (start : ℕ) (at : LinkPlace) (act : Act) (w w' : WorldState) (draws : List Draw)
     (done : Done) → IsSound w → LinkIsMeasured w → LeavesAlone at act w → Acts act w draws done w' → IsReadyBy p start at w
     → IsReadyBy p start at w'
 ready_goes_through p start at act w w' draws done sound measured alone k (inl (first, by)) =
@@ -193,7 +193,7 @@ either (suc a) (suc b) = elim (either a b) [
 ]
 
 -- what is in flight there is due within the delay of the link, or before the start
-ready_due : (p : Pace) (start : ℕ) (at : LinkPlace) (w : WorldState) (r : IsReadyBy p start at w) (f : MeasuredFrame)
+ready_due : (p : SettlingParams) (start : ℕ) (at : LinkPlace) (w : WorldState) (r : IsReadyBy p start at w) (f : MeasuredFrame)
     → In f (pair at w (link_in p start at w r)).out
     → (f.due ≤ w.time + (link_setting at w (link_in p start at w r)).most) ⊎ (f.due < start)
 ready_due p start at w (inl (first, (l, by))) f member =
@@ -223,7 +223,7 @@ link_used at w l =
     (clock_has w.stations at.answering l.answering.station _ l.answering.here l.answering.live l.answering.named)
 
 -- the port that is unanswered isn't capable
-silent_off : (p : Pace) (start : ℕ) (w : WorldState) → KeepPace p → IsWorld p w → AreSilentBy p start w → start ≤ w.time
+silent_off : (p : SettlingParams) (start : ℕ) (w : WorldState) → KeepPace p → IsWorld p w → AreSilentBy p start w → start ≤ w.time
     → (at : LinkPlace) (s : StandsUnanswered at w) (q : Port)
     → number s.asking.station.system.ports (sender at.direction s.channel).port ≡ Some q → is_capable q.peer ≡ false
 silent_off p start w pace is silent late at s q there =
@@ -239,13 +239,13 @@ silent_off p start w pace is silent late at s q there =
     ∙ become_incapable at p change w is.sound is.known pace.requests one (omega (arith, soon, late))
 
 -- where all live none is
-pub none_silent : (p : Pace) (start : ℕ) (w : WorldState) → AllLive w → AreSilentBy p start w
+pub none_silent : (p : SettlingParams) (start : ℕ) (w : WorldState) → AllLive w → AreSilentBy p start w
 none_silent p start w live at s =
     let lives = live at.answering s.answering.station s.answering.here in
     let both = sym lives ∙ s.answering.failed in
     absurd cc
 
-module _ (p : Pace) (start : ℕ) (w : WorldState) (pace : KeepPace p) (is : IsWorld p w)
+module _ (p : SettlingParams) (start : ℕ) (w : WorldState) (pace : KeepPace p) (is : IsWorld p w)
     (silent : AreSilentBy p start w) (ready : AreReadyBy p start w) (quiet : HaveQuietLinks p.params w) where
   linked_capable : start ≤ w.time → (place : ℕ) (station : Station) → slice_get w.stations place ≡ Some station
       → (i : ℕ) (q : Port) (to : PortIdentity) → slice_get station.system.ports i ≡ Some q
@@ -406,7 +406,7 @@ record Expects (n : Network) (seen : MachineState) : Type 0 where
   expected : SyncsAreExpected says_sync n seen
 
 -- a step of the machine keeps it, where the network stays as it is
-module _ (p : Pace) (start : ℕ) (w w' : WorldState) (news : IsNews p start w) (is' : IsWorld p w')
+module _ (p : SettlingParams) (start : ℕ) (w w' : WorldState) (news : IsNews p start w) (is' : IsWorld p w')
     (silent' : AreSilentBy p start w') (sound' : IsSoundWorld w') (ready' : AreReadyBy p start w')
     (same : (m : ℕ) → news_network p m start w' ≡ news_network p m start w)
     (same_turn : (m : ℕ) → turn_network p m start w' ≡ turn_network p m start w) (same_delay : delay_in w' ≡ delay_in w)
@@ -485,7 +485,7 @@ called_live place input w draws answer w' k live other station there =
     get-set_all (λ (x : Station). x.live ≡ true) w.stations place k.station (in_state k.after k.station) k.here k.live
     live other station (ap (λ (v : WorldState). slice_get v.stations other) (sym k.is) ∙ there)
 
-acts_silent : (p : Pace) (start : ℕ) (act : Act) (w : WorldState) (draws : List Draw) (done : Done) (w' : WorldState)
+acts_silent : (p : SettlingParams) (start : ℕ) (act : Act) (w : WorldState) (draws : List Draw) (done : Done) (w' : WorldState)
     → IsNoChange act → Acts act w draws done w' → IsWorld p w → LinkIsMeasured w → AreSilentBy p start w
     → AreSilentBy p start w'
 acts_silent p start act w draws done w' none k is measured silent at s =
@@ -622,7 +622,7 @@ news_worlds_settle_in_turn p start m w news short quiet bounded late =
     (omega (arith, late))
 
 -- what its systems state is bounded then
-pub news_above : (p : Pace) (start m : ℕ) (w : WorldState) → IsNews p start w → NothingLapses p.params
+pub news_above : (p : SettlingParams) (start m : ℕ) (w : WorldState) → IsNews p start w → NothingLapses p.params
     → HaveQuietLinks p.params w → BoundsPaths (snapshot_of w) m → start ≤ w.time → AreAbove w
 news_above p start m w news off quiet bounded late =
     are_above p m start (at_news p w) w
@@ -630,7 +630,7 @@ news_above p start m w news off quiet bounded late =
     (news_calm p start w news.pace news.world news.silent news.ready quiet m (at_news p w) refl)
     (news.settling m bounded quiet off) (omega (arith, late))
 
-pub news_above_in_turn : (p : Pace) (start m : ℕ) (w : WorldState) → IsNews p start w
+pub news_above_in_turn : (p : SettlingParams) (start m : ℕ) (w : WorldState) → IsNews p start w
     → sync_wait p.params (paths_with m w) < lapse_span p.params → HaveQuietLinks p.params w
     → BoundsPaths (snapshot_of w) m → start ≤ w.time → AreAbove w
 news_above_in_turn p start m w news short quiet bounded late =

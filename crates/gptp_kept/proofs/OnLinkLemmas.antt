@@ -16,7 +16,7 @@ use Rattle.gptp_acts.proofs.LinkedLemmas.{NoPort}
 use Rattle.gptp_lists.proofs.PlaceLemmas.{set_each}
 use Rattle.gptp_acts.proofs.SteadyLemmas.{same_clock}
 use Rattle.gptp_kept.specs.Linked.{BeginsLink, MeasureLinks}
-use Rattle.gptp_kept.proofs.RunningLemmas.{KeepLinks, calls_links, came_up, keep_links}
+use Rattle.gptp_kept.proofs.ArmedTimerLemmas.{KeepLinks, calls_links, came_up, keep_links}
 
 -- ---- all but some ports
 

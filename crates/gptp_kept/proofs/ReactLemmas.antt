@@ -3,7 +3,7 @@ use Rattle.std.proofs.Common.{◌≡◌, ◌⊎◌, ℕ, suc, ℤ, Bool, List, m
 use Rattle.std.proofs.lemmas.Option.{none-some, same_Some}
 use Rattle.gptp_lists.specs.Members.{In}
 use Rattle.gptp_graph.specs.Order.{IsLower}
-use Rattle.gptp_lists.proofs.MemberLemmas.{In-map, from_map}
+use Rattle.gptp_lists.proofs.SystemSpecLemmas.{In-map, from_map}
 use Rattle.gptp_vector.specs.declared.port.PortId.{PortId}
 use Rattle.gptp_vector.specs.Vector.{master_of}
 use Rattle.gptp_messages.specs.declared.announce.AnnounceView.{AnnounceView}
@@ -17,7 +17,7 @@ use Rattle.gptp_system.specs.declared.port.Port.{Port}
 use Rattle.gptp_system.specs.declared.sending.Sending.{Sending}
 use Rattle.gptp_system.specs.Facts.{AreHeld}
 use Rattle.gptp_setup.specs.Intervals.{interval_of}
-use Rattle.gptp_setup.specs.Pace.{span_by}
+use Rattle.gptp_setup.specs.SettlingParams.{span_by}
 use Rattle.gptp_system.specs.State.{SystemState, clock}
 use Rattle.gptp_system.specs.Touch.{Touch, Hear, Tick, Grow, Enable, Disable, Other, HeardAs, PortHoldsInTouch}
 use Rattle.gptp_system.specs.Reacts.{IsAnnounce, HoldsOrIsDisabled, PortEnds, PortReacts, Reacts, PortAnnounces}

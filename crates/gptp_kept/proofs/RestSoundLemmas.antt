@@ -1,7 +1,7 @@
 -- At rest all that is held and in flight is sound.
 use Rattle.std.proofs.Common.{◌≡◌, ℕ, arith, Bool, true, false, map, Some, slice_get, refl, sym, ap, subst, ◌∙◌, inr}
 use Rattle.gptp_lists.specs.Members.{In}
-use Rattle.gptp_lists.proofs.MemberLemmas.{In-map}
+use Rattle.gptp_lists.proofs.SystemSpecLemmas.{In-map}
 use Rattle.gptp_graph.specs.Snapshot.{Joins, System, clocks}
 use Rattle.gptp_settling.specs.Frame.{Announce}
 use Rattle.gptp_links.specs.declared.link.Direction.{Direction}
@@ -12,14 +12,14 @@ use Rattle.gptp_settling.specs.Frame.{AnnounceFrame, Lane}
 use Rattle.gptp_settling.specs.SoundLaws.{AllIsWhole}
 use Rattle.gptp_settling.proofs.LevelLemmas.{all_whole}
 use Rattle.gptp_settling.proofs.SoundEverywhereLemmas.{everywhere_sound}
-use Rattle.gptp_kept.specs.Holds.{settling_network}
+use Rattle.gptp_kept.specs.SettlesAsMachine.{settling_network}
 use Rattle.gptp_kept.specs.LinkView.{link_identity}
 use Rattle.gptp_kept.specs.NewsCourse.{RestIsSound, RestIsSoundBesideFailed}
 use Rattle.gptp_kept.specs.Standing.{StationsHavePort, JoinsTwoOf, live_stations, snapshot_of, standing_system}
 use Rattle.gptp_kept.specs.View.{frame_view, says_announce, view}
 use Rattle.gptp_kept.proofs.ClaimLemmas.{claim_capable}
 use Rattle.gptp_kept.proofs.ClaimedCapableLemmas.{clock_has, used_if}
-use Rattle.gptp_kept.proofs.HoldsLemmas.{is_calm, is_network}
+use Rattle.gptp_kept.proofs.SettlesAsMachineLemmas.{is_calm, is_network}
 use Rattle.gptp_kept.proofs.SeenLaneLemmas.{lane_from}
 use Rattle.gptp_kept.proofs.SystemLemmas.{live_there}
 use Rattle.gptp_kept.proofs.WayLemmas.{used_joins}

@@ -9,14 +9,14 @@ use Rattle.gptp_acts.specs.Acts.{Acts}
 use Rattle.gptp_acts.specs.Sound.{IsSound}
 use Rattle.gptp_acts.specs.World.{WorldState}
 use Rattle.gptp_settling.specs.Acts.{StationActs as SeenActs, Arrives, Drops}
-use Rattle.gptp_kept.specs.Legible.{IsLegible}
+use Rattle.gptp_kept.specs.Encodable.{IsEncodable}
 use Rattle.gptp_kept.specs.SeenLaws.{IsNoChange}
 use Rattle.gptp_kept.specs.View.{says_announce, view}
 use Rattle.gptp_kept.proofs.SeenDeliveryLemmas.{delivers_seen}
 use Rattle.gptp_kept.proofs.SeenExpiryLemmas.{expires_seen}
 
 pub acts_seen : (act : Act) (w : WorldState) (draws : List Draw) (done : Done) (w' : WorldState) → IsNoChange act
-    → IsSound w → IsLegible w → Acts act w draws done w' → SeenActs says_announce (view w) (view w')
+    → IsSound w → IsEncodable w → Acts act w draws done w' → SeenActs says_announce (view w) (view w')
 acts_seen (Deliver link direction) w draws done w' none sound legible k =
     by (delivers_seen link direction k.octets w draws k.answer w' sound legible k.delivers)
   where

@@ -22,7 +22,7 @@ use Rattle.gptp_acts.proofs.SteadyLemmas.{same_clock, same_ports, steps_steady}
 use Rattle.gptp_settling.specs.Acts.{StationAnswers as SeenCalls}
 use Rattle.gptp_settling.specs.Reacts.{StationReacts as SeenReacts}
 use Rattle.gptp_settling.specs.Station.{Station as SeenStation}
-use Rattle.gptp_kept.specs.Legible.{SayWhatFits, SystemFits}
+use Rattle.gptp_kept.specs.Encodable.{SayWhatFits, SystemFits}
 use Rattle.gptp_kept.specs.View.{lanes_view, says_announce, send_view, station_view, touch_view, view}
 use Rattle.gptp_kept.proofs.FitLemmas.{reacts_fit, rest_fits}
 use Rattle.gptp_kept.proofs.PlaceLemmas.{IsStationAt, station_from, station_there}

@@ -27,7 +27,7 @@ use Rattle.gptp_settling.specs.Acts.{Arrives, Drops, Pops}
 use Rattle.gptp_settling.specs.Frame.{Announce, Lane}
 use Rattle.gptp_settling.specs.Station.{Disabled, Port as SeenPort, Station as SeenStation}
 use Rattle.gptp_settling.specs.Touch as touches
-use Rattle.gptp_kept.specs.Legible.{IsLegible}
+use Rattle.gptp_kept.specs.Encodable.{IsEncodable}
 use Rattle.gptp_kept.specs.View.{frame_view, held_view, lane_place, lane_view, lanes_view, said, says_announce, span_at, station_view, touch_view, view}
 use Rattle.gptp_kept.proofs.SeenCallLemmas.{IsCallSeen, calls_seen}
 use Rattle.gptp_kept.proofs.SeenLaneLemmas.{IsSetAt, StandsNow, lane_there, refilled, requeued_lanes}
@@ -66,7 +66,7 @@ same_frame : (n p : ℕ) (x y : List ℕ) → FrameHeard n x ≡ FrameHeard p y 
 same_frame n p x y e = (cc, cc)
 
 module _ (link : ℕ) (direction : Direction) (octets : List ℕ) (w : WorldState) (draws : List Draw)
-    (answer : Option Answer) (w' : WorldState) (sound : IsSound w) (legible : IsLegible w)
+    (answer : Option Answer) (w' : WorldState) (sound : IsSound w) (legible : IsEncodable w)
     (k : Delivers link direction octets w draws answer w') where
   abbrev emptied : WorldState
   emptied = record w { net = k.net }

@@ -25,7 +25,7 @@ use Rattle.gptp_lists.proofs.MappedLemmas.{same_there}
 use Rattle.gptp_settling.specs.Acts.{Lapses, Runs}
 use Rattle.gptp_settling.specs.Frame.{Announce}
 use Rattle.gptp_settling.specs.Station.{Received, Reception as SeenReception, Port as SeenPort, Station as SeenStation}
-use Rattle.gptp_kept.specs.Legible.{IsLegible}
+use Rattle.gptp_kept.specs.Encodable.{IsEncodable}
 use Rattle.gptp_kept.specs.View.{held_view, reception_view, said, says_announce, span_at, station_view, touch_view, view}
 use Rattle.gptp_kept.proofs.SeenCallLemmas.{IsCallSeen, calls_seen}
 use Rattle.gptp_kept.proofs.PlaceLemmas.{IsPortAt, port_from}
@@ -59,7 +59,7 @@ pub record IsRunAt (station : Station) (after : SystemState) (w w' : WorldState)
   pub after_is : act.call.s' ≡ station_view (in_state after station)
 
 module _ (place : ℕ) (timer : Timer) (w : WorldState) (draws : List Draw) (w' : WorldState) (sound : IsSound w)
-    (legible : IsLegible w) (k : TimerRunsOut place timer w draws w') where
+    (legible : IsEncodable w) (k : TimerRunsOut place timer w draws w') where
   abbrev station : Station
   station = k.calls.station
 

@@ -3,7 +3,7 @@ use Rattle.std.proofs.Common.{◌≡◌, ◌<◌, ℕ, zero, suc, ◌*◌, ◌/�
 use Rattle.std.specs.Prelude.{if◌then◌else◌, slice_index}
 use Rattle.std.specs.List.{flat_map, range_with_len}
 use Rattle.std.proofs.lemmas.Option.{none-some, same_Some}
-use Rattle.gptp_lists.proofs.MemberLemmas.{In-left, In-right, In-take, from_map}
+use Rattle.gptp_lists.proofs.SystemSpecLemmas.{In-left, In-right, In-take, from_map}
 use Rattle.byteorder.specs.Endian.{big_bytes}
 use Rattle.byteorder.specs.Numbers.{big_from-lt}
 use Rattle.gptp_lists.specs.Members.{In}
@@ -18,7 +18,7 @@ use Rattle.gptp_messages.specs.MessageType.{type_of}
 use Rattle.gptp_messages.specs.Path.{clocks}
 use Rattle.gptp_messages.specs.Tlv.{FirstTlv, Tlv, first_value, is_of_kind, spelled}
 use Rattle.gptp_system.proofs.TypeLemmas.{type_is}
-use Rattle.gptp_kept.specs.Legible.{AreClocks, AreOctets, SayWhatFits}
+use Rattle.gptp_kept.specs.Encodable.{AreClocks, AreOctets, SayWhatFits}
 use Rattle.gptp_kept.specs.LinkView.{RequestFits, RequestSaysWhatFits}
 
 -- ---- octets

@@ -15,7 +15,7 @@ use Rattle.gptp_acts.specs.Sound.{AreApart, IsSound}
 use Rattle.gptp_acts.specs.World.{Channel, Net, WorldState, world_queue, sender}
 use Rattle.gptp_lists.proofs.MappedLemmas.{same_there}
 use Rattle.gptp_settling.specs.Frame.{AnnounceFrame as SeenFrame, Lane}
-use Rattle.gptp_kept.specs.Legible.{IsLegible}
+use Rattle.gptp_kept.specs.Encodable.{IsEncodable}
 use Rattle.gptp_kept.specs.View.{frame_view, port_identity_number, lane_place, lane_view, lanes_view, send_view}
 use Rattle.gptp_kept.proofs.SeenLaneLemmas.{IsLaneAt, IsSetAt, lane_from, lane_there, refilled, requeued_lanes}
 use Rattle.gptp_kept.proofs.TakeUpLemmas.{BeginApart, Enters, LanesStep, enters_step, lanes_go_on, lanes_stay, stays_apart, unlinked_step}
@@ -60,7 +60,7 @@ lanes_apart w apart ends i j l m at also same =
             let same = (one FromB FromA a b k n here there begins).1 in
             absurd (ends k a here (ap (λ (c : Channel). c.a) same ∙ sym begins))
 
-pub world_apart : (w : WorldState) → IsSound w → IsLegible w → BeginApart (lanes_view w.net.channels)
+pub world_apart : (w : WorldState) → IsSound w → IsEncodable w → BeginApart (lanes_view w.net.channels)
 world_apart w sound legible =
     lanes_apart w sound.wired.apart (λ link channel here. (legible.links link channel here).ends)
 

@@ -5,7 +5,7 @@ use Rattle.std.proofs.Math.Nat.{mul-le-mul_right}
 use Rattle.std.specs.Prelude.{◌==◌, max}
 use Rattle.std.proofs.lemmas.Bool.{eq-eqb, eqb-true}
 use Rattle.std.proofs.lemmas.Option.{none-some, same_Some}
-use Rattle.gptp_setup.specs.Pace.{Pace, largest_interval}
+use Rattle.gptp_setup.specs.SettlingParams.{SettlingParams, largest_interval}
 use Rattle.gptp_graph.specs.Distance.{IsDistance}
 use Rattle.gptp_graph.specs.PathBound.{BoundsPaths, path_bound}
 use Rattle.gptp_graph.specs.Snapshot.{Snapshot, port_of}
@@ -33,9 +33,9 @@ use Rattle.gptp_kept.specs.View.{held_view, port_view, says_announce, span_at, s
 use Rattle.gptp_kept.proofs.PlaceLemmas.{port_there, station_there}
 use Rattle.gptp_kept.specs.Calm.{IsQuietWith, IsQuietWorld, SettlingTimes, network_with, paths_with, step_with, sync_paths_of, at_once, clean_from, delay_in, in_turn}
 use Rattle.gptp_kept.specs.Standing.{snapshot_of}
-use Rattle.gptp_kept.specs.Holds.{BecomeCapable, Holds, IsSettling, IsWorld, quick_network, settling_network, start_of}
+use Rattle.gptp_kept.specs.SettlesAsMachine.{BecomeCapable, SettlesAsMachine, IsSettling, IsWorld, quick_network, settling_network, start_of}
 use Rattle.gptp_kept.specs.Settled.{Settled, graph_role}
-use Rattle.gptp_kept.proofs.HoldsLemmas.{is_calm, is_network, is_quick_calm, is_quick_network, paths_bound, paths_fewer, turns_less}
+use Rattle.gptp_kept.proofs.SettlesAsMachineLemmas.{is_calm, is_network, is_quick_calm, is_quick_network, paths_bound, paths_fewer, turns_less}
 use Rattle.gptp_kept.proofs.ParentLemmas.{parent_settled}
 use Rattle.gptp_kept.proofs.WaitLemmas.{spans_grow}
 
@@ -105,7 +105,7 @@ module _ (g : Snapshot) (station : Station) (shown : AreShown station.system)
 -- ---- the world
 
 -- for any wait for Syncs and time of a step
-module _ (p : Pace) (m start : ℕ) (times : SettlingTimes) (w : WorldState) (is : IsWorld p w)
+module _ (p : SettlingParams) (m start : ℕ) (times : SettlingTimes) (w : WorldState) (is : IsWorld p w)
     (net : IsSettlingNetwork (network_with p m start times w)) (state : Calm (network_with p m start times w) (view w))
     (invariant : Invariant says_announce (network_with p m start times w) (view w)) where
   abbrev n : Network
@@ -162,7 +162,7 @@ module _ (p : Pace) (m start : ℕ) (times : SettlingTimes) (w : WorldState) (is
         }
 
 -- by a number of systems that bounds its paths
-module _ (p : Pace) (w : WorldState) (is : IsWorld p w) (capable : BecomeCapable p w) (holds : Holds p w) (m : ℕ)
+module _ (p : SettlingParams) (w : WorldState) (is : IsWorld p w) (capable : BecomeCapable p w) (holds : SettlesAsMachine p w) (m : ℕ)
     (bounded : BoundsPaths (snapshot_of w) m) (quiet : IsQuietWith p.params (paths_with m w) w) where
   abbrev seen : Network
   seen = settling_network p m w
@@ -220,7 +220,7 @@ module _ (p : Pace) (w : WorldState) (is : IsWorld p w) (capable : BecomeCapable
       (is_quick_calm p m w is quiet.links capable) (settling.at_once off) (omega (arith, late))
 
 -- so it settles by its own paths and the number of live systems
-pub settles : (p : Pace) (w : WorldState) → IsWorld p w → IsQuietWorld p.params w → BecomeCapable p w → Holds p w
+pub settles : (p : SettlingParams) (w : WorldState) → IsWorld p w → IsQuietWorld p.params w → BecomeCapable p w → SettlesAsMachine p w
     → w.last_change + settling_span_with p (sync_paths_of w) (length (snapshot_of w).systems) ≤ w.time → Settled w
 settles p w is quiet capable holds =
     settles_by_paths p w is capable holds (path_bound (snapshot_of w)) (paths_bound p w is) quiet

@@ -5,7 +5,7 @@ use Rattle.gptp_links.specs.Fate.{Draw}
 use Rattle.gptp_lists.proofs.PlaceLemmas.{member_there}
 use Rattle.gptp_vector.specs.declared.port.PortId.{PortId}
 use Rattle.gptp_setup.specs.Intervals.{interval_of}
-use Rattle.gptp_setup.specs.Pace.{Pace, largest_interval}
+use Rattle.gptp_setup.specs.SettlingParams.{SettlingParams, largest_interval}
 use Rattle.gptp_system.specs.Steps.{HasPortNumber}
 use Rattle.gptp_plan.specs.declared.change.Act.{Act}
 use Rattle.gptp_plan.specs.declared.change.Act.TheVariants.{Deliver, Expire, Change as Changing}
@@ -15,18 +15,18 @@ use Rattle.gptp_acts.specs.declared.done.Done.{Done}
 use Rattle.gptp_acts.specs.Acts.{Acts, IsReadyAct, at}
 use Rattle.gptp_plan.specs.Allowed.{IsFitAct}
 use Rattle.gptp_acts.specs.Course.{WasDone}
-use Rattle.gptp_plan.specs.Prompt.{IsPromptAct}
-use Rattle.gptp_acts.specs.Prompt.{IsPromptIn}
+use Rattle.gptp_plan.specs.Prompt.{DelayFitsInterval}
+use Rattle.gptp_acts.specs.Prompt.{DelaysFitIntervals}
 use Rattle.gptp_acts.specs.Sound.{IsSound}
 use Rattle.gptp_acts.specs.World.{WorldState}
 use Rattle.gptp_acts.proofs.SoundLemmas.{acts_sound, later_sound}
 use Rattle.gptp_kept.proofs.KnownLemmas.{acts_known}
 use Rattle.gptp_kept.proofs.LaterLemmas.{later_known}
-use Rattle.gptp_kept.specs.LegibleLaws.{SetsAnOctet}
+use Rattle.gptp_kept.specs.EncodableLaws.{SetsAnOctet}
 use Rattle.gptp_kept.specs.SeenLaws.{IsNoChange}
 use Rattle.gptp_kept.proofs.ActLegibleLemmas.{acts_legible}
 use Rattle.gptp_kept.proofs.BetweenLemmas.{acts_between}
-use Rattle.gptp_kept.specs.Holds.{IsWorld}
+use Rattle.gptp_kept.specs.SettlesAsMachine.{IsWorld}
 use Rattle.gptp_kept.specs.Known.{AreSet, IsLogAmong}
 use Rattle.gptp_kept.specs.Standing.{StationsHavePort}
 use Rattle.gptp_kept.proofs.SetLemmas.{log_among, log_shorter}
@@ -34,7 +34,7 @@ use Rattle.gptp_kept.proofs.SetLemmas.{log_among, log_shorter}
 -- ---- what is prompt
 
 -- a port of a system is set up with an interval
-log_of_port : (p : Pace) (w : WorldState) → AreSet p w → (port : PortId) → StationsHavePort w.stations port
+log_of_port : (p : SettlingParams) (w : WorldState) → AreSet p w → (port : PortId) → StationsHavePort w.stations port
     → (log : ℤ) × IsLogAmong w.stations log
 log_of_port p w set port k = go port.port k.is
   where
@@ -46,8 +46,8 @@ log_of_port p w set port k = go port.port k.is
         (q.log_interval, log_among p w.stations k.place k.station k.here (set k.place k.station k.here) i q there)
 
 -- where a link is set, a port is at its end, so that its delay isn't above the largest interval either
-prompt_most : (p : Pace) (act : Act) (w : WorldState) (draws : List Draw) (done : Done) (w' : WorldState) → IsWorld p w
-    → IsPromptIn w act → Acts act w draws done w' → IsPromptAct (largest_interval p) act
+prompt_most : (p : SettlingParams) (act : Act) (w : WorldState) (draws : List Draw) (done : Done) (w' : WorldState) → IsWorld p w
+    → DelaysFitIntervals w act → Acts act w draws done w' → DelayFitsInterval (largest_interval p) act
 prompt_most p (Deliver link direction) w draws done w' is prompt k = tt
 prompt_most p (Expire number timer) w draws done w' is prompt k = tt
 prompt_most p (Changing (LinkDown number port)) w draws done w' is prompt k = tt
@@ -65,8 +65,8 @@ prompt_most p (Changing (Inject number port octets)) w draws done w' is prompt k
 
 -- ---- acts and time
 
-module _ (p : Pace) (act : Act) (w : WorldState) (draws : List Draw) (done : Done) (w' : WorldState) where
-  pub acts_stay : IsFitAct act → IsPromptIn w act → SetsAnOctet act → Acts act w draws done w' → IsWorld p w
+module _ (p : SettlingParams) (act : Act) (w : WorldState) (draws : List Draw) (done : Done) (w' : WorldState) where
+  pub acts_stay : IsFitAct act → DelaysFitIntervals w act → SetsAnOctet act → Acts act w draws done w' → IsWorld p w
       → IsWorld p w'
   acts_stay fit prompt octet k is = record {
     sound = acts_sound act w draws done w' is.sound fit k;
@@ -76,7 +76,7 @@ module _ (p : Pace) (act : Act) (w : WorldState) (draws : List Draw) (done : Don
   }
 
 -- an act that changes nothing of the network keeps every limit
-pub still_acts_stay : (p : Pace) (act : Act) (w : WorldState) (draws : List Draw) (done : Done) (w' : WorldState)
+pub still_acts_stay : (p : SettlingParams) (act : Act) (w : WorldState) (draws : List Draw) (done : Done) (w' : WorldState)
     → IsNoChange act → Acts act w draws done w' → IsWorld p w → IsWorld p w'
 still_acts_stay p (Deliver link direction) w draws done w' none k is =
     acts_stay p (Deliver link direction) w draws done w' tt (λ place station log here among. tt) tt k is
@@ -84,7 +84,7 @@ still_acts_stay p (Expire number timer) w draws done w' none k is =
     acts_stay p (Expire number timer) w draws done w' tt (λ place station log here among. tt) tt k is
 still_acts_stay p (Changing change) w draws done w' none k is = absurd none
 
-pub time_stays : (p : Pace) (w : WorldState) (time : ℕ) → w.time ≤ time → IsSound (at time w) → IsWorld p w
+pub time_stays : (p : SettlingParams) (w : WorldState) (time : ℕ) → w.time ≤ time → IsSound (at time w) → IsWorld p w
     → IsWorld p (at time w)
 time_stays p w time later sound is = record {
   sound = sound;
@@ -94,15 +94,15 @@ time_stays p w time later sound is = record {
 }
 
 -- nothing is due before an act that is ready
-pub ready_stays : (p : Pace) (act : Act) (time : ℕ) (w : WorldState) → IsReadyAct act time w → IsWorld p w
+pub ready_stays : (p : SettlingParams) (act : Act) (time : ℕ) (w : WorldState) → IsReadyAct act time w → IsWorld p w
     → IsWorld p (at time w)
 ready_stays p act time w ready is =
     let timely = ready.timely in
     time_stays p w time timely.now (later_sound w time w.last_change is.sound timely.first) is
 
 -- so a world stays one from act to act
-pub done_stays : {F : Type 0} (answers : Bounds → ℕ → F → Option ℕ → F → Type 0) (p : Pace) (timed : Timed)
-    (fate fate_after : F) (w w' : WorldState) (done : Done) → IsFitAct timed.act → IsPromptIn w timed.act
+pub done_stays : {F : Type 0} (answers : Bounds → ℕ → F → Option ℕ → F → Type 0) (p : SettlingParams) (timed : Timed)
+    (fate fate_after : F) (w w' : WorldState) (done : Done) → IsFitAct timed.act → DelaysFitIntervals w timed.act
     → SetsAnOctet timed.act → WasDone answers timed fate fate_after w w' done → IsWorld p w → IsWorld p w'
 done_stays answers p timed fate fate_after w w' done fit prompt octet k is =
     acts_stay p timed.act (at timed.at w) k.draws done w' fit prompt octet k.acts

@@ -1,7 +1,7 @@
 -- Every act leaves what is in flight due within the longest delay from now.
 use Rattle.std.proofs.Common.{◌≡◌, ◌⊎◌, ◌+◌, ◌≤◌, ℕ, Bool, true, false, List, [], ◌∷◌, ◌++◌, map, Option, Some, None, slice_get, slice_set, refl, sym, subst, inl, inr, arith}
 use Rattle.gptp_lists.specs.Members.{In}
-use Rattle.gptp_lists.proofs.MemberLemmas.{In-parts}
+use Rattle.gptp_lists.proofs.SystemSpecLemmas.{In-parts}
 use Rattle.gptp_vector.specs.declared.port.PortId.{PortId}
 use Rattle.gptp_links.specs.declared.bounds.Bounds.{Bounds}
 use Rattle.gptp_links.specs.declared.link.Direction.{Direction}
@@ -18,8 +18,8 @@ use Rattle.gptp_plan.specs.declared.change.Act.TheVariants.{Deliver, Expire, Cha
 use Rattle.gptp_plan.specs.declared.change.Change.{Change}
 use Rattle.gptp_plan.specs.declared.change.Change.TheVariants.{LinkDown, LinkUp, LinkSet, Fail, Recover, Priority1, Inject}
 use Rattle.gptp_acts.specs.declared.done.Done.{Done}
-use Rattle.gptp_plan.specs.declared.network.Wire.{Wire}
-use Rattle.gptp_plan.specs.Prompt.{IsPromptAct}
+use Rattle.gptp_plan.specs.declared.network.LinkSpec.{LinkSpec}
+use Rattle.gptp_plan.specs.Prompt.{DelayFitsInterval}
 use Rattle.gptp_acts.specs.declared.station.Station.{Station}
 use Rattle.gptp_acts.specs.Act.{Calls, Hears, all_timers}
 use Rattle.gptp_acts.specs.Acts.{Acts, Changes, set_to}
@@ -200,7 +200,7 @@ module _ (span : ℕ) where
   injects_short true from octets w draws w' all k =
       subst (IsShort span) (sym k.is) (one_short w.time from octets k.draw w.net k.net all k.sent)
 
-  changes_short : (c : Change) (w : WorldState) (draws : List Draw) (w' : WorldState) → IsPromptAct span (Changing c)
+  changes_short : (c : Change) (w : WorldState) (draws : List Draw) (w' : WorldState) → DelayFitsInterval span (Changing c)
       → IsShort span w → Changes c w draws w' → IsShort span w'
   changes_short (LinkDown number port) w draws w' fit all k =
       goes_down_short k.channel.up k.place k.channel w draws w' k.is.here all k.so
@@ -219,7 +219,7 @@ module _ (span : ℕ) where
   changes_short (Inject number port octets) w draws w' fit all k =
       injects_short k.channel.up (port_id number port) octets w draws w' all k.so
 
-  acts_short_by : (act : Act) (w w' : WorldState) (draws : List Draw) (done : Done) → IsPromptAct span act
+  acts_short_by : (act : Act) (w w' : WorldState) (draws : List Draw) (done : Done) → DelayFitsInterval span act
       → IsShort span w → Acts act w draws done w' → IsShort span w'
   acts_short_by (Deliver link direction) w w' draws done fit all k =
       let d = k.delivers in
@@ -253,7 +253,7 @@ initially_short span n short link channel here =
     let (wire, at, made) = mapped channel_from n.links link channel here in
     subst (IsShortChannel span 0) made (record { most = short link wire at; dues = still wire })
   where
-    still : (wire : Wire) (direction : Direction) (f : Frame) → In f (world_queue direction (channel_from wire))
+    still : (wire : LinkSpec) (direction : Direction) (f : Frame) → In f (world_queue direction (channel_from wire))
         → f.due ≤ 0 + span
     still wire FromA f member = absurd member
     still wire FromB f member = absurd member

@@ -20,9 +20,9 @@ use Rattle.gptp_lists.proofs.PlaceLemmas.{member_there}
 use Rattle.gptp_kept.specs.Standing.{snapshot_of}
 use Rattle.gptp_kept.specs.Settled.{IsSettledSystem, Settled, graph_role}
 use Rattle.gptp_kept.specs.CalmFor.{IsCalmFor, IsPortSettled, capable_span}
-use Rattle.gptp_kept.specs.Claimed.{Claimed}
+use Rattle.gptp_kept.specs.SettlingInvariant.{SettlingInvariant}
 use Rattle.gptp_kept.specs.Shown.{AreCapable, FollowsAtOnce, FollowsByDistance, FollowsByPaths, FollowsInTime, IsCapableInTime, IsEnabledInTime, IsSettledFor, PlaysAtOnce, PlaysByDistance, PlaysByPaths, PlaysInTime}
-use Rattle.gptp_kept.proofs.ClaimedLemmas.{claimed_capable, claimed_settled, distance_follows, distance_plays, settled_at_once, settled_by_paths}
+use Rattle.gptp_kept.proofs.SettlingInvariantLemmas.{claimed_capable, claimed_settled, distance_follows, distance_plays, settled_at_once, settled_by_paths}
 
 -- ---- capability
 
@@ -38,7 +38,7 @@ held_disabled : (is_slave : Bool) (h : Held) → h ≡ helds.Disabled → role_b
 held_disabled is_slave h same = rw same refl
 
 -- what is known of one port of a live system of a world that has been calm for so long
-module _ (w : WorldState) (claimed : Claimed w) (calm : IsCalmFor capable_span w) (place : ℕ) (station : Station)
+module _ (w : WorldState) (claimed : SettlingInvariant w) (calm : IsCalmFor capable_span w) (place : ℕ) (station : Station)
     (here : slice_get w.stations place ≡ Some station) (live : station.live ≡ true) where
   abbrev s : SystemState
   s = station.system
@@ -91,14 +91,14 @@ module _ (w : WorldState) (claimed : Claimed w) (calm : IsCalmFor capable_span w
       both capable on off = absurd cc
 
 -- a live system that is shown
-pub capable_shown : (number : ℕ) (w : WorldState) (s : SystemState) → Claimed w → ShowsLive number w s
+pub capable_shown : (number : ℕ) (w : WorldState) (s : SystemState) → SettlingInvariant w → ShowsLive number w s
     → IsCapableInTime w s
 capable_shown number w s claimed shows calm =
     subst (AreCapable (snapshot_of w)) (sym shows.state)
     (capable_ports w claimed calm shows.place shows.station shows.is.here shows.live)
 
 -- and a role that is
-pub enabled_shown : (number port : ℕ) (w : WorldState) (role : Role) → Claimed w → AtSystem number w (HasRole port role)
+pub enabled_shown : (number port : ℕ) (w : WorldState) (role : Role) → SettlingInvariant w → AtSystem number w (HasRole port role)
     → IsEnabledInTime number port w role
 enabled_shown number port w role claimed at calm =
     let is = enabled_role w claimed calm at.place at.station at.is.here at.so.live port at.so.port_of in
@@ -127,40 +127,40 @@ module _ (number : ℕ) (w : WorldState) (settled : Settled w) (near : IsNear (s
       rw (at.so.role_is, sym at.is.named) (is.roles port at.so.port_of)
 
 -- by the number of live systems
-pub choice_shown : (number root steps : ℕ) (slave : Option ℕ) (w : WorldState) → Claimed w
+pub choice_shown : (number root steps : ℕ) (slave : Option ℕ) (w : WorldState) → SettlingInvariant w
     → AtSystem number w (FollowsRoot root steps slave) → FollowsInTime number w root steps slave
 choice_shown number root steps slave w claimed at calm near =
     settled_choice number w (claimed_settled w claimed calm) near root steps slave at
 
-pub role_shown : (number port : ℕ) (w : WorldState) (role : Role) → Claimed w → AtSystem number w (HasRole port role)
+pub role_shown : (number port : ℕ) (w : WorldState) (role : Role) → SettlingInvariant w → AtSystem number w (HasRole port role)
     → PlaysInTime number port w role
 role_shown number port w role claimed at calm near =
     settled_role number w (claimed_settled w claimed calm) near port role at
 
 -- by what bounds the systems of a path
-pub choice_by_paths : (number root steps : ℕ) (slave : Option ℕ) (w : WorldState) → Claimed w
+pub choice_by_paths : (number root steps : ℕ) (slave : Option ℕ) (w : WorldState) → SettlingInvariant w
     → AtSystem number w (FollowsRoot root steps slave) → FollowsByPaths number w root steps slave
 choice_by_paths number root steps slave w claimed at m bounded calm near =
     settled_choice number w (settled_by_paths m w claimed bounded calm) near root steps slave at
 
-pub role_by_paths : (number port : ℕ) (w : WorldState) (role : Role) → Claimed w
+pub role_by_paths : (number port : ℕ) (w : WorldState) (role : Role) → SettlingInvariant w
     → AtSystem number w (HasRole port role) → PlaysByPaths number port w role
 role_by_paths number port w role claimed at m bounded calm near =
     settled_role number w (settled_by_paths m w claimed bounded calm) near port role at
 
 -- by that where nothing lapses
-pub choice_at_once : (number root steps : ℕ) (slave : Option ℕ) (w : WorldState) → Claimed w
+pub choice_at_once : (number root steps : ℕ) (slave : Option ℕ) (w : WorldState) → SettlingInvariant w
     → AtSystem number w (FollowsRoot root steps slave) → FollowsAtOnce number w root steps slave
 choice_at_once number root steps slave w claimed at m bounded calm nothing near =
     settled_choice number w (settled_at_once m w claimed bounded calm nothing) near root steps slave at
 
-pub role_at_once : (number port : ℕ) (w : WorldState) (role : Role) → Claimed w → AtSystem number w (HasRole port role)
+pub role_at_once : (number port : ℕ) (w : WorldState) (role : Role) → SettlingInvariant w → AtSystem number w (HasRole port role)
     → PlaysAtOnce number port w role
 role_at_once number port w role claimed at m bounded calm nothing near =
     settled_role number w (settled_at_once m w claimed bounded calm nothing) near port role at
 
 -- by the distance
-pub choice_by_distance : (number root steps : ℕ) (slave : Option ℕ) (w : WorldState) → Claimed w
+pub choice_by_distance : (number root steps : ℕ) (slave : Option ℕ) (w : WorldState) → SettlingInvariant w
     → AtSystem number w (FollowsRoot root steps slave) → FollowsByDistance number w root steps slave
 choice_by_distance number root steps slave w claimed at m d bounded distance near calm =
     let is = distance_follows m d w claimed bounded at.place at.station at.is.here at.so.live
@@ -168,7 +168,7 @@ choice_by_distance number root steps slave w claimed at m d bounded distance nea
     rw (at.so.root_is, at.so.steps_are, at.so.slave_is, sym at.is.named)
     (record { best = is.root; distance = is.steps; parent = is.slave })
 
-pub role_by_distance : (number port : ℕ) (w : WorldState) (role : Role) → Claimed w
+pub role_by_distance : (number port : ℕ) (w : WorldState) (role : Role) → SettlingInvariant w
     → AtSystem number w (HasRole port role) → PlaysByDistance number port w role
 role_by_distance number port w role claimed at m d bounded distance near calm =
     let roles = distance_plays m d w claimed bounded at.place at.station at.is.here at.so.live

@@ -8,7 +8,7 @@ use Rattle.gptp_links.specs.declared.link.Direction.TheVariants.{FromA, FromB}
 use Rattle.gptp_links.specs.Fate.{Draw}
 use Rattle.gptp_pdelay.specs.Peer.{reset_peer}
 use Rattle.gptp_setup.specs.Intervals.{interval_of}
-use Rattle.gptp_setup.specs.Pace.{Pace, largest_interval}
+use Rattle.gptp_setup.specs.SettlingParams.{SettlingParams, largest_interval}
 use Rattle.gptp_system.specs.declared.answer.Answer.{Answer}
 use Rattle.gptp_system.specs.Input.{PortUp}
 use Rattle.gptp_system.specs.Measures.{part_asked, measure_at}
@@ -105,7 +105,7 @@ changed_stood at w s = record {
   answering = s.answering;
 }
 
-pub changed_silent : (p : Pace) (start : ℕ) (w : WorldState) → AreSilentBy p start w
+pub changed_silent : (p : SettlingParams) (start : ℕ) (w : WorldState) → AreSilentBy p start w
     → AreSilentBy p start (record w { last_change = w.time })
 changed_silent p start w silent at s =
     let (change, one, soon) = silent at (changed_stood at w s) in
@@ -113,7 +113,7 @@ changed_silent p start w silent at s =
 
 -- ---- another link comes up
 
-module _ (p : Pace) (start : ℕ) (at : LinkPlace) (place : ℕ) (channel : Channel) (w : WorldState) (draws : List Draw)
+module _ (p : SettlingParams) (start : ℕ) (at : LinkPlace) (place : ℕ) (channel : Channel) (w : WorldState) (draws : List Draw)
     (w' : WorldState) (clocks : HaveOwnClocks w) (setups : HaveTheirSetups w) (apart : AreApart w)
     (here : slice_get w.net.channels place ≡ Some channel) (other : at.link ≢ place) where
   abbrev raised : Channel

@@ -5,7 +5,7 @@ use Rattle.gptp_vector.specs.declared.port.PortId.{PortId}
 use Rattle.gptp_pdelay.specs.Peer.{is_capable}
 use Rattle.gptp_setup.specs.declared.setup.Params.{Params}
 use Rattle.gptp_setup.specs.Intervals.{AreParams, interval_of}
-use Rattle.gptp_setup.specs.Pace.{Pace, largest_interval}
+use Rattle.gptp_setup.specs.SettlingParams.{SettlingParams, largest_interval}
 use Rattle.gptp_system.specs.State.{number}
 use Rattle.gptp_setup.proofs.IntervalLemmas.{interval_positive}
 use Rattle.gptp_acts.specs.World.{WorldState, sender}
@@ -20,7 +20,7 @@ use Rattle.gptp_kept.proofs.UnansweredActLemmas.{acts_seen}
 use Rattle.gptp_kept.proofs.UnansweredStandLemmas.{timers_known}
 
 -- no more requests of an end are lost than may be
-end_lost : (p : Pace) (place : ℕ) (port : PortId) (w : WorldState) → IsKnown p w → (e : IsEndOf place port w)
+end_lost : (p : SettlingParams) (place : ℕ) (port : PortId) (w : WorldState) → IsKnown p w → (e : IsEndOf place port w)
     → e.state.peer.lost ≤ e.state.peer.allowed
 end_lost p place port w known e = go port.port e.there
   where

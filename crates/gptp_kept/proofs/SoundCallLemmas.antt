@@ -41,7 +41,7 @@ use Rattle.gptp_kept.proofs.SendLemmas.{lanes_apart}
 use Rattle.gptp_kept.proofs.SystemLemmas.{clock_from, clock_there, live_there}
 use Rattle.gptp_kept.proofs.TouchLemmas.{InputFits, hear_back, heard_in}
 use Rattle.gptp_kept.proofs.WayLemmas.{used_joins, way_of}
-use Rattle.gptp_lists.proofs.MemberLemmas.{from_map, In-map}
+use Rattle.gptp_lists.proofs.SystemSpecLemmas.{from_map, In-map}
 
 -- ---- one system
 

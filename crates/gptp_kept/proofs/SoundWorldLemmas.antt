@@ -15,17 +15,17 @@ use Rattle.gptp_links.specs.Fate.{Draw}
 use Rattle.gptp_plan.specs.declared.change.Act.TheVariants.{Change as Changing}
 use Rattle.gptp_plan.specs.declared.change.Change.{Change}
 use Rattle.gptp_plan.specs.declared.change.Change.TheVariants.{LinkDown, LinkUp, LinkSet, Fail, Recover, Priority1, Inject}
-use Rattle.gptp_plan.specs.declared.network.Wire.{Wire}
+use Rattle.gptp_plan.specs.declared.network.LinkSpec.{LinkSpec}
 use Rattle.gptp_plan.specs.Network.{NetworkState, pace_of}
 use Rattle.gptp_receipt.specs.Held.{received}
-use Rattle.gptp_setup.specs.Pace.{largest_interval}
+use Rattle.gptp_setup.specs.SettlingParams.{largest_interval}
 use Rattle.gptp_system.specs.declared.answer.Answer.{Answer}
 use Rattle.gptp_system.specs.Input.{PortUp, Priority}
 use Rattle.gptp_system.specs.State.{SystemState, clock}
 use Rattle.gptp_system.specs.Steps.{HasPortNumber}
 use Rattle.gptp_system.proofs.StartLemmas.{disabled_at}
 use Rattle.gptp_system.proofs.StepLemmas.{steps_steady as identity_kept}
-use Rattle.gptp_system.proofs.TouchedLemmas.{priority_clock}
+use Rattle.gptp_system.proofs.TimersChangedLemmas.{priority_clock}
 use Rattle.gptp_system.specs.Start.{started}
 use Rattle.gptp_acts.specs.declared.station.Station.{Station}
 use Rattle.gptp_acts.specs.Act.{Calls, all_timers, in_state}
@@ -48,8 +48,8 @@ use Rattle.gptp_settling.specs.Station.{Station as SeenStation}
 use Rattle.gptp_settling.specs.Acts.{MachineSteps}
 use Rattle.gptp_settling.proofs.SoundEverywhereLemmas.{sound_kept, sound_more}
 use Rattle.gptp_kept.specs.Calm.{network_of}
-use Rattle.gptp_kept.specs.Legible.{IsLegible, StationFits}
-use Rattle.gptp_kept.specs.LegibleLaws.{SetsAnOctet}
+use Rattle.gptp_kept.specs.Encodable.{IsEncodable, StationFits}
+use Rattle.gptp_kept.specs.EncodableLaws.{SetsAnOctet}
 use Rattle.gptp_kept.specs.SoundWorld.{IsGain, IsSoundWorld}
 use Rattle.gptp_kept.specs.SoundWorldLaws.{SoundActs, SoundBegins, SoundGains, SoundLater}
 use Rattle.gptp_kept.specs.Standing.{AreBetween, live_stations, snapshot_of, standing_system, used_channels}
@@ -510,7 +510,7 @@ start_identity place w draws w' k own =
     own in
     all_identity place (up_ports new w.net) v draws w' k.calls begun
 
-starts_all_sound : (places : List ℕ) (w : WorldState) (draws : List Draw) (w' : WorldState) → IsSound w → IsLegible w
+starts_all_sound : (places : List ℕ) (w : WorldState) (draws : List Draw) (w' : WorldState) → IsSound w → IsEncodable w
     → AreBetween w → HaveOwnIdentity w → IsSoundWorld w → StartsAll places w draws w' → IsSoundWorld w'
 unfolding HaveOwnIdentity
 starts_all_sound [] w draws w' sound legible between own all (none, same) = subst IsSoundWorld (sym same) all
@@ -541,7 +541,7 @@ initial_all_sound n = record {
       absurd cc;
 }
   where
-    still : (wire : Wire) (direction : Direction) (f : SeenFrame)
+    still : (wire : LinkSpec) (direction : Direction) (f : SeenFrame)
         → In f (map frame_view (world_queue direction (channel_from wire))) → ⊥
     still wire FromA f member = member
     still wire FromB f member = member

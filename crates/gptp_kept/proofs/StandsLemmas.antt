@@ -7,7 +7,7 @@ use Rattle.gptp_links.specs.declared.link.Direction.{Direction}
 use Rattle.gptp_links.specs.declared.link.Direction.TheVariants.{FromA, FromB}
 use Rattle.gptp_acts.specs.Sound.{IsSound}
 use Rattle.gptp_acts.specs.World.{Channel, WorldState, receiver, sender}
-use Rattle.gptp_kept.specs.Legible.{IsLegible}
+use Rattle.gptp_kept.specs.Encodable.{IsEncodable}
 use Rattle.gptp_kept.specs.Standing.{AreBetween, stations_have_clock, channel_is_used, live_stations, snapshot_of}
 use Rattle.gptp_kept.proofs.SystemLemmas.{clock_lives, clocks_differ, live_from}
 use Rattle.gptp_kept.proofs.WayLemmas.{IsWay, way_of, ways_meet}
@@ -32,7 +32,7 @@ ends_differ w between link FromB channel here = λ same. (between link channel h
 
 -- ---- what stands well
 
-identified : (w : WorldState) → IsLegible w → (s : System) → In s (live_stations w.stations) → IsIdentified s
+identified : (w : WorldState) → IsEncodable w → (s : System) → In s (live_stations w.stations) → IsIdentified s
 identified w legible s member =
     let at = live_from w.stations s member in
     subst IsIdentified (sym at.is)
@@ -62,7 +62,7 @@ apart w between p q way same =
     ends_differ w between way.link way.direction way.channel way.here
     (ap (λ (x : PortIdentity). x.clock) way.from ∙ same ∙ ap (λ (x : PortIdentity). x.clock) (sym way.to))
 
-pub stands_well : (w : WorldState) → IsSound w → AreBetween w → IsLegible w → IsWellFormed (snapshot_of w)
+pub stands_well : (w : WorldState) → IsSound w → AreBetween w → IsEncodable w → IsWellFormed (snapshot_of w)
 stands_well w sound between legible = record {
   different = clocks_differ w.stations sound.wired.clocks;
   identified = identified w legible;

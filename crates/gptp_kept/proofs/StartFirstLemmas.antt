@@ -13,7 +13,7 @@ use Rattle.gptp_links.specs.declared.link.Direction.TheVariants.{FromA, FromB}
 use Rattle.gptp_links.specs.Fate.{Draw}
 use Rattle.gptp_plan.specs.Network.{IsNetwork, NetworkState, pace_of}
 use Rattle.gptp_plan.proofs.LogLemmas.{keeps_pace}
-use Rattle.gptp_plan.specs.declared.network.Wire.{Wire}
+use Rattle.gptp_plan.specs.declared.network.LinkSpec.{LinkSpec}
 use Rattle.gptp_roles.specs.Selection.{clock_of}
 use Rattle.gptp_setup.specs.Intervals.{AreParams, interval_of}
 use Rattle.gptp_system.specs.declared.answer.Answer.{Answer}
@@ -36,7 +36,7 @@ use Rattle.gptp_measuring.specs.Lanes.{AreMute}
 use Rattle.gptp_measuring.proofs.LaneLemmas.{no_frames_mute}
 use Rattle.gptp_kept.specs.FirstAt.{IsFirstAt}
 use Rattle.gptp_kept.specs.FirstAtLaws.{StartIsFirst}
-use Rattle.gptp_kept.specs.Holds.{IsWorld}
+use Rattle.gptp_kept.specs.SettlesAsMachine.{IsWorld}
 use Rattle.gptp_kept.specs.LinkView.{IsEndOf, IsLinkOf, LinkPlace, reads_as_request, link_frame_view, other_direction, reads_as_reply, waits_by}
 use Rattle.gptp_kept.specs.Measured.{StationIsLiveAt, LinkIsMeasured, IsStationMeasured, LinkStandsAt}
 use Rattle.gptp_kept.specs.NewsWorld.{AllLive}
@@ -536,7 +536,7 @@ module _ {F : Type 0} (answers : Bounds → ℕ → F → Option ℕ → F → T
       let (wire, stood, made) = mapped channel_from n.links link channel here in
       subst (λ (c : Channel). world_queue direction c ≡ []) made (still wire direction)
     where
-      still : (wire : Wire) (way : Direction) → world_queue way (channel_from wire) ≡ []
+      still : (wire : LinkSpec) (way : Direction) → world_queue way (channel_from wire) ≡ []
       still wire FromA = refl
       still wire FromB = refl
 

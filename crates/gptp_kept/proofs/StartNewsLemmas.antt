@@ -5,11 +5,11 @@ use Rattle.gptp_plan.specs.Network.{pace_of}
 use Rattle.gptp_plan.proofs.LogLemmas.{keeps_pace}
 use Rattle.gptp_setup.specs.declared.setup.Params.{Params}
 use Rattle.gptp_setup.specs.Intervals.{interval_of}
-use Rattle.gptp_setup.specs.Pace.{Pace}
+use Rattle.gptp_setup.specs.SettlingParams.{SettlingParams}
 use Rattle.gptp_acts.specs.World.{WorldState}
 use Rattle.gptp_kept.specs.Calm.{delay_in}
 use Rattle.gptp_kept.specs.FirstAt.{IsFirstAt}
-use Rattle.gptp_kept.specs.Holds.{IsWorld}
+use Rattle.gptp_kept.specs.SettlesAsMachine.{IsWorld}
 use Rattle.gptp_kept.specs.LinkView.{LinkPlace, link_setting}
 use Rattle.gptp_kept.specs.NewsWorld.{IsReadyBy}
 use Rattle.gptp_kept.specs.NewsWorldLaws.{StartIsNews}
@@ -21,7 +21,7 @@ use Rattle.gptp_kept.proofs.SoundWorldLemmas.{sound_begins}
 use Rattle.gptp_kept.proofs.StartFirstLemmas.{start_first, start_lives, start_time}
 
 -- a link of which the first request is known is ready one interval between requests and one exchange later
-pub first_ready : (p : Pace) (start first : ℕ) (w : WorldState) (is : IsWorld p w) (at : LinkPlace)
+pub first_ready : (p : SettlingParams) (start first : ℕ) (w : WorldState) (is : IsWorld p w) (at : LinkPlace)
     → first + interval_of p.params.pdelay + (delay_in w + p.params.turnaround + delay_in w) < start
     → IsFirstAt first at w → IsReadyBy p start at w
 first_ready p start first w is at soon one =

@@ -3,7 +3,7 @@ use Rattle.std.proofs.Common.{◌≡◌, ◌≢◌, ◌⊎◌, ◌<◌, ◌≤�
 use Rattle.std.proofs.lemmas.Bool.Decides.{nat_tests}
 use Rattle.gptp_links.specs.declared.link.Direction.{Direction}
 use Rattle.gptp_links.specs.Fate.{Draw}
-use Rattle.gptp_setup.specs.Pace.{Pace, lapse_span}
+use Rattle.gptp_setup.specs.SettlingParams.{SettlingParams, lapse_span}
 use Rattle.gptp_setup.specs.declared.setup.Params.{Params}
 use Rattle.gptp_setup.specs.Intervals.{interval_of}
 use Rattle.gptp_setup.specs.declared.timer.Timer.{Timer}
@@ -31,7 +31,7 @@ use Rattle.gptp_settling.specs.Station.{MachineState, Station as SeenStation}
 use Rattle.gptp_settling.specs.SyncActs.{FollowsOn, HearsFollowedSync, IsFollowed, SyncActs, SyncArrives, SyncDrops, SyncRuns, TimerStep}
 use Rattle.gptp_kept.specs.Calm.{SettlingTimes, network_with}
 use Rattle.gptp_kept.specs.Known.{AreSet, IsKnown}
-use Rattle.gptp_kept.specs.Legible.{IsLegible}
+use Rattle.gptp_kept.specs.Encodable.{IsEncodable}
 use Rattle.gptp_kept.specs.SeenLaws.{IsNoChange}
 use Rattle.gptp_kept.specs.SyncView.{KnowTime, TakesTime}
 use Rattle.gptp_kept.specs.View.{kept_view, says_announce, says_sync, station_view, sync_id, view}
@@ -44,7 +44,7 @@ use Rattle.gptp_kept.proofs.SyncCallLemmas.{TakesSyncs, kept_stays, slave_takes,
 use Rattle.gptp_kept.proofs.SyncHeardLemmas.{follow_ups_are_used, followed_here, syncs_are_kept}
 use Rattle.gptp_kept.proofs.TimeStepLemmas.{KeepsSync}
 
-module _ (p : Pace) (m start : ℕ) (times : SettlingTimes) (w : WorldState) (sound : IsSound w) (legible : IsLegible w)
+module _ (p : SettlingParams) (m start : ℕ) (times : SettlingTimes) (w : WorldState) (sound : IsSound w) (legible : IsEncodable w)
     (set : AreSet p w) (knows : KnowTime w) (above : 0 < p.params.sync_timeout) where
   abbrev n : Network
   n = network_with p m start times w
@@ -232,7 +232,7 @@ may_lead : (identity : ℕ) → can_lead identity ≡ true → MayLead identity
 may_lead identity can =
     let low : identity / 2 ^ 104 < 255 = grind (arith, nat_tests) in omega arith
 
-pub timers_seen : (p : Pace) (m start : ℕ) (times : SettlingTimes) (w : WorldState) → IsSound w → IsKnown p w
+pub timers_seen : (p : SettlingParams) (m start : ℕ) (times : SettlingTimes) (w : WorldState) → IsSound w → IsKnown p w
     → HaveSyncTimers (network_with p m start times w) (view w)
 timers_seen p m start times w sound known i seen there live =
     let at = station_from w.stations i seen there in

@@ -15,7 +15,7 @@ use Rattle.gptp_correction.specs.Correction.{relayed}
 use Rattle.gptp_pdelay.specs.declared.answer.Answer.{Answer as Owed}
 use Rattle.gptp_scaled.specs.Stamp.{Timestamp}
 use Rattle.gptp_setup.specs.declared.timer.Timer.TheVariants as timers
-use Rattle.gptp_setup.specs.Pace.{has_sync_timeout}
+use Rattle.gptp_setup.specs.SettlingParams.{has_sync_timeout}
 use Rattle.gptp_system.specs.declared.answer.Answer.{Answer}
 use Rattle.gptp_system.specs.declared.port.Port.{Port}
 use Rattle.gptp_system.specs.declared.sending.Sending.{Sending}

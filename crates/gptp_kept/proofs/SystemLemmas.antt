@@ -5,7 +5,7 @@ use Rattle.std.proofs.lemmas.Bool.{eq-eqb, eqb-true, or_cases, or_left, or_right
 use Rattle.std.proofs.lemmas.Option.{none-some, same_Some}
 use Rattle.gptp_lists.specs.Members.{Different, In}
 use Rattle.gptp_graph.specs.Snapshot.{System}
-use Rattle.gptp_lists.proofs.MemberLemmas.{from_map}
+use Rattle.gptp_lists.proofs.SystemSpecLemmas.{from_map}
 use Rattle.gptp_system.specs.State.{clock}
 use Rattle.gptp_acts.specs.declared.station.Station.{Station}
 use Rattle.gptp_kept.specs.Standing.{stations_have_clock, live_stations, standing_system}

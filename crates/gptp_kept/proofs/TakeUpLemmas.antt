@@ -3,7 +3,7 @@ use Rattle.std.proofs.Common.{◌≡◌, ◌≢◌, ◌⊎◌, ℕ, true, false,
 use Rattle.std.proofs.lemmas.List.{append-nil}
 use Rattle.gptp_lists.specs.Members.{In}
 use Rattle.gptp_graph.specs.Snapshot.{port_of}
-use Rattle.gptp_lists.proofs.MemberLemmas.{In-left, In-parts, In-right}
+use Rattle.gptp_lists.proofs.SystemSpecLemmas.{In-left, In-parts, In-right}
 use Rattle.gptp_settling.specs.Frame.{AnnounceFrame, Lane, Send}
 use Rattle.gptp_settling.specs.Acts.{LaneStep}
 use Rattle.gptp_lists.proofs.MappedLemmas.{same_there}

@@ -25,7 +25,7 @@ use Rattle.gptp_lists.proofs.PlaceLemmas.{member_there}
 use Rattle.gptp_settling.specs.Frame.{Announce}
 use Rattle.gptp_settling.specs.Reacts.{IsMasterAt}
 use Rattle.gptp_settling.specs.Station.{Port as SeenPort}
-use Rattle.gptp_kept.specs.Legible.{AreClocks, SayWhatFits}
+use Rattle.gptp_kept.specs.Encodable.{AreClocks, SayWhatFits}
 use Rattle.gptp_kept.specs.View.{port_view, said, system_view, ports_view, span_at}
 use Rattle.gptp_kept.proofs.AnnounceLemmas.{announce_reads}
 use Rattle.gptp_kept.proofs.FitLemmas.{TellsWhatFits, all_clocks, clock_fits}

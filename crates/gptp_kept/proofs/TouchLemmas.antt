@@ -13,7 +13,7 @@ use Rattle.gptp_system.specs.Touch.{Touch, Hear, Tick, Grow, Enable, Disable, Ot
 use Rattle.gptp_system.proofs.StepLemmas.{steps_steady}
 use Rattle.gptp_settling.specs.Frame.{Announce}
 use Rattle.gptp_settling.specs.Touch as touches
-use Rattle.gptp_kept.specs.Legible.{SayWhatFits, SystemFits}
+use Rattle.gptp_kept.specs.Encodable.{SayWhatFits, SystemFits}
 use Rattle.gptp_kept.specs.View.{said, touch_view}
 use Rattle.gptp_kept.proofs.FitLemmas.{HeardFits}
 

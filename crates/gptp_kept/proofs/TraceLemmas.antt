@@ -1,7 +1,7 @@
 -- Traces in a calm world become clean.
 use Rattle.std.proofs.Common.{◌≡◌, ◌≤◌, ◌+◌, ◌*◌, ℕ, zero, suc, true, List, ◌∷◌, map, length, Option, Some, None, slice_get, refl, sym, ap, subst, ◌∙◌, inl, arith}
 use Rattle.std.proofs.lemmas.Option.{none-some, same_Some, slice_get_within}
-use Rattle.gptp_setup.specs.Pace.{Pace, largest_interval}
+use Rattle.gptp_setup.specs.SettlingParams.{SettlingParams, largest_interval}
 use Rattle.gptp_lists.specs.Members.{In}
 use Rattle.gptp_graph.specs.Best.{IsBest}
 use Rattle.gptp_graph.specs.Distance.{IsDistance}
@@ -47,14 +47,14 @@ use Rattle.gptp_kept.specs.Calm.{IsQuietWorld, clean_from, delay_in, sync_paths_
 use Rattle.gptp_kept.specs.Known.{IsKnown}
 use Rattle.gptp_kept.proofs.DelayLemmas.{delay_short}
 use Rattle.gptp_kept.specs.Standing.{snapshot_of}
-use Rattle.gptp_kept.specs.Holds.{settling_network, start_of}
-use Rattle.gptp_kept.proofs.HoldsLemmas.{is_calm, paths_bound, turns_less}
-use Rattle.gptp_kept.specs.Claimed.{Claimed, IsClaimed}
+use Rattle.gptp_kept.specs.SettlesAsMachine.{settling_network, start_of}
+use Rattle.gptp_kept.proofs.SettlesAsMachineLemmas.{is_calm, paths_bound, turns_less}
+use Rattle.gptp_kept.specs.SettlingInvariant.{SettlingInvariant, KeepsAll}
 use Rattle.gptp_kept.specs.Traces.{AreHeldCleanInTime, AreHeldWholeInTime, AreHeldWholeSooner, IsCleanInTime, IsFrameClean, IsHeardClean, IsHeldClean, IsHeldWhole, IsTraceClean, announced, heard_announce, turn_of, turns_span}
-use Rattle.gptp_kept.proofs.ClaimedLemmas.{set_alike}
+use Rattle.gptp_kept.proofs.SettlingInvariantLemmas.{set_alike}
 use Rattle.gptp_kept.proofs.ClaimLemmas.{claim_capable}
 
-module _ (p : Pace) (w : WorldState) (is : IsClaimed p w) (quiet : IsQuietWorld p.params w) where
+module _ (p : SettlingParams) (w : WorldState) (is : KeepsAll p w) (quiet : IsQuietWorld p.params w) where
   abbrev reach : ℕ
   reach = path_bound (snapshot_of w)
 
@@ -177,7 +177,7 @@ module _ (p : Pace) (w : WorldState) (is : IsClaimed p w) (quiet : IsQuietWorld 
 -- ---- what is shown
 
 -- what was sent so late by the largest interval was by the greatest delay
-late_sooner : (p : Pace) (w : WorldState) → IsKnown p w → (c time : ℕ)
+late_sooner : (p : SettlingParams) (w : WorldState) → IsKnown p w → (c time : ℕ)
     → w.last_change + turns_span c p (sync_paths_of w) (length (snapshot_of w).systems) + largest_interval p ≤ time
     → Late (network_setting (settling_network p (path_bound (snapshot_of w)) w)) c time
 late_sooner p w known c time late =
@@ -185,7 +185,7 @@ late_sooner p w known c time late =
     let shorter = turns_less p w known c in
     omega (arith, late, short, shorter)
 
-pub traces_become_clean : (number : ℕ) (w : WorldState) (s : SystemState) → Claimed w → ShowsLive number w s
+pub traces_become_clean : (number : ℕ) (w : WorldState) (s : SystemState) → SettlingInvariant w → ShowsLive number w s
     → IsCleanInTime w s
 traces_become_clean number w s claimed shows c calm =
     let is = set_alike w claimed calm.pace calm.set shows.place shows.station shows.is.here in
@@ -193,7 +193,7 @@ traces_become_clean number w s claimed shows c calm =
     subst (IsTraceClean (snapshot_of w) c) (sym shows.state)
     (trace_clean calm.pace w is calm.quiet shows.place shows.station shows.is.here shows.live c (omega arith))
 
-pub held_becomes_clean : (number : ℕ) (w : WorldState) (s : SystemState) → Claimed w → ShowsLive number w s
+pub held_becomes_clean : (number : ℕ) (w : WorldState) (s : SystemState) → SettlingInvariant w → ShowsLive number w s
     → AreHeldCleanInTime w s
 held_becomes_clean number w s claimed shows calm c n r holds late =
     let is = set_alike w claimed calm.pace calm.set shows.place shows.station shows.is.here in
@@ -203,7 +203,7 @@ held_becomes_clean number w s claimed shows calm c n r holds late =
     (subst (λ (x : SystemState). received (held_at x n) ≡ Some r) same holds)
     (late_sooner calm.pace w is.world.known c r.at late))
 
-pub held_becomes_whole : (number : ℕ) (w : WorldState) (s : SystemState) → Claimed w → ShowsLive number w s
+pub held_becomes_whole : (number : ℕ) (w : WorldState) (s : SystemState) → SettlingInvariant w → ShowsLive number w s
     → AreHeldWholeInTime w s
 held_becomes_whole number w s claimed shows m n r bounded calm holds =
     let is = set_alike w claimed calm.pace calm.set shows.place shows.station shows.is.here in
@@ -214,7 +214,7 @@ held_becomes_whole number w s claimed shows m n r bounded calm holds =
     (let shorter = turns_less calm.pace w is.world.known m in omega (arith, late, shorter))
     (subst (λ (x : SystemState). received (held_at x n) ≡ Some r) same holds))
 
-pub held_becomes_whole_sooner : (number : ℕ) (w : WorldState) (s : SystemState) → Claimed w → ShowsLive number w s
+pub held_becomes_whole_sooner : (number : ℕ) (w : WorldState) (s : SystemState) → SettlingInvariant w → ShowsLive number w s
     → AreHeldWholeSooner w s
 held_becomes_whole_sooner number w s claimed shows m n r bounded calm holds =
     let is = set_alike w claimed calm.pace calm.set shows.place shows.station shows.is.here in
@@ -239,7 +239,7 @@ held_is_no_better g number port r best wf held is_best =
 
 -- what a delivery tells
 delivered_clean : (link : ℕ) (direction : Direction) (time : ℕ) (done : Done) (w w' : WorldState) (draws : List Draw)
-    → Claimed w → Delivery link direction done (at_time time w) draws w' → IsHeardClean w time done
+    → SettlingInvariant w → Delivery link direction done (at_time time w) draws w' → IsHeardClean w time done
 delivered_clean link direction time Quiet w w' draws claimed delivery = tt
 delivered_clean link direction time (Heard number port answer octets) w w' draws claimed delivery = λ calm c m reads
     late.
@@ -260,7 +260,7 @@ delivered_clean link direction time (Heard number port answer octets) w w' draws
     subst (λ x. IsFrameClean (snapshot_of w) (suc c) x (said m)) reached clean
 
 pub frames_become_clean : {F : Type 0} (answers : Bounds → ℕ → F → Option ℕ → F → Type 0) (timed : Timed)
-    (fate fate_after : F) (w w' : WorldState) (done : Done) → Claimed w
+    (fate fate_after : F) (w w' : WorldState) (done : Done) → SettlingInvariant w
     → WasDone answers timed fate fate_after w w' done → IsHeardClean w timed.at done
 frames_become_clean answers timed fate fate_after w w' done claimed k = by timed.act k.acts
   where

@@ -20,7 +20,7 @@ use Rattle.gptp_system.specs.State.{SystemState, clock}
 use Rattle.gptp_system.specs.Steps.{HasPortNumber}
 use Rattle.gptp_acts.specs.World.{WorldState}
 use Rattle.gptp_settling.specs.Settled.{IsSlaveOf}
-use Rattle.gptp_kept.specs.Claimed.{Claimed}
+use Rattle.gptp_kept.specs.SettlingInvariant.{SettlingInvariant}
 use Rattle.gptp_kept.specs.Settled.{IsSettledSystem, Settled, graph_role}
 use Rattle.gptp_kept.specs.Standing.{snapshot_of, standing_system}
 use Rattle.gptp_kept.specs.Tree.{HangsOnParent, IsLiveStation, IsRoot, IsTree, priority1}
@@ -50,7 +50,7 @@ role_is Passive Slave same = absurd cc
 
 -- ---- one settled world
 
-module _ (w : WorldState) (claimed : Claimed w) (settled_world : Settled w) where
+module _ (w : WorldState) (claimed : SettlingInvariant w) (settled_world : Settled w) where
   abbrev g : Snapshot
   g = snapshot_of w
 
@@ -221,7 +221,7 @@ module _ (w : WorldState) (claimed : Claimed w) (settled_world : Settled w) wher
       let one : other ≡ best = IsBest-unique g (clock s) other best wf is_other is_best in
       subst (λ n. 255 ≤ priority1 n) (sym (root_is ∙ ap (λ (x : System). x.identity) one)) low
 
-pub settled_is_tree : (w : WorldState) → Claimed w → Settled w → IsTree w
+pub settled_is_tree : (w : WorldState) → SettlingInvariant w → Settled w → IsTree w
 settled_is_tree w claimed settled_world = record {
   settled = settled_world;
   others = hangs w claimed settled_world;

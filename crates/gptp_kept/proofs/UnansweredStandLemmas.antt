@@ -7,7 +7,7 @@ use Rattle.gptp_vector.specs.declared.port.PortId.{PortId}
 use Rattle.gptp_system.specs.declared.port.Port.{Port}
 use Rattle.gptp_setup.specs.declared.setup.Params.{Params}
 use Rattle.gptp_setup.specs.Intervals.{interval_of}
-use Rattle.gptp_setup.specs.Pace.{Pace}
+use Rattle.gptp_setup.specs.SettlingParams.{SettlingParams}
 use Rattle.gptp_system.specs.State.{number}
 use Rattle.gptp_acts.specs.Sound.{IsSound}
 use Rattle.gptp_acts.specs.World.{WorldState, sender}
@@ -48,7 +48,7 @@ timer_runs at w l sound =
     (subst IsSome (ap (option_and_then (λ (q : Port). q.pdelay)) l.asking.there) up)
 
 -- and is due within a period from now
-end_asks : (p : Pace) (place : ℕ) (port : PortId) (w : WorldState) → IsSound w → IsKnown p w
+end_asks : (p : SettlingParams) (place : ℕ) (port : PortId) (w : WorldState) → IsSound w → IsKnown p w
     → (e : IsEndOf place port w) → (t : ℕ) → e.state.pdelay ≡ Some t
     → IsSoonAfter w.time (interval_of p.params.pdelay) t
 end_asks p place port w sound known e t runs = go port.port e.there

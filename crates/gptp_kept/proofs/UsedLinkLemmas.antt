@@ -4,7 +4,7 @@ use Rattle.gptp_graph.specs.Snapshot.{Joins, PortIdentity, System}
 use Rattle.gptp_vector.specs.declared.port.PortId.{PortId}
 use Rattle.gptp_links.specs.declared.link.Direction.{Direction}
 use Rattle.gptp_system.specs.declared.port.Port.{Port}
-use Rattle.gptp_setup.specs.Pace.{Pace, largest_interval}
+use Rattle.gptp_setup.specs.SettlingParams.{SettlingParams, largest_interval}
 use Rattle.gptp_system.specs.State.{clock, number, own}
 use Rattle.gptp_acts.specs.declared.station.Station.{Station}
 use Rattle.gptp_plan.specs.Params.{KeepPace}
@@ -20,8 +20,8 @@ use Rattle.gptp_kept.specs.Standing.{stations_have_clock, channel_is_used, live_
 use Rattle.gptp_kept.proofs.StandsLemmas.{sender_lives, stands_well, used_up}
 use Rattle.gptp_kept.proofs.SystemLemmas.{clock_lives, live_from}
 use Rattle.gptp_kept.proofs.WayLemmas.{IsWay, way_of}
-use Rattle.gptp_kept.specs.Holds.{IsWorld}
-use Rattle.gptp_kept.specs.Watch.{Watches}
+use Rattle.gptp_kept.specs.SettlesAsMachine.{IsWorld}
+use Rattle.gptp_kept.specs.Watch.{GoodLinksMeasure}
 
 -- ---- the other end
 
@@ -52,7 +52,7 @@ receiver_lives w direction channel used =
 
 -- The link from the one port to the other is watched; the one is in this state, and asks once in a largest announce
 -- interval or more often.
-pub record IsWatchedLink (p : Pace) (w : WorldState) (from to : PortIdentity) (q : Port) : Type 0 where
+pub record IsWatchedLink (p : SettlingParams) (w : WorldState) (from to : PortIdentity) (q : Port) : Type 0 where
   pub at : LinkPlace
   pub watched : IsWatched (w.last_change + largest_interval p) (w.last_change + 2 * largest_interval p) at w
   pub from_is : (link_setting at w watched.link).asking ≡ from
@@ -61,8 +61,8 @@ pub record IsWatchedLink (p : Pace) (w : WorldState) (from to : PortIdentity) (q
   pub period : (link_setting at w watched.link).period ≤ largest_interval p
   pub allowed : (link_setting at w watched.link).allowed ≡ p.params.lost
 
-module _ (p : Pace) (w : WorldState) (pace : KeepPace p) (is : IsWorld p w) (quiet : HaveQuietLinks p.params w)
-    (watches : Watches p w) (place : ℕ) (station : Station) (here : slice_get w.stations place ≡ Some station)
+module _ (p : SettlingParams) (w : WorldState) (pace : KeepPace p) (is : IsWorld p w) (quiet : HaveQuietLinks p.params w)
+    (watches : GoodLinksMeasure p w) (place : ℕ) (station : Station) (here : slice_get w.stations place ≡ Some station)
     (live : station.live ≡ true) where
   -- where a way from a port of the system stands
   abbrev place_of_way : (n : ℕ) (to : PortIdentity) → IsWay w (port_identity_number (own station.system n)) to → LinkPlace

@@ -5,7 +5,7 @@ use Rattle.std.proofs.lemmas.Bool.Decides.{nat_tests}
 use Rattle.std.proofs.Math.Nat.{mul-le-mul, mul-le-mul_right, zero-mul}
 use Rattle.gptp_setup.specs.declared.setup.Params.{Params}
 use Rattle.gptp_setup.specs.Intervals.{interval_of}
-use Rattle.gptp_setup.specs.Pace.{Pace, lapse_span, largest_interval}
+use Rattle.gptp_setup.specs.SettlingParams.{SettlingParams, lapse_span, largest_interval}
 use Rattle.gptp_plan.specs.Calm.{SyncsComeInTime}
 use Rattle.gptp_plan.specs.SyncWait.{step_more, sync_wait}
 use Rattle.gptp_plan.specs.declared.sync_wait.SyncPaths.{SyncPaths}
@@ -33,7 +33,7 @@ wait_is p paths short = by (nat_lt (sync_wait p paths) (lapse_span p)) refl
     by false is = absurd (grind (arith, nat_tests))
 
 -- in a step that wait ends, and then the Announces of one interval come
-pub step_long : (p : Pace) (paths : SyncPaths) → paths.delay ≤ largest_interval p
+pub step_long : (p : SettlingParams) (paths : SyncPaths) → paths.delay ≤ largest_interval p
     → wait_with p.params paths + largest_interval p + paths.delay ≤ step_with p paths
 step_long p paths short = by (nat_lt (sync_wait p.params paths) (lapse_span p.params))
   where
@@ -45,7 +45,7 @@ step_long p paths short = by (nat_lt (sync_wait p.params paths) (lapse_span p.pa
 
 -- ---- fewer systems of a path
 
-module _ (p : Pace) (a b delay : ℕ) (fewer : a ≤ b) where
+module _ (p : SettlingParams) (a b delay : ℕ) (fewer : a ≤ b) where
   abbrev small : SyncPaths
   small = record { systems = a; delay = delay }
 

@@ -9,7 +9,7 @@ use Rattle.gptp_links.specs.declared.link.Direction.TheVariants.{FromA, FromB}
 use Rattle.gptp_acts.specs.Sound.{IsSound}
 use Rattle.gptp_acts.specs.World.{Channel, WorldState, receiver, sender}
 use Rattle.gptp_lists.proofs.MappedLemmas.{same_there}
-use Rattle.gptp_kept.specs.Legible.{IsLegible}
+use Rattle.gptp_kept.specs.Encodable.{IsEncodable}
 use Rattle.gptp_kept.specs.View.{port_identity_number, lane_view}
 use Rattle.gptp_kept.proofs.SeenLaneLemmas.{lane_there, one_lane}
 use Rattle.gptp_kept.proofs.SendLemmas.{world_apart}
@@ -113,7 +113,7 @@ pub record IsOneWay (link other : ℕ) (direction way : Direction) (channel at :
   pub same_way : direction ≡ way
   pub same_channel : channel ≡ at
 
-pub one_way : (w : WorldState) → IsSound w → IsLegible w → (link other : ℕ) (direction way : Direction)
+pub one_way : (w : WorldState) → IsSound w → IsEncodable w → (link other : ℕ) (direction way : Direction)
     (channel at : Channel) → slice_get w.net.channels link ≡ Some channel → slice_get w.net.channels other ≡ Some at
     → port_identity_number (sender direction channel) ≡ port_identity_number (sender way at)
     → IsOneWay link other direction way channel at
@@ -129,7 +129,7 @@ one_way w sound legible link other direction way channel at here there same =
     }
 
 -- so two ways from a port are one
-pub ways_meet : (w : WorldState) (p q r : PortIdentity) → IsSound w → IsLegible w → IsWay w p q → IsWay w p r → q ≡ r
+pub ways_meet : (w : WorldState) (p q r : PortIdentity) → IsSound w → IsEncodable w → IsWay w p q → IsWay w p r → q ≡ r
 ways_meet w p q r sound legible x y =
     let one = one_way w sound legible x.link y.link x.direction y.direction x.channel y.channel x.here y.here
     (x.from ∙ sym y.from) in

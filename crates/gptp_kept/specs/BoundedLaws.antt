@@ -6,22 +6,22 @@ use Rattle.gptp_plan.specs.SettlingTime.{settling_span_with}
 use Rattle.gptp_acts.specs.World.{WorldState}
 use Rattle.gptp_kept.specs.Bounded.{IsBoundedWorld}
 use Rattle.gptp_kept.specs.CalmFor.{IsCalmFor, at_once_span, span_over}
-use Rattle.gptp_kept.specs.Claimed.{Claimed}
+use Rattle.gptp_kept.specs.SettlingInvariant.{SettlingInvariant}
 use Rattle.gptp_kept.specs.Standing.{snapshot_of}
 
 -- where a world has been calm for the settling span of its live systems, it is bounded
 abbrev pub ClaimedBounded : Type 0
-ClaimedBounded = (w : WorldState) → Claimed w → IsCalmFor settling_span_with w → IsBoundedWorld w
+ClaimedBounded = (w : WorldState) → SettlingInvariant w → IsCalmFor settling_span_with w → IsBoundedWorld w
 
 -- so it is where it has been for the settling span of m systems, and no path of its snapshot has more
 abbrev pub ClaimedBoundedByPaths : Type 0
 ClaimedBoundedByPaths = (m : ℕ) (w : WorldState)
-    → Claimed w → BoundsPaths (snapshot_of w) m → IsCalmFor (span_over m) w
+    → SettlingInvariant w → BoundsPaths (snapshot_of w) m → IsCalmFor (span_over m) w
     → IsBoundedWorld w
 
 -- and sooner where nothing lapses
 abbrev pub ClaimedBoundedAtOnce : Type 0
 ClaimedBoundedAtOnce = (m : ℕ) (w : WorldState)
-    → Claimed w → BoundsPaths (snapshot_of w) m → (calm : IsCalmFor (at_once_span m) w)
+    → SettlingInvariant w → BoundsPaths (snapshot_of w) m → (calm : IsCalmFor (at_once_span m) w)
     → NothingLapses calm.pace.params
     → IsBoundedWorld w

@@ -11,7 +11,7 @@ use Rattle.gptp_receipt.specs.declared.held.Held.TheVariants.{Disabled}
 use Rattle.gptp_setup.specs.declared.setup.Params.{Params}
 use Rattle.gptp_setup.specs.declared.setup.Setup.{Setup}
 use Rattle.gptp_setup.specs.Intervals.{interval_of}
-use Rattle.gptp_setup.specs.Pace.{Pace, lapse_span, largest_interval}
+use Rattle.gptp_setup.specs.SettlingParams.{SettlingParams, lapse_span, largest_interval}
 use Rattle.gptp_system.specs.State.{clock, number}
 use Rattle.gptp_plan.specs.Calm.{SyncsComeInTime}
 use Rattle.gptp_plan.specs.SyncWait.{step_more, sync_wait}
@@ -72,7 +72,7 @@ abbrev pub wait_with : Params → SyncPaths → ℕ
 wait_with p paths = if nat_lt (sync_wait p paths) (lapse_span p) then sync_wait p paths else 0
 
 -- how long a step of distance takes
-abbrev pub step_with : Pace → SyncPaths → ℕ
+abbrev pub step_with : SettlingParams → SyncPaths → ℕ
 step_with p paths = 2 * largest_interval p + step_more p paths
 
 -- How long settling takes, as the machine of gptp_settling has it: anyway, for each step of distance, and for a Sync;
@@ -85,7 +85,7 @@ pub record SettlingTimes : Type 0 where
   pub past : Bool
 
 -- where something may lapse, system by system: each step of distance takes a wait for a Sync and for an Announce
-abbrev pub in_turn : Pace → SyncPaths → SettlingTimes
+abbrev pub in_turn : SettlingParams → SyncPaths → SettlingTimes
 in_turn p paths = record {
   slack = 0;
   step = step_with p paths;
@@ -95,7 +95,7 @@ in_turn p paths = record {
 }
 
 -- where nothing does, all at once: after the largest announce interval each step takes the greatest delay
-abbrev pub at_once : Pace → WorldState → SettlingTimes
+abbrev pub at_once : SettlingParams → WorldState → SettlingTimes
 at_once p w = record { slack = largest_interval p; step = delay_in w; wait = 0; lag = 0; past = true }
 
 -- ---- places
@@ -149,21 +149,21 @@ AreCapableFrom start w = start ≤ w.time → OfEachPort (λ itself h q. IsCapab
 
 -- when traces are wholly clean in a world no path of which has more than m systems: frames that were in flight at the
 -- last change are gone two intervals later, and that is m turns after
-abbrev pub clean_from : Pace → ℕ → WorldState → ℕ
+abbrev pub clean_from : SettlingParams → ℕ → WorldState → ℕ
 clean_from p m w = w.last_change + 2 * largest_interval p + m * (p.params.timeout * largest_interval p + delay_in w)
 
 -- From any past claims on traces are made once old frames are gone, and all that is held is sound from when it is
 -- wholly clean and ports are capable. After news, where all is sound, nothing has to become clean.
-abbrev pub traces_from : Pace → ℕ → SettlingTimes → WorldState → ℕ
+abbrev pub traces_from : SettlingParams → ℕ → SettlingTimes → WorldState → ℕ
 traces_from p start times w = if times.past then w.last_change + 2 * largest_interval p else start
 
-abbrev pub sound_from : Pace → ℕ → ℕ → SettlingTimes → WorldState → ℕ
+abbrev pub sound_from : SettlingParams → ℕ → ℕ → SettlingTimes → WorldState → ℕ
 sound_from p m start times w = max (if times.past then clean_from p m w else 0) start
 
 -- The network that a world has, no path of which has more than m systems, of which ports are capable from this time on,
 -- and which settles in these times. Each port has its own announce interval. All that is held is sound from when it is
 -- wholly clean and ports are capable.
-abbrev pub network_with : Pace → ℕ → ℕ → SettlingTimes → WorldState → Network
+abbrev pub network_with : SettlingParams → ℕ → ℕ → SettlingTimes → WorldState → Network
 network_with p m start times w = record {
   graph = snapshot_of w;
   reach = m;
@@ -194,10 +194,10 @@ network_with p m start times w = record {
 
 -- So it is with the wait and the step that such paths ask for: without a syncReceiptTimeout no Sync is waited for, and
 -- a step takes two of the largest intervals.
-abbrev pub network_of : Pace → ℕ → ℕ → WorldState → Network
+abbrev pub network_of : SettlingParams → ℕ → ℕ → WorldState → Network
 network_of p m start w =
     network_with p m start (in_turn p (paths_with m w)) w
 
 -- where nothing lapses it settles at once too
-abbrev pub network_at_once : Pace → ℕ → ℕ → WorldState → Network
+abbrev pub network_at_once : SettlingParams → ℕ → ℕ → WorldState → Network
 network_at_once p m start w = network_with p m start (at_once p w) w

@@ -3,7 +3,7 @@ use Rattle.std.specs.Prelude.{◌≡◌, ◌≤◌, ◌+◌, ◌*◌, ℕ, List}
 use Rattle.gptp_graph.specs.PathBound.{BoundsPaths}
 use Rattle.gptp_links.specs.Fate.{Draw}
 use Rattle.gptp_setup.specs.declared.setup.Params.{Params}
-use Rattle.gptp_setup.specs.Pace.{Pace, largest_interval}
+use Rattle.gptp_setup.specs.SettlingParams.{SettlingParams, largest_interval}
 use Rattle.gptp_plan.specs.declared.change.Act.{Act}
 use Rattle.gptp_acts.specs.declared.done.Done.{Done}
 use Rattle.gptp_acts.specs.Acts.{Acts, at}
@@ -13,7 +13,7 @@ use Rattle.gptp_settling.specs.Calm.{Calm}
 use Rattle.gptp_settling.specs.Facts.{StationFacts}
 use Rattle.gptp_settling.specs.Network.{IsSettlingNetwork, network_setting}
 use Rattle.gptp_kept.specs.Known.{IsKnown}
-use Rattle.gptp_kept.specs.Legible.{IsLegible}
+use Rattle.gptp_kept.specs.Encodable.{IsEncodable}
 use Rattle.gptp_kept.specs.SeenLaws.{IsNoChange}
 use Rattle.gptp_kept.specs.View.{view}
 use Rattle.gptp_kept.specs.Standing.{AreBetween, snapshot_of}
@@ -23,22 +23,22 @@ use Rattle.gptp_kept.specs.Calm.{AreCapableFrom, HaveQuietLinks, IsQuietWorld, n
 
 -- what the machine knows of each state is so of every sound and known world, calm or not
 abbrev pub HasFacts : Type 0
-HasFacts = (p : Pace) (m start : ℕ) (w : WorldState)
-    → IsSound w → IsLegible w → IsKnown p w
+HasFacts = (p : SettlingParams) (m start : ℕ) (w : WorldState)
+    → IsSound w → IsEncodable w → IsKnown p w
     → StationFacts (network_setting (network_of p m start w)) (view w)
 
 -- a sound, legible and known world has a network of the machine, for each number that bounds the systems of its paths
 abbrev pub HasNetwork : Type 0
-HasNetwork = (p : Pace) (m start : ℕ) (w : WorldState)
-    → IsSound w → AreBetween w → IsLegible w → IsKnown p w → BoundsPaths (snapshot_of w) m
+HasNetwork = (p : SettlingParams) (m start : ℕ) (w : WorldState)
+    → IsSound w → AreBetween w → IsEncodable w → IsKnown p w → BoundsPaths (snapshot_of w) m
     → w.last_change + 2 * largest_interval p ≤ start
     → IsSettlingNetwork (network_of p m start w)
 
 -- Such a world is a calm state where its links are quiet, the largest announce interval passes from the last change to
 -- the start, and from the start its ports are disabled exactly where no link of the snapshot is at them.
 abbrev pub IsCalmState : Type 0
-IsCalmState = (p : Pace) (m start : ℕ) (times : SettlingTimes) (w : WorldState)
-    → IsSound w → IsLegible w → IsKnown p w → HaveQuietLinks p.params w
+IsCalmState = (p : SettlingParams) (m start : ℕ) (times : SettlingTimes) (w : WorldState)
+    → IsSound w → IsEncodable w → IsKnown p w → HaveQuietLinks p.params w
     → w.last_change + 2 * largest_interval p ≤ start → AreCapableFrom start w
     → Calm (network_with p m start times w) (view w)
 
@@ -46,13 +46,13 @@ IsCalmState = (p : Pace) (m start : ℕ) (times : SettlingTimes) (w : WorldState
 
 -- an act that changes nothing of the network leaves it, and so does time that passes
 abbrev pub ActsKeepNetwork : Type 0
-ActsKeepNetwork = (p : Pace) (m start : ℕ) (act : Act) (w : WorldState) (draws : List Draw) (done : Done)
+ActsKeepNetwork = (p : SettlingParams) (m start : ℕ) (act : Act) (w : WorldState) (draws : List Draw) (done : Done)
     (w' : WorldState)
     → IsNoChange act → Acts act w draws done w'
     → network_of p m start w' ≡ network_of p m start w
 
 abbrev pub TimeKeepsNetwork : Type 0
-TimeKeepsNetwork = (p : Pace) (m start : ℕ) (w : WorldState) (time : ℕ)
+TimeKeepsNetwork = (p : SettlingParams) (m start : ℕ) (w : WorldState) (time : ℕ)
     → network_of p m start (at time w) ≡ network_of p m start w
 
 -- they leave it quiet

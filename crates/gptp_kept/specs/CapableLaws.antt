@@ -1,6 +1,6 @@
 -- Laws on worlds whose good links in use are watched.
 use Rattle.std.specs.Prelude.{◌≤◌, ℕ, List, Option}
-use Rattle.gptp_setup.specs.Pace.{Pace}
+use Rattle.gptp_setup.specs.SettlingParams.{SettlingParams}
 use Rattle.gptp_links.specs.declared.bounds.Bounds.{Bounds}
 use Rattle.gptp_links.specs.Fate.{Draw}
 use Rattle.gptp_plan.specs.declared.change.Act.{Act}
@@ -15,15 +15,15 @@ use Rattle.gptp_acts.specs.Initial.{initial}
 use Rattle.gptp_plan.specs.Network.{IsNetwork, NetworkState, pace_of}
 use Rattle.gptp_plan.specs.Params.{KeepPace}
 use Rattle.gptp_acts.specs.Pending.{NothingBefore}
-use Rattle.gptp_acts.specs.Prompt.{IsPromptIn}
+use Rattle.gptp_acts.specs.Prompt.{DelaysFitIntervals}
 use Rattle.gptp_acts.specs.Sound.{IsSound}
 use Rattle.gptp_acts.specs.World.{WorldState}
 use Rattle.gptp_kept.specs.Measured.{LinkIsMeasured}
-use Rattle.gptp_kept.specs.LegibleLaws.{SetsAnOctet}
+use Rattle.gptp_kept.specs.EncodableLaws.{SetsAnOctet}
 use Rattle.gptp_kept.specs.SeenLaws.{IsNoChange}
 use Rattle.gptp_kept.specs.Calm.{HaveQuietLinks}
-use Rattle.gptp_kept.specs.Holds.{IsWorld, start_of}
-use Rattle.gptp_kept.specs.Watch.{AreUsedCapable, Watches}
+use Rattle.gptp_kept.specs.SettlesAsMachine.{IsWorld, start_of}
+use Rattle.gptp_kept.specs.Watch.{AreUsedCapable, GoodLinksMeasure}
 
 -- ---- worlds stay measured
 
@@ -43,41 +43,41 @@ MeasuredDone {F} answers = (timed : Timed) (fate fate_after : F) (w w' : WorldSt
 
 -- after every change of the network
 abbrev pub WatchesChanged : Type 0
-WatchesChanged = (p : Pace) (change : Change) (w : WorldState) (draws : List Draw) (done : Done) (w' : WorldState)
+WatchesChanged = (p : SettlingParams) (change : Change) (w : WorldState) (draws : List Draw) (done : Done) (w' : WorldState)
     → KeepPace p → Acts (Changing change) w draws done w' → IsWorld p w' → LinkIsMeasured w'
-    → Watches p w'
+    → GoodLinksMeasure p w'
 
 -- and as the world of a network begins
 abbrev pub WatchesAtFirst : {F : Type 0} → (Bounds → ℕ → F → Option ℕ → F → Type 0) → Type 0
 WatchesAtFirst {F} answers = (n : NetworkState) (fate fate_after : F) (w : WorldState)
     → IsNetwork n → Begun answers n fate fate_after w → IsWorld (pace_of n) w → LinkIsMeasured w
-    → Watches (pace_of n) w
+    → GoodLinksMeasure (pace_of n) w
 
 -- ---- it is kept
 
 -- an act that changes nothing of the network keeps it
 abbrev pub WatchesKept : Type 0
-WatchesKept = (p : Pace) (act : Act) (w : WorldState) (draws : List Draw) (done : Done) (w' : WorldState)
-    → IsNoChange act → Acts act w draws done w' → IsWorld p w → Watches p w
-    → Watches p w'
+WatchesKept = (p : SettlingParams) (act : Act) (w : WorldState) (draws : List Draw) (done : Done) (w' : WorldState)
+    → IsNoChange act → Acts act w draws done w' → IsWorld p w → GoodLinksMeasure p w
+    → GoodLinksMeasure p w'
 
 -- and so does time that passes, up to when something is due
 abbrev pub WatchesLater : Type 0
-WatchesLater = (p : Pace) (w : WorldState) (time : ℕ)
-    → w.time ≤ time → NothingBefore time w.net.pending → IsWorld p w → Watches p w
-    → Watches p (at time w)
+WatchesLater = (p : SettlingParams) (w : WorldState) (time : ℕ)
+    → w.time ≤ time → NothingBefore time w.net.pending → IsWorld p w → GoodLinksMeasure p w
+    → GoodLinksMeasure p (at time w)
 
 -- so it is kept from act to act, a change included
 abbrev pub WatchesDone : {F : Type 0} → (Bounds → ℕ → F → Option ℕ → F → Type 0) → Type 0
-WatchesDone {F} answers = (p : Pace) (timed : Timed) (fate fate_after : F) (w w' : WorldState) (done : Done)
-    → KeepPace p → IsFitAct timed.act → IsPromptIn w timed.act → SetsAnOctet timed.act
-    → WasDone answers timed fate fate_after w w' done → IsWorld p w → LinkIsMeasured w → Watches p w
-    → Watches p w'
+WatchesDone {F} answers = (p : SettlingParams) (timed : Timed) (fate fate_after : F) (w w' : WorldState) (done : Done)
+    → KeepPace p → IsFitAct timed.act → DelaysFitIntervals w timed.act → SetsAnOctet timed.act
+    → WasDone answers timed fate fate_after w w' done → IsWorld p w → LinkIsMeasured w → GoodLinksMeasure p w
+    → GoodLinksMeasure p w'
 
 -- ---- ports become capable
 
 -- a world with quiet links of which it holds has capable ports at all links of its snapshot, from the start on
 abbrev pub UsedPortsCapable : Type 0
-UsedPortsCapable = (p : Pace) (w : WorldState)
-    → KeepPace p → IsWorld p w → HaveQuietLinks p.params w → Watches p w → start_of p w ≤ w.time
+UsedPortsCapable = (p : SettlingParams) (w : WorldState)
+    → KeepPace p → IsWorld p w → HaveQuietLinks p.params w → GoodLinksMeasure p w → start_of p w ≤ w.time
     → AreUsedCapable w

@@ -6,7 +6,7 @@ use Rattle.gptp_receipt.specs.declared.held.Reception.{Reception}
 use Rattle.gptp_receipt.specs.Held.{received}
 use Rattle.gptp_system.specs.declared.port.Port.{Port}
 use Rattle.gptp_setup.specs.Intervals.{interval_of}
-use Rattle.gptp_setup.specs.Pace.{Pace, span_by}
+use Rattle.gptp_setup.specs.SettlingParams.{SettlingParams, span_by}
 use Rattle.gptp_system.specs.State.{is_mine, own}
 use Rattle.gptp_acts.specs.declared.station.Station.{Station}
 use Rattle.gptp_acts.specs.World.{WorldState}
@@ -19,7 +19,7 @@ pub record IsSoonAfter (since span time : ℕ) : Type 0 where
 -- What is known of a port that holds this: as Master it announces within its announce interval, what it received came
 -- within the announce receipt timeout by the interval that it named, and it asks within one pdelay interval and answers
 -- within one turnaround.
-pub record IsPortKnown (p : Pace) (now : ℕ) (h : Held) (q : Port) : Type 0 where
+pub record IsPortKnown (p : SettlingParams) (now : ℕ) (h : Held) (q : Port) : Type 0 where
   pub announces : is_mine h ≡ true → IsSoonAfter now (interval_of q.log_interval) q.announce
   pub came : (r : Reception) → received h ≡ Some r → IsSoonAfter r.at (span_by p.params.timeout p.largest r.interval) now
   pub asks : (t : ℕ) → q.pdelay ≡ Some t → IsSoonAfter now (interval_of p.params.pdelay) t

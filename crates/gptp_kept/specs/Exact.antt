@@ -9,7 +9,7 @@ use Rattle.gptp_messages.specs.declared.follow_up.FollowUp.{FollowUp}
 use Rattle.gptp_messages.specs.declared.message.Message.TheVariants as messages
 use Rattle.gptp_messages.specs.Grammar.{Reads}
 use Rattle.gptp_setup.specs.declared.setup.Params.{Params}
-use Rattle.gptp_setup.specs.Pace.{Pace}
+use Rattle.gptp_setup.specs.SettlingParams.{SettlingParams}
 use Rattle.gptp_plan.specs.SettlingTime.{settling_span_with}
 use Rattle.gptp_plan.specs.declared.sync_wait.SyncPaths.{SyncPaths}
 use Rattle.gptp_system.specs.declared.answer.Answer.TheVariants as answers
@@ -28,7 +28,7 @@ use Rattle.gptp_kept.specs.Standing.{snapshot_of}
 -- The network has settled, where no path has more than m systems, and what a system so many steps from its root uses
 -- left the root since then: it took the threshold at most on each link of its way, and stayed a residence at each
 -- system.
-abbrev pub exact_span : ℕ → ℕ → Pace → SyncPaths → ℕ → ℕ
+abbrev pub exact_span : ℕ → ℕ → SettlingParams → SyncPaths → ℕ → ℕ
 exact_span m steps p paths n = settling_span_with p paths m + steps * (p.params.threshold + p.params.residence)
 
 -- how far the clock of a live system is ahead, at a time, of that of the best of its component

@@ -17,10 +17,10 @@ use Rattle.gptp_acts.specs.Sound.{IsSound}
 use Rattle.gptp_acts.specs.World.{WorldState, port_id}
 use Rattle.gptp_measuring.specs.FirstLaws.{exchange_span}
 use Rattle.gptp_measuring.specs.Measured.{HasMeasured}
-use Rattle.gptp_setup.specs.Pace.{Pace}
+use Rattle.gptp_setup.specs.SettlingParams.{SettlingParams}
 use Rattle.gptp_kept.specs.ElsewhereLaws.{LeavesAlone}
 use Rattle.gptp_kept.specs.FirstAt.{IsFirstAt, StandsDown}
-use Rattle.gptp_kept.specs.Holds.{IsWorld}
+use Rattle.gptp_kept.specs.SettlesAsMachine.{IsWorld}
 use Rattle.gptp_kept.specs.Known.{IsKnown}
 use Rattle.gptp_kept.specs.Measured.{LinkIsMeasured, LinkStandsAt}
 use Rattle.gptp_kept.specs.LinkView.{LinkPlace, least_delay, link_setting}
@@ -47,7 +47,7 @@ FirstIsFull = (at : LinkPlace) (first : ℕ) (w : WorldState) (l : IsFirstAt fir
 
 -- a link that comes up is such a one, in both directions, from then on
 abbrev pub LinkUpIsFirst : Type 0
-LinkUpIsFirst = (p : Pace) (at : LinkPlace) (number port : ℕ) (w w' : WorldState) (draws : List Draw) (done : Done)
+LinkUpIsFirst = (p : SettlingParams) (at : LinkPlace) (number port : ℕ) (w w' : WorldState) (draws : List Draw) (done : Done)
     → IsSound w → LinkIsMeasured w → IsKnown p w → (s : StandsDown at w)
     → IsChannel (port_id number port) at.link w.net s.channel → Acts (Changing (LinkUp number port)) w draws done w'
     → IsFirstAt w.time at w'

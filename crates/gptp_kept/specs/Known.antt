@@ -5,7 +5,7 @@ use Rattle.gptp_links.specs.declared.link.Direction.{Direction}
 use Rattle.gptp_links.specs.Queue.{Frame}
 use Rattle.gptp_system.specs.declared.port.Port.{Port}
 use Rattle.gptp_setup.specs.Intervals.{AreIntervals, interval_of}
-use Rattle.gptp_setup.specs.Pace.{Pace, largest_interval}
+use Rattle.gptp_setup.specs.SettlingParams.{SettlingParams, largest_interval}
 use Rattle.gptp_system.specs.Times.{IsInTime}
 use Rattle.gptp_plan.specs.Calm.{NothingLapses}
 use Rattle.gptp_acts.specs.declared.station.Station.{Station}
@@ -19,7 +19,7 @@ use Rattle.gptp_kept.specs.SyncView.{KnowTime}
 -- A station starts with these parameters and this largest interval, and its system has them. It starts with an interval
 -- for each port, none of which is above the largest, and its ports announce at these. Its Lapse timer runs only where
 -- something can lapse in the network.
-pub record IsSetTo (p : Pace) (station : Station) : Type 0 where
+pub record IsSetTo (p : SettlingParams) (station : Station) : Type 0 where
   pub starts : HasPace p station
   pub params : station.system.params ≡ p.params
   pub largest : station.system.largest ≡ p.largest
@@ -29,7 +29,7 @@ pub record IsSetTo (p : Pace) (station : Station) : Type 0 where
   pub lapses : NothingLapses p.params → station.system.lapse ≡ None
 
 -- all stations of a world have the parameters of its network, and its largest interval
-abbrev pub AreSet : Pace → WorldState → Type 0
+abbrev pub AreSet : SettlingParams → WorldState → Type 0
 AreSet p w = (place : ℕ) (station : Station) → slice_get w.stations place ≡ Some station → IsSetTo p station
 
 -- one of these stations starts with this announce interval for a port
@@ -54,18 +54,18 @@ OfEachFrame So w = (link : ℕ) (direction : Direction) (channel : Channel) (f :
     → slice_get w.net.channels link ≡ Some channel → In f (world_queue direction channel) → So channel f
 
 -- so it is with the largest of them
-abbrev pub AreNear : Pace → WorldState → Type 0
+abbrev pub AreNear : SettlingParams → WorldState → Type 0
 AreNear p w = IsShort (largest_interval p) w
 
 -- Since the last change: each frame in flight arrives within the greatest delay of its link, or by the largest announce
 -- interval after that change, since it doesn't overtake one that was in flight then.
-pub record AreFresh (p : Pace) (w : WorldState) : Type 0 where
+pub record AreFresh (p : SettlingParams) (w : WorldState) : Type 0 where
   pub change : w.last_change ≤ w.time
   pub frames : OfEachFrame (λ channel f.
       f.due ≤ max (w.time + channel.bounds.max) (w.last_change + largest_interval p)) w
 
 -- what is known of a world of a network with these parameters and this largest interval
-pub record IsKnown (p : Pace) (w : WorldState) : Type 0 where
+pub record IsKnown (p : SettlingParams) (w : WorldState) : Type 0 where
   pub set : AreSet p w
   pub prompt : FramesArePrompt w
   pub in_time : AreInTime w

@@ -6,15 +6,15 @@ use Rattle.gptp_receipt.specs.declared.held.Held.{Held}
 use Rattle.gptp_receipt.specs.declared.held.Held.TheVariants.{Disabled}
 use Rattle.gptp_system.specs.Follows.{SystemIsRoot, SystemFollowsPort}
 use Rattle.gptp_setup.specs.Intervals.{AreParams, interval_of}
-use Rattle.gptp_setup.specs.Pace.{Pace, largest_interval, span_by}
+use Rattle.gptp_setup.specs.SettlingParams.{SettlingParams, largest_interval, span_by}
 use Rattle.gptp_plan.specs.declared.change.Act.{Act}
 use Rattle.gptp_plan.specs.declared.change.Timed.{Timed}
 use Rattle.gptp_acts.specs.declared.done.Done.{Done}
 use Rattle.gptp_acts.specs.Acts.{Acts, at}
 use Rattle.gptp_acts.specs.Course.{Begun, WasDone}
 use Rattle.gptp_plan.specs.Network.{IsNetwork, NetworkState, pace_of}
-use Rattle.gptp_plan.specs.Prompt.{IsPromptAct}
-use Rattle.gptp_acts.specs.Prompt.{IsPromptIn}
+use Rattle.gptp_plan.specs.Prompt.{DelayFitsInterval}
+use Rattle.gptp_acts.specs.Prompt.{DelaysFitIntervals}
 use Rattle.gptp_acts.specs.Sends.{IsUnlinkedPort}
 use Rattle.gptp_acts.specs.Sound.{IsSound}
 use Rattle.gptp_acts.specs.World.{Channel, WorldState}
@@ -32,20 +32,20 @@ BeginsKnown {F} answers = (n : NetworkState) (fate fate_after : F) (w : WorldSta
 
 -- time that passes keeps what is known
 abbrev pub LaterKnown : Type 0
-LaterKnown = (p : Pace) (w : WorldState) (t : ℕ)
+LaterKnown = (p : SettlingParams) (w : WorldState) (t : ℕ)
     → w.time ≤ t → IsKnown p w
     → IsKnown p (at t w)
 
 -- and so does every act that sets no link to a delay above an announce interval, nor above the largest
 abbrev pub ActsKnown : Type 0
-ActsKnown = (p : Pace) (act : Act) (w : WorldState) (draws : List Draw) (done : Done) (w' : WorldState)
-    → IsSound w → IsPromptAct (largest_interval p) act → IsPromptIn w act → Acts act w draws done w' → IsKnown p w
+ActsKnown = (p : SettlingParams) (act : Act) (w : WorldState) (draws : List Draw) (done : Done) (w' : WorldState)
+    → IsSound w → DelayFitsInterval (largest_interval p) act → DelaysFitIntervals w act → Acts act w draws done w' → IsKnown p w
     → IsKnown p w'
 
 -- so what is known is kept from act to act
 abbrev pub DoneKnown : {F : Type 0} → (Bounds → ℕ → F → Option ℕ → F → Type 0) → Type 0
-DoneKnown {F} answers = (p : Pace) (timed : Timed) (fate fate_after : F) (w w' : WorldState) (done : Done)
-    → IsSound w → IsPromptAct (largest_interval p) timed.act → IsPromptIn w timed.act
+DoneKnown {F} answers = (p : SettlingParams) (timed : Timed) (fate fate_after : F) (w w' : WorldState) (done : Done)
+    → IsSound w → DelayFitsInterval (largest_interval p) timed.act → DelaysFitIntervals w timed.act
     → WasDone answers timed fate fate_after w w' done → IsKnown p w
     → IsKnown p w'
 
@@ -53,19 +53,19 @@ DoneKnown {F} answers = (p : Pace) (timed : Timed) (fate fate_after : F) (w w' :
 
 -- then what is pending of each port of a live system is due in time, and what it received is young
 abbrev pub PortsKnown : Type 0
-PortsKnown = (p : Pace) (w : WorldState)
+PortsKnown = (p : SettlingParams) (w : WorldState)
     → IsSound w → IsKnown p w
     → OfEachPort (λ itself h q. IsPortKnown p w.time h q) w
 
 -- one at which no link that is up begins is Disabled
 abbrev pub UnlinkedDisabled : Type 0
-UnlinkedDisabled = (p : Pace) (w : WorldState)
+UnlinkedDisabled = (p : SettlingParams) (w : WorldState)
     → IsSound w → IsKnown p w
     → OfEachPort (λ itself h q. IsUnlinkedPort w.net itself → h ≡ Disabled) w
 
 -- what names the announce interval of a port stays longer than that interval and any delay
 abbrev pub ReceiptsOutlast : Type 0
-ReceiptsOutlast = (p : Pace) (w : WorldState)
+ReceiptsOutlast = (p : SettlingParams) (w : WorldState)
     → AreParams p.params → IsKnown p w
     → (log : ℤ) → IsLogAmong w.stations log
     → (link : ℕ) (channel : Channel) → slice_get w.net.channels link ≡ Some channel
@@ -100,6 +100,6 @@ FramesNotLate = (w : WorldState)
 -- and once the largest announce interval has passed since the last change, each arrives within the greatest delay of
 -- its link
 abbrev pub FramesFresh : Type 0
-FramesFresh = (p : Pace) (w : WorldState)
+FramesFresh = (p : SettlingParams) (w : WorldState)
     → IsSound w → IsKnown p w → w.last_change + largest_interval p ≤ w.time
     → OfEachFrame (λ channel f. IsSoonAfter w.time channel.bounds.max f.due) w

@@ -11,13 +11,13 @@ use Rattle.gptp_plan.specs.declared.change.Act.{Act}
 use Rattle.gptp_plan.specs.declared.change.Act.TheVariants.{Change as Changing}
 use Rattle.gptp_plan.specs.declared.change.Change.{Change}
 use Rattle.gptp_acts.specs.declared.done.Done.{Done}
-use Rattle.gptp_plan.specs.declared.network.Wire.{Wire}
+use Rattle.gptp_plan.specs.declared.network.LinkSpec.{LinkSpec}
 use Rattle.gptp_acts.specs.Act.{Delivers, TimerRunsOut}
 use Rattle.gptp_acts.specs.Acts.{Acts, at as at_time}
 use Rattle.gptp_acts.specs.Changing.{StartsAll}
 use Rattle.gptp_acts.specs.Initial.{initial}
 use Rattle.gptp_plan.specs.Network.{NetworkState}
-use Rattle.gptp_plan.specs.Prompt.{IsPromptAct}
+use Rattle.gptp_plan.specs.Prompt.{DelayFitsInterval}
 use Rattle.gptp_acts.specs.Pending.{NothingBefore}
 use Rattle.gptp_acts.specs.Sound.{IsSound}
 use Rattle.gptp_acts.specs.World.{WorldState, world_queue, receiver, sender}
@@ -25,7 +25,7 @@ use Rattle.gptp_measuring.specs.Acts.{AnswerTimerExpires, AnswererHears, AskerHe
 use Rattle.gptp_measuring.specs.Facts.{Facts, NothingIsDueBefore}
 use Rattle.gptp_measuring.specs.Invariant.{IsJustChanged}
 use Rattle.gptp_measuring.specs.Meter.{MeterPasses}
-use Rattle.gptp_kept.specs.LegibleLaws.{SetsAnOctet}
+use Rattle.gptp_kept.specs.EncodableLaws.{SetsAnOctet}
 use Rattle.gptp_kept.specs.LinkView.{IsLinkOf, LinkPlace, reads_as_request, other_direction, pair, reads_as_reply, link_setting}
 use Rattle.gptp_kept.specs.LinkActs.{IsOneAct, IsSeenAtLink}
 use Rattle.gptp_kept.specs.Measured.{LinkIsMeasured, LinkStandsAt}
@@ -129,7 +129,7 @@ LinksAreFresh = (at : LinkPlace) (gone calm : ℕ) (w : WorldState) (l : IsLinkO
 -- passes
 abbrev pub ShortIsKept : Type 0
 ShortIsKept = (span : ℕ) (act : Act) (w w' : WorldState) (draws : List Draw) (done : Done)
-    → IsPromptAct span act → IsShort span w → Acts act w draws done w'
+    → DelayFitsInterval span act → IsShort span w → Acts act w draws done w'
     → IsShort span w'
 
 abbrev pub ShortHoldsLater : Type 0
@@ -138,7 +138,7 @@ ShortHoldsLater = (span time : ℕ) (w : WorldState) → w.time ≤ time → IsS
 -- it holds in the world of a network with no longer delays before its systems start, and once they have
 abbrev pub InitiallyShort : Type 0
 InitiallyShort = (span : ℕ) (n : NetworkState)
-    → ((link : ℕ) (wire : Wire) → slice_get n.links link ≡ Some wire → wire.bounds.max ≤ span)
+    → ((link : ℕ) (wire : LinkSpec) → slice_get n.links link ≡ Some wire → wire.bounds.max ≤ span)
     → IsShort span (initial n)
 
 abbrev pub StartsShort : Type 0

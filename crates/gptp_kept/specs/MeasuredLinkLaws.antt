@@ -1,22 +1,22 @@
 -- Laws: from when on each port has measured the links of the snapshot that are at it.
 use Rattle.std.specs.Prelude.{◌+◌, ◌*◌, ◌≤◌}
-use Rattle.gptp_setup.specs.Pace.{Pace, largest_interval}
+use Rattle.gptp_setup.specs.SettlingParams.{SettlingParams, largest_interval}
 use Rattle.gptp_plan.specs.Params.{KeepPace}
 use Rattle.gptp_acts.specs.World.{WorldState}
 use Rattle.gptp_kept.specs.Calm.{HaveQuietLinks}
 use Rattle.gptp_kept.specs.CalmFor.{IsCalmFor, capable_span}
-use Rattle.gptp_kept.specs.Claimed.{Claimed}
-use Rattle.gptp_kept.specs.Holds.{IsWorld}
+use Rattle.gptp_kept.specs.SettlingInvariant.{SettlingInvariant}
+use Rattle.gptp_kept.specs.SettlesAsMachine.{IsWorld}
 use Rattle.gptp_kept.specs.MeasuredLinks.{HaveMeasuredLinks}
-use Rattle.gptp_kept.specs.Watch.{Watches}
+use Rattle.gptp_kept.specs.Watch.{GoodLinksMeasure}
 
 -- where they are watched, from five announce intervals after the last change on
 abbrev pub UsedLinksAreMeasured : Type 0
-UsedLinksAreMeasured = (p : Pace) (w : WorldState)
-    → KeepPace p → IsWorld p w → HaveQuietLinks p.params w → Watches p w
+UsedLinksAreMeasured = (p : SettlingParams) (w : WorldState)
+    → KeepPace p → IsWorld p w → HaveQuietLinks p.params w → GoodLinksMeasure p w
     → w.last_change + 5 * largest_interval p ≤ w.time
     → HaveMeasuredLinks w
 
 -- so where a world that keeps the claim has been calm for as long as ports take to be capable
 abbrev pub ClaimedMeasured : Type 0
-ClaimedMeasured = (w : WorldState) → Claimed w → IsCalmFor capable_span w → HaveMeasuredLinks w
+ClaimedMeasured = (w : WorldState) → SettlingInvariant w → IsCalmFor capable_span w → HaveMeasuredLinks w

@@ -10,7 +10,7 @@ use Rattle.gptp_plan.specs.declared.change.Act.TheVariants.{Change as Changing}
 use Rattle.gptp_plan.specs.declared.change.Change.{Change}
 use Rattle.gptp_plan.specs.declared.change.Change.TheVariants.{LinkUp}
 use Rattle.gptp_setup.specs.Intervals.{interval_of}
-use Rattle.gptp_setup.specs.Pace.{Pace, lapse_span, largest_interval}
+use Rattle.gptp_setup.specs.SettlingParams.{SettlingParams, lapse_span, largest_interval}
 use Rattle.gptp_acts.specs.declared.done.Done.{Done}
 use Rattle.gptp_acts.specs.Acts.{at as at_time}
 use Rattle.gptp_acts.specs.Advancing.{Advanced, Told}
@@ -21,27 +21,27 @@ use Rattle.gptp_acts.specs.World.{WorldState, port_id}
 use Rattle.gptp_kept.specs.Bounded.{IsBoundedWorld}
 use Rattle.gptp_kept.specs.Calm.{HaveQuietLinks, IsQuietWith, delay_in, paths_with, step_with}
 use Rattle.gptp_settling.specs.Network.{machine_clean_from}
-use Rattle.gptp_kept.specs.Claimed.{IsClaimed}
-use Rattle.gptp_kept.specs.Holds.{settling_network}
+use Rattle.gptp_kept.specs.SettlingInvariant.{KeepsAll}
+use Rattle.gptp_kept.specs.SettlesAsMachine.{settling_network}
 use Rattle.gptp_kept.specs.Elsewhere.{IsOtherLink}
 use Rattle.gptp_kept.specs.LinkView.{LinkPlace}
 use Rattle.gptp_kept.specs.NewsWorld.{AllLive, IsNews}
 use Rattle.gptp_kept.specs.Settled.{Settled}
-use Rattle.gptp_kept.specs.LegibleLaws.{SetsAnOctet}
+use Rattle.gptp_kept.specs.EncodableLaws.{SetsAnOctet}
 use Rattle.gptp_kept.specs.SoundWorld.{IsGain, IsSoundWorld}
 use Rattle.gptp_kept.specs.Standing.{snapshot_of}
 use Rattle.gptp_kept.specs.Unanswered.{StandsUnanswered}
 
 -- from when both ends of a link are capable that asked first at a time: one interval between requests and one exchange
 -- later
-abbrev pub capable_from : Pace → WorldState → ℕ → ℕ
+abbrev pub capable_from : SettlingParams → WorldState → ℕ → ℕ
 capable_from p w time =
     time + interval_of p.params.pdelay + (delay_in w + p.params.turnaround + delay_in w) + 1
 
 -- A world whose ports at links are all capable from a start has settled by its time: where nothing lapses, after an
 -- announce interval, and the greatest delay for each further system of a path; where Syncs come in time, after a step
 -- for each.
-abbrev pub HasSettledBy : Pace → ℕ → ℕ → WorldState → Type 0
+abbrev pub HasSettledBy : SettlingParams → ℕ → ℕ → WorldState → Type 0
 HasSettledBy p m start w =
     (NothingLapses p.params × (start + largest_interval p + pred m * delay_in w ≤ w.time))
     ⊎ ((sync_wait p.params (paths_with m w) < lapse_span p.params)
@@ -49,7 +49,7 @@ HasSettledBy p m start w =
 
 -- a world goes on by itself, and what is claimed of it stays
 abbrev pub NewsAdvance : {F : Type 0} → (Bounds → ℕ → F → Option ℕ → F → Type 0) → Type 0
-NewsAdvance {F} answers = (p : Pace) (start until : ℕ) (told : List Told) (fate fate_after : F) (w w' : WorldState)
+NewsAdvance {F} answers = (p : SettlingParams) (start until : ℕ) (told : List Told) (fate fate_after : F) (w w' : WorldState)
     → Advanced answers until told fate fate_after w w' → IsNews p start w
     → IsNews p start w'
 
@@ -67,11 +67,11 @@ BegunSettles {F} answers = (n : NetworkState) (fate begun fate_after : F) (until
 -- So does a network in which a link comes up that leads to no failed system, where all that is held is sound and the
 -- network has been left alone before for so long that each port at a link in use is capable.
 abbrev pub LinkUpSettles : {F : Type 0} → (Bounds → ℕ → F → Option ℕ → F → Type 0) → Type 0
-LinkUpSettles {F} answers = (p : Pace) (number port time : ℕ) (fate drawn fate_after : F) (until m : ℕ)
+LinkUpSettles {F} answers = (p : SettlingParams) (number port time : ℕ) (fate drawn fate_after : F) (until m : ℕ)
     (told : List Told) (done : Done) (w between w' : WorldState)
-    → IsClaimed p w → IsSoundWorld w → w.last_change + capability_span p ≤ time
+    → KeepsAll p w → IsSoundWorld w → w.last_change + capability_span p ≤ time
     → WasDone answers (record { at = time; act = Changing (LinkUp number port) }) fate drawn w between done
-    → IsClaimed p between
+    → KeepsAll p between
     → ((at : LinkPlace) → StandsUnanswered at between → IsOtherLink at (port_id number port) w)
     → Advanced answers until told drawn fate_after between w'
     → HaveQuietLinks p.params w' → BoundsPaths (snapshot_of w') m
@@ -80,18 +80,18 @@ LinkUpSettles {F} answers = (p : Pace) (number port time : ℕ) (fate drawn fate
 
 -- from when ports at links in use are capable by what is claimed after every change; those beside failed systems are
 -- silent later
-abbrev pub SettlesFrom : Pace → ℕ → ℕ → WorldState → Type 0
+abbrev pub SettlesFrom : SettlingParams → ℕ → ℕ → WorldState → Type 0
 SettlesFrom p time start w =
     (start ≡ time + capability_span p)
     ⊎ (AllLive w × (start ≡ time + 2 * largest_interval p + 3 * interval_of p.params.pdelay))
 
 -- So does a network after every change that takes nothing away, at any time, where all that was held was sound.
 abbrev pub GainSettles : {F : Type 0} → (Bounds → ℕ → F → Option ℕ → F → Type 0) → Type 0
-GainSettles {F} answers = (p : Pace) (change : Change) (time start : ℕ) (fate drawn fate_after : F) (until m : ℕ)
+GainSettles {F} answers = (p : SettlingParams) (change : Change) (time start : ℕ) (fate drawn fate_after : F) (until m : ℕ)
     (told : List Told) (done : Done) (w between w' : WorldState)
-    → IsClaimed p w → IsSoundWorld w → IsGain change (at_time time w) → SetsAnOctet (Changing change)
+    → KeepsAll p w → IsSoundWorld w → IsGain change (at_time time w) → SetsAnOctet (Changing change)
     → WasDone answers (record { at = time; act = Changing change }) fate drawn w between done
-    → IsClaimed p between
+    → KeepsAll p between
     → Advanced answers until told drawn fate_after between w'
     → HaveQuietLinks p.params w' → BoundsPaths (snapshot_of w') m
     → SettlesFrom p time start between → HasSettledBy p m start w'
@@ -100,14 +100,14 @@ GainSettles {F} answers = (p : Pace) (change : Change) (time start : ℕ) (fate 
 -- A delay after what is held has become wholly clean all that is held and in flight is sound, whatever came before,
 -- where all systems live.
 abbrev pub RestIsSound : Type 0
-RestIsSound = (p : Pace) (m : ℕ) (w : WorldState)
-    → IsClaimed p w → AllLive w → BoundsPaths (snapshot_of w) m → IsQuietWith p.params (paths_with m w) w
+RestIsSound = (p : SettlingParams) (m : ℕ) (w : WorldState)
+    → KeepsAll p w → AllLive w → BoundsPaths (snapshot_of w) m → IsQuietWith p.params (paths_with m w) w
     → machine_clean_from (settling_network p m w) + delay_in w ≤ w.time
     → IsSoundWorld w
 
 -- beside failed systems too, an announce interval after that
 abbrev pub RestIsSoundBesideFailed : Type 0
-RestIsSoundBesideFailed = (p : Pace) (m : ℕ) (w : WorldState)
-    → IsClaimed p w → BoundsPaths (snapshot_of w) m → IsQuietWith p.params (paths_with m w) w
+RestIsSoundBesideFailed = (p : SettlingParams) (m : ℕ) (w : WorldState)
+    → KeepsAll p w → BoundsPaths (snapshot_of w) m → IsQuietWith p.params (paths_with m w) w
     → machine_clean_from (settling_network p m w) + largest_interval p ≤ w.time
     → IsSoundWorld w

@@ -13,7 +13,7 @@ use Rattle.gptp_acts.specs.Acts.{Acts, at}
 use Rattle.gptp_acts.specs.Sound.{IsSound}
 use Rattle.gptp_acts.specs.World.{Channel, WorldState}
 use Rattle.gptp_settling.specs.Acts.{StationActs as SeenActs, Arrives, Drops, Runs, MomentComes}
-use Rattle.gptp_kept.specs.Legible.{IsLegible}
+use Rattle.gptp_kept.specs.Encodable.{IsEncodable}
 use Rattle.gptp_kept.specs.View.{lane_place, lane_view, says_announce, station_view, view}
 
 -- where a system stands in the world, it stands in its view
@@ -34,14 +34,14 @@ TimeIsSeen = (w : WorldState) (time : ℕ) → w.time ≤ time → MomentComes (
 -- a timer that runs out is something that happens at a live system
 abbrev pub ExpiriesAreSeen : Type 0
 ExpiriesAreSeen = (place : ℕ) (timer : Timer) (w : WorldState) (draws : List Draw) (w' : WorldState)
-    → IsSound w → IsLegible w → TimerRunsOut place timer w draws w'
+    → IsSound w → IsEncodable w → TimerRunsOut place timer w draws w'
     → Runs says_announce (view w) (view w')
 
 -- a frame that is delivered arrives at a live system, or does nothing
 abbrev pub DeliveriesAreSeen : Type 0
 DeliveriesAreSeen = (link : ℕ) (direction : Direction) (octets : List ℕ) (w : WorldState) (draws : List Draw)
     (answer : Option Answer) (w' : WorldState)
-    → IsSound w → IsLegible w → Delivers link direction octets w draws answer w'
+    → IsSound w → IsEncodable w → Delivers link direction octets w draws answer w'
     → Arrives says_announce (view w) (view w') ⊎ Drops says_announce (view w) (view w')
 
 -- the act changes nothing of the network
@@ -52,5 +52,5 @@ IsNoChange act = ⊤
 -- every act that changes nothing of the network is a step of the machine
 abbrev pub ActsAreSeen : Type 0
 ActsAreSeen = (act : Act) (w : WorldState) (draws : List Draw) (done : Done) (w' : WorldState)
-    → IsNoChange act → IsSound w → IsLegible w → Acts act w draws done w'
+    → IsNoChange act → IsSound w → IsEncodable w → Acts act w draws done w'
     → SeenActs says_announce (view w) (view w')

@@ -4,7 +4,7 @@ use Rattle.gptp_graph.specs.PathBound.{BoundsPaths}
 use Rattle.gptp_links.specs.declared.bounds.Bounds.{Bounds}
 use Rattle.gptp_links.specs.Fate.{Draw}
 use Rattle.gptp_setup.specs.Intervals.{IsLog}
-use Rattle.gptp_setup.specs.Pace.{Pace, largest_interval}
+use Rattle.gptp_setup.specs.SettlingParams.{SettlingParams, largest_interval}
 use Rattle.gptp_plan.specs.declared.change.Act.{Act}
 use Rattle.gptp_plan.specs.declared.change.Act.TheVariants.{Change as Changing}
 use Rattle.gptp_plan.specs.declared.change.Change.{Change}
@@ -15,34 +15,34 @@ use Rattle.gptp_plan.specs.Allowed.{IsFitAct}
 use Rattle.gptp_acts.specs.Course.{Begun, WasDone}
 use Rattle.gptp_plan.specs.Network.{IsNetwork, NetworkState, pace_of}
 use Rattle.gptp_plan.specs.SettlingTime.{settling_span_with}
-use Rattle.gptp_acts.specs.Prompt.{IsPromptIn}
+use Rattle.gptp_acts.specs.Prompt.{DelaysFitIntervals}
 use Rattle.gptp_acts.specs.Sound.{IsSound}
 use Rattle.gptp_acts.specs.World.{WorldState}
-use Rattle.gptp_kept.specs.LegibleLaws.{SetsAnOctet}
+use Rattle.gptp_kept.specs.EncodableLaws.{SetsAnOctet}
 use Rattle.gptp_kept.specs.SeenLaws.{IsNoChange}
 use Rattle.gptp_kept.specs.Calm.{IsQuietWith, IsQuietWorld, paths_with, sync_paths_of}
 use Rattle.gptp_kept.specs.Standing.{snapshot_of}
-use Rattle.gptp_kept.specs.Holds.{BecomeCapable, Holds, IsWorld}
+use Rattle.gptp_kept.specs.SettlesAsMachine.{BecomeCapable, SettlesAsMachine, IsWorld}
 use Rattle.gptp_kept.specs.Settled.{Settled}
 
 -- ---- worlds
 
 -- every act that keeps the limits leaves a world one
 abbrev pub ActsStayWorlds : Type 0
-ActsStayWorlds = (p : Pace) (act : Act) (w : WorldState) (draws : List Draw) (done : Done) (w' : WorldState)
-    → IsFitAct act → IsPromptIn w act → SetsAnOctet act → Acts act w draws done w' → IsWorld p w
+ActsStayWorlds = (p : SettlingParams) (act : Act) (w : WorldState) (draws : List Draw) (done : Done) (w' : WorldState)
+    → IsFitAct act → DelaysFitIntervals w act → SetsAnOctet act → Acts act w draws done w' → IsWorld p w
     → IsWorld p w'
 
 -- so does time that passes, where nothing is due before it
 abbrev pub TimeStaysWorld : Type 0
-TimeStaysWorld = (p : Pace) (w : WorldState) (time : ℕ)
+TimeStaysWorld = (p : SettlingParams) (w : WorldState) (time : ℕ)
     → w.time ≤ time → IsSound (at time w) → IsWorld p w
     → IsWorld p (at time w)
 
 -- so one is left from act to act
 abbrev pub DoneStaysWorld : {F : Type 0} → (Bounds → ℕ → F → Option ℕ → F → Type 0) → Type 0
-DoneStaysWorld {F} answers = (p : Pace) (timed : Timed) (fate fate_after : F) (w w' : WorldState) (done : Done)
-    → IsFitAct timed.act → IsPromptIn w timed.act → SetsAnOctet timed.act
+DoneStaysWorld {F} answers = (p : SettlingParams) (timed : Timed) (fate fate_after : F) (w w' : WorldState) (done : Done)
+    → IsFitAct timed.act → DelaysFitIntervals w timed.act → SetsAnOctet timed.act
     → WasDone answers timed fate fate_after w w' done → IsWorld p w
     → IsWorld p w'
 
@@ -50,58 +50,58 @@ DoneStaysWorld {F} answers = (p : Pace) (timed : Timed) (fate fate_after : F) (w
 
 -- until the largest announce interval has passed from the last change it holds of every world
 abbrev pub HoldsBegins : Type 0
-HoldsBegins = (p : Pace) (w : WorldState)
+HoldsBegins = (p : SettlingParams) (w : WorldState)
     → IsWorld p w → w.time < w.last_change + largest_interval p
-    → Holds p w
+    → SettlesAsMachine p w
 
 -- so it does after every change of the network
 abbrev pub HoldsChanged : Type 0
-HoldsChanged = (p : Pace) (change : Change) (w : WorldState) (draws : List Draw) (done : Done) (w' : WorldState)
+HoldsChanged = (p : SettlingParams) (change : Change) (w : WorldState) (draws : List Draw) (done : Done) (w' : WorldState)
     → IsLog p.largest → Acts (Changing change) w draws done w' → IsWorld p w'
-    → Holds p w'
+    → SettlesAsMachine p w'
 
 -- and as the world of a network begins
 abbrev pub HoldsAtFirst : {F : Type 0} → (Bounds → ℕ → F → Option ℕ → F → Type 0) → Type 0
 HoldsAtFirst {F} answers = (n : NetworkState) (fate fate_after : F) (w : WorldState)
     → IsNetwork n → Begun answers n fate fate_after w → IsWorld (pace_of n) w
-    → Holds (pace_of n) w
+    → SettlesAsMachine (pace_of n) w
 
 -- ---- it is kept
 
 -- an act that changes nothing of the network keeps it
 abbrev pub HoldsKept : Type 0
-HoldsKept = (p : Pace) (act : Act) (w : WorldState) (draws : List Draw) (done : Done) (w' : WorldState)
-    → IsNoChange act → Acts act w draws done w' → IsWorld p w → BecomeCapable p w → BecomeCapable p w' → Holds p w
-    → Holds p w'
+HoldsKept = (p : SettlingParams) (act : Act) (w : WorldState) (draws : List Draw) (done : Done) (w' : WorldState)
+    → IsNoChange act → Acts act w draws done w' → IsWorld p w → BecomeCapable p w → BecomeCapable p w' → SettlesAsMachine p w
+    → SettlesAsMachine p w'
 
 -- and so does time that passes
 abbrev pub HoldsLater : Type 0
-HoldsLater = (p : Pace) (w : WorldState) (time : ℕ)
-    → w.time ≤ time → IsWorld p w → IsWorld p (at time w) → BecomeCapable p w → BecomeCapable p (at time w) → Holds p w
-    → Holds p (at time w)
+HoldsLater = (p : SettlingParams) (w : WorldState) (time : ℕ)
+    → w.time ≤ time → IsWorld p w → IsWorld p (at time w) → BecomeCapable p w → BecomeCapable p (at time w) → SettlesAsMachine p w
+    → SettlesAsMachine p (at time w)
 
 -- so it is kept from act to act, where the ports are capable before the act, at its time, and after it
 abbrev pub HoldsDone : {F : Type 0} → (Bounds → ℕ → F → Option ℕ → F → Type 0) → Type 0
-HoldsDone {F} answers = (p : Pace) (timed : Timed) (fate fate_after : F) (w w' : WorldState) (done : Done)
-    → IsLog p.largest → IsFitAct timed.act → IsPromptIn w timed.act → SetsAnOctet timed.act
+HoldsDone {F} answers = (p : SettlingParams) (timed : Timed) (fate fate_after : F) (w w' : WorldState) (done : Done)
+    → IsLog p.largest → IsFitAct timed.act → DelaysFitIntervals w timed.act → SetsAnOctet timed.act
     → WasDone answers timed fate fate_after w w' done → IsWorld p w
-    → BecomeCapable p w → BecomeCapable p (at timed.at w) → BecomeCapable p w' → Holds p w
-    → Holds p w'
+    → BecomeCapable p w → BecomeCapable p (at timed.at w) → BecomeCapable p w' → SettlesAsMachine p w
+    → SettlesAsMachine p w'
 
 -- ---- the world settles
 
 -- A world of which it holds, no path of which has more than m systems, and which is quiet by that number, has settled
 -- once the span of as many systems or more has passed from the last change.
 abbrev pub HoldsSettledByPaths : Type 0
-HoldsSettledByPaths = (p : Pace) (m n : ℕ) (w : WorldState)
-    → IsWorld p w → BecomeCapable p w → Holds p w
+HoldsSettledByPaths = (p : SettlingParams) (m n : ℕ) (w : WorldState)
+    → IsWorld p w → BecomeCapable p w → SettlesAsMachine p w
     → BoundsPaths (snapshot_of w) m → IsQuietWith p.params (paths_with m w) w → m ≤ n
     → w.last_change + settling_span_with p (paths_with m w) n ≤ w.time
     → Settled w
 
 -- so has one that is quiet by its own paths, once the span of its live systems has
 abbrev pub HoldsSettled : Type 0
-HoldsSettled = (p : Pace) (w : WorldState)
-    → IsWorld p w → IsQuietWorld p.params w → BecomeCapable p w → Holds p w
+HoldsSettled = (p : SettlingParams) (w : WorldState)
+    → IsWorld p w → IsQuietWorld p.params w → BecomeCapable p w → SettlesAsMachine p w
     → w.last_change + settling_span_with p (sync_paths_of w) (length (snapshot_of w).systems) ≤ w.time
     → Settled w

@@ -1,6 +1,6 @@
 -- What the calls of a world show once it has been calm for long enough.
 use Rattle.std.specs.Prelude.{◌≡◌, ◌≢◌, ◌<◌, ◌↔◌, ◌+◌, ◌*◌, ℕ, suc, true, Option}
-use Rattle.gptp_setup.specs.Pace.{Pace, largest_interval}
+use Rattle.gptp_setup.specs.SettlingParams.{SettlingParams, largest_interval}
 use Rattle.gptp_graph.specs.Distance.{IsDistance, IsNear}
 use Rattle.gptp_graph.specs.PathBound.{BoundsPaths}
 use Rattle.gptp_graph.specs.SettledChoice.{IsBestIdentity}
@@ -85,7 +85,7 @@ PlaysAtOnce number port w role = (m : ℕ)
 
 -- two announce intervals for each of d steps, and what a step takes longer where Sync is waited for, behind the turns
 -- in which all that is held becomes wholly clean
-abbrev pub distance_span : ℕ → ℕ → Pace → SyncPaths → ℕ → ℕ
+abbrev pub distance_span : ℕ → ℕ → SettlingParams → SyncPaths → ℕ → ℕ
 distance_span m d p paths n = turns_span m p paths n + 2 * d * largest_interval p + d * step_more p paths
 
 -- that is when a near system at distance d follows its component's best over its parent, where no path of the snapshot

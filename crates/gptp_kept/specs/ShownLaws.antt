@@ -5,63 +5,63 @@ use Rattle.gptp_system.specs.State.{SystemState}
 use Rattle.gptp_acts.specs.Acts.{AtSystem}
 use Rattle.gptp_acts.specs.Views.{FollowsRoot, HasRole, ShowsLive}
 use Rattle.gptp_acts.specs.World.{WorldState}
-use Rattle.gptp_kept.specs.Claimed.{Claimed}
+use Rattle.gptp_kept.specs.SettlingInvariant.{SettlingInvariant}
 use Rattle.gptp_kept.specs.Shown.{FollowsAtOnce, FollowsByDistance, FollowsByPaths, FollowsInTime, IsCapableInTime, IsEnabledInTime}
 use Rattle.gptp_kept.specs.Shown.{PlaysAtOnce, PlaysByDistance, PlaysByPaths, PlaysInTime}
 
 -- a live system that is shown has its ports capable in time
 abbrev pub SystemsAreCapable : Type 0
 SystemsAreCapable = (number : ℕ) (w : WorldState) (s : SystemState)
-    → Claimed w → ShowsLive number w s
+    → SettlingInvariant w → ShowsLive number w s
     → IsCapableInTime w s
 
 -- and a role that is shown says so
 abbrev pub RolesAreEnabled : Type 0
 RolesAreEnabled = (number port : ℕ) (w : WorldState) (role : Role)
-    → Claimed w → AtSystem number w (HasRole port role)
+    → SettlingInvariant w → AtSystem number w (HasRole port role)
     → IsEnabledInTime number port w role
 
 -- what a live system is shown to follow is settled in time
 abbrev pub SystemsSettle : Type 0
 SystemsSettle = (number root steps : ℕ) (slave : Option ℕ) (w : WorldState)
-    → Claimed w → AtSystem number w (FollowsRoot root steps slave)
+    → SettlingInvariant w → AtSystem number w (FollowsRoot root steps slave)
     → FollowsInTime number w root steps slave
 
 -- and so is the role of each port that is shown
 abbrev pub RolesSettle : Type 0
 RolesSettle = (number port : ℕ) (w : WorldState) (role : Role)
-    → Claimed w → AtSystem number w (HasRole port role)
+    → SettlingInvariant w → AtSystem number w (HasRole port role)
     → PlaysInTime number port w role
 
 -- both are so sooner where paths are shorter than there are systems
 abbrev pub SystemsSettleByPaths : Type 0
 SystemsSettleByPaths = (number root steps : ℕ) (slave : Option ℕ) (w : WorldState)
-    → Claimed w → AtSystem number w (FollowsRoot root steps slave)
+    → SettlingInvariant w → AtSystem number w (FollowsRoot root steps slave)
     → FollowsByPaths number w root steps slave
 
 abbrev pub RolesSettleByPaths : Type 0
 RolesSettleByPaths = (number port : ℕ) (w : WorldState) (role : Role)
-    → Claimed w → AtSystem number w (HasRole port role)
+    → SettlingInvariant w → AtSystem number w (HasRole port role)
     → PlaysByPaths number port w role
 
 -- and sooner yet where nothing lapses
 abbrev pub SystemsSettleAtOnce : Type 0
 SystemsSettleAtOnce = (number root steps : ℕ) (slave : Option ℕ) (w : WorldState)
-    → Claimed w → AtSystem number w (FollowsRoot root steps slave)
+    → SettlingInvariant w → AtSystem number w (FollowsRoot root steps slave)
     → FollowsAtOnce number w root steps slave
 
 abbrev pub RolesSettleAtOnce : Type 0
 RolesSettleAtOnce = (number port : ℕ) (w : WorldState) (role : Role)
-    → Claimed w → AtSystem number w (HasRole port role)
+    → SettlingInvariant w → AtSystem number w (HasRole port role)
     → PlaysAtOnce number port w role
 
 -- and sooner still the nearer the system is to its best
 abbrev pub SystemsSettleByDistance : Type 0
 SystemsSettleByDistance = (number root steps : ℕ) (slave : Option ℕ) (w : WorldState)
-    → Claimed w → AtSystem number w (FollowsRoot root steps slave)
+    → SettlingInvariant w → AtSystem number w (FollowsRoot root steps slave)
     → FollowsByDistance number w root steps slave
 
 abbrev pub RolesSettleByDistance : Type 0
 RolesSettleByDistance = (number port : ℕ) (w : WorldState) (role : Role)
-    → Claimed w → AtSystem number w (HasRole port role)
+    → SettlingInvariant w → AtSystem number w (HasRole port role)
     → PlaysByDistance number port w role

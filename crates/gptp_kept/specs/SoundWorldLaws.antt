@@ -12,9 +12,9 @@ use Rattle.gptp_acts.specs.Course.{Begun}
 use Rattle.gptp_acts.specs.Initial.{initial}
 use Rattle.gptp_acts.specs.Sound.{IsSound}
 use Rattle.gptp_acts.specs.World.{WorldState}
-use Rattle.gptp_setup.specs.Pace.{Pace}
-use Rattle.gptp_kept.specs.Holds.{IsWorld}
-use Rattle.gptp_kept.specs.LegibleLaws.{SetsAnOctet}
+use Rattle.gptp_setup.specs.SettlingParams.{SettlingParams}
+use Rattle.gptp_kept.specs.SettlesAsMachine.{IsWorld}
+use Rattle.gptp_kept.specs.EncodableLaws.{SetsAnOctet}
 use Rattle.gptp_kept.specs.SeenLaws.{IsNoChange}
 use Rattle.gptp_kept.specs.SoundWorld.{IsGain, IsSoundWorld}
 
@@ -26,7 +26,7 @@ SoundBegins {F} answers = (n : NetworkState) (fate fate_after : F) (w : WorldSta
 
 -- every act that changes nothing of the network leaves it so, calm or not
 abbrev pub SoundActs : Type 0
-SoundActs = (p : Pace) (act : Act) (w : WorldState) (draws : List Draw) (done : Done) (w' : WorldState)
+SoundActs = (p : SettlingParams) (act : Act) (w : WorldState) (draws : List Draw) (done : Done) (w' : WorldState)
     → IsNoChange act → Acts act w draws done w' → IsWorld p w → IsSoundWorld w
     → IsSoundWorld w'
 
@@ -36,7 +36,7 @@ SoundLater = (w : WorldState) (time : ℕ) → IsSoundWorld w → IsSoundWorld (
 
 -- and every change that takes nothing away
 abbrev pub SoundGains : Type 0
-SoundGains = (p : Pace) (change : Change) (w : WorldState) (draws : List Draw) (done : Done) (w' : WorldState)
+SoundGains = (p : SettlingParams) (change : Change) (w : WorldState) (draws : List Draw) (done : Done) (w' : WorldState)
     → IsGain change w → SetsAnOctet (Changing change) → Acts (Changing change) w draws done w' → IsWorld p w
     → IsWorld p w' → IsSoundWorld w
     → IsSoundWorld w'

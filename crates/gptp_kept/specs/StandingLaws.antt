@@ -10,7 +10,7 @@ use Rattle.gptp_acts.specs.Initial.{initial}
 use Rattle.gptp_plan.specs.Network.{IsNetwork, NetworkState}
 use Rattle.gptp_acts.specs.Sound.{IsSound}
 use Rattle.gptp_acts.specs.World.{WorldState}
-use Rattle.gptp_kept.specs.Legible.{IsLegible}
+use Rattle.gptp_kept.specs.Encodable.{IsEncodable}
 use Rattle.gptp_kept.specs.SeenLaws.{IsNoChange}
 use Rattle.gptp_kept.specs.Standing.{AreBetween, snapshot_of}
 
@@ -40,7 +40,7 @@ TimeStaysBetween = (w : WorldState) (time : ℕ) → AreBetween w → AreBetween
 
 -- what stands is a network
 abbrev pub StandsWell : Type 0
-StandsWell = (w : WorldState) → IsSound w → AreBetween w → IsLegible w → IsWellFormed (snapshot_of w)
+StandsWell = (w : WorldState) → IsSound w → AreBetween w → IsEncodable w → IsWellFormed (snapshot_of w)
 
 -- an act that changes nothing of the network leaves it
 abbrev pub ActsKeepSnapshot : Type 0

@@ -16,7 +16,7 @@ use Rattle.gptp_system.specs.Syncing.{is_leading}
 use Rattle.gptp_settling.specs.SyncActs.{SyncActs}
 use Rattle.gptp_settling.specs.Syncs.{HaveSyncTimers}
 use Rattle.gptp_links.specs.Fate.{Draw}
-use Rattle.gptp_setup.specs.Pace.{Pace}
+use Rattle.gptp_setup.specs.SettlingParams.{SettlingParams}
 use Rattle.gptp_plan.specs.declared.change.Act.{Act}
 use Rattle.gptp_acts.specs.declared.done.Done.{Done}
 use Rattle.gptp_acts.specs.Acts.{Acts}
@@ -24,7 +24,7 @@ use Rattle.gptp_acts.specs.Sound.{IsSound}
 use Rattle.gptp_acts.specs.World.{WorldState}
 use Rattle.gptp_kept.specs.Calm.{SettlingTimes, network_with}
 use Rattle.gptp_kept.specs.Known.{IsKnown}
-use Rattle.gptp_kept.specs.Legible.{IsLegible}
+use Rattle.gptp_kept.specs.Encodable.{IsEncodable}
 use Rattle.gptp_kept.specs.Said.{said_at}
 use Rattle.gptp_kept.specs.SeenLaws.{IsNoChange}
 use Rattle.gptp_kept.specs.SyncView.{ArePaired, AreTimeless, IsHeard, KnowsTime, TakesTime}
@@ -86,15 +86,15 @@ FollowUpsAreUsed = (p : ℕ) (octets : List ℕ) (now : ℕ) (s s' : SystemState
 -- Every act that changes nothing of the network is a step of the machine by which Syncs are told and heard, where
 -- something can lapse in the network.
 abbrev pub ActsTellSyncs : Type 0
-ActsTellSyncs = (p : Pace) (m start : ℕ) (times : SettlingTimes) (act : Act) (w : WorldState) (draws : List Draw)
+ActsTellSyncs = (p : SettlingParams) (m start : ℕ) (times : SettlingTimes) (act : Act) (w : WorldState) (draws : List Draw)
     (done : Done)
     (w' : WorldState)
-    → IsNoChange act → IsSound w → IsLegible w → IsKnown p w → 0 < p.params.sync_timeout
+    → IsNoChange act → IsSound w → IsEncodable w → IsKnown p w → 0 < p.params.sync_timeout
     → Acts act w draws done w'
     → SyncActs says_announce says_sync (network_with p m start times w) (view w) (view w')
 
 -- the timers of time of a sound and known world are those of the machine
 abbrev pub TimersAreSeen : Type 0
-TimersAreSeen = (p : Pace) (m start : ℕ) (times : SettlingTimes) (w : WorldState)
+TimersAreSeen = (p : SettlingParams) (m start : ℕ) (times : SettlingTimes) (w : WorldState)
     → IsSound w → IsKnown p w
     → HaveSyncTimers (network_with p m start times w) (view w)

@@ -2,7 +2,7 @@
 use Rattle.std.specs.Prelude.{◌≡◌, ◌+◌, ◌<◌, ◌≤◌, ◌^◌, ℕ, true, Some, slice_get}
 use Rattle.gptp_graph.specs.Distance.{IsDistance}
 use Rattle.gptp_setup.specs.declared.setup.Params.{Params}
-use Rattle.gptp_setup.specs.Pace.{Pace, largest_interval}
+use Rattle.gptp_setup.specs.SettlingParams.{SettlingParams, largest_interval}
 use Rattle.gptp_plan.specs.Params.{KeepPace}
 use Rattle.gptp_system.specs.State.{clock}
 use Rattle.gptp_system.specs.Syncing.{slave_delay, slave_rate}
@@ -13,7 +13,7 @@ use Rattle.gptp_timing.specs.Right.{IsMeasuredAt}
 use Rattle.gptp_kept.specs.Calm.{HaveQuietLinks, delay_in}
 use Rattle.gptp_kept.specs.FollowView.{tells}
 use Rattle.gptp_kept.specs.Followers.{HasWay, IsFollower, follower, follower_setting, follower_state}
-use Rattle.gptp_kept.specs.Holds.{IsWorld}
+use Rattle.gptp_kept.specs.SettlesAsMachine.{IsWorld}
 use Rattle.gptp_kept.specs.LinkView.{LinkPlace}
 use Rattle.gptp_kept.specs.Measured.{LinkIsMeasured}
 use Rattle.gptp_kept.specs.Settled.{Settled}
@@ -21,7 +21,7 @@ use Rattle.gptp_kept.specs.Standing.{snapshot_of}
 
 -- The world of a network that is settled from this time on, as it is since: its links in use are quiet and its systems
 -- have settled; no delay is above the longest, and the time is one that clocks can show.
-pub record IsSettledFrom (p : Pace) (settled longest : ℕ) (w : WorldState) : Type 0 where
+pub record IsSettledFrom (p : SettlingParams) (settled longest : ℕ) (w : WorldState) : Type 0 where
   pub pace : KeepPace p
   pub world : IsWorld p w
   pub measured : LinkIsMeasured w

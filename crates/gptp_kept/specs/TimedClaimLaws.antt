@@ -4,7 +4,7 @@ use Rattle.gptp_scaled.specs.Counts.{AreWithin}
 use Rattle.gptp_links.specs.declared.bounds.Bounds.{Bounds}
 use Rattle.gptp_links.specs.declared.link.Direction.{Direction}
 use Rattle.gptp_links.specs.Fate.{Draw}
-use Rattle.gptp_setup.specs.Pace.{Pace}
+use Rattle.gptp_setup.specs.SettlingParams.{SettlingParams}
 use Rattle.gptp_plan.specs.Allowed.{IsFitAct}
 use Rattle.gptp_plan.specs.declared.change.Act.TheVariants.{Deliver}
 use Rattle.gptp_plan.specs.declared.change.Timed.{Timed}
@@ -18,16 +18,16 @@ use Rattle.gptp_acts.specs.declared.done.Done.{Done}
 use Rattle.gptp_acts.specs.declared.station.Station.{Station}
 use Rattle.gptp_acts.specs.Initial.{initial}
 use Rattle.gptp_acts.specs.Pending.{NothingBefore}
-use Rattle.gptp_acts.specs.Prompt.{IsPromptIn}
+use Rattle.gptp_acts.specs.Prompt.{DelaysFitIntervals}
 use Rattle.gptp_acts.specs.Sound.{IsSound}
 use Rattle.gptp_acts.specs.World.{WorldState, port_id}
 use Rattle.gptp_timing.specs.Follower.{from}
-use Rattle.gptp_kept.specs.Claimed.{IsClaimed}
+use Rattle.gptp_kept.specs.SettlingInvariant.{KeepsAll}
 use Rattle.gptp_kept.specs.Exact.{IsHeardExact}
 use Rattle.gptp_kept.specs.Followers.{HasWay, IsFollower, follower_clock, follower_setting, follower_state}
-use Rattle.gptp_kept.specs.LegibleLaws.{SetsAnOctet}
+use Rattle.gptp_kept.specs.EncodableLaws.{SetsAnOctet}
 use Rattle.gptp_kept.specs.LinkView.{LinkPlace}
-use Rattle.gptp_kept.specs.TimedClaim.{AllClaimed, CarriesWhereCalm, IsCalmBy}
+use Rattle.gptp_kept.specs.TimedClaim.{WorldInvariant, CarriesWhereCalm, IsCalmBy}
 use Rattle.gptp_kept.specs.TimedLaws.{AreFollowUp, IsRootOf}
 
 -- ---- every world
@@ -40,35 +40,35 @@ CarriesBegins {F} answers = (n : NetworkState) (fate fate_after : F) (w : WorldS
 
 -- and stays so from act to act, a change included
 abbrev pub CarriesKept : {F : Type 0} → (Bounds → ℕ → F → Option ℕ → F → Type 0) → Type 0
-CarriesKept {F} answers = (p : Pace) (timed : Timed) (fate fate_after : F) (w w' : WorldState) (done : Done)
-    → IsFitAct timed.act → IsPromptIn w timed.act → SetsAnOctet timed.act
-    → WasDone answers timed fate fate_after w w' done → IsClaimed p w → CarriesWhereCalm p w
+CarriesKept {F} answers = (p : SettlingParams) (timed : Timed) (fate fate_after : F) (w w' : WorldState) (done : Done)
+    → IsFitAct timed.act → DelaysFitIntervals w timed.act → SetsAnOctet timed.act
+    → WasDone answers timed fate fate_after w w' done → KeepsAll p w → CarriesWhereCalm p w
     → CarriesWhereCalm p w'
 
 -- and as time passes, up to when something is due
 abbrev pub CarriesLater : Type 0
-CarriesLater = (p : Pace) (w : WorldState) (time : ℕ)
-    → w.time ≤ time → NothingBefore time w.net.pending → IsClaimed p w → CarriesWhereCalm p w
+CarriesLater = (p : SettlingParams) (w : WorldState) (time : ℕ)
+    → w.time ≤ time → NothingBefore time w.net.pending → KeepsAll p w → CarriesWhereCalm p w
     → CarriesWhereCalm p (at time w)
 
 -- so it is with all that is claimed: it holds of the world of a network as it begins
 abbrev pub AllBegins : {F : Type 0} → (Bounds → ℕ → F → Option ℕ → F → Type 0) → Type 0
 AllBegins {F} answers = (n : NetworkState) (fate fate_after : F) (w : WorldState)
     → IsNetwork n → IsSound (initial n) → Begun answers n fate fate_after w
-    → AllClaimed w
+    → WorldInvariant w
 
 -- and is kept from act to act, a change included
 abbrev pub AllKept : {F : Type 0} → (Bounds → ℕ → F → Option ℕ → F → Type 0) → Type 0
 AllKept {F} answers = (timed : Timed) (fate fate_after : F) (w w' : WorldState) (done : Done)
-    → IsFitAct timed.act → IsPromptIn w timed.act → SetsAnOctet timed.act
-    → WasDone answers timed fate fate_after w w' done → AllClaimed w
-    → AllClaimed w'
+    → IsFitAct timed.act → DelaysFitIntervals w timed.act → SetsAnOctet timed.act
+    → WasDone answers timed fate fate_after w w' done → WorldInvariant w
+    → WorldInvariant w'
 
 -- and as time passes, up to when something is due
 abbrev pub AllLater : Type 0
 AllLater = (w : WorldState) (time : ℕ)
-    → w.time ≤ time → NothingBefore time w.net.pending → AllClaimed w
-    → AllClaimed (at time w)
+    → w.time ≤ time → NothingBefore time w.net.pending → WorldInvariant w
+    → WorldInvariant (at time w)
 
 -- ---- offsets
 
@@ -76,13 +76,13 @@ AllLater = (w : WorldState) (time : ℕ)
 -- frames take down the way of the system: the offset that it leaves, if it leaves one, is within the time error of that
 -- way of what its clock shows less what its root's does.
 abbrev pub CalmOffsetsAreExact : Type 0
-CalmOffsetsAreExact = (p : Pace) (m settled link : ℕ) (direction : Direction) (w : WorldState) (draws : List Draw)
+CalmOffsetsAreExact = (p : SettlingParams) (m settled link : ℕ) (direction : Direction) (w : WorldState) (draws : List Draw)
     (done : Done) (w' : WorldState) (place : LinkPlace) (f : IsFollower place w) (steps port : ℕ) (octets : List ℕ)
     (root after : Station) (offset : ℤ)
     → (h : HasWay p.params place w f steps)
     → Acts (Deliver link direction) w draws done w'
     → TellsHearing (port_id (follower_clock place w f) port) (Some answers.Used) octets done → AreFollowUp octets
-    → IsClaimed p w → CarriesWhereCalm p w → IsCalmBy p m settled w → w.time ≤ 10 ^ 18
+    → KeepsAll p w → CarriesWhereCalm p w → IsCalmBy p m settled w → w.time ≤ 10 ^ 18
     → from (follower_setting p.params settled p.params.threshold place w f steps h) ≤ w.time
     → IsRootOf w (follower_clock place w f) root
     → slice_get w'.stations place.answering ≡ Some after → after.system.offset ≡ Some offset
@@ -92,5 +92,5 @@ CalmOffsetsAreExact = (p : Pace) (m settled link : ℕ) (direction : Direction) 
 -- In words that name no place: what an act delivers leaves exact offsets, in every world of a network.
 abbrev pub ReceiptsAreExact : {F : Type 0} → (Bounds → ℕ → F → Option ℕ → F → Type 0) → Type 0
 ReceiptsAreExact {F} answers = (timed : Timed) (fate fate_after : F) (w w' : WorldState) (done : Done)
-    → AllClaimed w → WasDone answers timed fate fate_after w w' done → timed.at ≤ 10 ^ 18
+    → WorldInvariant w → WasDone answers timed fate fate_after w w' done → timed.at ≤ 10 ^ 18
     → IsHeardExact w timed.at w' done

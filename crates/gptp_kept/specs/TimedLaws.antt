@@ -11,7 +11,7 @@ use Rattle.gptp_links.specs.declared.bounds.Bounds.{Bounds}
 use Rattle.gptp_links.specs.declared.link.Direction.{Direction}
 use Rattle.gptp_links.specs.Fate.{Draw}
 use Rattle.gptp_setup.specs.declared.setup.Params.{Params}
-use Rattle.gptp_setup.specs.Pace.{Pace, largest_interval}
+use Rattle.gptp_setup.specs.SettlingParams.{SettlingParams, largest_interval}
 use Rattle.gptp_plan.specs.declared.change.Act.{Act}
 use Rattle.gptp_plan.specs.declared.change.Act.TheVariants.{Deliver}
 use Rattle.gptp_plan.specs.declared.change.Timed.{Timed}
@@ -25,7 +25,7 @@ use Rattle.gptp_acts.specs.declared.station.Station.{Station}
 use Rattle.gptp_acts.specs.World.{WorldState, port_id}
 use Rattle.gptp_timing.specs.Follower.{from}
 use Rattle.gptp_kept.specs.Calm.{HaveQuietLinks}
-use Rattle.gptp_kept.specs.Claimed.{IsClaimed}
+use Rattle.gptp_kept.specs.SettlingInvariant.{KeepsAll}
 use Rattle.gptp_kept.specs.Followers.{HasWay, IsFollower, follower_clock, follower_setting, follower_state}
 use Rattle.gptp_kept.specs.Known.{IsKnown}
 use Rattle.gptp_kept.specs.LinkView.{LinkPlace}
@@ -39,13 +39,13 @@ use Rattle.gptp_kept.specs.Timed.{AllMeasureRight, CarriesTime, IsSettledFrom}
 
 -- it begins as the time comes from which the network is settled
 abbrev pub TimeBegins : Type 0
-TimeBegins = (p : Pace) (settled longest : ℕ) (w : WorldState) (time : ℕ)
+TimeBegins = (p : SettlingParams) (settled longest : ℕ) (w : WorldState) (time : ℕ)
     → w.time < settled → IsKnown p w → IsSettledFrom p settled longest (at time w)
     → CarriesTime p.params settled longest (at time w)
 
 -- every act that changes nothing of the network keeps it
 abbrev pub ActsCarryTime : Type 0
-ActsCarryTime = (p : Pace) (settled longest : ℕ) (act : Act) (w : WorldState) (draws : List Draw) (done : Done)
+ActsCarryTime = (p : SettlingParams) (settled longest : ℕ) (act : Act) (w : WorldState) (draws : List Draw) (done : Done)
     (w' : WorldState)
     → IsNoChange act → Acts act w draws done w'
     → IsSettledFrom p settled longest w → IsSettledFrom p settled longest w' → AllMeasureRight p.params w
@@ -54,13 +54,13 @@ ActsCarryTime = (p : Pace) (settled longest : ℕ) (act : Act) (w : WorldState) 
 
 -- and so does time that passes
 abbrev pub TimeCarriesTime : Type 0
-TimeCarriesTime = (p : Pace) (settled longest : ℕ) (w : WorldState) (time : ℕ)
+TimeCarriesTime = (p : SettlingParams) (settled longest : ℕ) (w : WorldState) (time : ℕ)
     → w.time ≤ time → CarriesTime p.params settled longest w
     → CarriesTime p.params settled longest (at time w)
 
 -- so it is kept from act to act, where the network is settled at the time of the act and after it
 abbrev pub DoneCarriesTime : {F : Type 0} → (Bounds → ℕ → F → Option ℕ → F → Type 0) → Type 0
-DoneCarriesTime {F} answers = (p : Pace) (settled longest : ℕ) (timed : Timed) (fate fate_after : F)
+DoneCarriesTime {F} answers = (p : SettlingParams) (settled longest : ℕ) (timed : Timed) (fate fate_after : F)
     (w w' : WorldState) (done : Done)
     → IsNoChange timed.act → WasDone answers timed fate fate_after w w' done → IsKnown p w
     → IsSettledFrom p settled longest (at timed.at w) → AllMeasureRight p.params (at timed.at w)
@@ -86,7 +86,7 @@ AreFollowUp octets = (m : FollowUp) × Reads octets (messages.FollowUp m)
 -- offset that it leaves, if it leaves one, is within the time error of the way of the system of what its clock shows
 -- then less what the root's clock does.
 abbrev pub OffsetsAreExact : Type 0
-OffsetsAreExact = (p : Pace) (settled longest link : ℕ) (direction : Direction) (w : WorldState) (draws : List Draw)
+OffsetsAreExact = (p : SettlingParams) (settled longest link : ℕ) (direction : Direction) (w : WorldState) (draws : List Draw)
     (done : Done) (w' : WorldState) (place : LinkPlace) (f : IsFollower place w) (steps port : ℕ) (octets : List ℕ)
     (root after : Station) (offset : ℤ)
     → (h : HasWay p.params place w f steps)
@@ -104,8 +104,8 @@ OffsetsAreExact = (p : Pace) (settled longest link : ℕ) (direction : Direction
 -- the world of a network of which all is claimed, whose links in use are quiet and whose systems have settled, is one
 -- that is settled from this time on; no delay of it is above the threshold
 abbrev pub ClaimedIsSettledFrom : Type 0
-ClaimedIsSettledFrom = (p : Pace) (settled : ℕ) (w : WorldState)
-    → IsClaimed p w → HaveQuietLinks p.params w → Settled w
+ClaimedIsSettledFrom = (p : SettlingParams) (settled : ℕ) (w : WorldState)
+    → KeepsAll p w → HaveQuietLinks p.params w → Settled w
     → w.last_change + largest_interval p ≤ settled → settled ≤ w.time → w.time ≤ 10 ^ 18
     → IsSettledFrom p settled p.params.threshold w
 
@@ -118,7 +118,7 @@ pub record AllNearFollow (p : Params) (w : WorldState) (number : ℕ) : Type 0 w
   pub way : HasWay p place w follower steps
 
 abbrev pub OthersFollow : Type 0
-OthersFollow = (p : Pace) (settled longest : ℕ) (w : WorldState) (place : ℕ) (station : Station) (best : System)
+OthersFollow = (p : SettlingParams) (settled longest : ℕ) (w : WorldState) (place : ℕ) (station : Station) (best : System)
     → IsSettledFrom p settled longest w → slice_get w.stations place ≡ Some station → station.live ≡ true
     → IsNear (snapshot_of w) (clock station.system) → IsBest (snapshot_of w) (clock station.system) best
     → best.clock ≢ clock station.system
@@ -126,6 +126,6 @@ OthersFollow = (p : Pace) (settled longest : ℕ) (w : WorldState) (place : ℕ)
 
 -- what was measured of the links that are followed is right where ports have measured the links of the snapshot
 abbrev pub MeasuredIsRight : Type 0
-MeasuredIsRight = (p : Pace) (settled longest : ℕ) (w : WorldState)
+MeasuredIsRight = (p : SettlingParams) (settled longest : ℕ) (w : WorldState)
     → IsSettledFrom p settled longest w → HaveMeasuredLinks w
     → AllMeasureRight p.params w

@@ -11,30 +11,30 @@ use Rattle.gptp_acts.specs.declared.done.Done.{Done}
 use Rattle.gptp_acts.specs.Course.{WasDone}
 use Rattle.gptp_acts.specs.Views.{ShowsLive}
 use Rattle.gptp_acts.specs.World.{WorldState}
-use Rattle.gptp_kept.specs.Claimed.{Claimed}
+use Rattle.gptp_kept.specs.SettlingInvariant.{SettlingInvariant}
 use Rattle.gptp_kept.specs.Traces.{AreHeldCleanInTime, AreHeldWholeInTime, AreHeldWholeSooner, IsCleanInTime, IsHeardClean, IsHeldWhole}
 
 -- the trace of a live system that is shown becomes clean
 abbrev pub TracesBecomeClean : Type 0
 TracesBecomeClean = (number : ℕ) (w : WorldState) (s : SystemState)
-    → Claimed w → ShowsLive number w s
+    → SettlingInvariant w → ShowsLive number w s
     → IsCleanInTime w s
 
 -- and so does what its ports hold
 abbrev pub HeldBecomesClean : Type 0
 HeldBecomesClean = (number : ℕ) (w : WorldState) (s : SystemState)
-    → Claimed w → ShowsLive number w s
+    → SettlingInvariant w → ShowsLive number w s
     → AreHeldCleanInTime w s
 
 -- in the end it is wholly clean
 abbrev pub HeldBecomesWhole : Type 0
 HeldBecomesWhole = (number : ℕ) (w : WorldState) (s : SystemState)
-    → Claimed w → ShowsLive number w s
+    → SettlingInvariant w → ShowsLive number w s
     → AreHeldWholeInTime w s
 
 abbrev pub HeldBecomesWholeSooner : Type 0
 HeldBecomesWholeSooner = (number : ℕ) (w : WorldState) (s : SystemState)
-    → Claimed w → ShowsLive number w s
+    → SettlingInvariant w → ShowsLive number w s
     → AreHeldWholeSooner w s
 
 -- Then it names no root better than the best of the holder's component, and for that one no fewer steps than the
@@ -48,5 +48,5 @@ HeldIsNoBetter = (g : Snapshot) (number port : ℕ) (r : Reception) (best : Syst
 -- and what an act delivers becomes clean
 abbrev pub FramesBecomeClean : {F : Type 0} → (Bounds → ℕ → F → Option ℕ → F → Type 0) → Type 0
 FramesBecomeClean {F} answers = (timed : Timed) (fate fate_after : F) (w w' : WorldState) (done : Done)
-    → Claimed w → WasDone answers timed fate fate_after w w' done
+    → SettlingInvariant w → WasDone answers timed fate fate_after w w' done
     → IsHeardClean w timed.at done

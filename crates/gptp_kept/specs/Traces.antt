@@ -1,6 +1,6 @@
 -- How clean path traces are in a world that has been calm for so long.
 use Rattle.std.specs.Prelude.{◌≡◌, ◌⊎◌, ◌≤◌, ◌+◌, ◌*◌, ℕ, ⊤, suc, pos, length, Some}
-use Rattle.gptp_setup.specs.Pace.{Pace, largest_interval, longest_span}
+use Rattle.gptp_setup.specs.SettlingParams.{SettlingParams, largest_interval, longest_span}
 use Rattle.gptp_lists.specs.Members.{In}
 use Rattle.gptp_plan.specs.declared.sync_wait.SyncPaths.{SyncPaths}
 use Rattle.gptp_graph.specs.PathBound.{BoundsPaths}
@@ -23,11 +23,11 @@ use Rattle.gptp_kept.specs.CalmFor.{IsCalmFor, capable_span}
 
 -- A turn is the longest time from when an Announce is sent to when a system last sends on what it took from it: what is
 -- received stays for k of the largest announce intervals at most, and an Announce is under way for one at most.
-abbrev pub turn_of : Pace → ℕ
+abbrev pub turn_of : SettlingParams → ℕ
 turn_of p = longest_span p + largest_interval p
 
 -- so many turns after ports have become capable
-abbrev pub turns_span : ℕ → Pace → SyncPaths → ℕ → ℕ
+abbrev pub turns_span : ℕ → SettlingParams → SyncPaths → ℕ → ℕ
 turns_span c p paths n = capable_span p paths n + c * turn_of p
 
 -- the world is calm, for however long
@@ -106,7 +106,7 @@ AreHeldWholeInTime w s = (m n : ℕ) (r : Reception)
 
 -- Sooner: frames of before the last change are gone after two announce intervals, and then each system of a path costs
 -- the longest span for which anything stays and the greatest delay.
-abbrev pub clean_span : ℕ → Pace → SyncPaths → ℕ → ℕ
+abbrev pub clean_span : ℕ → SettlingParams → SyncPaths → ℕ → ℕ
 clean_span m p paths n = 2 * largest_interval p + m * (longest_span p + paths.delay)
 
 abbrev pub AreHeldWholeSooner : WorldState → SystemState → Type 0

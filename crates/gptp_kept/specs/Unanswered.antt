@@ -3,7 +3,7 @@ use Rattle.std.specs.Prelude.{◌≡◌, ◌≤◌, ◌+◌, ℕ, true, false, L
 use Rattle.gptp_lists.specs.Members.{In}
 use Rattle.gptp_links.specs.Queue.{Frame}
 use Rattle.gptp_setup.specs.Intervals.{interval_of}
-use Rattle.gptp_setup.specs.Pace.{Pace, largest_interval}
+use Rattle.gptp_setup.specs.SettlingParams.{SettlingParams, largest_interval}
 use Rattle.gptp_system.specs.Measures.{measure_at}
 use Rattle.gptp_system.specs.State.{clock}
 use Rattle.gptp_acts.specs.declared.station.Station.{Station}
@@ -61,8 +61,8 @@ pub record IsSilent (gone : ℕ) (at : LinkPlace) (w : WorldState) : Type 0 wher
   pub inv : InvUnanswered (silent_setting at w link) gone (silent_view at w link)
 
 -- wherever all stands so, old frames are gone the largest announce interval after the last change
-abbrev pub AreSilent : Pace → WorldState → Type 0
-AreSilent p w = (at : LinkPlace) → StandsUnanswered at w → IsSilent (w.last_change + largest_interval p) at w
+abbrev pub FailedNeighboursAreSilent : SettlingParams → WorldState → Type 0
+FailedNeighboursAreSilent p w = (at : LinkPlace) → StandsUnanswered at w → IsSilent (w.last_change + largest_interval p) at w
 
 -- the link stands as it did, no frame comes from the failed end, and what is seen becomes what this allows
 pub record IsSeenUnanswered (So : Setting → Unanswered → Unanswered → Type 0) (gone : ℕ) (at : LinkPlace) (w w' : WorldState)

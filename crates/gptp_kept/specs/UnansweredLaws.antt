@@ -8,7 +8,7 @@ use Rattle.gptp_system.specs.declared.port.Port.{Port}
 use Rattle.gptp_setup.specs.declared.timer.Timer.{Timer}
 use Rattle.gptp_setup.specs.declared.timer.Timer.TheVariants as timers
 use Rattle.gptp_setup.specs.Intervals.{interval_of}
-use Rattle.gptp_setup.specs.Pace.{Pace, largest_interval}
+use Rattle.gptp_setup.specs.SettlingParams.{SettlingParams, largest_interval}
 use Rattle.gptp_system.specs.State.{number}
 use Rattle.gptp_plan.specs.declared.change.Act.{Act}
 use Rattle.gptp_plan.specs.declared.change.Act.TheVariants.{Change as Changing}
@@ -23,7 +23,7 @@ use Rattle.gptp_measuring.specs.Silence.{ActsInVain, AsksInVain, HearsOld, Passe
 use Rattle.gptp_kept.specs.Measured.{LinkIsMeasured}
 use Rattle.gptp_kept.specs.LinkView.{LinkPlace, other_direction}
 use Rattle.gptp_kept.specs.Known.{IsKnown}
-use Rattle.gptp_kept.specs.Unanswered.{AreSilent, IsOldBy, IsSeenUnanswered, IsSilent, IsUnansweredAt, StandsUnanswered, silent_setting, silent_view}
+use Rattle.gptp_kept.specs.Unanswered.{FailedNeighboursAreSilent, IsOldBy, IsSeenUnanswered, IsSilent, IsUnansweredAt, StandsUnanswered, silent_setting, silent_view}
 
 -- where a live and a failed station stand at a link that is up, the machine is seen
 abbrev pub PortsAreSeen : Type 0
@@ -32,7 +32,7 @@ PortsAreSeen = (at : LinkPlace) (w : WorldState) → IsSound w → LinkIsMeasure
 
 -- the last request isn't in the future, and the request timer isn't late
 abbrev pub TimersAreKnown : Type 0
-TimersAreKnown = (at : LinkPlace) (p : Pace) (w : WorldState) (l : IsUnansweredAt at w) → IsSound w → IsKnown p w
+TimersAreKnown = (at : LinkPlace) (p : SettlingParams) (w : WorldState) (l : IsUnansweredAt at w) → IsSound w → IsKnown p w
     → TimerFacts (silent_setting at w l) (silent_view at w l)
 
 -- ---- acts
@@ -85,13 +85,13 @@ SilentAskersHear = (at : LinkPlace) (gone : ℕ) (octets : List ℕ) (w w' : Wor
 -- just after a change old frames are gone the largest announce interval later, and no more requests are lost than may
 -- be
 abbrev pub SilenceBegins : Type 0
-SilenceBegins = (at : LinkPlace) (p : Pace) (w : WorldState)
+SilenceBegins = (at : LinkPlace) (p : SettlingParams) (w : WorldState)
     → IsSound w → IsKnown p w → IsUnansweredAt at w → w.last_change ≡ w.time
     → IsSilent (w.last_change + largest_interval p) at w
 
 -- every act but a change leaves the port unanswered
 abbrev pub SilenceIsKept : Type 0
-SilenceIsKept = (at : LinkPlace) (gone : ℕ) (p : Pace) (act : Act) (w w' : WorldState) (draws : List Draw)
+SilenceIsKept = (at : LinkPlace) (gone : ℕ) (p : SettlingParams) (act : Act) (w w' : WorldState) (draws : List Draw)
     (done : Done)
     → IsSound w → LinkIsMeasured w → IsKnown p w → ((change : Change) → act ≢ Changing change) → Acts act w draws done w'
     → IsSilent gone at w
@@ -105,7 +105,7 @@ SilenceGoesOn = (at : LinkPlace) (gone time : ℕ) (w : WorldState) → IsSilent
 -- the port isn't capable from L + 5 announce intervals after the last change on, where L is the number of requests that
 -- may be lost
 abbrev pub PortsBecomeIncapable : Type 0
-PortsBecomeIncapable = (at : LinkPlace) (p : Pace) (change : ℕ) (w : WorldState)
+PortsBecomeIncapable = (at : LinkPlace) (p : SettlingParams) (change : ℕ) (w : WorldState)
     → IsSound w → IsKnown p w → interval_of p.params.pdelay ≤ largest_interval p
     → (l : IsSilent (change + largest_interval p) at w)
     → change + capability_span p ≤ w.time
@@ -121,24 +121,24 @@ NoneStandsAnew = (at : LinkPlace) (act : Act) (w w' : WorldState) (draws : List 
 
 -- so from a change on all such ports are unanswered
 abbrev pub AreSilentAtFirst : Type 0
-AreSilentAtFirst = (p : Pace) (w : WorldState) → IsSound w → LinkIsMeasured w → IsKnown p w → w.last_change ≡ w.time
-    → AreSilent p w
+AreSilentAtFirst = (p : SettlingParams) (w : WorldState) → IsSound w → LinkIsMeasured w → IsKnown p w → w.last_change ≡ w.time
+    → FailedNeighboursAreSilent p w
 
 -- after every act but a change
 abbrev pub ActsLeaveSilent : Type 0
-ActsLeaveSilent = (p : Pace) (act : Act) (w w' : WorldState) (draws : List Draw) (done : Done)
+ActsLeaveSilent = (p : SettlingParams) (act : Act) (w w' : WorldState) (draws : List Draw) (done : Done)
     → IsSound w → LinkIsMeasured w → IsKnown p w → ((change : Change) → act ≢ Changing change) → Acts act w draws done w'
-    → AreSilent p w
-    → AreSilent p w'
+    → FailedNeighboursAreSilent p w
+    → FailedNeighboursAreSilent p w'
 
 -- and as time passes
 abbrev pub AreSilentLater : Type 0
-AreSilentLater = (p : Pace) (time : ℕ) (w : WorldState) → AreSilent p w → AreSilent p (at_time time w)
+AreSilentLater = (p : SettlingParams) (time : ℕ) (w : WorldState) → FailedNeighboursAreSilent p w → FailedNeighboursAreSilent p (at_time time w)
 
 -- and L + 5 announce intervals after the last change none of them is capable
 abbrev pub SilentPortsBecomeIncapable : Type 0
-SilentPortsBecomeIncapable = (p : Pace) (w : WorldState)
-    → IsSound w → IsKnown p w → interval_of p.params.pdelay ≤ largest_interval p → AreSilent p w
+SilentPortsBecomeIncapable = (p : SettlingParams) (w : WorldState)
+    → IsSound w → IsKnown p w → interval_of p.params.pdelay ≤ largest_interval p → FailedNeighboursAreSilent p w
     → w.last_change + capability_span p ≤ w.time
     → (at : LinkPlace) (s : StandsUnanswered at w) (q : Port)
     → number s.asking.station.system.ports (sender at.direction s.channel).port ≡ Some q

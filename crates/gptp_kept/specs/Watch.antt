@@ -1,6 +1,6 @@
 -- What is claimed of the links in use between two changes of the network, and of their ports.
 use Rattle.std.specs.Prelude.{◌≡◌, ◌≢◌, ◌+◌, ◌*◌, true}
-use Rattle.gptp_setup.specs.Pace.{Pace, largest_interval}
+use Rattle.gptp_setup.specs.SettlingParams.{SettlingParams, largest_interval}
 use Rattle.gptp_graph.specs.Snapshot.{IsLinked}
 use Rattle.gptp_pdelay.specs.Peer.{is_capable}
 use Rattle.gptp_receipt.specs.declared.held.Held.{Held}
@@ -16,8 +16,8 @@ use Rattle.gptp_kept.specs.Standing.{snapshot_of}
 
 -- Wherever two live systems stand at a link that is up, loses nothing and is good, it is watched, in either direction:
 -- old frames are gone the largest announce interval after the last change, and exchanges from two on find nothing old.
-abbrev pub Watches : Pace → WorldState → Type 0
-Watches p w = (at : LinkPlace) → LinkStandsAt at w
+abbrev pub GoodLinksMeasure : SettlingParams → WorldState → Type 0
+GoodLinksMeasure p w = (at : LinkPlace) → LinkStandsAt at w
     → IsWatched (w.last_change + largest_interval p) (w.last_change + 2 * largest_interval p) at w
 
 -- a port that holds this is capable, and so it isn't Disabled

@@ -1,10 +1,10 @@
 //! Laws on what every world of a network keeps.
 
-ghost use Rattle.gptp_kept.specs.ClaimedLaws.{ClaimBegins, ClaimIsCapable, ClaimKept, ClaimLater};
-ghost use Rattle.gptp_kept.specs.ClaimedLaws.{ClaimedBegins, ClaimedKept, ClaimedLater};
-ghost use Rattle.gptp_kept.specs.ClaimedLaws.{ClaimedCapable, SettledIsCapable, SettledIsCapableByPaths};
-ghost use Rattle.gptp_kept.specs.ClaimedLaws.{CalmWithoutTimeout, ClaimedSettled, ClaimedSettledByNeighbours};
-ghost use Rattle.gptp_kept.specs.ClaimedLaws.{ClaimedSettledAtOnce, ClaimedSettledByPaths};
+ghost use Rattle.gptp_kept.specs.SettlingInvariantLaws.{ClaimBegins, ClaimIsCapable, ClaimKept, ClaimLater};
+ghost use Rattle.gptp_kept.specs.SettlingInvariantLaws.{ClaimedBegins, ClaimedKept, ClaimedLater};
+ghost use Rattle.gptp_kept.specs.SettlingInvariantLaws.{ClaimedCapable, SettledIsCapable, SettledIsCapableByPaths};
+ghost use Rattle.gptp_kept.specs.SettlingInvariantLaws.{CalmWithoutTimeout, ClaimedSettled, ClaimedSettledByNeighbours};
+ghost use Rattle.gptp_kept.specs.SettlingInvariantLaws.{ClaimedSettledAtOnce, ClaimedSettledByPaths};
 ghost use Rattle.gptp_kept.specs.ShownLaws.{RolesAreEnabled, RolesSettle, SystemsAreCapable, SystemsSettle};
 ghost use Rattle.gptp_kept.specs.ShownLaws.{RolesSettleByDistance, RolesSettleByPaths};
 ghost use Rattle.gptp_kept.specs.ShownLaws.{RolesSettleAtOnce, SystemsSettleAtOnce};

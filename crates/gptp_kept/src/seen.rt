@@ -1,6 +1,6 @@
 //! Laws on worlds, their views and their acts.
 
-ghost use Rattle.gptp_kept.specs.LegibleLaws.{ActsStayLegible, NetworksAreLegible, OctetsSayWhatFits, StartsStayLegible, TimeStaysLegible};
+ghost use Rattle.gptp_kept.specs.EncodableLaws.{ActsStayLegible, NetworksAreLegible, OctetsSayWhatFits, StartsStayLegible, TimeStaysLegible};
 ghost use Rattle.gptp_kept.specs.SeenLaws.{ActsAreSeen, DeliveriesAreSeen, ExpiriesAreSeen, LanesAreSeen, StationsAreSeen, TimeIsSeen};
 
 /// A system stands in the view of a world where it stands in the world.

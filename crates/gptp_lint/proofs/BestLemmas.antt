@@ -8,7 +8,7 @@ use Rattle.std.proofs.lemmas.Bool.Decides.{nat_tests}
 use Rattle.std.proofs.lemmas.List.{map-append}
 use Rattle.std.proofs.lemmas.List.Sorted.{IsPermutation-sym}
 use Rattle.gptp_lists.specs.Members.{Different, In}
-use Rattle.gptp_lists.proofs.MemberLemmas.{In-left, In-parts, In-right, In-slice_get, slice_get-In}
+use Rattle.gptp_lists.proofs.SystemSpecLemmas.{In-left, In-parts, In-right, In-slice_get, slice_get-In}
 use Rattle.gptp_roles.specs.Selection.{clock_of}
 use Rattle.gptp_graph.specs.Order.{IsRising}
 use Rattle.gptp_graph.specs.SettledChoice.{IsBestIdentity}

@@ -7,17 +7,17 @@ use Rattle.std.proofs.lemmas.List.Sorted.{length_permutation}
 use denote.RawPtr.{null_ptr}
 use native.Mathlib.Decide.{dec_le}
 use Rattle.gptp_lists.specs.Members.{In}
-use Rattle.gptp_lists.proofs.MemberLemmas.{from_map, slice_get-In}
+use Rattle.gptp_lists.proofs.SystemSpecLemmas.{from_map, slice_get-In}
 use Rattle.gptp_roles.specs.Selection.{clock_of}
 use Rattle.gptp_graph.specs.PathBound.{path_bound}
-use Rattle.gptp_setup.specs.Pace.{lapse_span}
+use Rattle.gptp_setup.specs.SettlingParams.{lapse_span}
 use Rattle.gptp_plan.specs.Calm.{IsCalm}
 use Rattle.gptp_plan.specs.Change.{standing}
 use Rattle.gptp_plan.specs.Network.{IsNetwork, NetworkState, pace_of}
 use Rattle.gptp_plan.specs.SettlingTime.{settling_span_with}
 use Rattle.gptp_plan.specs.SyncWait.{sync_paths}
 use Rattle.gptp_plan.specs.declared.change.Timed.{Timed}
-use Rattle.gptp_plan.specs.declared.network.Wire.{Wire}
+use Rattle.gptp_plan.specs.declared.network.LinkSpec.{LinkSpec}
 use Rattle.gptp_network.specs.Document.{DocumentState}
 use Rattle.gptp_network.specs.Events.{AreEvents}
 use Rattle.gptp_network.specs.Snapshot.{events_by}
@@ -298,7 +298,7 @@ module _ (d : DocumentState) (network : IsNetwork d.network)
 
 -- ---- all findings
 
-wires_back : (ws : List Wire) → map cable_wire (map cable_of ws) ≡ ws
+wires_back : (ws : List LinkSpec) → map cable_wire (map cable_of ws) ≡ ws
 wires_back [] = refl
 wires_back (w ∷ ws) = ap (λ vs. w ∷ vs) (wires_back ws)
 

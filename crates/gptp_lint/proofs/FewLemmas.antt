@@ -8,7 +8,7 @@ use Rattle.gptp_lists.specs.Members.{In}
 use Rattle.gptp_plan.specs.Calm.{last_change}
 use Rattle.gptp_plan.specs.Network.{NetworkState}
 use Rattle.gptp_plan.specs.declared.change.Timed.{Timed}
-use Rattle.gptp_plan.specs.declared.network.Wire.{Wire}
+use Rattle.gptp_plan.specs.declared.network.LinkSpec.{LinkSpec}
 use Rattle.gptp_network.specs.Document.{document_of, whole_network_of, DocumentState, Means}
 use Rattle.gptp_network.specs.Events.{change_fault, event_of, events_of, not_before, timed, with_event_of}
 use Rattle.gptp_network.specs.Members.{count, each_of, limited}
@@ -97,22 +97,22 @@ few_stretches link before (s ∷ ss) =
     (few_stretches link (loss_in_use s) ss)
 
 -- of each link one that is too long, and a stretch for each time
-pub few_longs : (d : DocumentState) (ws : List Wire) → length (longs_of d ws) ≤ length ws * 1
+pub few_longs : (d : DocumentState) (ws : List LinkSpec) → length (longs_of d ws) ≤ length ws * 1
 few_longs d ws =
-    few_flat (λ (w : Wire). option_to_list (long_of d.network.params (course_of d.events w))) 1 ws
+    few_flat (λ (w : LinkSpec). option_to_list (long_of d.network.params (course_of d.events w))) 1 ws
     (λ w member. at_most_one (long_of d.network.params (course_of d.events w)))
 
-few_of_link : (d : DocumentState) (w : Wire) → length d.events ≤ 4096
+few_of_link : (d : DocumentState) (w : LinkSpec) → length d.events ≤ 4096
     → length (stretches w.bounds.link 0 (course_of d.events w)) ≤ 4097
 few_of_link d w few =
     let begun = few_stretches w.bounds.link 0 (course_of d.events w) in
     let stand : length (course_of d.events w) ≤ suc (length d.events) = few_stand (first w) d.events in
     omega arith
 
-pub few_lossies : (d : DocumentState) (ws : List Wire) → length d.events ≤ 4096
+pub few_lossies : (d : DocumentState) (ws : List LinkSpec) → length d.events ≤ 4096
     → length (lossies_of d ws) ≤ length ws * 4097
 few_lossies d ws few =
-    few_flat (λ (w : Wire). stretches w.bounds.link 0 (course_of d.events w)) 4097 ws (λ w member. few_of_link d w few)
+    few_flat (λ (w : LinkSpec). stretches w.bounds.link 0 (course_of d.events w)) 4097 ws (λ w member. few_of_link d w few)
 
 pub few_times : (at : ℕ) (ts : List Timed) → length (times_from at ts) ≤ suc (length ts)
 few_times at [] = omega arith

@@ -6,13 +6,13 @@ use Rattle.std.proofs.lemmas.List.Sorted.{IsPermutation-sym}
 use Rattle.std.proofs.lemmas.Option.{cond_some}
 use Rattle.gptp_lists.specs.Members.{In}
 use Rattle.gptp_lists.proofs.MappedLemmas.{mapped, mapped_there, some_same}
-use Rattle.gptp_lists.proofs.MemberLemmas.{In-map, In-slice_get, from_map, slice_get-In}
+use Rattle.gptp_lists.proofs.SystemSpecLemmas.{In-map, In-slice_get, from_map, slice_get-In}
 use Rattle.gptp_roles.specs.Selection.{clock_of}
 use Rattle.gptp_graph.specs.Snapshot.{Adjacent, Link, Snapshot, System, port_of}
 use Rattle.gptp_plan.specs.Change.{joined_after, link_after, live_after, system_after}
 use Rattle.gptp_plan.specs.Network.{IsNetwork, NetworkState}
 use Rattle.gptp_plan.specs.declared.change.Timed.{Timed}
-use Rattle.gptp_plan.specs.declared.network.Member.{Member}
+use Rattle.gptp_plan.specs.declared.network.SystemSpec.{SystemSpec}
 use Rattle.gptp_network.specs.Snapshot.{StandsAfter, has_clock, joins_two, link_of, live_systems, system_of}
 use Rattle.gptp_network.proofs.InUseLemmas.{runs}
 use Rattle.gptp_network.proofs.PassLemmas.{given, kept, passes_at}
@@ -60,11 +60,11 @@ is_place clock (p ∷ os) once (suc i) o there is =
 
 module _ (n : NetworkState) (network : IsNetwork n) (events : List Timed) (g : Snapshot)
     (stands : StandsAfter n events g) where
-  abbrev label_after : Member → Label
+  abbrev label_after : SystemSpec → Label
   label_after m = lone_label (node_after events m)
 
   abbrev first_nodes : List Node
-  first_nodes = map (λ (m : Member). first_node m.identity) n.systems
+  first_nodes = map (λ (m : SystemSpec). first_node m.identity) n.systems
 
   abbrev labels : List Label
   labels = map lone_label (map (node_after events) n.systems)
@@ -74,7 +74,7 @@ module _ (n : NetworkState) (network : IsNetwork n) (events : List Timed) (g : S
 
   -- the member of a label
   record Member_at (place : ℕ) (l : Label) : Type 0 where
-    member : Member
+    member : SystemSpec
     there : slice_get n.systems place ≡ Some member
     is : label_after member ≡ l
 
@@ -84,25 +84,25 @@ module _ (n : NetworkState) (network : IsNetwork n) (events : List Timed) (g : S
       let (m, here, same) = mapped (node_after events) n.systems place o at in
       record { member = m; there = here; is = ap lone_label same ∙ is }
 
-  label_at : (place : ℕ) (m : Member) → slice_get n.systems place ≡ Some m
+  label_at : (place : ℕ) (m : SystemSpec) → slice_get n.systems place ≡ Some m
       → slice_get labels place ≡ Some (label_after m)
   label_at place m there =
       mapped_there lone_label (map (node_after events) n.systems) place (node_after events m)
       (mapped_there (node_after events) n.systems place m there)
 
   -- a label has the clock of its member
-  label_clock : (m : Member) → own_clock (label_after m) ≡ clock_of m.identity
+  label_clock : (m : SystemSpec) → own_clock (label_after m) ≡ clock_of m.identity
   label_clock m = clock_after events m
 
   node_once : Once first_nodes
   node_once i j o p at there same =
-      let (m, m-there, m-is) = mapped (λ (m : Member). first_node m.identity) n.systems i o at in
-      let (k, k-there, k-is) = mapped (λ (m : Member). first_node m.identity) n.systems j p there in
+      let (m, m-there, m-is) = mapped (λ (m : SystemSpec). first_node m.identity) n.systems i o at in
+      let (k, k-there, k-is) = mapped (λ (m : SystemSpec). first_node m.identity) n.systems j p there in
       network.clocks i j m k m-there k-there
       (ap (λ (q : Node). q.clock) m-is ∙ same ∙ sym (ap (λ (q : Node). q.clock) k-is))
 
   -- a system that lives is one of the snapshot
-  system_for : (m : Member) → In m n.systems → (system_after events m).live ≡ true
+  system_for : (m : SystemSpec) → In m n.systems → (system_after events m).live ≡ true
       → In (system_of ((system_after events m).identity, m.ports)) g.systems
   system_for m among lives =
       let pair : ℕ × ℕ = ((system_after events m).identity, m.ports) in
@@ -114,7 +114,7 @@ module _ (n : NetworkState) (network : IsNetwork n) (events : List Timed) (g : S
 
   -- and each of the snapshot is one that lives
   record Living (s : System) : Type 0 where
-    member : Member
+    member : SystemSpec
     among : In member n.systems
     lives : (system_after events member).live ≡ true
     is : system_of ((system_after events member).identity, member.ports) ≡ s
@@ -143,7 +143,7 @@ module _ (n : NetworkState) (network : IsNetwork n) (events : List Timed) (g : S
       let at = member_at (node_place n clock) l there in
       ap own_clock (sym at.is) ∙ label_clock at.member
       ∙ place_is clock first_nodes (first_node at.member.identity)
-      (mapped_there (λ (m : Member). first_node m.identity) n.systems (node_place n clock) at.member at.there)
+      (mapped_there (λ (m : SystemSpec). first_node m.identity) n.systems (node_place n clock) at.member at.there)
 
   -- and the system there lives, if one of the snapshot has that clock
   live_end : (clock : ℕ) → has_clock g.systems clock ≡ true
@@ -155,7 +155,7 @@ module _ (n : NetworkState) (network : IsNetwork n) (events : List Timed) (g : S
       let clock_is : clock_of m.member.identity ≡ clock =
       sym (clock_after events m.member) ∙ ap (λ (t : System). t.clock) m.is ∙ named in
       let here = is_place clock first_nodes node_once place (first_node m.member.identity)
-      (mapped_there (λ (m : Member). first_node m.identity) n.systems place m.member there) clock_is in (
+      (mapped_there (λ (m : SystemSpec). first_node m.identity) n.systems place m.member there) clock_is in (
         label_after m.member,
         record {
           there = subst (λ i. slice_get labels i ≡ Some (label_after m.member)) (sym here)

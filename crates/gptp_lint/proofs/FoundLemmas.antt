@@ -3,9 +3,9 @@ use Rattle.std.proofs.Common.{◌≡◌, ◌+◌, ℕ, List, [], ◌∷◌, ◌+
 use Rattle.std.specs.List.{AllByRecursion, flat_map}
 use Rattle.std.proofs.lemmas.List.{append-nil}
 use Rattle.gptp_lists.specs.Members.{In}
-use Rattle.gptp_setup.specs.Pace.{lapse_span}
+use Rattle.gptp_setup.specs.SettlingParams.{lapse_span}
 use Rattle.gptp_plan.specs.Network.{IsNetwork}
-use Rattle.gptp_plan.specs.declared.network.Wire.{Wire}
+use Rattle.gptp_plan.specs.declared.network.LinkSpec.{LinkSpec}
 use Rattle.gptp_network.specs.Document.{DocumentState}
 use Rattle.gptp_network.specs.Events.{AreEvents}
 use Rattle.gptp_topology.specs.Course.{cable_of, cable_wire}
@@ -21,12 +21,12 @@ use Rattle.gptp_lint.proofs.QuietLemmas.{quiet}
 
 -- ---- one link more
 
-wires_back : (ws : List Wire) → map cable_wire (map cable_of ws) ≡ ws
+wires_back : (ws : List LinkSpec) → map cable_wire (map cable_of ws) ≡ ws
 wires_back [] = refl
 wires_back (w ∷ ws) = ap (λ vs. w ∷ vs) (wires_back ws)
 
 -- those before, and those of the links that are left, are all
-pub told_more : {X : Type 0} (f : Wire → List X) (before after all : List X) (cable : Cable) (cables : List Cable)
+pub told_more : {X : Type 0} (f : LinkSpec → List X) (before after all : List X) (cable : Cable) (cables : List Cable)
     (place : ℕ) → drop place cables ≡ cable ∷ drop (place + 1) cables
     → before ++ flat_map f (map cable_wire (drop place cables)) ≡ all
     → after ≡ before ++ flat_map f (cable_wire cable ∷ [])

@@ -2,7 +2,7 @@
 use Rattle.std.proofs.Common.{◌≡◌, ◌<◌, ◌+◌, ◌^◌, ℕ, suc, Bool, true, false, cond, List, [], ◌∷◌, ◌++◌, map, take, Some, slice_get, refl, sym, ap, ap₂, subst, ◌∙◌, inl, inr, arith}
 use Rattle.std.proofs.lemmas.Bool.{eq-eqb, ne_eqb}
 use Rattle.gptp_lists.proofs.MappedLemmas.{taken}
-use Rattle.gptp_lists.proofs.MemberLemmas.{In-parts}
+use Rattle.gptp_lists.proofs.SystemSpecLemmas.{In-parts}
 use Rattle.gptp_roles.specs.Selection.{clock_of}
 use Rattle.gptp_plan.specs.Change.{is_at, link_acted, link_after, link_changed, standing, system_acted, system_stands, member_with_bounds, with_up}
 use Rattle.gptp_plan.specs.Network.{NetworkState}
@@ -11,8 +11,8 @@ use Rattle.gptp_plan.specs.declared.change.Act.TheVariants as acts
 use Rattle.gptp_plan.specs.declared.change.Change.{Change}
 use Rattle.gptp_plan.specs.declared.change.Change.TheVariants as changes
 use Rattle.gptp_plan.specs.declared.change.Timed.{Timed}
-use Rattle.gptp_plan.specs.declared.network.Member.{Member}
-use Rattle.gptp_plan.specs.declared.network.Wire.{Wire}
+use Rattle.gptp_plan.specs.declared.network.SystemSpec.{SystemSpec}
+use Rattle.gptp_plan.specs.declared.network.LinkSpec.{LinkSpec}
 use Rattle.gptp_plan.proofs.AfterLemmas.{after_keeps}
 use Rattle.gptp_topology.specs.Course.{cable_of}
 use Rattle.gptp_topology.specs.declared.course.Cable.{Cable}
@@ -59,7 +59,7 @@ stands_first n cables g are first = record {
   nodes = first.nodes;
   edges = first.edges ∙ ap (map (edge_of g.nodes.items)) are
       ∙ ap (λ os. map (edge_of os) (map cable_of n.links)) first.nodes
-      ∙ map_map cable_of (edge_of (map (λ (m : Member). first_node m.identity) n.systems)) (edge_after n []) (λ w. refl)
+      ∙ map_map cable_of (edge_of (map (λ (m : SystemSpec). first_node m.identity) n.systems)) (edge_after n []) (λ w. refl)
       n.links;
 }
 
@@ -75,22 +75,22 @@ live_more : (done : List Timed) (t : Timed) (own : ℕ) (s : _)
 live_more [] t own s = refl
 live_more (u ∷ done) t own s = live_more done t own (system_acted u.act own s)
 
-link_more : (done : List Timed) (t : Timed) (w : Wire)
+link_more : (done : List Timed) (t : Timed) (w : LinkSpec)
     → link_acted t.act (link_after done w) ≡ link_after (done ++ t ∷ []) w
 link_more [] t w = refl
 link_more (u ∷ done) t w = link_more done t (link_acted u.act w)
 
 -- whether a link is up after a change stands by its ends and by whether it was up before
-up_set : (test up : Bool) (w : Wire) → (cond test (with_up up w) w).up ≡ cond test up w.up
+up_set : (test up : Bool) (w : LinkSpec) → (cond test (with_up up w) w).up ≡ cond test up w.up
 up_set true up w = refl
 up_set false up w = refl
 
-bounds_set : (test : Bool) (least greatest loss : ℕ) (w : Wire)
+bounds_set : (test : Bool) (least greatest loss : ℕ) (w : LinkSpec)
     → (cond test (member_with_bounds least greatest loss w) w).up ≡ w.up
 bounds_set true least greatest loss w = refl
 bounds_set false least greatest loss w = refl
 
-up_by_change : (change : Change) (w : Wire) → (link_changed change w).up ≡ up_changed change w.a w.b w.up
+up_by_change : (change : Change) (w : LinkSpec) → (link_changed change w).up ≡ up_changed change w.a w.b w.up
 up_by_change (changes.LinkDown clock port) w = up_set (is_at clock port w) false w
 up_by_change (changes.LinkUp clock port) w = up_set (is_at clock port w) true w
 up_by_change (changes.LinkSet clock port least greatest loss) w =
@@ -100,25 +100,25 @@ up_by_change (changes.Recover clock) w = refl
 up_by_change (changes.Priority1 clock value) w = refl
 up_by_change (changes.Inject clock port octets) w = refl
 
-up_by_act : (act : Act) (w : Wire) → (link_acted act w).up ≡ up_acted act w.a w.b w.up
+up_by_act : (act : Act) (w : LinkSpec) → (link_acted act w).up ≡ up_acted act w.a w.b w.up
 up_by_act (acts.Deliver link direction) w = refl
 up_by_act (acts.Expire clock timer) w = refl
 up_by_act (acts.Change change) w = up_by_change change w
 
-node_more : (done : List Timed) (t : Timed) (m : Member)
+node_more : (done : List Timed) (t : Timed) (m : SystemSpec)
     → lint_node_acted t.act (node_after done m) ≡ node_after (done ++ t ∷ []) m
 node_more done t m =
     ap₂ (λ identity lives. record { clock = clock_of m.identity; identity = identity; lives = lives })
     (identity_more done t (clock_of m.identity) (standing m)) (live_more done t (clock_of m.identity) (standing m))
 
-edge_more : (n : NetworkState) (done : List Timed) (t : Timed) (w : Wire)
+edge_more : (n : NetworkState) (done : List Timed) (t : Timed) (w : LinkSpec)
     → edge_acted t.act (edge_after n done w) ≡ edge_after n (done ++ t ∷ []) w
 edge_more n done t w =
     let keeps = after_keeps done w in
     let before = link_after done w in
     let up : up_acted t.act w.a w.b before.up ≡ (link_after (done ++ t ∷ []) w).up =
     ap₂ (λ a b. up_acted t.act a b before.up) (sym keeps.a) (sym keeps.b) ∙ sym (up_by_act t.act before)
-    ∙ ap (λ (v : Wire). v.up) (link_more done t w) in
+    ∙ ap (λ (v : LinkSpec). v.up) (link_more done t w) in
     ap (λ up. record {
       a = w.a;
       b = w.b;

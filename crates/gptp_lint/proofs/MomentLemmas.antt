@@ -1,7 +1,7 @@
 -- Each time of a document has its moment, as its events are passed.
 use Rattle.std.proofs.Common.{◌≡◌, ◌⊎◌, ◌<◌, ◌^◌, ℕ, List, [], ◌∷◌, ◌++◌, map, sym, ap, subst, ◌∙◌, inl, inr, arith}
 use Rattle.gptp_lists.specs.Members.{In}
-use Rattle.gptp_lists.proofs.MemberLemmas.{In-map}
+use Rattle.gptp_lists.proofs.SystemSpecLemmas.{In-map}
 use Rattle.gptp_graph.specs.Snapshot.{IsWellFormed, Snapshot, System}
 use Rattle.gptp_graph.specs.Path.{Reaches}
 use Rattle.gptp_graph.proofs.PathLemmas.{Reaches-self}

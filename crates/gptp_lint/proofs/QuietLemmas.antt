@@ -2,12 +2,12 @@
 use Rattle.std.proofs.Common.{◌≡◌, ◌↔◌, ℕ, false, List, [], Option, Some, None, refl, sym, ap, subst, ◌∙◌}
 use Rattle.std.specs.Option.{option_to_list}
 use Rattle.gptp_lists.specs.Members.{In}
-use Rattle.gptp_lists.proofs.MemberLemmas.{In-map, from_map, slice_get-In}
+use Rattle.gptp_lists.proofs.SystemSpecLemmas.{In-map, from_map, slice_get-In}
 use Rattle.gptp_setup.specs.declared.setup.Params.{Params}
 use Rattle.gptp_plan.specs.Calm.{AllRest, Rests}
 use Rattle.gptp_plan.specs.Network.{IsNetwork}
 use Rattle.gptp_plan.specs.SyncWait.{sync_paths}
-use Rattle.gptp_plan.specs.declared.network.Wire.{Wire}
+use Rattle.gptp_plan.specs.declared.network.LinkSpec.{LinkSpec}
 use Rattle.gptp_network.specs.Document.{DocumentState}
 use Rattle.gptp_network.specs.Events.{AreInOrder}
 use Rattle.gptp_network.specs.Snapshot.{events_by}
@@ -42,7 +42,7 @@ module _ (d : DocumentState) (network : IsNetwork d.network) (order : AreInOrder
       (not_lossy w.bounds.link (course_of d.events w) (none_of _ d.network.links lossy w member) (f at) there))
 
   -- how a link of the network stands at a time that is calm
-  stands_quiet : IsAlwaysCalm d → (w : Wire) → In w d.network.links → (s : Standing) → In s (course_of d.events w)
+  stands_quiet : IsAlwaysCalm d → (w : LinkSpec) → In w d.network.links → (s : Standing) → In s (course_of d.events w)
       → (is_long params s ≡ false) × (loss_in_use s ≡ 0)
   stands_quiet calm w member s stands =
       let f = stood d.events (first w) in

@@ -4,7 +4,7 @@ use Rattle.std.proofs.lemmas.Bool.{eqb-true, eqb-false, eq-eqb, ne_eqb, or_parts
 use Rattle.gptp_setup.specs.declared.setup.Params.{Params}
 use Rattle.gptp_vector.specs.declared.port.PortId.{PortId}
 use Rattle.gptp_plan.specs.declared.change.Timed.{Timed}
-use Rattle.gptp_plan.specs.declared.network.Wire.{Wire}
+use Rattle.gptp_plan.specs.declared.network.LinkSpec.{LinkSpec}
 use Rattle.gptp_network.specs.Document.{DocumentState}
 use Rattle.gptp_network.specs.Events.{AreInOrder}
 use Rattle.gptp_plan.proofs.AfterLemmas.{acted_keeps}
@@ -122,7 +122,7 @@ long_again p at s ss true is = refl
 long_again p at s ss false is =
     ap (λ test. cond test (Some (long_at p (course_at_time at s))) (long_of p ss)) is
 
-pub long_is : (d : DocumentState) (w : Wire) → AreInOrder d.events
+pub long_is : (d : DocumentState) (w : LinkSpec) → AreInOrder d.events
     → long_of d.network.params (course_from (first w) (naming (cable_of w) d.events))
     ≡ long_of d.network.params (course_of d.events w)
 long_is d w order =
@@ -169,7 +169,7 @@ lossy_goes_on link s ss rs rest loss =
       cond (now == loss) [] (lossy_stretch link now s.at b.0) ++ b.1,
     )) (rest loss) (rest now)
 
-pub lossy_is : (d : DocumentState) (w : Wire) → AreInOrder d.events
+pub lossy_is : (d : DocumentState) (w : LinkSpec) → AreInOrder d.events
     → stretches w.bounds.link 0 (course_from (first w) (naming (cable_of w) d.events))
     ≡ stretches w.bounds.link 0 (course_of d.events w)
 lossy_is d w order =

@@ -8,10 +8,10 @@ use Rattle.std.proofs.lemmas.List.Elements.{filter-append}
 use Rattle.std.proofs.lemmas.List.Sorted.{IsPermutation-sym}
 use Rattle.gptp_lists.specs.Members.{Different, In}
 use Rattle.gptp_lists.proofs.MappedLemmas.{taken}
-use Rattle.gptp_lists.proofs.MemberLemmas.{In-map, from_map, slice_get-In}
+use Rattle.gptp_lists.proofs.SystemSpecLemmas.{In-map, from_map, slice_get-In}
 use Rattle.gptp_roles.specs.Selection.{clock_of}
 use Rattle.gptp_plan.specs.Network.{IsNetwork, NetworkState}
-use Rattle.gptp_plan.specs.declared.network.Member.{Member}
+use Rattle.gptp_plan.specs.declared.network.SystemSpec.{SystemSpec}
 use Rattle.gptp_network.proofs.PassLemmas.{kept, passes, passes_at}
 use Rattle.gptp_network.proofs.SnapshotLemmas.{In-permutation, from_filter}
 use Rattle.gptp_topology.specs.Course.{cable_of, is_cable_end}
@@ -20,12 +20,12 @@ use Rattle.gptp_topology.specs.declared.course.Cable.{Cable}
 use Rattle.gptp_lint.specs.Unlinked.{AreUnlinked, LinksName, IsUnlinked, is_linked, unlinked_in}
 use Rattle.gptp_lint.proofs.SortedLemmas.{Different-filter, sorted_rising}
 
-abbrev pub own_clock : Member → ℕ
+abbrev pub own_clock : SystemSpec → ℕ
 own_clock m = clock_of m.identity
 
 -- ---- one system more
 
-pub unlinked_more : (cables : List Cable) (ms : List Member) (place : ℕ) (m : Member) → slice_get ms place ≡ Some m
+pub unlinked_more : (cables : List Cable) (ms : List SystemSpec) (place : ℕ) (m : SystemSpec) → slice_get ms place ≡ Some m
     → unlinked_in cables (map own_clock (take place ms)) ++ unlinked_in cables (own_clock m ∷ [])
     ≡ unlinked_in cables (map own_clock (take (place + 1) ms))
 unlinked_more cables ms place m there =
@@ -57,11 +57,11 @@ linked_from n clock (w, among, at) =
 
 -- ---- clocks differ
 
-abbrev OneClockEach : List Member → Type 0
-OneClockEach ms = (i j : ℕ) (l m : Member) → slice_get ms i ≡ Some l → slice_get ms j ≡ Some m
+abbrev OneClockEach : List SystemSpec → Type 0
+OneClockEach ms = (i j : ℕ) (l m : SystemSpec) → slice_get ms i ≡ Some l → slice_get ms j ≡ Some m
     → clock_of l.identity ≡ clock_of m.identity → i ≡ j
 
-pub clocks_differ : (ms : List Member) → OneClockEach ms → Different (map own_clock ms)
+pub clocks_differ : (ms : List SystemSpec) → OneClockEach ms → Different (map own_clock ms)
 clocks_differ [] once = tt
 clocks_differ (m ∷ ms) once = (first, clocks_differ ms behind)
   where

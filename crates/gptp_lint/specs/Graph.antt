@@ -9,7 +9,7 @@ use Rattle.gptp_plan.specs.declared.change.Act.{Act}
 use Rattle.gptp_plan.specs.declared.change.Act.TheVariants as acts
 use Rattle.gptp_plan.specs.declared.change.Change.{Change}
 use Rattle.gptp_plan.specs.declared.change.Change.TheVariants as changes
-use Rattle.gptp_plan.specs.declared.network.Member.{Member}
+use Rattle.gptp_plan.specs.declared.network.SystemSpec.{SystemSpec}
 use Rattle.gptp_topology.specs.declared.course.Cable.{Cable}
 use Rattle.gptp_lint.specs.declared.graph.Edge.{Edge}
 use Rattle.gptp_lint.specs.declared.graph.Graph.{Graph}
@@ -69,7 +69,7 @@ edge_of os c =
 
 -- the systems and links of a network at first
 pub record IsFirstGraph (n : NetworkState) (cables : List Cable) (g : Graph) : Type 0 where
-  pub nodes : g.nodes.items ≡ map (λ (m : Member). first_node m.identity) n.systems
+  pub nodes : g.nodes.items ≡ map (λ (m : SystemSpec). first_node m.identity) n.systems
   pub edges : g.edges.items ≡ map (edge_of g.nodes.items) cables
 
 -- what an act makes of them

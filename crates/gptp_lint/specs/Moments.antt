@@ -7,8 +7,8 @@ use Rattle.gptp_roles.specs.Selection.{clock_of}
 use Rattle.gptp_plan.specs.Change.{link_after, system_after}
 use Rattle.gptp_plan.specs.Network.{NetworkState}
 use Rattle.gptp_plan.specs.declared.change.Timed.{Timed}
-use Rattle.gptp_plan.specs.declared.network.Member.{Member}
-use Rattle.gptp_plan.specs.declared.network.Wire.{Wire}
+use Rattle.gptp_plan.specs.declared.network.SystemSpec.{SystemSpec}
+use Rattle.gptp_plan.specs.declared.network.LinkSpec.{LinkSpec}
 use Rattle.gptp_lint.specs.Components.{decides_by_clock}
 use Rattle.gptp_lint.specs.Graph.{NodesHaveOctets, first_node, place_in}
 use Rattle.gptp_lint.specs.Labels.{bests_in, labels_in, second_in}
@@ -19,7 +19,7 @@ use Rattle.gptp_lint.specs.declared.graph.Node.{Node}
 use Rattle.gptp_lint.specs.declared.labels.Label.{Label}
 
 -- a system and a link after these events
-abbrev pub node_after : List Timed → Member → Node
+abbrev pub node_after : List Timed → SystemSpec → Node
 node_after events m = record {
   clock = clock_of m.identity;
   identity = (system_after events m).identity;
@@ -27,9 +27,9 @@ node_after events m = record {
 }
 
 abbrev pub node_place : NetworkState → ℕ → ℕ
-node_place n clock = place_in clock (map (λ (m : Member). first_node m.identity) n.systems)
+node_place n clock = place_in clock (map (λ (m : SystemSpec). first_node m.identity) n.systems)
 
-abbrev pub edge_after : NetworkState → List Timed → Wire → Edge
+abbrev pub edge_after : NetworkState → List Timed → LinkSpec → Edge
 edge_after n events w = record {
   a = w.a;
   b = w.b;

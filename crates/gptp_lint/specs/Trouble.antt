@@ -4,7 +4,7 @@ use Rattle.std.specs.Option.{option_to_list}
 use Rattle.std.specs.List.{flat_map}
 use Rattle.gptp_setup.specs.declared.setup.Params.{Params}
 use Rattle.gptp_network.specs.Document.{DocumentState}
-use Rattle.gptp_plan.specs.declared.network.Wire.{Wire}
+use Rattle.gptp_plan.specs.declared.network.LinkSpec.{LinkSpec}
 use Rattle.gptp_topology.specs.Course.{course_of}
 use Rattle.gptp_topology.specs.Trouble.{is_long, loss_in_use, needed}
 use Rattle.gptp_topology.specs.declared.course.Standing.{Standing}
@@ -43,8 +43,8 @@ stretches link before (s ∷ ss) =
     ++ stretches link (loss_in_use s) ss
 
 -- the long and the lossy links of a document
-abbrev pub longs_of : DocumentState → List Wire → List Long
+abbrev pub longs_of : DocumentState → List LinkSpec → List Long
 longs_of d = flat_map (λ w. option_to_list (long_of d.network.params (course_of d.events w)))
 
-abbrev pub lossies_of : DocumentState → List Wire → List Lossy
+abbrev pub lossies_of : DocumentState → List LinkSpec → List Lossy
 lossies_of d = flat_map (λ w. stretches w.bounds.link 0 (course_of d.events w))

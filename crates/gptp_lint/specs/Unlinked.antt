@@ -4,14 +4,14 @@ use Rattle.std.specs.List.{list_any}
 use Rattle.gptp_lists.specs.Members.{In}
 use Rattle.gptp_graph.specs.Order.{IsRising}
 use Rattle.gptp_plan.specs.Network.{NetworkState}
-use Rattle.gptp_plan.specs.declared.network.Wire.{Wire}
+use Rattle.gptp_plan.specs.declared.network.LinkSpec.{LinkSpec}
 use Rattle.gptp_topology.specs.Course.{is_cable_end}
 use Rattle.gptp_topology.specs.Tables.{clocks_of}
 use Rattle.gptp_topology.specs.declared.course.Cable.{Cable}
 
 -- a link of the network names the system with this clock
 abbrev pub LinksName : NetworkState → ℕ → Type 0
-LinksName n clock = (w : Wire) × In w n.links × ((w.a.clock ≡ clock) ⊎ (w.b.clock ≡ clock))
+LinksName n clock = (w : LinkSpec) × In w n.links × ((w.a.clock ≡ clock) ⊎ (w.b.clock ≡ clock))
 
 -- a system of the network has this clock and no link names it, and there are two systems or more
 pub record IsUnlinked (n : NetworkState) (clock : ℕ) : Type 0 where

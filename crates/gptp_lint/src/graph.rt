@@ -1,7 +1,7 @@
 //! How the systems and the links of a network stand, by place, as its events come.
 
 ghost use Rattle.std.specs.Prelude.{◌≡◌, ◌<◌, ◌+◌, ◌++◌, ◌∷◌, [], length, map, take, IfOk, OnOk};
-ghost use Rattle.gptp_plan.specs.declared.network.Member.{Member};
+ghost use Rattle.gptp_plan.specs.declared.network.SystemSpec.{SystemSpec};
 ghost use Rattle.gptp_lint.specs.Graph.{GraphActed, IsFirstGraph, edge_acted, edge_of, first_node, lint_node_acted, node_changed, place_in, up_changed};
 
 use gptp_plan::{Act, Change, Network};
@@ -165,9 +165,9 @@ fn push_node(nodes: &mut Vec<Node>, identity: Identity) -> Result<(), AllocError
 /// Puts the system at a place behind those before.
 fn push_node_at(nodes: &mut Vec<Node>, network: &Network, place: usize) -> Result<(), AllocError>
     requires place { place < length network.now.systems }
-    requires before { nodes.old.items ≡ map (λ (m : Member). first_node m.identity) (take place network.now.systems) }
+    requires before { nodes.old.items ≡ map (λ (m : SystemSpec). first_node m.identity) (take place network.now.systems) }
     ensures { OnOk result
-        (nodes.new.items ≡ map (λ (m : Member). first_node m.identity) (take (place + 1) network.now.systems)) }
+        (nodes.new.items ≡ map (λ (m : SystemSpec). first_node m.identity) (take (place + 1) network.now.systems)) }
 {
     match network.system_at(place) {
         Some(system) => push_node(nodes, system.0),
@@ -177,7 +177,7 @@ fn push_node_at(nodes: &mut Vec<Node>, network: &Network, place: usize) -> Resul
 
 /// The systems of a network, in its order; all live.
 fn nodes_of(alloc: Global, network: &Network) -> Result<Vec<Node>, AllocError>
-    ensures { IfOk result (λ nodes. nodes.items ≡ map (λ (m : Member). first_node m.identity) network.now.systems) }
+    ensures { IfOk result (λ nodes. nodes.items ≡ map (λ (m : SystemSpec). first_node m.identity) network.now.systems) }
 {
     let mut nodes = Vec::new(alloc);
     for place in 0..network.systems() {

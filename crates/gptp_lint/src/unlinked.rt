@@ -2,7 +2,7 @@
 
 ghost use Rattle.std.specs.Prelude.{◌≡◌, ◌<◌, ◌+◌, ◌++◌, ◌∷◌, [], filter, length, map, not, take, IfOk, OnOk};
 ghost use Rattle.gptp_roles.specs.Selection.{clock_of};
-ghost use Rattle.gptp_plan.specs.declared.network.Member.{Member};
+ghost use Rattle.gptp_plan.specs.declared.network.SystemSpec.{SystemSpec};
 ghost use Rattle.gptp_topology.specs.Course.{cable_of};
 ghost use Rattle.gptp_lint.specs.Unlinked.{AreUnlinked, is_linked, unlinked_in};
 
@@ -43,9 +43,9 @@ fn push_unlinked_at(
 ) -> Result<(), AllocError>
     requires place { place < length network.now.systems }
     requires before { unlinked.old.items
-        ≡ unlinked_in cables.now (map (λ (m : Member). clock_of m.identity) (take place network.now.systems)) }
+        ≡ unlinked_in cables.now (map (λ (m : SystemSpec). clock_of m.identity) (take place network.now.systems)) }
     ensures { OnOk result (unlinked.new.items
-        ≡ unlinked_in cables.now (map (λ (m : Member). clock_of m.identity) (take (place + 1) network.now.systems))) }
+        ≡ unlinked_in cables.now (map (λ (m : SystemSpec). clock_of m.identity) (take (place + 1) network.now.systems))) }
 {
     match network.system_at(place) {
         Some(system) => push_unlinked(unlinked, cables, system.0.clock()),

@@ -1,4 +1,4 @@
-pub mod MemberLemmas
+pub mod SystemSpecLemmas
 pub mod PlaceLemmas
 pub mod MappedLemmas
 pub mod ReverseLemmas

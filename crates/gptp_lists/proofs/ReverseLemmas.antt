@@ -2,7 +2,7 @@
 use Rattle.std.proofs.Common.{◌≡◌, List, [], ◌∷◌, ◌++◌, reverse, sym, subst, ap, ◌∙◌, inl, inr}
 use Rattle.std.proofs.lemmas.List.{reverse-append}
 use Rattle.gptp_lists.specs.Members.{In}
-use Rattle.gptp_lists.proofs.MemberLemmas.{In-left, In-right}
+use Rattle.gptp_lists.proofs.SystemSpecLemmas.{In-left, In-right}
 
 -- a member of the list is one of it in reverse
 pub In-reverse : {X : Type 0} (x : X) (xs : List X) → In x xs → In x (reverse xs)

@@ -1,2 +1,2 @@
 pub mod Members
-pub mod MemberLaws
+pub mod SystemSpecLaws

@@ -1,7 +1,7 @@
 -- Lanes: frames that are added behind the others, and what is known of the first that isn't mute.
 use Rattle.std.proofs.Common.{◌≡◌, ◌++◌, ◌⊎◌, ℕ, List, [], ◌∷◌, refl, sym, subst, inl, inr}
 use Rattle.gptp_lists.specs.Members.{In}
-use Rattle.gptp_lists.proofs.MemberLemmas.{In-parts, In-right}
+use Rattle.gptp_lists.proofs.SystemSpecLemmas.{In-parts, In-right}
 use Rattle.gptp_measuring.specs.Lanes.{LaneFrame, AreMute, FirstIs}
 
 -- no frame is mute

@@ -9,7 +9,7 @@ use Rattle.gptp_network.specs.Events.{timed, AreInOrder, AreEvents, IsEvent, IsP
 use Rattle.gptp_network.specs.declared.events.Event.{Event}
 use Rattle.gptp_plan.specs.Network.{NetworkState, smallest_of}
 use Rattle.gptp_plan.specs.Allowed.{AreAllowed, IsAllowed}
-use Rattle.gptp_plan.specs.Prompt.{ArePromptActs, IsPromptAct}
+use Rattle.gptp_plan.specs.Prompt.{ArePromptActs, DelayFitsInterval}
 use Rattle.gptp_plan.specs.declared.change.Act.TheVariants as acts
 use Rattle.gptp_plan.specs.declared.change.Change.{Change}
 use Rattle.gptp_plan.specs.declared.change.Change.TheVariants as changes
@@ -113,7 +113,7 @@ events_allowed n es log h = each_allowed es h.each where
 -- ---- events as prompt acts
 
 prompt_from : (n : NetworkState) (change : Change) → IsPossibleChange n change
-    → IsPromptAct (interval_of (smallest_of n)) (acts.Change change)
+    → DelayFitsInterval (interval_of (smallest_of n)) (acts.Change change)
 prompt_from n (changes.LinkDown name port) is = tt
 prompt_from n (changes.LinkUp name port) is = tt
 prompt_from n (changes.LinkSet name port least greatest loss) (there, bounds) = bounds.prompt
@@ -130,7 +130,7 @@ events_prompt n es h = each_prompt es h.each where
   each_prompt [] h place t there = absurd cc
   each_prompt (e ∷ es) h zero t there =
       let is = h.0 in let most = interval_of (smallest_of n) in
-      let prompt : IsPromptAct most e.act =
-      subst (IsPromptAct most) (sym is.act) (prompt_from n is.change is.fits) in
-      let same : e ≡ t = cc in subst (λ (x : Timed). IsPromptAct most x.act) same prompt
+      let prompt : DelayFitsInterval most e.act =
+      subst (DelayFitsInterval most) (sym is.act) (prompt_from n is.change is.fits) in
+      let same : e ≡ t = cc in subst (λ (x : Timed). DelayFitsInterval most x.act) same prompt
   each_prompt (e ∷ es) h (suc place) t there = each_prompt es h.1 place t there

@@ -6,7 +6,7 @@ use Rattle.std.proofs.lemmas.Bool.{and_parts, leb-true}
 use Rattle.std.proofs.lemmas.Bool.Decides.{nat_tests}
 use Rattle.std.proofs.lemmas.Int.{ints}
 use Rattle.std.proofs.lemmas.Option.{none-some, same_Some}
-use Rattle.gptp_lists.proofs.MemberLemmas.{slice_get-In}
+use Rattle.gptp_lists.proofs.SystemSpecLemmas.{slice_get-In}
 use Rattle.gptp_vector.specs.declared.port.PortId.{PortId}
 use Rattle.gptp_roles.specs.Selection.{clock_of}
 use Rattle.gptp_setup.specs.Intervals.{interval_of, IsLog}
@@ -17,8 +17,8 @@ use Rattle.gptp_plan.specs.declared.change.Change.{Change}
 use Rattle.gptp_plan.specs.declared.change.Change.TheVariants as changes
 use Rattle.gptp_plan.specs.declared.fault.NetworkFault.{NetworkFault}
 use Rattle.gptp_plan.specs.declared.fault.NetworkFault.TheVariants as faults
-use Rattle.gptp_plan.specs.declared.network.Member.{Member}
-use Rattle.gptp_plan.specs.declared.network.Wire.{Wire}
+use Rattle.gptp_plan.specs.declared.network.SystemSpec.{SystemSpec}
+use Rattle.gptp_plan.specs.declared.network.LinkSpec.{LinkSpec}
 use Rattle.gptp_plan.proofs.LogLemmas.{all_prompt, interval_least}
 use Rattle.gptp_network.specs.Events.{change_fault, IsPossibleChange, IsInRange}
 use Rattle.gptp_network.specs.Links.{port_numbered}
@@ -63,15 +63,15 @@ each_passes test P so (x ∷ xs) is (suc k) d within =
 
 -- ---- systems
 
-is_fresh : (systems : List Member) (c : ℕ) → members_have_clock systems c ≡ false → IsNewClock systems c
+is_fresh : (systems : List SystemSpec) (c : ℕ) → members_have_clock systems c ≡ false → IsNewClock systems c
 is_fresh systems c none i m there same =
-    let differ = none_passes (λ (x : Member). clock_of x.identity == c) systems none i m there in
+    let differ = none_passes (λ (x : SystemSpec). clock_of x.identity == c) systems none i m there in
     let e : true ≡ false = sym (eq-eqb (clock_of m.identity) c same) ∙ differ in cc
 
 is_log_so : (log : ℤ) → is_log log ≡ true → IsLog log
 is_log_so log is = record { low = grind (arith, ints, nat_tests); high = grind (arith, ints, nat_tests) }
 
-in_limits : (m : Member) → is_member_in_range m ≡ true → IsMember m
+in_limits : (m : SystemSpec) → is_member_in_range m ≡ true → IsMember m
 in_limits m is = record {
   ports = grind (arith, nat_tests);
   phase = grind (arith, nat_tests);
@@ -83,7 +83,7 @@ in_limits m is = record {
 not_rarer : (pdelay log : ℤ) → int_le pdelay log ≡ true → pdelay ≤ℤ log
 not_rarer pdelay log is = grind (arith, ints, nat_tests)
 
-pub system_fits : (n : NetworkState) (m : Member) → system_fault n m ≡ None → CanAddSystem n m
+pub system_fits : (n : NetworkState) (m : SystemSpec) → system_fault n m ≡ None → CanAddSystem n m
 system_fits n m none =
     let room = passed (nat_le 512 (length n.systems)) _ _ none in
     let range = passed (not (is_member_in_range m)) _ _ room.1 in
@@ -104,10 +104,10 @@ system_fits n m none =
 same_itself : (p : PortId) → same_port p p ≡ true
 same_itself p = rw (eq-eqb p.clock p.clock refl, eq-eqb p.port p.port refl) refl
 
-is_free : (links : List Wire) (p : PortId) → is_taken links p ≡ false → IsFree links p
+is_free : (links : List LinkSpec) (p : PortId) → is_taken links p ≡ false → IsFree links p
 is_free links p none i w there is =
     let differ = neither (same_port w.a p) (same_port w.b p)
-    (none_passes (λ (x : Wire). same_port x.a p || same_port x.b p) links none i w there) in
+    (none_passes (λ (x : LinkSpec). same_port x.a p || same_port x.b p) links none i w there) in
     elim is [
       | inl a ↦ let e : true ≡ false = sym (subst (λ (q : PortId). same_port q p ≡ true) (sym a) (same_itself p))
           ∙ differ.0 in cc
@@ -115,10 +115,10 @@ is_free links p none i w there is =
           ∙ differ.1 in cc
     ]
 
-is_port : (systems : List Member) (p : PortId) → has_port systems p ≡ true → 1 ≤ p.port → IsPort systems p
+is_port : (systems : List SystemSpec) (p : PortId) → has_port systems p ≡ true → 1 ≤ p.port → IsPort systems p
 is_port systems p is first =
     let (m, member, found) =
-    passes (λ (x : Member). (clock_of x.identity == p.clock) && nat_le p.port x.ports) systems is in
+    passes (λ (x : SystemSpec). (clock_of x.identity == p.clock) && nat_le p.port x.ports) systems is in
     let (place, there) = slice_get-In m systems member in
     let parts = and_parts (clock_of m.identity == p.clock) (nat_le p.port m.ports) found in
     record {
@@ -130,11 +130,11 @@ is_port systems p is first =
       last = leb-true p.port m.ports parts.1;
     }
 
-joins_two : (w : Wire) → (w.a.clock == w.b.clock) ≡ false → w.a.clock ≢ w.b.clock
+joins_two : (w : LinkSpec) → (w.a.clock == w.b.clock) ≡ false → w.a.clock ≢ w.b.clock
 joins_two w differ same = let e : true ≡ false = sym (eq-eqb w.a.clock w.b.clock same) ∙ differ in cc
 
 -- the values of a link lie in their ranges
-record IsInBounds (w : Wire) : Type 0 where
+record IsInBounds (w : LinkSpec) : Type 0 where
   a : 1 ≤ w.a.port
   b : 1 ≤ w.b.port
   positive : 1 ≤ w.bounds.min
@@ -142,7 +142,7 @@ record IsInBounds (w : Wire) : Type 0 where
   short : w.bounds.max ≤ 16000000000
   share : w.bounds.loss ≤ 1000
 
-in_bounds : (w : Wire) → is_wire_in_range w ≡ true → IsInBounds w
+in_bounds : (w : LinkSpec) → is_wire_in_range w ≡ true → IsInBounds w
 in_bounds w is = record {
   a = grind (arith, nat_tests);
   b = grind (arith, nat_tests);
@@ -152,7 +152,7 @@ in_bounds w is = record {
   share = grind (arith, nat_tests);
 }
 
-pub link_fits : (n : NetworkState) (w : Wire) → w.bounds.link ≡ length n.links → link_fault n w ≡ None
+pub link_fits : (n : NetworkState) (w : LinkSpec) → w.bounds.link ≡ length n.links → link_fault n w ≡ None
     → CanAddLink n w
 link_fits n w number none =
     let ports_there = has_port n.systems w.a && has_port n.systems w.b in

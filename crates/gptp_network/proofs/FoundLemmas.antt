@@ -6,8 +6,8 @@ use Rattle.std.proofs.lemmas.List.{drop_more}
 use Rattle.std.proofs.lemmas.Option.{get_or_from_slice_get, slice_get_within}
 use Rattle.gptp_vector.specs.declared.port.PortId.{PortId}
 use Rattle.gptp_roles.specs.Selection.{clock_of}
-use Rattle.gptp_plan.specs.declared.network.Member.{Member}
-use Rattle.gptp_plan.specs.declared.network.Wire.{Wire}
+use Rattle.gptp_plan.specs.declared.network.SystemSpec.{SystemSpec}
+use Rattle.gptp_plan.specs.declared.network.LinkSpec.{LinkSpec}
 use Rattle.gptp_network.specs.Found.{is_either, joins, link_from, ports_by, ports_if, system_from}
 
 one_more : (n : ℕ) → n + 1 ≡ suc n
@@ -28,51 +28,51 @@ gone (x ∷ xs) (suc place) is within = gone xs place is (omega arith)
 
 -- ---- what is told of a member
 
-abbrev member_told : Member → ℕ × ℕ × ℕ × ℤ × ArrayVec ℤ
+abbrev member_told : SystemSpec → ℕ × ℕ × ℕ × ℤ × ArrayVec ℤ
 member_told m = (m.identity, m.ports, m.phase, m.drift, m.intervals)
 
-pub ports_told : (clock : ℕ) (o : Option Member) (s : ℕ × ℕ × ℕ × ℤ × ArrayVec ℤ) → Some s ≡ option_map member_told o
+pub ports_told : (clock : ℕ) (o : Option SystemSpec) (s : ℕ × ℕ × ℕ × ℤ × ArrayVec ℤ) → Some s ≡ option_map member_told o
     → ports_by clock s.0 s.1 ≡ option_and_then (ports_if clock) o
 ports_told clock None s is = absurd cc
 ports_told clock (Some m) s is =
     let same : s ≡ member_told m = cc in
     ap (λ (x : ℕ × ℕ × ℕ × ℤ × ArrayVec ℤ). ports_by clock x.0 x.1) same
 
-pub no_ports : (clock : ℕ) (o : Option Member) → None ≡ option_map member_told o
+pub no_ports : (clock : ℕ) (o : Option SystemSpec) → None ≡ option_map member_told o
     → None ≡ option_and_then (ports_if clock) o
 no_ports clock None is = refl
 no_ports clock (Some m) is = absurd cc
 
-module _ {B : Type 0} (bounds : Wire → B) where
-  abbrev wire_told : Wire → PortId × PortId × B × Bool
+module _ {B : Type 0} (bounds : LinkSpec → B) where
+  abbrev wire_told : LinkSpec → PortId × PortId × B × Bool
   wire_told w = (w.a, w.b, bounds w, w.up)
 
-  pub ends_told : (port : PortId) (o : Option Wire) (l : PortId × PortId × B × Bool)
+  pub ends_told : (port : PortId) (o : Option LinkSpec) (l : PortId × PortId × B × Bool)
       → Some l ≡ option_map wire_told o → is_either port l.0 l.1 ≡ joins port o
   ends_told port None l is = absurd cc
   ends_told port (Some w) l is =
       let same : l ≡ wire_told w = cc in
       ap (λ (x : PortId × PortId × B × Bool). is_either port x.0 x.1) same
 
-  pub no_ends : (port : PortId) (o : Option Wire) → None ≡ option_map wire_told o → false ≡ joins port o
+  pub no_ends : (port : PortId) (o : Option LinkSpec) → None ≡ option_map wire_told o → false ≡ joins port o
   no_ends port None is = refl
   no_ends port (Some w) is = absurd cc
 
 -- ---- members one after another
 
-module _ (systems : List Member) (place clock : ℕ) where
+module _ (systems : List SystemSpec) (place clock : ℕ) where
   -- the system at the place isn't the one that is looked for
   pub system_passed : place < length systems
       → None ≡ option_and_then (ports_if clock) (slice_get systems place)
       → system_from (place + 1) (drop (place + 1) systems) clock ≡ system_from place (drop place systems) clock
   system_passed within none = by (slice_get systems place) refl none where
-    by_test : (m : Member) (t : Bool) → None ≡ (if t then Some m.ports else None)
+    by_test : (m : SystemSpec) (t : Bool) → None ≡ (if t then Some m.ports else None)
         → system_from (place + 1) (drop (place + 1) systems) clock
         ≡ (if t then Some (place, m.ports) else system_from (suc place) (drop (place + 1) systems) clock)
     by_test m true is = absurd cc
     by_test m false is = ap (λ n. system_from n (drop (place + 1) systems) clock) (one_more place)
 
-    by : (o : Option Member) → slice_get systems place ≡ o → None ≡ option_and_then (ports_if clock) o
+    by : (o : Option SystemSpec) → slice_get systems place ≡ o → None ≡ option_and_then (ports_if clock) o
         → system_from (place + 1) (drop (place + 1) systems) clock ≡ system_from place (drop place systems) clock
     by None is e = absurd (gone systems place is within)
     by (Some m) is e =
@@ -83,20 +83,20 @@ module _ (systems : List Member) (place clock : ℕ) where
   pub system_here : (ports : ℕ) → Some ports ≡ option_and_then (ports_if clock) (slice_get systems place)
       → system_from place (drop place systems) clock ≡ Some (place, ports)
   system_here ports some = by (slice_get systems place) refl some where
-    by_test : (m : Member) (t : Bool) → Some ports ≡ (if t then Some m.ports else None)
+    by_test : (m : SystemSpec) (t : Bool) → Some ports ≡ (if t then Some m.ports else None)
         → (if t then Some (place, m.ports) else system_from (suc place) (drop (place + 1) systems) clock)
         ≡ Some (place, ports)
     by_test m true is = let same : ports ≡ m.ports = cc in ap (λ n. Some (place, n)) (sym same)
     by_test m false is = absurd cc
 
-    by : (o : Option Member) → slice_get systems place ≡ o → Some ports ≡ option_and_then (ports_if clock) o
+    by : (o : Option SystemSpec) → slice_get systems place ≡ o → Some ports ≡ option_and_then (ports_if clock) o
         → system_from place (drop place systems) clock ≡ Some (place, ports)
     by None is e = absurd cc
     by (Some m) is e =
         ap (λ l. system_from place l clock) (drop_at systems place m is)
         ∙ by_test m (clock_of m.identity == clock) e
 
-module _ (links : List Wire) (place : ℕ) (port : PortId) where
+module _ (links : List LinkSpec) (place : ℕ) (port : PortId) where
   -- the link at the place isn't the one that is looked for
   pub link_passed : place < length links → joins port (slice_get links place) ≡ false
       → link_from (place + 1) (drop (place + 1) links) port ≡ link_from place (drop place links) port
@@ -107,7 +107,7 @@ module _ (links : List Wire) (place : ℕ) (port : PortId) where
     by_test true is = absurd cc
     by_test false is = ap (λ n. link_from n (drop (place + 1) links) port) (one_more place)
 
-    by : (o : Option Wire) → slice_get links place ≡ o → joins port o ≡ false
+    by : (o : Option LinkSpec) → slice_get links place ≡ o → joins port o ≡ false
         → link_from (place + 1) (drop (place + 1) links) port ≡ link_from place (drop place links) port
     by None is e = absurd (gone links place is within)
     by (Some w) is e =
@@ -121,7 +121,7 @@ module _ (links : List Wire) (place : ℕ) (port : PortId) where
     by_test true is = refl
     by_test false is = absurd cc
 
-    by : (o : Option Wire) → slice_get links place ≡ o → joins port o ≡ true
+    by : (o : Option LinkSpec) → slice_get links place ≡ o → joins port o ≡ true
         → link_from place (drop place links) port ≡ Some place
     by None is e = absurd cc
     by (Some w) is e =

@@ -7,7 +7,7 @@ use Rattle.std.proofs.lemmas.List.{length-map}
 use Rattle.std.proofs.lemmas.List.Sorted.{IsPermutation-map, IsPermutation-sym, length_permutation, sum_by-IsPermutation}
 use Rattle.std.proofs.lemmas.Option.{cond_some}
 use Rattle.gptp_lists.specs.Members.{In}
-use Rattle.gptp_lists.proofs.MemberLemmas.{In-map, from_map, slice_get-In}
+use Rattle.gptp_lists.proofs.SystemSpecLemmas.{In-map, from_map, slice_get-In}
 use Rattle.gptp_graph.specs.PathBound as paths
 use Rattle.gptp_graph.specs.Snapshot.{Adjacent, Link, Snapshot, System, clocks, port_of}
 use Rattle.gptp_graph.proofs.PathBoundLemmas.{adjacent_joined, two_from}
@@ -18,8 +18,8 @@ use Rattle.gptp_plan.specs.InUse.{any_differ, far_clock, is_used, lives, lives_b
 use Rattle.gptp_plan.specs.InUse as plans
 use Rattle.gptp_plan.specs.Network.{IsNetwork, NetworkState}
 use Rattle.gptp_plan.specs.declared.change.Timed.{Timed}
-use Rattle.gptp_plan.specs.declared.network.Member.{Member}
-use Rattle.gptp_plan.specs.declared.network.Wire.{Wire}
+use Rattle.gptp_plan.specs.declared.network.SystemSpec.{SystemSpec}
+use Rattle.gptp_plan.specs.declared.network.LinkSpec.{LinkSpec}
 use Rattle.gptp_plan.proofs.AfterLemmas.{after_keeps}
 use Rattle.gptp_network.specs.Snapshot.{StandsAfter, has_clock, joins_two, link_of, live_systems, system_of}
 use Rattle.gptp_network.proofs.PassLemmas.{count_alike, count_more, given, kept, passes, passes_at, same_tests}
@@ -53,10 +53,10 @@ several_back (z ∷ zs) x y (inr one) (inr other) apart = by (x == z) refl
 -- ---- the other end
 
 -- an end of the link is at the system, and the other at that
-abbrev Ends : ℕ → ℕ → Wire → Type 0
+abbrev Ends : ℕ → ℕ → LinkSpec → Type 0
 Ends clock far w = ((w.a.clock ≡ clock) × (w.b.clock ≡ far)) ⊎ ((w.b.clock ≡ clock) × (w.a.clock ≡ far))
 
-far_from : (clock far : ℕ) (w : Wire) → far_clock clock w ≡ Some far → Ends clock far w
+far_from : (clock far : ℕ) (w : LinkSpec) → far_clock clock w ≡ Some far → Ends clock far w
 far_from clock far w is = by (w.a.clock == clock) refl (w.b.clock == clock) refl is
   where
     by : (one : Bool) → (w.a.clock == clock) ≡ one → (two : Bool) → (w.b.clock == clock) ≡ two
@@ -65,7 +65,7 @@ far_from clock far w is = by (w.a.clock == clock) refl (w.b.clock == clock) refl
     by false one true two is = let same : w.a.clock ≡ far = cc in inr (eqb-true w.b.clock clock two, same)
     by false one false two is = absurd cc
 
-far_back : (clock far : ℕ) (w : Wire) → (w.a.clock ≢ w.b.clock) → Ends clock far w → far_clock clock w ≡ Some far
+far_back : (clock far : ℕ) (w : LinkSpec) → (w.a.clock ≢ w.b.clock) → Ends clock far w → far_clock clock w ≡ Some far
 far_back clock far w apart (inl (here, there)) = rw (eq-eqb w.a.clock clock here) (ap Some there)
 far_back clock far w apart (inr (here, there)) =
     rw (ne_eqb w.a.clock clock (λ same. apart (same ∙ sym here)), eq-eqb w.b.clock clock here) (ap Some there)
@@ -105,10 +105,10 @@ module _ (n : NetworkState) (network : IsNetwork n) (events : List Timed) (g : S
 
   -- ---- links
 
-  abbrev is_used_after : Wire → Bool
+  abbrev is_used_after : LinkSpec → Bool
   is_used_after w = is_used n.systems events (link_after events w)
 
-  used_parts : (w : Wire) → is_used_after w ≡ true
+  used_parts : (w : LinkSpec) → is_used_after w ≡ true
       → ((link_after events w).up ≡ true) × (lives n.systems events w.a.clock ≡ true)
       × (lives n.systems events w.b.clock ≡ true)
   used_parts w is =
@@ -121,7 +121,7 @@ module _ (n : NetworkState) (network : IsNetwork n) (events : List Timed) (g : S
         subst (λ (p : PortId). lives n.systems events p.clock ≡ true) ends.b b,
       )
 
-  used_by : (w : Wire) → (link_after events w).up ≡ true → lives n.systems events w.a.clock ≡ true
+  used_by : (w : LinkSpec) → (link_after events w).up ≡ true → lives n.systems events w.a.clock ≡ true
       → lives n.systems events w.b.clock ≡ true
       → is_used_after w ≡ true
   used_by w up a b =
@@ -134,7 +134,7 @@ module _ (n : NetworkState) (network : IsNetwork n) (events : List Timed) (g : S
 
   -- a link of the snapshot is one of the network that is in use
   pub record Runs (l : Link) : Type 0 where
-    pub wire : Wire
+    pub wire : LinkSpec
     pub member : In wire n.links
     pub is : link_of (wire.a, wire.b) ≡ l
     pub up : (link_after events wire).up ≡ true
@@ -165,7 +165,7 @@ module _ (n : NetworkState) (network : IsNetwork n) (events : List Timed) (g : S
       }
 
   -- and each that is in use is one of the snapshot
-  stays : (w : Wire) → In w n.links → is_used_after w ≡ true → In (link_of (w.a, w.b)) g.links
+  stays : (w : LinkSpec) → In w n.links → is_used_after w ≡ true → In (link_of (w.a, w.b)) g.links
   stays w member is =
       let (up, a, b) = used_parts w is in
       let joined : joined_after events w ≡ Some (w.a, w.b) = ap (λ test. cond test (Some (w.a, w.b)) None) up in
@@ -178,7 +178,7 @@ module _ (n : NetworkState) (network : IsNetwork n) (events : List Timed) (g : S
 
   -- ---- neighbours
 
-  neighbour_of : (clock x : ℕ) (w : Wire) → In w n.links → is_used_after w ≡ true → Ends clock x w
+  neighbour_of : (clock x : ℕ) (w : LinkSpec) → In w n.links → is_used_after w ≡ true → Ends clock x w
       → In x (neighbours n.systems n.links events clock)
   neighbour_of clock x w member used ends =
       let (place, there) = slice_get-In w n.links member in
@@ -215,7 +215,7 @@ module _ (n : NetworkState) (network : IsNetwork n) (events : List Timed) (g : S
         )
       ]
     where
-      parts : (w : Wire) (used : Bool) → cond used (far_clock clock w) None ≡ Some x
+      parts : (w : LinkSpec) (used : Bool) → cond used (far_clock clock w) None ≡ Some x
           → (used ≡ true) × (far_clock clock w ≡ Some x)
       parts w true is = (refl, is)
       parts w false is = absurd cc
@@ -252,7 +252,7 @@ module _ (n : NetworkState) (network : IsNetwork n) (events : List Timed) (g : S
 
   -- ---- how many systems
 
-  live_length : (ms : List Member)
+  live_length : (ms : List SystemSpec)
       → length (filter_map (live_after events) ms) ≡ count_by (λ m. (system_after events m).live) ms
   live_length [] = refl
   live_length (m ∷ ms) =
@@ -274,7 +274,7 @@ module _ (n : NetworkState) (network : IsNetwork n) (events : List Timed) (g : S
       let listed = live_length n.systems in
       omega (arith, moved, all, listed)
 
-  count_live : (p : ℕ → Bool) (ms : List Member)
+  count_live : (p : ℕ → Bool) (ms : List SystemSpec)
       → count_by p (map (λ (s : System). s.clock) (map system_of (filter_map (live_after events) ms)))
       ≡ count_by (λ m. (system_after events m).live && p (clock_of m.identity)) ms
   count_live p [] = refl
@@ -297,8 +297,8 @@ module _ (n : NetworkState) (network : IsNetwork n) (events : List Timed) (g : S
   between_are : count_by (lives_between n.systems n.links events) n.systems ≡ paths.with_two_neighbours g
   between_are =
       count_alike (lives_between n.systems n.links events)
-      (λ (m : Member). (system_after events m).live && paths.has_two_neighbours g (clock_of m.identity)) n.systems
-      (λ (m : Member). ap (λ b. (system_after events m).live && b) (two_is (clock_of m.identity)))
+      (λ (m : SystemSpec). (system_after events m).live && paths.has_two_neighbours g (clock_of m.identity)) n.systems
+      (λ (m : SystemSpec). ap (λ b. (system_after events m).live && b) (two_is (clock_of m.identity)))
       ∙ sym (count_live (paths.has_two_neighbours g) n.systems)
       ∙ sym (sum_by-IsPermutation (λ c. cond (paths.has_two_neighbours g c) 1 0)
       (map (λ (s : System). s.clock) (live_systems n.systems events)) (clocks g)

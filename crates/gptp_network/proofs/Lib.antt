@@ -1,7 +1,7 @@
 pub mod EventLemmas
 pub mod IntervalLemmas
 pub mod OctetLemmas
-pub mod MemberLemmas
+pub mod SystemSpecLemmas
 pub mod SearchLemmas
 pub mod SnapshotLemmas
 pub mod TakingLemmas

@@ -12,7 +12,7 @@ use Rattle.hex.specs.declared.error.FromHexError.{FromHexError}
 use Rattle.hex.proofs.HexLemmas.{decode_of-ok}
 use Rattle.toml.specs.Data.{item, no_items, Data, Items, Members, as_str, as_table, get_member}
 use Rattle.gptp_lists.specs.Members.{In}
-use Rattle.gptp_lists.proofs.MemberLemmas.{slice_get-In}
+use Rattle.gptp_lists.proofs.SystemSpecLemmas.{slice_get-In}
 use Rattle.gptp_graph.specs.Snapshot.{IsWellFormed, Snapshot, System as LiveSystem}
 use Rattle.gptp_roles.specs.Selection.{clock_of}
 use Rattle.gptp_plan.specs.Calm.{last_change}

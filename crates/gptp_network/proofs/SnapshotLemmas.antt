@@ -9,7 +9,7 @@ use Rattle.std.proofs.lemmas.List.Sorted.{Contains-permutation, IsPermutation-sy
 use Rattle.std.proofs.lemmas.Option.{cond_some, same_Some, slice_get-get_or}
 use Rattle.gptp_lists.specs.Members.{In}
 use Rattle.gptp_graph.specs.Snapshot.{System, PortIdentity, Link, Snapshot, IsPortOf, IsWellFormed, Joins, clocks}
-use Rattle.gptp_lists.proofs.MemberLemmas.{In-map, In-slice_get, slice_get-In, from_map, pigeonhole}
+use Rattle.gptp_lists.proofs.SystemSpecLemmas.{In-map, In-slice_get, slice_get-In, from_map, pigeonhole}
 use Rattle.gptp_graph.proofs.RisingLemmas.{Different-rising}
 use Rattle.gptp_graph.proofs.Sure.{and_true}
 use Rattle.gptp_roles.specs.Selection.{clock_of}
@@ -21,8 +21,8 @@ use Rattle.gptp_plan.specs.declared.change.Act.TheVariants as acts
 use Rattle.gptp_plan.specs.declared.change.Change.{Change}
 use Rattle.gptp_plan.specs.declared.change.Change.TheVariants as changes
 use Rattle.gptp_plan.specs.declared.change.Timed.{Timed}
-use Rattle.gptp_plan.specs.declared.network.Member.{Member}
-use Rattle.gptp_plan.specs.declared.network.Wire.{Wire}
+use Rattle.gptp_plan.specs.declared.network.SystemSpec.{SystemSpec}
+use Rattle.gptp_plan.specs.declared.network.LinkSpec.{LinkSpec}
 use Rattle.gptp_lists.proofs.MappedLemmas.{contains_there, there_contains}
 use Rattle.gptp_network.specs.Snapshot.{IsWithinLimits, StandsAfter, has_clock, joins_two, link_of, live_systems, port_identity, system_of}
 
@@ -94,7 +94,7 @@ stands_clock [] own s = refl
 stands_clock (t ∷ ts) own s = stands_clock ts own (system_acted t.act own s) ∙ acted_clock t.act own s
 
 -- a system keeps the clock that it was given
-pub clock_after : (events : List Timed) (m : Member) → clock_of (system_after events m).identity ≡ clock_of m.identity
+pub clock_after : (events : List Timed) (m : SystemSpec) → clock_of (system_after events m).identity ≡ clock_of m.identity
 clock_after events m = stands_clock events (clock_of m.identity) (standing m)
 
 -- ---- what stands is a snapshot
@@ -113,11 +113,11 @@ port_id_of p = record { clock = p.clock; port = p.port }
 module _ (n : NetworkState) (network : IsNetwork n) (events : List Timed) (g : Snapshot)
     (stands : StandsAfter n events g) where
   -- a system of the network after these events
-  after : Member → System
+  after : SystemSpec → System
   after m = system_of ((system_after events m).identity, m.ports)
 
   -- each system that stands is one of the network
-  member_of : (s : System) → In s g.systems → (m : Member) × In m n.systems × (after m ≡ s)
+  member_of : (s : System) → In s g.systems → (m : SystemSpec) × In m n.systems × (after m ≡ s)
   unfolding after
   member_of s live =
       let moved = IsPermutation-sym (live_systems n.systems events) g.systems stands.systems in
@@ -127,13 +127,13 @@ module _ (n : NetworkState) (network : IsNetwork n) (events : List Timed) (g : S
       let is = (cond_some (system_after events m).live ((system_after events m).identity, m.ports) pair lives).1 in
       (m, at, ap system_of is ∙ seen)
 
-  pub member_there : (s : System) → In s g.systems → (m : Member) × In m n.systems
+  pub member_there : (s : System) → In s g.systems → (m : SystemSpec) × In m n.systems
       × (system_of ((system_after events m).identity, m.ports) ≡ s)
   unfolding after
   member_there = member_of
 
   -- two systems of the network with one clock are one
-  one_member : (l m : Member) → In l n.systems → In m n.systems → clock_of l.identity ≡ clock_of m.identity → l ≡ m
+  one_member : (l m : SystemSpec) → In l n.systems → In m n.systems → clock_of l.identity ≡ clock_of m.identity → l ≡ m
   one_member l m first second same =
       let (i, at) = slice_get-In l n.systems first in
       let (j, there) = slice_get-In m n.systems second in
@@ -141,7 +141,7 @@ module _ (n : NetworkState) (network : IsNetwork n) (events : List Timed) (g : S
 
   -- a link that stands is one of the network, and both its ends stand
   record IsUsed (l : Link) : Type 0 where
-    wire : Wire
+    wire : LinkSpec
     place : ℕ
     there : slice_get n.links place ≡ Some wire
     is : link_of (wire.a, wire.b) ≡ l
@@ -178,7 +178,7 @@ module _ (n : NetworkState) (network : IsNetwork n) (events : List Timed) (g : S
       sym (clock_after events m) ∙ ap (λ (t : System). t.clock) is ∙ clock ∙ sym is_port.clock in
       let same = one_member m is_port.system at other clocks in
       let ports : is_port.system.ports ≡ s.ports =
-      ap (λ (l : Member). l.ports) (sym same) ∙ ap (λ (t : System). t.ports) is in
+      ap (λ (l : SystemSpec). l.ports) (sym same) ∙ ap (λ (t : System). t.ports) is in
       (s, live, record { clock = clock; first = is_port.first; last = subst (λ k. port.port ≤ k) ports is_port.last })
 
   HasEnd : PortIdentity → Type 0
@@ -204,7 +204,7 @@ module _ (n : NetworkState) (network : IsNetwork n) (events : List Timed) (g : S
 
   -- a link of the network that joins the two ports
   record Runs (p q : PortIdentity) : Type 0 where
-    wire : Wire
+    wire : LinkSpec
     place : ℕ
     there : slice_get n.links place ≡ Some wire
     ends : ((wire.a ≡ port_id_of p) × (wire.b ≡ port_id_of q)) ⊎ ((wire.b ≡ port_id_of p) × (wire.a ≡ port_id_of q))
@@ -228,7 +228,7 @@ module _ (n : NetworkState) (network : IsNetwork n) (events : List Timed) (g : S
   is_end : (p q : PortIdentity) (r : Runs p q) → IsEnd (port_id_of p) r.wire
   is_end p q r = elim r.ends [ inl e ↦ inl e.0 | inr e ↦ inr e.0 ]
 
-  other_ends : (p q r : PortIdentity) (w : Wire) → (w.a.clock ≢ w.b.clock)
+  other_ends : (p q r : PortIdentity) (w : LinkSpec) → (w.a.clock ≢ w.b.clock)
       → ((w.a ≡ port_id_of p) × (w.b ≡ port_id_of q)) ⊎ ((w.b ≡ port_id_of p) × (w.a ≡ port_id_of q))
       → ((w.a ≡ port_id_of p) × (w.b ≡ port_id_of r)) ⊎ ((w.b ≡ port_id_of p) × (w.a ≡ port_id_of r)) → q ≡ r
   other_ends p q r w apart (inl h) (inl k) = ap port_identity (sym h.1 ∙ k.1)
@@ -244,8 +244,8 @@ module _ (n : NetworkState) (network : IsNetwork n) (events : List Timed) (g : S
       network.one_link h.place k.place h.wire k.wire (port_id_of p) h.there k.there (is_end p q h) (is_end p r k) in
       let same : k.wire ≡ h.wire =
       same_Some k.wire h.wire (sym k.there ∙ ap (slice_get n.links) (sym place) ∙ h.there) in
-      let Ends : Wire → Type 0 =
-      λ (w : Wire). ((w.a ≡ port_id_of p) × (w.b ≡ port_id_of r)) ⊎ ((w.b ≡ port_id_of p) × (w.a ≡ port_id_of r)) in
+      let Ends : LinkSpec → Type 0 =
+      λ (w : LinkSpec). ((w.a ≡ port_id_of p) × (w.b ≡ port_id_of r)) ⊎ ((w.b ≡ port_id_of p) × (w.a ≡ port_id_of r)) in
       other_ends p q r h.wire (network.links h.place h.wire h.there).apart h.ends (subst Ends same k.ends)
 
   -- a network that stands is a snapshot, where each identity is of fourteen octets
@@ -269,24 +269,24 @@ module _ (n : NetworkState) (network : IsNetwork n) (events : List Timed) (g : S
   }
 
   -- each clock that stands is one of the network
-  clock_known : (v : ℕ) → In v (clocks g) → In v (map (λ (m : Member). clock_of m.identity) n.systems)
+  clock_known : (v : ℕ) → In v (clocks g) → In v (map (λ (m : SystemSpec). clock_of m.identity) n.systems)
   unfolding after
   clock_known v member =
       let (s, live, same) = from_map (λ (s : System). s.clock) v g.systems member in
       let (m, at, is) = member_of s live in
-      subst (λ u. In u (map (λ (m : Member). clock_of m.identity) n.systems))
+      subst (λ u. In u (map (λ (m : SystemSpec). clock_of m.identity) n.systems))
       (sym (clock_after events m) ∙ ap (λ (t : System). t.clock) is ∙ same)
-      (In-map (λ (m : Member). clock_of m.identity) m n.systems at)
+      (In-map (λ (m : SystemSpec). clock_of m.identity) m n.systems at)
 
   -- and it keeps to the limits of the network
   pub stands_within : IsWithinLimits g
   unfolding after
   stands_within = record {
     systems =
-        let fits = pigeonhole (clocks g) (map (λ (m : Member). clock_of m.identity) n.systems)
+        let fits = pigeonhole (clocks g) (map (λ (m : SystemSpec). clock_of m.identity) n.systems)
         (Different-rising (clocks g) stands.rising) clock_known in
         let some = length-map g.systems (λ (s : System). s.clock) in
-        let all = length-map n.systems (λ (m : Member). clock_of m.identity) in
+        let all = length-map n.systems (λ (m : SystemSpec). clock_of m.identity) in
         let limit = network.few_systems in
         omega (arith, fits, some, all, limit);
     ports = λ s live.

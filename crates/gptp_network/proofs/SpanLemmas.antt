@@ -2,7 +2,7 @@
 use Rattle.std.proofs.Common.{◌≡◌, ◌↔◌, ℕ, nat_le, Bool, true, false, IsTrue, List, Option, Some, None, refl, sym, ap}
 use Rattle.gptp_graph.specs.PathBound.{path_bound}
 use Rattle.gptp_graph.specs.Snapshot.{Snapshot}
-use Rattle.gptp_lists.proofs.MemberLemmas.{In-slice_get, slice_get-In}
+use Rattle.gptp_lists.proofs.SystemSpecLemmas.{In-slice_get, slice_get-In}
 use Rattle.gptp_plan.specs.Allowed.{AreAllowed}
 use Rattle.gptp_plan.specs.InUse.{greatest_delay}
 use Rattle.gptp_plan.specs.Network.{IsNetwork, NetworkState, pace_of}

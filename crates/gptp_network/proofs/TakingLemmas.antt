@@ -13,14 +13,14 @@ use Rattle.std.proofs.lemmas.Option.{cond_some, get_or_from_slice_get, none-some
 use Rattle.gptp_lists.specs.Members.{In, Different}
 use Rattle.gptp_graph.specs.Order.{IsRising}
 use Rattle.gptp_graph.specs.Snapshot.{System, PortIdentity, Link}
-use Rattle.gptp_lists.proofs.MemberLemmas.{slice_get-In, from_map}
+use Rattle.gptp_lists.proofs.SystemSpecLemmas.{slice_get-In, from_map}
 use Rattle.gptp_roles.specs.Selection.{clock_of}
 use Rattle.gptp_vector.specs.declared.port.PortId.{PortId}
 use Rattle.gptp_plan.specs.Change.{joined_after, live_after, system_after}
 use Rattle.gptp_plan.specs.Network.{NetworkState, IsNetwork}
 use Rattle.gptp_plan.specs.declared.change.Timed.{Timed}
-use Rattle.gptp_plan.specs.declared.network.Member.{Member}
-use Rattle.gptp_plan.specs.declared.network.Wire.{Wire}
+use Rattle.gptp_plan.specs.declared.network.SystemSpec.{SystemSpec}
+use Rattle.gptp_plan.specs.declared.network.LinkSpec.{LinkSpec}
 use Rattle.gptp_network.specs.Events.{AreInOrder}
 use Rattle.gptp_network.specs.Snapshot.{StandsAfter, has_clock, joins_two, link_of, live_systems, system_of, used_links}
 use Rattle.gptp_network.specs.SnapshotTables.{AreEnds, AreLive, AreSystems, AreTables, HasClock, HaveOctets, RisesByPort, both_ends, seen, seen_links, seen_systems}
@@ -96,13 +96,13 @@ taken [] place within = absurd (omega arith)
 taken (x ∷ xs) place within =
     (get_or (x ∷ xs) place x, slice_get-get_or (x ∷ xs) place x within, take_more (x ∷ xs) place x within)
 
-live_append : (ms ns : List Member) (events : List Timed)
+live_append : (ms ns : List SystemSpec) (events : List Timed)
     → live_systems (ms ++ ns) events ≡ live_systems ms events ++ live_systems ns events
 live_append ms ns events =
     ap (map system_of) (filter_map-append (live_after events) ms ns)
     ∙ map-append system_of (filter_map (live_after events) ms) (filter_map (live_after events) ns)
 
-module _ (members : List Member) (events : List Timed) (systems : List LiveSystem) (place : ℕ)
+module _ (members : List SystemSpec) (events : List Timed) (systems : List LiveSystem) (place : ℕ)
     (within : place < length members) (before : AreLive (take place members) events systems) where
   -- the system at the place has failed
   pub live_kept : None ≡ option_and_then (live_after events) (slice_get members place)
@@ -144,7 +144,7 @@ module _ (members : List Member) (events : List Timed) (systems : List LiveSyste
       octets_behind (t ∷ ss) h s (inr member) = octets_behind ss (λ u k. h u (inr k)) s member
 
 -- no more live than there are
-live_within : (ms : List Member) (events : List Timed) → length (live_systems ms events) ≤ length ms
+live_within : (ms : List SystemSpec) (events : List Timed) → length (live_systems ms events) ≤ length ms
 live_within [] events = omega arith
 live_within (m ∷ ms) events = by (live_within ms events) (live_after events m) refl
   where
@@ -156,19 +156,19 @@ live_within (m ∷ ms) events = by (live_within ms events) (live_after events m)
 -- ---- systems by rising clock
 
 -- the clock of a system that lives is that of its member
-clock_lives : (events : List Timed) (m : Member) (pair : ℕ × ℕ) → live_after events m ≡ Some pair
+clock_lives : (events : List Timed) (m : SystemSpec) (pair : ℕ × ℕ) → live_after events m ≡ Some pair
     → clock_of pair.0 ≡ clock_of m.identity
 clock_lives events m pair lives =
     let is = (cond_some (system_after events m).live ((system_after events m).identity, m.ports) pair lives).1 in
     ap (λ (p : ℕ × ℕ). clock_of p.0) (sym is) ∙ clock_after events m
 
 -- where no two members have one clock
-abbrev OneClockEach : List Member → Type 0
-OneClockEach ms = (i j : ℕ) (l m : Member) → slice_get ms i ≡ Some l → slice_get ms j ≡ Some m
+abbrev OneClockEach : List SystemSpec → Type 0
+OneClockEach ms = (i j : ℕ) (l m : SystemSpec) → slice_get ms i ≡ Some l → slice_get ms j ≡ Some m
     → clock_of l.identity ≡ clock_of m.identity → i ≡ j
 
 -- a system that lives has no clock of one behind it
-other_clock : (m : Member) (ms : List Member) (events : List Timed) → OneClockEach (m ∷ ms) → (pair : ℕ × ℕ)
+other_clock : (m : SystemSpec) (ms : List SystemSpec) (events : List Timed) → OneClockEach (m ∷ ms) → (pair : ℕ × ℕ)
     → live_after events m ≡ Some pair
     → In (clock_of pair.0) (map (λ (s : System). s.clock) (live_systems ms events)) → ⊥
 other_clock m ms events once pair lives member =
@@ -182,14 +182,14 @@ other_clock m ms events once pair lives member =
     let none : zero ≡ suc place = once zero (suc place) m l refl here same in
     absurd (omega arith)
 
-live_once_more : (m : Member) (ms : List Member) (events : List Timed) → OneClockEach (m ∷ ms) → (o : Option (ℕ × ℕ))
+live_once_more : (m : SystemSpec) (ms : List SystemSpec) (events : List Timed) → OneClockEach (m ∷ ms) → (o : Option (ℕ × ℕ))
     → live_after events m ≡ o → Different (map (λ (s : System). s.clock) (live_systems ms events))
     → Different (map (λ (s : System). s.clock) (live_systems (m ∷ ms) events))
 live_once_more m ms events once None e rest = rw e rest
 live_once_more m ms events once (Some pair) e rest = rw e (other_clock m ms events once pair e, rest)
 
 -- clocks of what lives differ
-pub live_once : (ms : List Member) (events : List Timed) → OneClockEach ms
+pub live_once : (ms : List SystemSpec) (events : List Timed) → OneClockEach ms
     → Different (map (λ (s : System). s.clock) (live_systems ms events))
 live_once [] events once = tt
 live_once (m ∷ ms) events once =
@@ -265,7 +265,7 @@ sorted_systems n events before after network live moved sorted = record {
 
 -- ---- one link more
 
-used_append : (ws vs : List Wire) (events : List Timed) (systems : List System)
+used_append : (ws vs : List LinkSpec) (events : List Timed) (systems : List System)
     → used_links (ws ++ vs) events systems ≡ used_links ws events systems ++ used_links vs events systems
 used_append ws vs events systems =
     ap (λ l. filter (joins_two systems) (map link_of l)) (filter_map-append (joined_after events) ws vs)
@@ -274,7 +274,7 @@ used_append ws vs events systems =
     ∙ filter-append (joins_two systems) (map link_of (filter_map (joined_after events) ws))
     (map link_of (filter_map (joined_after events) vs))
 
-module _ (wires : List Wire) (events : List Timed) (systems : List System) (place : ℕ)
+module _ (wires : List LinkSpec) (events : List Timed) (systems : List System) (place : ℕ)
     (within : place < length wires) where
   -- the link at the place is down
   pub used_kept : None ≡ option_and_then (joined_after events) (slice_get wires place)

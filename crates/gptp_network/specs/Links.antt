@@ -3,7 +3,7 @@ use Rattle.std.specs.Prelude.{ℕ, codes, true, length, Some, None, Result, Ok}
 use Rattle.toml.specs.Data.{Data, Members, as_table}
 use Rattle.gptp_vector.specs.declared.port.PortId.{PortId}
 use Rattle.gptp_plan.specs.Network.{NetworkState, wire, with_link, link_fault}
-use Rattle.gptp_plan.specs.declared.network.Wire.{Wire}
+use Rattle.gptp_plan.specs.declared.network.LinkSpec.{LinkSpec}
 use Rattle.gptp_network.specs.Faults.{◌>>=◌, tested}
 use Rattle.gptp_network.specs.Members.{limited, each_of}
 use Rattle.gptp_network.specs.Values.{clock, natural, flag, kind_of, array_at}
@@ -28,7 +28,7 @@ link_of t = do
   Ok (record { a = port_numbered a a_port; b = port_numbered b b_port; min = least; max = greatest; loss = loss; up = up })
 
 -- links are numbered from 0 in their order
-abbrev pub wire_of : ℕ → Link → Wire
+abbrev pub wire_of : ℕ → Link → LinkSpec
 wire_of number l = wire number l.a l.b l.min l.max l.loss l.up
 
 -- the network with one more link

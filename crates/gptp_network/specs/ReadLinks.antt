@@ -6,8 +6,8 @@ use Rattle.gptp_vector.specs.declared.port.PortId.{PortId}
 use Rattle.gptp_plan.specs.Network.{NetworkState, is_taken, link_fault, smallest_of, with_link}
 use Rattle.gptp_plan.specs.declared.fault.NetworkFault.{NetworkFault}
 use Rattle.gptp_plan.specs.declared.fault.NetworkFault.TheVariants as networks
-use Rattle.gptp_plan.specs.declared.network.Member.{Member}
-use Rattle.gptp_plan.specs.declared.network.Wire.{Wire}
+use Rattle.gptp_plan.specs.declared.network.SystemSpec.{SystemSpec}
+use Rattle.gptp_plan.specs.declared.network.LinkSpec.{LinkSpec}
 use Rattle.gptp_network.specs.Faults.{◌>>=◌}
 use Rattle.gptp_network.specs.Found.{link_from, system_from}
 use Rattle.gptp_network.specs.Links.{port_numbered, wire_of}
@@ -51,10 +51,10 @@ is_there port None = false
 is_there port (Some found) = nat_le port.port found.1
 
 -- the first end of a link that is at no port, and the first at which another link is
-abbrev pub first_without : List Member → Link → PortId
+abbrev pub first_without : List SystemSpec → Link → PortId
 first_without systems l = if is_there l.a (system_from 0 systems l.a.clock) then l.b else l.a
 
-abbrev pub first_taken : List Wire → Link → PortId
+abbrev pub first_taken : List LinkSpec → Link → PortId
 first_taken links l = if is_taken links l.a then l.a else l.b
 
 -- why a link can't be added

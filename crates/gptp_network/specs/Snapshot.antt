@@ -11,8 +11,8 @@ use Rattle.gptp_vector.specs.declared.port.PortId.{PortId}
 use Rattle.gptp_plan.specs.Change.{joined_after, live_after}
 use Rattle.gptp_plan.specs.Network.{NetworkState}
 use Rattle.gptp_plan.specs.declared.change.Timed.{Timed}
-use Rattle.gptp_plan.specs.declared.network.Member.{Member}
-use Rattle.gptp_plan.specs.declared.network.Wire.{Wire}
+use Rattle.gptp_plan.specs.declared.network.SystemSpec.{SystemSpec}
+use Rattle.gptp_plan.specs.declared.network.LinkSpec.{LinkSpec}
 use Rattle.gptp_network.specs.Document.{DocumentState}
 
 -- the events up to a time, in their order
@@ -30,7 +30,7 @@ abbrev pub link_of : PortId × PortId → Link
 link_of (a, b) = record { a = port_identity a; b = port_identity b }
 
 -- the systems that live after these events, in the order of the document
-abbrev pub live_systems : List Member → List Timed → List System
+abbrev pub live_systems : List SystemSpec → List Timed → List System
 live_systems members events = map system_of (filter_map (live_after events) members)
 
 -- one of the systems has this clock
@@ -41,7 +41,7 @@ abbrev pub joins_two : List System → Link → Bool
 joins_two systems l = has_clock systems l.a.clock && has_clock systems l.b.clock
 
 -- the links that are up after these events between two of the systems, in the order of the document
-abbrev pub used_links : List Wire → List Timed → List System → List Link
+abbrev pub used_links : List LinkSpec → List Timed → List System → List Link
 used_links links events systems = filter (joins_two systems) (map link_of (filter_map (joined_after events) links))
 
 -- The network after these events: its live systems by rising clock, and the links that are up between two of them.

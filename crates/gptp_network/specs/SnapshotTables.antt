@@ -8,7 +8,7 @@ use Rattle.gptp_graph.specs.Order.{IsRising}
 use Rattle.gptp_graph.specs.Snapshot.{System, Link, Snapshot, IsWellFormed}
 use Rattle.gptp_vector.specs.declared.port.PortId.{PortId}
 use Rattle.gptp_plan.specs.declared.change.Timed.{Timed}
-use Rattle.gptp_plan.specs.declared.network.Member.{Member}
+use Rattle.gptp_plan.specs.declared.network.SystemSpec.{SystemSpec}
 use Rattle.gptp_network.specs.declared.snapshot.LinkEnd.{LinkEnd}
 use Rattle.gptp_network.specs.declared.snapshot.LiveSystem.{LiveSystem}
 use Rattle.gptp_network.specs.declared.snapshot.UsedLink.{UsedLink}
@@ -39,12 +39,12 @@ abbrev pub HaveOctets : List LiveSystem → Type 0
 HaveOctets systems = (s : LiveSystem) → In s systems → s.identity < 2 ^ 112
 
 -- the members that live after these events, in their order
-pub record AreLive (members : List Member) (events : List Timed) (systems : List LiveSystem) : Type 0 where
+pub record AreLive (members : List SystemSpec) (events : List Timed) (systems : List LiveSystem) : Type 0 where
   pub are : seen_systems systems ≡ live_systems members events
   pub octets : HaveOctets systems
 
 -- the members that live after these events, by rising clock
-pub record AreSystems (members : List Member) (events : List Timed) (systems : List LiveSystem) : Type 0 where
+pub record AreSystems (members : List SystemSpec) (events : List Timed) (systems : List LiveSystem) : Type 0 where
   pub are : IsPermutation (live_systems members events) (seen_systems systems)
   pub rising : RisesByClock systems
   pub octets : HaveOctets systems

@@ -3,7 +3,7 @@ use Rattle.std.specs.Prelude.{ℕ, ℤ, pos, neg_ℤ, codes, ◌∷◌, ◌++◌
 use Rattle.byteorder.specs.Endian.{big_bytes, big_number}
 use Rattle.toml.specs.Data.{Data, Members, as_table}
 use Rattle.gptp_plan.specs.Network.{NetworkState, member, with_system, system_fault}
-use Rattle.gptp_plan.specs.declared.network.Member.{Member}
+use Rattle.gptp_plan.specs.declared.network.SystemSpec.{SystemSpec}
 use Rattle.gptp_network.specs.Faults.{◌>>=◌, tested}
 use Rattle.gptp_network.specs.Intervals.{intervals}
 use Rattle.gptp_network.specs.Members.{needed, limited, each_of}
@@ -38,7 +38,7 @@ system_of version announce t = do
     intervals = record { items = logs };
   })
 
-abbrev pub member_of : System → Member
+abbrev pub member_of : System → SystemSpec
 member_of s = member s.identity s.ports s.phase s.drift s.intervals
 
 -- the network with one more system

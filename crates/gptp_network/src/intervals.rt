@@ -149,7 +149,7 @@ fn far_member(values: &[Value]) -> Option<Why>
 }
 
 /// Why an array holds no interval for each of so many ports.
-#[tactic(auto, using(crate::proofs::MemberLemmas::count_view))]
+#[tactic(auto, using(crate::proofs::SystemSpecLemmas::count_view))]
 fn intervals_why(ports: u8, values: &[Value]) -> Why
     ensures { result ≡ intervals_why ports (items_view values.now) }
 {

@@ -25,7 +25,7 @@ pub(crate) fn section_in(document: &Table, section: Section) -> Result<&[Value],
 }
 
 /// The members of the systems' section, which must be there.
-#[tactic(auto, using(crate::proofs::MemberLemmas::count_view), unfolding(crate::specs::ReadMembers::needed_in))]
+#[tactic(auto, using(crate::proofs::SystemSpecLemmas::count_view), unfolding(crate::specs::ReadMembers::needed_in))]
 pub(crate) fn needed_in(values: &[Value]) -> Result<&[Value], Refusal>
     ensures members { IfOk result (λ vs. needed_in (items_view values.now) ≡ Ok (items_view vs.now)) }
     ensures refused { IfErr result (λ e. needed_in (items_view values.now) ≡ Err e) }
@@ -41,7 +41,7 @@ pub(crate) fn needed_in(values: &[Value]) -> Result<&[Value], Refusal>
 }
 
 /// The members of a section, which are as many as it may have at most. Else the first of those too many is refused.
-#[tactic(auto, using(crate::proofs::MemberLemmas::count_view), unfolding(crate::specs::ReadMembers::limited_in))]
+#[tactic(auto, using(crate::proofs::SystemSpecLemmas::count_view), unfolding(crate::specs::ReadMembers::limited_in))]
 pub(crate) fn limited_in(section: Section, values: &[Value]) -> Result<&[Value], Refusal>
     ensures members { IfOk result (λ vs. limited_in section (items_view values.now) ≡ Ok (items_view vs.now)) }
     ensures refused { IfErr result (λ e. limited_in section (items_view values.now) ≡ Err e) }
@@ -50,7 +50,7 @@ pub(crate) fn limited_in(section: Section, values: &[Value]) -> Result<&[Value],
     let count = values.len();
     if most < count {
         Err(Refusal {
-            place: Place::Member(section, most),
+            place: Place::SystemSpec(section, most),
             why: Why::TooMany { count, most },
         })
     } else {

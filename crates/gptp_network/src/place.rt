@@ -42,5 +42,5 @@ impl Section {
 pub enum Place {
     Top,
     Network,
-    Member(Section, usize),
+    SystemSpec(Section, usize),
 }

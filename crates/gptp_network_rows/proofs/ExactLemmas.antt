@@ -24,7 +24,7 @@ use Rattle.gptp_graph.specs.Snapshot.{Snapshot, System, port_of}
 use Rattle.gptp_graph.proofs.LinkLemmas.{Joins-sym}
 use Rattle.gptp_kept.specs.Calm.{IsQuietWorld, sync_paths_of}
 use Rattle.gptp_kept.specs.CalmFor.{IsCalmFor}
-use Rattle.gptp_kept.specs.Claimed.{Claimed}
+use Rattle.gptp_kept.specs.SettlingInvariant.{SettlingInvariant}
 use Rattle.gptp_kept.specs.Exact.{IsAhead, IsWayError, IsExactInTime, IsHeardExact, exact_span}
 use Rattle.gptp_kept.specs.Followers.{bound_at, follower_parts}
 use Rattle.gptp_kept.specs.Standing.{live_stations, snapshot_of}
@@ -33,12 +33,12 @@ use Rattle.gptp_kept.proofs.WayLemmas.{way_of}
 use Rattle.gptp_links.specs.declared.bounds.Bounds.{Bounds}
 use Rattle.gptp_lists.specs.Members.{In}
 use Rattle.gptp_lists.proofs.MappedLemmas.{alike}
-use Rattle.gptp_lists.proofs.MemberLemmas.{slice_get-In}
+use Rattle.gptp_lists.proofs.SystemSpecLemmas.{slice_get-In}
 use Rattle.gptp_pdelay.specs.Clock.{local_clock}
 use Rattle.gptp_plan.specs.Change.{link_after}
 use Rattle.gptp_plan.specs.Network.{IsNetwork, pace_of, wire}
 use Rattle.gptp_plan.specs.declared.change.Timed.{Timed}
-use Rattle.gptp_plan.specs.declared.network.Wire.{Wire}
+use Rattle.gptp_plan.specs.declared.network.LinkSpec.{LinkSpec}
 use Rattle.gptp_reached.specs.Headline.{HeadlineOnTime, WorldIsCalm, LeavesOffset}
 use Rattle.gptp_reached.specs.HeadlineLaws.{RunsAreExact, WorldsAreExact}
 use Rattle.gptp_reached.specs.PlayedLaws.{IsPlayable}
@@ -61,10 +61,10 @@ none_ahead : (x y z : ℤ) → x ≡ z → y ≡ z → pos 0 ≡ x -ℤ y
 none_ahead x y z own other = omega (arith, ints, own, other)
 
 -- the link of the pair
-abbrev pair_wire : Wire
+abbrev pair_wire : LinkSpec
 pair_wire = wire 0 (port_id 1 1) (port_id 2 1) 500 500 0 true
 
-only_link : (place : ℕ) (v : Wire) → slice_get pair_network.links place ≡ Some v → v ≡ pair_wire
+only_link : (place : ℕ) (v : LinkSpec) → slice_get pair_network.links place ≡ Some v → v ≡ pair_wire
 only_link zero v there = sym (same_Some pair_wire v there)
 only_link (suc place) v there = absurd (none-some v there)
 
@@ -103,7 +103,7 @@ goes_on answers time timed fate fate_after w w' done k sound next was =
 
 -- ---- the pair once all has settled
 
-module _ (w : WorldState) (time : ℕ) (k : IsPairSince 27000000000 w) (sound : IsSound w) (claimed : Claimed w)
+module _ (w : WorldState) (time : ℕ) (k : IsPairSince 27000000000 w) (sound : IsSound w) (claimed : SettlingInvariant w)
     (passed : w.time ≤ time) where
   abbrev pub x : Parts
   x = follower_parts params w
@@ -194,7 +194,7 @@ module _ (w : WorldState) (time : ℕ) (k : IsPairSince 27000000000 w) (sound : 
       way.link way.channel way.here in
       ap (bound_at f (live_stations w.stations) w.net.channels) (sym way.to)
       ∙ bound_is f w sound claimed.is.world.legible way.link way.direction way.channel way.here way.used
-      ∙ ap (λ (l : Wire). f l.bounds) (sym same) ∙ ap (λ (l : Wire). f l.bounds) (only_link way.link v at_place)
+      ∙ ap (λ (l : LinkSpec). f l.bounds) (sym same) ∙ ap (λ (l : LinkSpec). f l.bounds) (only_link way.link v at_place)
 
   -- ---- its way
 
@@ -295,7 +295,7 @@ runs_exact answers theorem until fate start w ts t offset early unfolds member k
     (theorem pair_document until fate start w ts t (playable k.network) (omega (arith, early)) unfolds member) left
 
 pub second_is_exact : (w : WorldState) (time : ℕ) (w' : WorldState) (done : Done) (offset : ℤ)
-    → IsPairSince 27000000000 w → IsSound w → Claimed w → w.time ≤ time → IsHeardExact w time w' done
+    → IsPairSince 27000000000 w → IsSound w → SettlingInvariant w → w.time ≤ time → IsHeardExact w time w' done
     → LeavesOffset 2 offset w' done → AreWithin 19 offset (pos 0)
 second_is_exact w time w' Quiet offset k sound claimed passed promised left = absurd left.uses
 second_is_exact w time w' (Heard number port answer frame) offset k sound claimed passed promised left =

@@ -17,7 +17,7 @@ use Rattle.gptp_acts.specs.Prompt.{HavePace}
 use Rattle.gptp_acts.specs.Sound.{IsSound}
 use Rattle.gptp_acts.specs.Views.{ShowsLive}
 use Rattle.gptp_acts.specs.World.{WorldState, port_id}
-use Rattle.gptp_kept.specs.Claimed.{Claimed}
+use Rattle.gptp_kept.specs.SettlingInvariant.{SettlingInvariant}
 use Rattle.gptp_kept.specs.Standing.{snapshot_of}
 use Rattle.gptp_kept.specs.Traces.{AreHeldCleanInTime, AreHeldWholeInTime, IsCalmWorld, IsFrameClean, IsHeardClean, IsHeldClean, IsHeldWhole, WasSentAfter, turns_span}
 use Rattle.gptp_kept.specs.View.{said}
@@ -88,7 +88,7 @@ second_holds w s at shows whole r is =
 
 -- ---- what the second hears
 
-module _ (w : WorldState) (k : IsPairSince 15000000000 w) (sound : IsSound w) (claimed : Claimed w) where
+module _ (w : WorldState) (k : IsPairSince 15000000000 w) (sound : IsSound w) (claimed : SettlingInvariant w) where
   snapshot : snapshot_of w ≡ pair_snapshot
   snapshot = snapshot_is w k.stands sound
 
@@ -131,7 +131,7 @@ module _ (w : WorldState) (k : IsPairSince 15000000000 w) (sound : IsSound w) (c
       (held.good.source ∙ joined_to_second held.from 1 held.joins)
 
 pub second_hears : (w : WorldState) (time : ℕ) (done : Done) (m : AnnounceView) → IsPairSince 15000000000 w → IsSound w
-    → Claimed w → w.time ≤ time → IsHeardClean w time done → HearsAnnounce 2 m done → m.head.source ≡ port_id 1 1
+    → SettlingInvariant w → w.time ≤ time → IsHeardClean w time done → HearsAnnounce 2 m done → m.head.source ≡ port_id 1 1
 second_hears w time done m k sound claimed passed clean heard = hears w k sound claimed m time done passed heard clean
 
 -- a world of the pair at a time has been one since an earlier time

@@ -48,7 +48,7 @@ use Rattle.gptp_settling.specs.Frame.{Announce}
 use Rattle.gptp_settling.specs.Settled.{IsSlaveOf}
 use Rattle.gptp_system.specs.State.{SystemState, clock, is_capable_at, trace}
 use Rattle.gptp_system.specs.Steps.{HasPortNumber}
-use Rattle.gptp_kept.specs.Claimed.{Claimed}
+use Rattle.gptp_kept.specs.SettlingInvariant.{SettlingInvariant}
 use Rattle.gptp_kept.specs.Settled.{graph_role}
 use Rattle.gptp_kept.specs.Shown.{AreCapable, FollowsByDistance, FollowsByPaths, FollowsInTime, IsCapableInTime, IsEnabledInTime, IsSettledFor, PlaysInTime, distance_span}
 use Rattle.gptp_kept.specs.CalmFor.{capable_span, span_over}
@@ -58,7 +58,7 @@ use Rattle.gptp_kept.proofs.SystemLemmas.{live_from, live_there}
 use Rattle.gptp_certificate.specs.Settled.{IsRightInTime}
 use Rattle.gptp_certificate.specs.Stated.{States}
 use Rattle.gptp_reached.specs.PlayedLaws.{IsReached}
-use Rattle.gptp_reached.specs.Reached.{StandsAs}
+use Rattle.gptp_reached.specs.Reached.{StandsAsPlanned}
 use Rattle.gptp_reached.proofs.CalmLemmas.{quiet_stands, set_stands}
 use Rattle.gptp_reached.proofs.PlayedLemmas.{played_stands}
 use Rattle.gptp_reached.proofs.SnapshotLemmas.{snapshots_stand, systems_stand}
@@ -95,7 +95,7 @@ stands_after = record {
 
 -- ---- its world
 
-pub snapshot_is : (w : WorldState) → StandsAs pair_network [] w → IsSound w → snapshot_of w ≡ pair_snapshot
+pub snapshot_is : (w : WorldState) → StandsAsPlanned pair_network [] w → IsSound w → snapshot_of w ≡ pair_snapshot
 snapshot_is w so sound =
     ap₂ (λ (ss : List System) (ls : List Link). record { systems = ss; links = ls })
     (systems_stand pair_network [] w so sound)
@@ -104,7 +104,7 @@ snapshot_is w so sound =
 -- what it comes to by a time
 module _ {F : Type 0} (answers : Bounds → ℕ → F → Option ℕ → F → Type 0) (fate fate_after : F) (told : List Told)
     (time : ℕ) (start w : WorldState) (k : HasBegun answers fate start)
-    (advanced : Advanced answers time told fate fate_after start w) (claimed : Claimed w) where
+    (advanced : Advanced answers time told fate fate_after start w) (claimed : SettlingInvariant w) where
   reached : IsReached pair_document time w
   reached = played_stands answers pair_document time k.before told w k.network tt (record {
     started = fate;
@@ -114,7 +114,7 @@ module _ {F : Type 0} (answers : Bounds → ℕ → F → Option ℕ → F → T
     goes = advanced;
   })
 
-  so : StandsAs pair_network [] w
+  so : StandsAsPlanned pair_network [] w
   so = reached.stands
 
   systems : live_stations w.stations ≡ pair_snapshot.systems

@@ -8,7 +8,7 @@ use Rattle.gptp_acts.specs.World.{WorldState}
 use Rattle.gptp_graph.specs.Best.{IsBest}
 use Rattle.gptp_graph.specs.Distance.{IsNear}
 use Rattle.gptp_graph.specs.SettledChoice.{IsBestIdentity}
-use Rattle.gptp_kept.specs.Claimed.{Claimed}
+use Rattle.gptp_kept.specs.SettlingInvariant.{SettlingInvariant}
 use Rattle.gptp_links.specs.declared.bounds.Bounds.{Bounds}
 use Rattle.gptp_pdelay.specs.Clock.{local_clock}
 use Rattle.gptp_reading.specs.Reading.{IsBestsTime, IsReadingErrorOf, reading_error_at}
@@ -22,7 +22,7 @@ use Rattle.gptp_network_rows.proofs.PairLemmas.{follows, near}
 short_reading : reading_error_at short_way 0 100000000 ≡ 31
 short_reading = refl
 
-module _ (w : WorldState) (time : ℕ) (k : IsPairSince 27000000000 w) (sound : IsSound w) (claimed : Claimed w)
+module _ (w : WorldState) (time : ℕ) (k : IsPairSince 27000000000 w) (sound : IsSound w) (claimed : SettlingInvariant w)
     (passed : w.time ≤ time) where
   error : IsReadingErrorOf params w 2 0 100000000 31
   error = record {

@@ -9,11 +9,11 @@ use Rattle.gptp_graph.specs.Distance.{IsDistance, IsNear}
 use Rattle.gptp_graph.specs.PathBound.{BoundsPaths}
 use Rattle.gptp_graph.specs.SettledChoice.{IsBestIdentity}
 use Rattle.gptp_kept.specs.Calm.{delay_in}
-use Rattle.gptp_kept.specs.Claimed.{Claimed}
+use Rattle.gptp_kept.specs.SettlingInvariant.{SettlingInvariant}
 use Rattle.gptp_kept.specs.NewsCourse.{HasSettledBy, capable_from}
 use Rattle.gptp_kept.specs.Standing.{snapshot_of}
 use Rattle.gptp_links.specs.declared.bounds.Bounds.{Bounds}
-use Rattle.gptp_lists.proofs.MemberLemmas.{slice_get-In}
+use Rattle.gptp_lists.proofs.SystemSpecLemmas.{slice_get-In}
 use Rattle.gptp_plan.specs.Network.{pace_of}
 use Rattle.gptp_plan.specs.SyncWait.{sync_paths}
 use Rattle.gptp_plan.specs.declared.sync_wait.SyncPaths.{SyncPaths}
@@ -22,7 +22,7 @@ use Rattle.gptp_reached.specs.Soon.{StartsSettle}
 use Rattle.gptp_reached.proofs.CalmLemmas.{pace_stands, quiet_stands}
 use Rattle.gptp_reached.proofs.SyncPathLemmas.{paths_stand}
 use Rattle.gptp_settling.specs.Settled.{IsSlaveOf}
-use Rattle.gptp_setup.specs.Pace.{Pace}
+use Rattle.gptp_setup.specs.SettlingParams.{SettlingParams}
 use Rattle.gptp_soon.specs.Documents.{ActsFindSettled, SettlesSoon}
 use Rattle.gptp_soon.specs.Exactly.{SettlesBy}
 use Rattle.gptp_soon.specs.Gains.{exchanged_from}
@@ -34,7 +34,7 @@ use Rattle.gptp_network_rows.proofs.PairLemmas.{bounded, calm as is_calm, comes_
 
 module _ {F : Type 0} (answers : Bounds → ℕ → F → Option ℕ → F → Type 0) (theorem : StartsSettle answers)
     (fate fate_after : F) (told : List Told) (start w : WorldState) (k : HasBegun answers fate start)
-    (advanced : Advanced answers 2000002501 told fate fate_after start w) (claimed : Claimed w) where
+    (advanced : Advanced answers 2000002501 told fate fate_after start w) (claimed : SettlingInvariant w) where
   there : IsPairAt 2000002501 w
   there = comes_to answers fate fate_after told 2000002501 start w k advanced claimed
 
@@ -103,13 +103,13 @@ settles : (until : ℕ) → SettlesSoon pair_document until 1000002001 200000250
 settles until = record {
   calm = is_calm;
   gained = inl (record { nothing = tt; begun = 1000002001; first = first_by; capable = refl });
-  settles = subst (λ (p : Pace). SettlesBy p (sync_paths pair_network []) 1000002001 2000002501) (sym pace_is)
+  settles = subst (λ (p : SettlingParams). SettlesBy p (sync_paths pair_network []) 1000002001 2000002501) (sym pace_is)
       (subst (λ paths. SettlesBy pair_pace paths 1000002001 2000002501) (sym paths_are) (inl (refl, omega arith)));
 }
   where
     first_by : exchanged_from (pace_of pair_network) (sync_paths pair_network []) 0 ≤ 1000002001
     first_by =
-        subst (λ (p : Pace). exchanged_from p (sync_paths pair_network []) 0 ≤ 1000002001) (sym pace_is)
+        subst (λ (p : SettlingParams). exchanged_from p (sync_paths pair_network []) 0 ≤ 1000002001) (sym pace_is)
         (subst (λ paths. exchanged_from pair_pace paths 0 ≤ 1000002001) (sym paths_are) (omega arith))
 
 pub runs_settle_soon : {F : Type 0} (answers : Bounds → ℕ → F → Option ℕ → F → Type 0) → ActsFindSettled answers

@@ -2,7 +2,7 @@
 -- long enough.
 use Rattle.std.specs.Prelude.{◌≡◌, ◌≤◌, ℕ, ℤ, pos, negsuc, true, false, List, [], ◌∷◌, Option, Some, None}
 use Rattle.arrayvec.specs.ArrayVec.{ArrayVec}
-use Rattle.gptp_setup.specs.Pace.{Pace}
+use Rattle.gptp_setup.specs.SettlingParams.{SettlingParams}
 use Rattle.gptp_setup.specs.declared.setup.Params.{Params}
 use Rattle.gptp_links.specs.declared.bounds.Bounds.{Bounds}
 use Rattle.gptp_graph.specs.Labelling.{SystemLine}
@@ -18,7 +18,7 @@ use Rattle.gptp_scaled.specs.Counts.{AreWithin}
 use Rattle.gptp_system.specs.State.{SystemState, held_at}
 use Rattle.gptp_plan.specs.Network.{IsNetwork, NetworkState, member, wire}
 use Rattle.gptp_plan.specs.declared.change.Timed.{Timed}
-use Rattle.gptp_plan.specs.declared.network.Member.{Member}
+use Rattle.gptp_plan.specs.declared.network.SystemSpec.{SystemSpec}
 use Rattle.gptp_plan.specs.declared.sync_wait.SyncPaths.{SyncPaths}
 use Rattle.gptp_acts.specs.Course.{Begun, WasDone}
 use Rattle.gptp_acts.specs.declared.done.Done.{Done}
@@ -28,9 +28,9 @@ use Rattle.gptp_network.specs.Document.{DocumentState}
 use Rattle.gptp_report.specs.Transitions.{Transition, Unfolds}
 use Rattle.gptp_kept.specs.CalmFor.{IsCalmFor}
 use Rattle.gptp_kept.specs.Standing.{snapshot_of}
-use Rattle.gptp_kept.specs.TimedClaim.{AllClaimed}
+use Rattle.gptp_kept.specs.TimedClaim.{WorldInvariant}
 use Rattle.gptp_reached.specs.Headline.{LeavesOffset}
-use Rattle.gptp_reached.specs.Reached.{StandsAs}
+use Rattle.gptp_reached.specs.Reached.{StandsAsPlanned}
 
 -- ---- the network
 
@@ -61,7 +61,7 @@ abbrev pub each_second : ArrayVec ℤ
 each_second = record { items = pos 0 ∷ [] }
 
 -- the system of this identity has one port, and its clock is exact
-abbrev pub end_station : ℕ → Member
+abbrev pub end_station : ℕ → SystemSpec
 end_station identity = member identity 1 0 (pos 0) each_second
 
 -- Both have one port, and a link joins them. It loses nothing, and each of its frames takes 500 ns.
@@ -73,7 +73,7 @@ pair_network = record {
 }
 
 -- by what its settling is counted
-abbrev pub pair_pace : Pace
+abbrev pub pair_pace : SettlingParams
 pair_pace = record { params = params; largest = pos 0 }
 
 -- what Sync has to cross: the one link
@@ -127,7 +127,7 @@ pub record HasBegun {F : Type 0} (answers : Bounds → ℕ → F → Option ℕ 
 -- The world of both at this time or later: nothing has happened to the network.
 pub record IsPairSince (time : ℕ) (w : WorldState) : Type 0 where
   pub network : IsNetwork pair_network
-  pub stands : StandsAs pair_network [] w
+  pub stands : StandsAsPlanned pair_network [] w
   pub late : time ≤ w.time
 
 -- The world of both at this time. It has been calm for each span, by the pace of the network, by what Sync has to cross
@@ -135,7 +135,7 @@ pub record IsPairSince (time : ℕ) (w : WorldState) : Type 0 where
 pub record IsPairAt (time : ℕ) (w : WorldState) : Type 0 where
   pub since : IsPairSince time w
   pub snapshot : snapshot_of w ≡ pair_snapshot
-  pub calm : (span : Pace → SyncPaths → ℕ → ℕ) → span pair_pace pair_paths 2 ≤ time → IsCalmFor span w
+  pub calm : (span : SettlingParams → SyncPaths → ℕ → ℕ) → span pair_pace pair_paths 2 ≤ time → IsCalmFor span w
 
 -- ---- what is said and held in it
 
@@ -159,7 +159,7 @@ HearsAnnounce number m (Heard clock port answer frame) =
 -- an act in their world leaves the second_member an offset that is exact but for rounding
 abbrev pub WorldsOfTwoAreExact : {F : Type 0} → (Bounds → ℕ → F → Option ℕ → F → Type 0) → Type 0
 WorldsOfTwoAreExact {F} answers = (timed : Timed) (fate fate_after : F) (w w' : WorldState) (done : Done) (offset : ℤ)
-    → IsPairSince 27000000000 w → AllClaimed w → WasDone answers timed fate fate_after w w' done
+    → IsPairSince 27000000000 w → WorldInvariant w → WasDone answers timed fate fate_after w w' done
     → timed.at ≤ 1000000000000000 → LeavesOffset 2 offset w' done
     → AreWithin 19 offset (pos 0)
 
@@ -168,6 +168,6 @@ abbrev pub RunsOfTwoAreExact : {F : Type 0} → (Bounds → ℕ → F → Option
 RunsOfTwoAreExact {F} answers = (until : ℕ) (fate : F) (start w : WorldState) (ts : List Transition) (t : Transition)
     (offset : ℤ)
     → until ≤ 1000000000000000 → Unfolds answers pair_document until fate start ts w → In t ts
-    → IsPairSince 27000000000 t.before → AllClaimed t.before → t.before.time ≤ t.told.timed.at
+    → IsPairSince 27000000000 t.before → WorldInvariant t.before → t.before.time ≤ t.told.timed.at
     → LeavesOffset 2 offset t.after t.told.done
     → AreWithin 19 offset (pos 0)

@@ -103,7 +103,7 @@ fn pair(alloc: Global) -> Result<Network, NetworkFault>
 
 /// Their world as it begins.
 pub(crate) fn begun<F: Fate + Drop>(alloc: Global, fate: F) -> Result<World<F>, NetworkFault>
-    ensures { IfOk result (λ world. HasBegun F.answers world.fate world.scene) }
+    ensures { IfOk result (λ world. HasBegun F.answers world.fate world.world_core) }
 {
     let network = pair(alloc)?;
     network.well_formed();
@@ -116,9 +116,9 @@ pub(crate) fn begun<F: Fate + Drop>(alloc: Global, fate: F) -> Result<World<F>, 
 /// It goes on from there to a time.
 #[tactic(auto, using(crate::proofs::PairLemmas::comes_to))]
 fn go_on<F: Fate + Drop>(world: &mut World<F>, time: u64) -> Result<(), NetworkFault>
-    requires begun { HasBegun F.answers world.old.fate world.old.scene }
+    requires begun { HasBegun F.answers world.old.fate world.old.world_core }
     requires moment { time ≤ 1000000000000000 }
-    ensures { OnOk result (IsPairAt time world.new.scene) }
+    ensures { OnOk result (IsPairAt time world.new.world_core) }
 {
     match world.advance(time) {
         Ok(()) => {
@@ -132,7 +132,7 @@ fn go_on<F: Fate + Drop>(world: &mut World<F>, time: u64) -> Result<(), NetworkF
 /// Their world at a time.
 fn pair_at<F: Fate + Drop>(alloc: Global, fate: F, time: u64) -> Result<World<F>, NetworkFault>
     requires moment { time ≤ 1000000000000000 }
-    ensures { IfOk result (λ world. IsPairAt time world.scene) }
+    ensures { IfOk result (λ world. IsPairAt time world.world_core) }
 {
     let mut world = begun(alloc, fate)?;
     go_on(&mut world, time)?;
@@ -142,7 +142,7 @@ fn pair_at<F: Fate + Drop>(alloc: Global, fate: F, time: u64) -> Result<World<F>
 /// What the second system follows.
 #[tactic(auto, using(crate::proofs::PairLemmas::followed))]
 fn second_follows<F: Fate + Drop>(world: &World<F>) -> Option<(Identity, u16, Option<u8>)>
-    requires { IsPairAt 26000000000 world.now.scene }
+    requires { IsPairAt 26000000000 world.now.world_core }
     ensures { result ≡ Some (first_member, 1, Some 1) }
 {
     world.follows(ClockId::from(2))
@@ -162,7 +162,7 @@ pub fn follow_at_rest<F: Fate + Drop>(
 
 /// What it follows, one step away from the best.
 fn second_follows_sooner<F: Fate + Drop>(world: &World<F>) -> Option<(Identity, u16, Option<u8>)>
-    requires { IsPairAt 24000000000 world.now.scene }
+    requires { IsPairAt 24000000000 world.now.world_core }
     ensures { result ≡ Some (first_member, 1, Some 1) }
 {
     let second = ClockId::from(2);
@@ -182,7 +182,7 @@ pub fn follow_by_distance<F: Fate + Drop>(
 
 /// What it follows, as no path has more than two systems.
 fn second_follows_by_paths<F: Fate + Drop>(world: &World<F>) -> Option<(Identity, u16, Option<u8>)>
-    requires { IsPairAt 26000000000 world.now.scene }
+    requires { IsPairAt 26000000000 world.now.world_core }
     ensures { result ≡ Some (first_member, 1, Some 1) }
 {
     let second = ClockId::from(2);
@@ -202,7 +202,7 @@ pub fn follow_by_paths<F: Fate + Drop>(
 
 /// What both systems state.
 fn certify<F: Fate + Drop>(alloc: Global, world: &World<F>) -> Result<Certificate, NetworkFault>
-    requires { IsPairAt 26000000000 world.now.scene }
+    requires { IsPairAt 26000000000 world.now.world_core }
     ensures { IfOk result (λ certificate. certificate.lines ≡ leading ∷ following_pair ∷ []) }
 {
     match write_certificate(alloc, world) {
@@ -221,14 +221,14 @@ pub fn certify_at_rest<F: Fate + Drop>(alloc: Global, fate: F) -> Result<Certifi
 
 /// The world of both once all that is held is wholly clean. Refused for want of memory alone.
 pub fn whole<F: Fate + Drop>(alloc: Global, fate: F) -> Result<World<F>, NetworkFault>
-    ensures { IfOk result (λ world. IsPairAt 22000000000 world.scene) }
+    ensures { IfOk result (λ world. IsPairAt 22000000000 world.world_core) }
 {
     pair_at(alloc, fate, WHOLE)
 }
 
 /// The second system then: what its port holds as received came from the first, over nothing between.
 pub fn second_then<F: Fate + Drop>(world: &World<F>) -> Option<&System>
-    requires { IsPairAt 22000000000 world.now.scene }
+    requires { IsPairAt 22000000000 world.now.world_core }
     ensures alone { IfSome result (λ system. HoldsFirstAlone system.now) }
     ensures from { IfSome result (λ system. HoldsFromFirst system.now) }
 {
@@ -239,7 +239,7 @@ pub fn second_then<F: Fate + Drop>(world: &World<F>) -> Option<&System>
 /// The role of the first system's port.
 #[tactic(auto, using(crate::proofs::PairLemmas::first_played))]
 fn first_plays<F: Fate + Drop>(world: &World<F>) -> Option<Role>
-    requires { IsPairAt 26000000000 world.now.scene }
+    requires { IsPairAt 26000000000 world.now.world_core }
     ensures { result ≡ Some Master }
 {
     world.role(ClockId::from(1), 1)
@@ -248,7 +248,7 @@ fn first_plays<F: Fate + Drop>(world: &World<F>) -> Option<Role>
 /// That of the second's.
 #[tactic(auto, using(crate::proofs::PairLemmas::second_played))]
 fn second_plays<F: Fate + Drop>(world: &World<F>) -> Option<Role>
-    requires { IsPairAt 26000000000 world.now.scene }
+    requires { IsPairAt 26000000000 world.now.world_core }
     ensures { result ≡ Some Slave }
 {
     world.role(ClockId::from(2), 1)
@@ -268,7 +268,7 @@ pub fn play_at_rest<F: Fate + Drop>(
 /// The trace that the second system announces.
 #[tactic(auto, using(crate::proofs::PairLemmas::second_announces, crate::proofs::PairLemmas::second_lives))]
 fn second_announces<F: Fate + Drop>(world: &World<F>) -> Option<Trace>
-    requires { IsPairAt 26000000000 world.now.scene }
+    requires { IsPairAt 26000000000 world.now.world_core }
     ensures { result ≡ Some (1 ∷ 2 ∷ []) }
 {
     world.well_formed();
@@ -292,9 +292,9 @@ pub fn announce_at_rest<F: Fate + Drop>(
 /// Whether the port of a system, which is the second, is capable.
 #[tactic(auto, using(crate::proofs::PairLemmas::second_has_port, crate::proofs::PairLemmas::second_is_capable))]
 fn is_capable<F: Fate + Drop>(world: &World<F>, system: &System) -> bool
-    requires at { IsPairAt 14000000000 world.now.scene }
-    requires second { ShowsLive 2 world.now.scene system.now }
-    requires capable { IsCapableInTime world.now.scene system.now }
+    requires at { IsPairAt 14000000000 world.now.world_core }
+    requires second { ShowsLive 2 world.now.world_core system.now }
+    requires capable { IsCapableInTime world.now.world_core system.now }
     ensures { result ≡ true }
 {
     system.capable(1)
@@ -303,7 +303,7 @@ fn is_capable<F: Fate + Drop>(world: &World<F>, system: &System) -> bool
 /// Whether its port is, where it lives.
 #[tactic(auto, using(crate::proofs::PairLemmas::second_lives))]
 fn second_is_capable<F: Fate + Drop>(world: &World<F>) -> Option<bool>
-    requires { IsPairAt 14000000000 world.now.scene }
+    requires { IsPairAt 14000000000 world.now.world_core }
     ensures { result ≡ Some true }
 {
     match world.system(ClockId::from(2)) {
@@ -323,7 +323,7 @@ pub fn capable_in_time<F: Fate + Drop>(alloc: Global, fate: F) -> Result<Option<
 /// Its role, where it has one.
 #[tactic(auto, using(crate::proofs::PairLemmas::has_role, crate::proofs::PairLemmas::not_disabled))]
 fn second_is_enabled<F: Fate + Drop>(world: &World<F>) -> Option<Role>
-    requires { IsPairAt 14000000000 world.now.scene }
+    requires { IsPairAt 14000000000 world.now.world_core }
     ensures some { result ≢ None }
     ensures enabled { result ≢ Some Disabled }
 {
@@ -366,7 +366,7 @@ fn second_uses(done: &Done) -> bool
 
 /// The offset that it is left, where it did.
 fn second_offset<F: Fate + Drop>(world: &World<F>, done: &Done) -> Option<ScaledNs>
-    ensures { IfSome result (λ offset. LeavesOffset 2 offset world.now.scene done.now) }
+    ensures { IfSome result (λ offset. LeavesOffset 2 offset world.now.world_core done.now) }
 {
     if !second_uses(done) {
         return None;
@@ -381,8 +381,8 @@ fn second_offset<F: Fate + Drop>(world: &World<F>, done: &Done) -> Option<Scaled
 /// more than rounding, as both clocks show the same.
 #[tactic(auto, using(crate::proofs::ExactLemmas::second_is_exact))]
 fn receive<F: Fate + Drop>(world: &mut World<F>) -> Result<Option<ScaledNs>, NetworkFault>
-    requires { IsPairSince 27000000000 world.old.scene }
-    ensures since { OnOk result (IsPairSince 27000000000 world.new.scene) }
+    requires { IsPairSince 27000000000 world.old.world_core }
+    ensures since { OnOk result (IsPairSince 27000000000 world.new.world_core) }
     ensures exact { IfOk result (λ received. IfSome received (λ offset. AreWithin 19 offset (pos 0))) }
 {
     world.well_formed();
@@ -438,8 +438,8 @@ fn second_hears(done: &Done) -> Option<PortId>
 /// The next act is done. The port of the Announce that the second hears by it: the first's, as all that reaches a port was
 /// sent by the system at the other end.
 fn hear<F: Fate + Drop>(world: &mut World<F>) -> Result<Option<PortId>, NetworkFault>
-    requires { IsPairSince 15000000000 world.old.scene }
-    ensures since { OnOk result (IsPairSince 15000000000 world.new.scene) }
+    requires { IsPairSince 15000000000 world.old.world_core }
+    ensures since { OnOk result (IsPairSince 15000000000 world.new.world_core) }
     ensures clean { IfOk result (λ heard. IfSome heard (λ source. source ≡ port_id 1 1)) }
 {
     world.well_formed();

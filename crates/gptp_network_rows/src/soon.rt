@@ -19,8 +19,8 @@ const SOON: u64 = 2_000_002_501;
 
 /// Their world goes on to that time.
 fn go_on<F: Fate + Drop>(world: &mut World<F>) -> Result<(), NetworkFault>
-    requires { HasBegun F.answers world.old.fate world.old.scene }
-    ensures { OnOk result (IsPairSoon world.new.scene) }
+    requires { HasBegun F.answers world.old.fate world.old.world_core }
+    ensures { OnOk result (IsPairSoon world.new.world_core) }
 {
     starts_settle::<F>();
     match world.advance(SOON) {
@@ -34,7 +34,7 @@ fn go_on<F: Fate + Drop>(world: &mut World<F>) -> Result<(), NetworkFault>
 
 /// What the second system follows then.
 fn second_follows<F: Fate + Drop>(world: &World<F>) -> Option<(Identity, u16, Option<u8>)>
-    requires { IsPairSoon world.now.scene }
+    requires { IsPairSoon world.now.world_core }
     ensures { result ≡ Some (first_member, 1, Some 1) }
 {
     world.follows(ClockId::from(2))

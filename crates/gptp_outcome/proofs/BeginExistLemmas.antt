@@ -8,7 +8,7 @@ use Rattle.gptp_links.specs.declared.link.Direction.{Direction}
 use Rattle.gptp_links.specs.declared.link.Direction.TheVariants.{FromA, FromB}
 use Rattle.gptp_setup.specs.Intervals.{IsMoment}
 use Rattle.gptp_system.specs.State.{clock}
-use Rattle.gptp_plan.specs.declared.network.Wire.{Wire}
+use Rattle.gptp_plan.specs.declared.network.LinkSpec.{LinkSpec}
 use Rattle.gptp_plan.specs.Network.{pace_of, IsNetwork, IsPort, IsWire, NetworkState}
 use Rattle.gptp_acts.specs.declared.station.Station.{Station}
 use Rattle.gptp_acts.specs.Acts.{at}
@@ -28,7 +28,7 @@ use Rattle.gptp_outcome.proofs.StepExistLemmas.{steps_exist}
 -- ---- the world that a network makes
 
 -- nothing is in flight, and its systems can be called
-idle_frames : (wire : Wire) → HasFrames (channel_from wire)
+idle_frames : (wire : LinkSpec) → HasFrames (channel_from wire)
 idle_frames wire FromA = tt
 idle_frames wire FromB = tt
 
@@ -52,7 +52,7 @@ initial_can n is = record {
 }
 
 -- a link of a network joins ports of it
-end_port : (n : NetworkState) (direction : Direction) (wire : Wire) (link : ℕ) → IsWire n link wire
+end_port : (n : NetworkState) (direction : Direction) (wire : LinkSpec) (link : ℕ) → IsWire n link wire
     → IsPort n.systems (sender direction (channel_from wire))
 end_port n FromA wire link is = is.a
 end_port n FromB wire link is = is.b

@@ -6,7 +6,7 @@ use Rattle.std.proofs.lemmas.Bool.{eqb-true, or_cases}
 use Rattle.std.proofs.lemmas.Bool.Decides.{nat_tests}
 use Rattle.gptp_links.specs.declared.bounds.Bounds.{Bounds}
 use Rattle.gptp_lists.proofs.MappedLemmas.{alike}
-use Rattle.gptp_lists.proofs.MemberLemmas.{slice_get-In}
+use Rattle.gptp_lists.proofs.SystemSpecLemmas.{slice_get-In}
 use Rattle.gptp_roles.specs.Selection.{clock_of}
 use Rattle.gptp_setup.specs.Intervals.{IsMoment}
 use Rattle.gptp_system.specs.State.{clock}
@@ -18,8 +18,8 @@ use Rattle.gptp_plan.specs.declared.change.Act.{Act}
 use Rattle.gptp_plan.specs.declared.change.Change.{Change}
 use Rattle.gptp_plan.specs.declared.change.Change.TheVariants.{LinkDown, LinkUp, LinkSet, Fail, Recover, Priority1, Inject}
 use Rattle.gptp_plan.specs.declared.change.Timed.{Timed}
-use Rattle.gptp_plan.specs.declared.network.Member.{Member}
-use Rattle.gptp_plan.specs.declared.network.Wire.{Wire}
+use Rattle.gptp_plan.specs.declared.network.SystemSpec.{SystemSpec}
+use Rattle.gptp_plan.specs.declared.network.LinkSpec.{LinkSpec}
 use Rattle.gptp_plan.proofs.AfterLemmas.{after_keeps}
 use Rattle.gptp_plan.proofs.LogLemmas.{smallest_log}
 use Rattle.gptp_acts.specs.Acts.{at, Acts, AnyLink, AnySystem, AtLink, AtSystem, IsReadyAct, IsThereToChange}
@@ -39,7 +39,7 @@ use Rattle.gptp_network.proofs.PassLemmas.{passes}
 use Rattle.gptp_network.proofs.SnapshotLemmas.{clock_after}
 use Rattle.gptp_report.specs.Transitions.{Courses, Makes, Passes, PassesTo, Transition, Unfolds, transition}
 use Rattle.gptp_reached.specs.PlayedLaws.{IsPlayable}
-use Rattle.gptp_reached.specs.Reached.{Shape, StandsAs, shape, shape_after, channel_wire}
+use Rattle.gptp_reached.specs.Reached.{Shape, StandsAsPlanned, shape, shape_after, channel_wire}
 use Rattle.gptp_reached.proofs.BeginLemmas.{begun_stands}
 use Rattle.gptp_reached.proofs.ChangeLemmas.{changes_stand}
 use Rattle.gptp_reached.proofs.KeptLemmas.{acts_stand, time_stands}
@@ -52,21 +52,21 @@ use Rattle.gptp_outcome.proofs.BeginExistLemmas.{acts_exist, beginnings_exist}
 -- ---- what an event names is there
 
 -- a link that joins the ports of a link of the network is at the port that this is at
-joined_at : (v : Wire) (channel : Channel) (port : PortId) → channel.a ≡ v.a → channel.b ≡ v.b
+joined_at : (v : LinkSpec) (channel : Channel) (port : PortId) → channel.a ≡ v.a → channel.b ≡ v.b
     → (same_port v.a port ≡ true) ⊎ (same_port v.b port ≡ true) → (channel.a ≡ port) ⊎ (channel.b ≡ port)
 joined_at v channel port a b (inl same) = inl (a ∙ true_same v.a port same)
 joined_at v channel port a b (inr same) = inr (b ∙ true_same v.b port same)
 
-module _ (n : NetworkState) (events : List Timed) (w : WorldState) (so : StandsAs n events w) where
+module _ (n : NetworkState) (events : List Timed) (w : WorldState) (so : StandsAsPlanned n events w) where
   -- the link at a port of the network
   link_there : (port : PortId) → is_taken n.links port ≡ true → AtLink port w.net AnyLink
   link_there port taken =
-      let (v, member, is) = passes (λ (x : Wire). same_port x.a port || same_port x.b port) n.links taken in
+      let (v, member, is) = passes (λ (x : LinkSpec). same_port x.a port || same_port x.b port) n.links taken in
       let (place, there) = slice_get-In v n.links member in
       let (channel, here, same) = alike channel_wire (link_after events) w.net.channels n.links so.links place v there in
       let keeps = after_keeps events v in
-      let a : channel.a ≡ v.a = ap (λ (x : Wire). x.a) same ∙ keeps.a in
-      let b : channel.b ≡ v.b = ap (λ (x : Wire). x.b) same ∙ keeps.b in
+      let a : channel.a ≡ v.a = ap (λ (x : LinkSpec). x.a) same ∙ keeps.a in
+      let b : channel.b ≡ v.b = ap (λ (x : LinkSpec). x.b) same ∙ keeps.b in
       record {
         place = place;
         channel = channel;
@@ -80,7 +80,7 @@ module _ (n : NetworkState) (events : List Timed) (w : WorldState) (so : StandsA
   -- the system of a clock of the network
   system_there : IsSound w → (number : ℕ) → members_have_clock n.systems number ≡ true → AtSystem number w AnySystem
   system_there sound number has =
-      let (m, member, is) = passes (λ (x : Member). clock_of x.identity == number) n.systems has in
+      let (m, member, is) = passes (λ (x : SystemSpec). clock_of x.identity == number) n.systems has in
       let (place, there) = slice_get-In m n.systems member in
       let (station, here, same) = alike shape (shape_after (pace_of n) events) w.stations n.systems so.systems place m
       there in
@@ -196,8 +196,8 @@ start_at_all (e ∷ events) = omega arith
 
 module _ {F : Type 0} (answers : Bounds → ℕ → F → Option ℕ → F → Type 0) (n : NetworkState) (events : List Timed) where
   passes_stand : (until : ℕ) (ts : List Transition) (fate f : F) (w v : WorldState)
-      → Passes answers until ts fate f w v → StandsAs n events w → StandsAs n events v
-  passes_stand until [] fate f w v k so = subst (StandsAs n events) (sym k.1) so
+      → Passes answers until ts fate f w v → StandsAsPlanned n events w → StandsAsPlanned n events v
+  passes_stand until [] fate f w v k so = subst (StandsAsPlanned n events) (sym k.1) so
   passes_stand until (t ∷ ts) fate f w v (drawn, is, k, rest) so =
       let timed = t.told.timed in
       passes_stand until ts drawn f t.after v rest
@@ -205,9 +205,9 @@ module _ {F : Type 0} (answers : Bounds → ℕ → F → Option ℕ → F → T
       (no_change k.next.item timed.act w k.next.act) k.was_done.acts (time_stands n events w timed.at so))
 
   pub passes_to_stand : (until : ℕ) (ts : List Transition) (fate f : F) (w v : WorldState)
-      → PassesTo answers until ts fate f w v → StandsAs n events w → StandsAs n events v
+      → PassesTo answers until ts fate f w v → StandsAsPlanned n events w → StandsAsPlanned n events v
   passes_to_stand until ts fate f w v k so =
-      subst (StandsAs n events) (sym k.is)
+      subst (StandsAsPlanned n events) (sym k.is)
       (time_stands n events k.between until (passes_stand until ts fate f w k.between k.passes so))
 
 -- ---- events one after another
@@ -220,7 +220,7 @@ pub record HasMade {F : Type 0} (answers : Bounds → ℕ → F → Option ℕ �
   pub after : WorldState
   pub makes : Makes answers event ts fate fate_after w after
   pub can : CanGoOn after
-  pub stands : StandsAs n (before ++ event ∷ []) after
+  pub stands : StandsAsPlanned n (before ++ event ∷ []) after
   pub now : after.time ≡ event.at
   pub octets : AllTellOctets ts
 
@@ -232,14 +232,14 @@ pub record HasCourse {F : Type 0} (answers : Bounds → ℕ → F → Option ℕ
   pub after : WorldState
   pub courses : Courses answers until events ts fate fate_after w after
   pub can : CanGoOn after
-  pub stands : StandsAs n (before ++ events) after
+  pub stands : StandsAsPlanned n (before ++ events) after
   pub now : after.time ≡ until
   pub octets : AllTellOctets ts
 
 module _ {F : Type 0} (answers : Bounds → ℕ → F → Option ℕ → F → Type 0) (acts : ActsExist answers)
     (all : AnswersAll answers) (n : NetworkState) where
   makes_exist : (before : List Timed) (event : Timed) (fate : F) (w : WorldState) → w.time ≤ event.at
-      → CanBeMade n event → CanGoOn w → StandsAs n before w → HasMade answers n before event fate w
+      → CanBeMade n event → CanGoOn w → StandsAsPlanned n before w → HasMade answers n before event fate w
   makes_exist before event fate w ahead made can so =
       let way = goes_to answers acts all event.at fate w can ahead made.allowed.moment in
       let so_then = passes_to_stand answers n before event.at way.ts fate way.fate_after w way.after way.passes so in
@@ -276,7 +276,7 @@ module _ {F : Type 0} (answers : Bounds → ℕ → F → Option ℕ → F → T
 
   -- From a world that stands as the network does after events that were, those that are ahead are made, up to a time.
   pub courses_exist : (before events : List Timed) (until : ℕ) (fate : F) (w : WorldState) → IsMoment until
-      → AreAhead w.time until events → AllByRecursion (CanBeMade n) events → CanGoOn w → StandsAs n before w
+      → AreAhead w.time until events → AllByRecursion (CanBeMade n) events → CanGoOn w → StandsAsPlanned n before w
       → HasCourse answers n before events until fate w
   courses_exist before [] until fate w moment ahead made can so =
       let way = goes_to answers acts all until fate w can ahead moment in
@@ -286,7 +286,7 @@ module _ {F : Type 0} (answers : Bounds → ℕ → F → Option ℕ → F → T
         after = way.after;
         courses = way.passes;
         can = way.can;
-        stands = subst (λ (es : List Timed). StandsAs n es way.after) (sym (append-nil before))
+        stands = subst (λ (es : List Timed). StandsAsPlanned n es way.after) (sym (append-nil before))
             (passes_to_stand answers n before until way.ts fate way.fate_after w way.after way.passes so);
         now = ap (λ (x : WorldState). x.time) way.passes.is;
         octets = way.octets;
@@ -301,7 +301,7 @@ module _ {F : Type 0} (answers : Bounds → ℕ → F → Option ℕ → F → T
         after = rest.after;
         courses = (one.ts, rest.ts, one.fate_after, one.after, one.makes, rest.courses, refl);
         can = rest.can;
-        stands = subst (λ (es : List Timed). StandsAs n es rest.after) (append_assoc before (event ∷ []) events)
+        stands = subst (λ (es : List Timed). StandsAsPlanned n es rest.after) (append_assoc before (event ∷ []) events)
             rest.stands;
         now = rest.now;
         octets = octets-append one.ts rest.ts one.octets rest.octets;
@@ -316,7 +316,7 @@ pub record HasBegun {F : Type 0} (answers : Bounds → ℕ → F → Option ℕ 
   pub start : WorldState
   pub begun : Begun answers n fate started start
   pub can : CanGoOn start
-  pub stands : StandsAs n [] start
+  pub stands : StandsAsPlanned n [] start
   pub now : start.time ≡ 0
 
 -- it goes on with its events up to a time

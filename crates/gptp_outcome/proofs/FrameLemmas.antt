@@ -38,7 +38,7 @@ use Rattle.gptp_system.specs.Sends.{announcement}
 use Rattle.gptp_system.specs.State.{clock, own, trace, SystemState}
 use Rattle.gptp_system.proofs.SystemLemmas.{system_slave}
 use Rattle.gptp_acts.specs.Sends.{sent_message, written}
-use Rattle.gptp_reached.proofs.ClaimedLemmas.{each_there}
+use Rattle.gptp_reached.proofs.SettlingInvariantLemmas.{each_there}
 use Rattle.gptp_outcome.specs.GoingOn.{AllAreOctets, AreOfFrame}
 
 -- ---- octets

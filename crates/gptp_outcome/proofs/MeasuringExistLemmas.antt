@@ -23,7 +23,7 @@ use Rattle.gptp_system.specs.Ready.{IsReadyPort, IsReady}
 use Rattle.gptp_system.specs.Selection.{announcements, choosing, fresh_ports, Becomes, Selects, SelectsIf}
 use Rattle.gptp_system.specs.Sends.{pdelay_response, response_follow_up, with_send}
 use Rattle.gptp_system.specs.State.{SystemState, clock, local_time, number, own, with_peer}
-use Rattle.gptp_reached.proofs.ClaimedLemmas.{each_there}
+use Rattle.gptp_reached.proofs.SettlingInvariantLemmas.{each_there}
 
 -- ---- selection
 

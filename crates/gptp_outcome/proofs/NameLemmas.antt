@@ -13,8 +13,8 @@ use Rattle.gptp_setup.specs.Intervals.{AreIntervals, IsLog}
 use Rattle.gptp_system.proofs.StartLemmas.{length-new_ports}
 use Rattle.gptp_plan.specs.Network.{pace_of, IsEnd, IsMember, IsNetwork, NetworkState}
 use Rattle.gptp_plan.proofs.LogLemmas.{largest_so, logs_so, logs_up_to}
-use Rattle.gptp_plan.specs.declared.network.Member.{Member}
-use Rattle.gptp_plan.specs.declared.network.Wire.{Wire}
+use Rattle.gptp_plan.specs.declared.network.SystemSpec.{SystemSpec}
+use Rattle.gptp_plan.specs.declared.network.LinkSpec.{LinkSpec}
 use Rattle.gptp_plan.specs.declared.change.Act.{Act}
 use Rattle.gptp_plan.specs.declared.change.Timed.{Timed}
 use Rattle.gptp_acts.specs.declared.done.Done.{Done}
@@ -84,22 +84,22 @@ sound_named w is two = record {
 -- clocks differ, and at a port one end of one link is at most
 pub record NamesOne (n : NetworkState) : Type 0 where
   pub announce : IsLog n.params.announce
-  pub systems : (i : ℕ) (m : Member) → slice_get n.systems i ≡ Some m → IsMember m
-  pub clocks : (i j : ℕ) (l m : Member) → slice_get n.systems i ≡ Some l → slice_get n.systems j ≡ Some m
+  pub systems : (i : ℕ) (m : SystemSpec) → slice_get n.systems i ≡ Some m → IsMember m
+  pub clocks : (i j : ℕ) (l m : SystemSpec) → slice_get n.systems i ≡ Some l → slice_get n.systems j ≡ Some m
       → clock_of l.identity ≡ clock_of m.identity → i ≡ j
-  pub apart : (i : ℕ) (w : Wire) → slice_get n.links i ≡ Some w → w.a.clock ≢ w.b.clock
-  pub one_link : (i j : ℕ) (v w : Wire) (p : PortId) → slice_get n.links i ≡ Some v → slice_get n.links j ≡ Some w
+  pub apart : (i : ℕ) (w : LinkSpec) → slice_get n.links i ≡ Some w → w.a.clock ≢ w.b.clock
+  pub one_link : (i j : ℕ) (v w : LinkSpec) (p : PortId) → slice_get n.links i ≡ Some v → slice_get n.links j ≡ Some w
       → IsEnd p v → IsEnd p w → i ≡ j
 
-end_at : (direction : Direction) (w : Wire) → IsEnd (sender direction (channel_from w)) w
+end_at : (direction : Direction) (w : LinkSpec) → IsEnd (sender direction (channel_from w)) w
 end_at FromA w = inl refl
 end_at FromB w = inr refl
 
 -- a system's ports announce at its intervals, none of which is above the largest of the network
-intervals_named : (n : NetworkState) → NamesOne n → (place : ℕ) (m : Member) → slice_get n.systems place ≡ Some m
+intervals_named : (n : NetworkState) → NamesOne n → (place : ℕ) (m : SystemSpec) → slice_get n.systems place ≡ Some m
     → AreIntervals (setup_of (pace_of n) m)
 intervals_named n is place m there =
-    let each : (i : ℕ) (k : Member) → slice_get n.systems i ≡ Some k → All IsLog k.intervals.items =
+    let each : (i : ℕ) (k : SystemSpec) → slice_get n.systems i ≡ Some k → All IsLog k.intervals.items =
     λ i k at. (is.systems i k at).logs in
     record {
       many = (is.systems place m there).many;
@@ -137,7 +137,7 @@ names_one-initial n is = record {
         places,
         same_end direction way (channel_from one.0)
             (λ ends. is.apart link one.0 one.1 (ap (λ (p : PortId). p.clock) ends))
-            (start ∙ ap (λ (w : Wire). sender way (channel_from w)) wires),
+            (start ∙ ap (λ (w : LinkSpec). sender way (channel_from w)) wires),
       );
 }
 

@@ -3,7 +3,7 @@ use Rattle.std.proofs.Common.{◌≡◌, ◌+◌, ◌<◌, ◌≤◌, ℕ, zero,
 use native.Mathlib.Decide.{ℕ_discrete, dec_le, dec_lt}
 use Rattle.gptp_lists.specs.Members.{In}
 use Rattle.gptp_lists.proofs.MappedLemmas.{same_there}
-use Rattle.gptp_lists.proofs.MemberLemmas.{In-map, In-slice_get, from_map, slice_get-In}
+use Rattle.gptp_lists.proofs.SystemSpecLemmas.{In-map, In-slice_get, from_map, slice_get-In}
 use Rattle.gptp_graph.specs.Distance.{IsDistanceFrom}
 use Rattle.gptp_graph.specs.Labelling.{SystemLine, line_clocks}
 use Rattle.gptp_graph.specs.Marking.{AreFarSteps, IsFar, IsLowestRoot, IsStatedBeside, LeadsToNear, Statement}
@@ -22,7 +22,7 @@ use Rattle.gptp_acts.specs.Views.{rising_clocks}
 use Rattle.gptp_acts.specs.World.{WorldState}
 use Rattle.gptp_acts.proofs.RisingLemmas.{rising_clocks-at}
 use Rattle.gptp_kept.specs.Bounded.{statement_of, statements_of}
-use Rattle.gptp_kept.specs.Claimed.{Claimed}
+use Rattle.gptp_kept.specs.SettlingInvariant.{SettlingInvariant}
 use Rattle.gptp_kept.specs.Standing.{snapshot_of}
 use Rattle.gptp_kept.proofs.BoundedLemmas.{statement_there, stated_lives}
 use Rattle.gptp_kept.proofs.NameLemmas.{clock_of_station, clocks_rise, In-rising}
@@ -291,7 +291,7 @@ module _ (w : WorldState) (wf : IsWellFormed (snapshot_of w)) where
         by at rest = by_life at at.station.live refl rest
 
 -- a world that keeps what every world keeps has a certificate
-pub states_exist : (w : WorldState) → Claimed w → (lines : List SystemLine) × States w lines
+pub states_exist : (w : WorldState) → SettlingInvariant w → (lines : List SystemLine) × States w lines
 states_exist w claimed =
     let world = claimed.is.world in
     let wf = stands_well w world.sound world.between world.legible in

@@ -34,7 +34,7 @@ use Rattle.gptp_system.specs.State.{SystemState, clock, held_at, is_capable_at, 
 use Rattle.gptp_system.specs.Steps.{Expires, HearsFrame, HearsMessage}
 use Rattle.gptp_correction.specs.declared.correction.Relayed.{Relayed}
 use Rattle.gptp_correction.specs.Correction.{held_sum}
-use Rattle.gptp_setup.specs.Pace.{has_sync_timeout}
+use Rattle.gptp_setup.specs.SettlingParams.{has_sync_timeout}
 use Rattle.gptp_system.specs.Lapse.{lapsed}
 use Rattle.gptp_system.specs.Syncing.{delay_at, is_followed, is_leading, root_rate_at, refreshing, said_on, told_by, HearsFollowUpIf, HearsSyncIf, IsOffset, IsToldAtLimits, KeepsIf, KnowsBy, KnowsIf, LeadsTime, RelaysBy, RelaysIf, SyncsIf}
 use Rattle.gptp_outcome.specs.StepLaws.{IsSameStep, SameAnswer}

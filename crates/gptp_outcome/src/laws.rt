@@ -4,7 +4,7 @@ ghost use Rattle.std.specs.Prelude.{List};
 ghost use Rattle.gptp_acts.specs.World.{WorldState};
 ghost use Rattle.gptp_certificate.specs.Stated.{States};
 ghost use Rattle.gptp_graph.specs.Labelling.{SystemLine};
-ghost use Rattle.gptp_kept.specs.Claimed.{Claimed};
+ghost use Rattle.gptp_kept.specs.SettlingInvariant.{SettlingInvariant};
 ghost use Rattle.gptp_outcome.specs.ActLaws.{ActsKeepNames, ActsOnce, ActsOnceDrawn, InitialIsNamed, SoundIsNamed};
 ghost use Rattle.gptp_outcome.specs.CourseLaws.{AdvancesOnce, BeginsOnce, NextOnce, StopsOnTheWay};
 ghost use Rattle.gptp_outcome.specs.ExistenceLaws.{ActsExist, BeginningsExist, DocumentsLead, DocumentsUnfold, FramesAreJudged, StepsExist, WaysExist};
@@ -112,5 +112,5 @@ pub fn documents_unfold<F: Fate>()
 /// In a world that keeps what every world of a network keeps, what the live systems state of themselves has the lines of
 /// a certificate.
 pub fn worlds_are_stated()
-    ensures { (w : WorldState) → Claimed w → (lines : List SystemLine) × States w lines }
+    ensures { (w : WorldState) → SettlingInvariant w → (lines : List SystemLine) × States w lines }
 {}

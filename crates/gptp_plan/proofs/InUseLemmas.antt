@@ -8,15 +8,15 @@ use Rattle.gptp_plan.specs.Change.{link_after}
 use Rattle.gptp_plan.specs.InUse.{any_differ, greatest_delay, is_used, leads_elsewhere, neighbour, neighbours, with_delay}
 use Rattle.gptp_plan.specs.Network.{IsNetwork, NetworkState}
 use Rattle.gptp_plan.specs.declared.change.Timed.{Timed}
-use Rattle.gptp_plan.specs.declared.network.Member.{Member}
-use Rattle.gptp_plan.specs.declared.network.Wire.{Wire}
+use Rattle.gptp_plan.specs.declared.network.SystemSpec.{SystemSpec}
+use Rattle.gptp_plan.specs.declared.network.LinkSpec.{LinkSpec}
 use Rattle.gptp_plan.proofs.AfterLemmas.{after_fits}
 
-module _ (systems : List Member) (events : List Timed) where
+module _ (systems : List SystemSpec) (events : List Timed) where
   -- ---- the greatest delay
 
   -- it is the same whether a link comes before or behind
-  pub delay_moves : (w : Wire) (rest so_far : ℕ)
+  pub delay_moves : (w : LinkSpec) (rest so_far : ℕ)
       → max rest (with_delay systems events w so_far) ≡ max (with_delay systems events w rest) so_far
   delay_moves w rest so_far = by (is_used systems events (link_after events w))
     where
@@ -27,8 +27,8 @@ module _ (systems : List Member) (events : List Timed) where
       by true = omega arith
       by false = refl
 
-  pub delay_within : (most : ℕ) (links : List Wire)
-      → ((i : ℕ) (w : Wire) → slice_get links i ≡ Some w → (link_after events w).bounds.max ≤ most)
+  pub delay_within : (most : ℕ) (links : List LinkSpec)
+      → ((i : ℕ) (w : LinkSpec) → slice_get links i ≡ Some w → (link_after events w).bounds.max ≤ most)
       → greatest_delay systems events links ≤ most
   delay_within most [] each = omega arith
   delay_within most (w ∷ ws) each =
@@ -44,7 +44,7 @@ module _ (systems : List Member) (events : List Timed) where
   -- ---- neighbours
 
   -- what is looked for is among those that links lead to
-  any_neighbour : (p : ℕ → Bool) (clock : ℕ) (links : List Wire)
+  any_neighbour : (p : ℕ → Bool) (clock : ℕ) (links : List LinkSpec)
       → list_any (λ w. option_map_or p (neighbour systems events clock w) false) links
       ≡ list_any p (neighbours systems links events clock)
   any_neighbour p clock [] = refl
@@ -60,7 +60,7 @@ module _ (systems : List Member) (events : List Timed) where
       by None rest = rest
 
   -- one is another than the first exactly where a link leads elsewhere
-  pub several_by : (clock first : ℕ) (links : List Wire)
+  pub several_by : (clock first : ℕ) (links : List LinkSpec)
       → slice_get (neighbours systems links events clock) 0 ≡ Some first
       → list_any (leads_elsewhere systems events clock first) links
       ≡ any_differ (neighbours systems links events clock)
@@ -73,7 +73,7 @@ module _ (systems : List Member) (events : List Timed) where
           let same : x ≡ first = cc in
           rw (same, eq-eqb first first refl) refl
 
-  pub several_of_none : (clock : ℕ) (links : List Wire)
+  pub several_of_none : (clock : ℕ) (links : List LinkSpec)
       → slice_get (neighbours systems links events clock) 0 ≡ None
       → any_differ (neighbours systems links events clock) ≡ false
   several_of_none clock links is = by (neighbours systems links events clock) is

@@ -10,14 +10,14 @@ use Rattle.std.proofs.lemmas.List.Sums.{fold-append}
 use Rattle.std.proofs.lemmas.Option.{slice_get_within}
 use Rattle.gptp_lists.specs.Members.{In}
 use Rattle.gptp_lists.proofs.MappedLemmas.{there_contains}
-use Rattle.gptp_lists.proofs.MemberLemmas.{In-left, In-parts, In-right, In-slice_get, slice_get-In}
+use Rattle.gptp_lists.proofs.SystemSpecLemmas.{In-left, In-parts, In-right, In-slice_get, slice_get-In}
 use Rattle.gptp_lists.proofs.PlaceLemmas.{read}
 use Rattle.gptp_setup.specs.Intervals.{interval_of, IsLog, IsLogUpTo}
 use Rattle.gptp_setup.proofs.IntervalLemmas.{interval_rises}
 use Rattle.gptp_plan.specs.Network.{NetworkState, ArePrompt, IsKeptNetwork, IsNetwork, is_any_slower, largest_of, logs_of, pace_of, smallest_of, with_system}
 use Rattle.gptp_plan.specs.Params.{KeepPace}
-use Rattle.gptp_plan.specs.declared.network.Member.{Member}
-use Rattle.gptp_plan.specs.declared.network.Wire.{Wire}
+use Rattle.gptp_plan.specs.declared.network.SystemSpec.{SystemSpec}
+use Rattle.gptp_plan.specs.declared.network.LinkSpec.{LinkSpec}
 
 -- ---- members
 
@@ -63,13 +63,13 @@ reduce_alone f None = refl
 reduce_alone f (Some x) = refl
 
 -- the intervals with one system more
-pub logs_added : (n : NetworkState) (m : Member) → logs_of (with_system m n) ≡ logs_of n ++ m.intervals.items
+pub logs_added : (n : NetworkState) (m : SystemSpec) → logs_of (with_system m n) ≡ logs_of n ++ m.intervals.items
 logs_added n m =
-    let f : Member → List ℤ = λ k. k.intervals.items in
+    let f : SystemSpec → List ℤ = λ k. k.intervals.items in
     flat_map-append f n.systems (m ∷ [])
     ∙ ap (λ logs. logs_of n ++ logs) (append-nil m.intervals.items)
 
-pub reduce_added : (f : ℤ → ℤ → ℤ) (n : NetworkState) (m : Member) (found : Option ℤ) → found ≡ reduce f (logs_of n)
+pub reduce_added : (f : ℤ → ℤ → ℤ) (n : NetworkState) (m : SystemSpec) (found : Option ℤ) → found ≡ reduce f (logs_of n)
     → reduce f (cons_option found m.intervals.items) ≡ reduce f (logs_of (with_system m n))
 reduce_added f n m found is =
     ap (λ o. reduce f (cons_option o m.intervals.items)) is ∙ sym (reduce-append f (logs_of n) m.intervals.items)
@@ -133,7 +133,7 @@ interval_least n log member = interval_rises (smallest_of n) log (smallest_least
 
 -- what holds of each system's intervals holds of each of the network
 pub logs_so : (P : ℤ → Type 0) (n : NetworkState)
-    → ((i : ℕ) (m : Member) → slice_get n.systems i ≡ Some m → All P m.intervals.items)
+    → ((i : ℕ) (m : SystemSpec) → slice_get n.systems i ≡ Some m → All P m.intervals.items)
     → (log : ℤ) → In log (logs_of n) → P log
 logs_so P n each log member =
     let (i, m, there, at) = from_flat_map _ log n.systems member in
@@ -158,8 +158,8 @@ largest_so P n = chosen_so P n _ (largest_of n) (largest_chosen n)
 
 -- where the intervals of each system are within the limits, they are so up to the largest
 pub logs_up_to : (n : NetworkState)
-    → ((i : ℕ) (m : Member) → slice_get n.systems i ≡ Some m → All IsLog m.intervals.items)
-    → (i : ℕ) (m : Member) → slice_get n.systems i ≡ Some m
+    → ((i : ℕ) (m : SystemSpec) → slice_get n.systems i ≡ Some m → All IsLog m.intervals.items)
+    → (i : ℕ) (m : SystemSpec) → slice_get n.systems i ≡ Some m
     → AllByRecursion (IsLogUpTo (largest_of n)) m.intervals.items
 logs_up_to n each i m there = by_members (IsLogUpTo (largest_of n)) m.intervals.items (λ log member.
     let among = In-flat_map _ log n.systems i m there member in
@@ -191,14 +191,14 @@ keeps_pace n h = record {
 -- ---- delays
 
 -- where no link is slower than an interval, each frame arrives within it
-prompt_within : (links : List Wire) (log : ℤ) → is_any_slower links log ≡ false → ArePrompt links log
+prompt_within : (links : List LinkSpec) (log : ℤ) → is_any_slower links log ≡ false → ArePrompt links log
 prompt_within [] log none i w there = absurd cc
 prompt_within (v ∷ links) log none zero w there =
     let same : v ≡ w = cc in
-    subst (λ (u : Wire). u.bounds.max ≤ interval_of log) same (grind (arith, nat_tests))
+    subst (λ (u : LinkSpec). u.bounds.max ≤ interval_of log) same (grind (arith, nat_tests))
 prompt_within (v ∷ links) log none (suc i) w there = prompt_within links log (search rules) i w there
 
-pub all_prompt : (links : List Wire) (logs : List ℤ) → list_any (is_any_slower links) logs ≡ false
+pub all_prompt : (links : List LinkSpec) (logs : List ℤ) → list_any (is_any_slower links) logs ≡ false
     → All (ArePrompt links) logs
 all_prompt links [] none k d within = absurd (omega arith)
 all_prompt links (log ∷ logs) none zero d within = prompt_within links log (search rules)

@@ -10,10 +10,10 @@ use Rattle.gptp_setup.specs.declared.setup.Params.{Params}
 use Rattle.gptp_setup.specs.Intervals.{interval_of}
 use Rattle.gptp_plan.specs.Network.{NetworkState, without_members, with_system, with_link, logs_of, ArePrompt, IsKeptNetwork, IsMember, IsMemberTimed, IsPort, IsWire, IsEnd, IsNetwork, CanAddSystem, CanAddLink}
 use Rattle.gptp_plan.specs.Params.{KeepParams}
-use Rattle.gptp_plan.specs.declared.network.Member.{Member}
-use Rattle.gptp_plan.specs.declared.network.Wire.{Wire}
+use Rattle.gptp_plan.specs.declared.network.SystemSpec.{SystemSpec}
+use Rattle.gptp_plan.specs.declared.network.LinkSpec.{LinkSpec}
 use Rattle.gptp_lists.specs.Members.{In}
-use Rattle.gptp_lists.proofs.MemberLemmas.{In-parts}
+use Rattle.gptp_lists.proofs.SystemSpecLemmas.{In-parts}
 use Rattle.gptp_lists.proofs.PlaceLemmas.{behind, before}
 use Rattle.gptp_plan.proofs.LogLemmas.{logs_added, of_member, reduce_added}
 
@@ -38,7 +38,7 @@ length_behind : {X : Type 0} (xs : List X) (x : X) → length (xs ++ x ∷ []) �
 length_behind xs x = length-append xs (x ∷ [])
 
 -- a port stays when a system is added
-kept_port : (systems : List Member) (m : Member) (p : PortId) → IsPort systems p → IsPort (systems ++ m ∷ []) p
+kept_port : (systems : List SystemSpec) (m : SystemSpec) (p : PortId) → IsPort systems p → IsPort (systems ++ m ∷ []) p
 kept_port systems m p h = record {
   place = h.place;
   system = h.system;
@@ -49,7 +49,7 @@ kept_port systems m p h = record {
 }
 
 -- where a link is as prompt as a network and as one more system ask, it is as prompt as both ask
-still_prompt : (n : NetworkState) (m : Member) (i : ℕ) (w : Wire) → IsWire n i w → slice_get n.links i ≡ Some w
+still_prompt : (n : NetworkState) (m : SystemSpec) (i : ℕ) (w : LinkSpec) → IsWire n i w → slice_get n.links i ≡ Some w
     → CanAddSystem n m → (log : ℤ) → In log (logs_of (with_system m n)) → w.bounds.max ≤ interval_of log
 still_prompt n m i w k there c log member =
     elim (In-parts log (logs_of n) m.intervals.items (subst (In log) (logs_added n m) member)) [
@@ -57,7 +57,7 @@ still_prompt n m i w k there c log member =
       | inr of_its ↦ of_member (ArePrompt n.links) m.intervals.items log c.prompt of_its i w there
     ]
 
-network_with_system : (n : NetworkState) (m : Member) → IsNetwork n → CanAddSystem n m → m.identity < 2 ^ 112
+network_with_system : (n : NetworkState) (m : SystemSpec) → IsNetwork n → CanAddSystem n m → m.identity < 2 ^ 112
     → IsNetwork (with_system m n)
 network_with_system n m h c octets = record {
   params = h.params;
@@ -69,15 +69,15 @@ network_with_system n m h c octets = record {
   ];
   identities = λ i x e. elim (behind n.systems m x i e) [
     | inl f ↦ h.identities i x f
-    | inr f ↦ subst (λ (y : Member). y.identity < 2 ^ 112) f.1 octets
+    | inr f ↦ subst (λ (y : SystemSpec). y.identity < 2 ^ 112) f.1 octets
   ];
   clocks = λ i j l x e f same. elim (behind n.systems m l i e) [
     | inl e' ↦ elim (behind n.systems m x j f) [
       | inl f' ↦ h.clocks i j l x e' f' same
-      | inr f' ↦ absurd (c.fresh i l e' (same ∙ ap (λ (y : Member). clock_of y.identity) (sym f'.1)))
+      | inr f' ↦ absurd (c.fresh i l e' (same ∙ ap (λ (y : SystemSpec). clock_of y.identity) (sym f'.1)))
     ]
     | inr e' ↦ elim (behind n.systems m x j f) [
-      | inl f' ↦ absurd (c.fresh j x f' (sym same ∙ ap (λ (y : Member). clock_of y.identity) (sym e'.1)))
+      | inl f' ↦ absurd (c.fresh j x f' (sym same ∙ ap (λ (y : SystemSpec). clock_of y.identity) (sym e'.1)))
       | inr f' ↦ e'.0 ∙ sym f'.0
     ]
   ];
@@ -96,7 +96,7 @@ network_with_system n m h c octets = record {
   one_link = h.one_link;
 }
 
-pub system_added : (n : NetworkState) (m : Member) (smallest largest : Option ℤ) → IsKeptNetwork n smallest largest
+pub system_added : (n : NetworkState) (m : SystemSpec) (smallest largest : Option ℤ) → IsKeptNetwork n smallest largest
     → CanAddSystem n m → m.identity < 2 ^ 112
     → IsKeptNetwork (with_system m n) (reduce int_min (cons_option smallest m.intervals.items))
     (reduce int_max (cons_option largest m.intervals.items))
@@ -107,7 +107,7 @@ system_added n m smallest largest h c octets = record {
 }
 
 -- a link has the limits of the network, whatever other links there are
-kept_wire : (n : NetworkState) (added w : Wire) (i : ℕ) → IsWire n i w → IsWire (with_link added n) i w
+kept_wire : (n : NetworkState) (added w : LinkSpec) (i : ℕ) → IsWire n i w → IsWire (with_link added n) i w
 kept_wire n added w i k = record {
   number = k.number;
   fit = k.fit;
@@ -118,14 +118,14 @@ kept_wire n added w i k = record {
 }
 
 -- no earlier link is at a port of one that can be added
-free : (n : NetworkState) (w v : Wire) (i : ℕ) (p : PortId) → CanAddLink n w → slice_get n.links i ≡ Some v
+free : (n : NetworkState) (w v : LinkSpec) (i : ℕ) (p : PortId) → CanAddLink n w → slice_get n.links i ≡ Some v
     → IsEnd p v → IsEnd p w → ⊥
 free n w v i p c e at_v at_w = elim at_w [
   | inl f ↦ c.free_a i v e (subst (λ q. IsEnd q v) (sym f) at_v)
   | inr f ↦ c.free_b i v e (subst (λ q. IsEnd q v) (sym f) at_v)
 ]
 
-network_with_link : (n : NetworkState) (w : Wire) → IsNetwork n → CanAddLink n w → IsNetwork (with_link w n)
+network_with_link : (n : NetworkState) (w : LinkSpec) → IsNetwork n → CanAddLink n w → IsNetwork (with_link w n)
 network_with_link n w h c = record {
   params = h.params;
   few_systems = h.few_systems;
@@ -151,7 +151,7 @@ network_with_link n w h c = record {
   ];
 }
 
-pub link_added : (n : NetworkState) (w : Wire) (smallest largest : Option ℤ) → IsKeptNetwork n smallest largest
+pub link_added : (n : NetworkState) (w : LinkSpec) (smallest largest : Option ℤ) → IsKeptNetwork n smallest largest
     → CanAddLink n w → IsKeptNetwork (with_link w n) smallest largest
 link_added n w smallest largest h c =
     record { network = network_with_link n w h.network c; smallest = h.smallest; largest = h.largest }

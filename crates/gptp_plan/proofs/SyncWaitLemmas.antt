@@ -3,7 +3,7 @@ use Rattle.std.proofs.Common.{◌≡◌, ◌<◌, ◌≤◌, ℕ, ◌+◌, ◌-�
 use Rattle.std.proofs.lemmas.Bool.Decides.{nat_tests}
 use Rattle.std.proofs.Math.Nat.{mul-le-mul, mul-zero, zero-mul}
 use Rattle.gptp_setup.specs.Intervals.{interval_of, IsLog}
-use Rattle.gptp_setup.specs.Pace.{Pace, lapse_span, largest_interval}
+use Rattle.gptp_setup.specs.SettlingParams.{SettlingParams, lapse_span, largest_interval}
 use Rattle.gptp_setup.proofs.IntervalLemmas.{interval_most}
 use Rattle.gptp_plan.specs.Params.{KeepParams}
 use Rattle.gptp_plan.specs.SettlingTime.{settling_span, settling_span_with}
@@ -16,7 +16,7 @@ pub short_way : (links residence delay : ℕ) → links ≤ 512 → residence �
 short_way links residence delay h r d = mul-le-mul {n₂ = 512} {m₂ = 161000000000} h (omega arith)
 
 -- where syncReceiptTimeout is off no step takes longer
-pub never_more : (p : Pace) (paths : SyncPaths) → p.params.sync_timeout ≡ 0 → step_more p paths ≡ 0
+pub never_more : (p : SettlingParams) (paths : SyncPaths) → p.params.sync_timeout ≡ 0 → step_more p paths ≡ 0
 never_more p paths off =
     let none : lapse_span p.params ≡ 0 = ap (λ k. k * interval_of p.params.sync) off ∙ zero-mul _ in
     by (nat_lt (sync_wait p.params paths) (lapse_span p.params)) refl none
@@ -26,7 +26,7 @@ never_more p paths off =
     by false is none = refl
     by true is none = absurd (grind (arith, nat_tests))
 
-pub never_longer : (p : Pace) (paths : SyncPaths) (n : ℕ) → p.params.sync_timeout ≡ 0
+pub never_longer : (p : SettlingParams) (paths : SyncPaths) (n : ℕ) → p.params.sync_timeout ≡ 0
     → settling_span p n ≡ settling_span_with p paths n
 never_longer p paths n off =
     let none = never_more p paths off in
@@ -34,7 +34,7 @@ never_longer p paths n off =
     omega (arith, times)
 
 -- no longer than so: the wait is below the longest timeout, and intervals and delays are within sixteen seconds
-pub short_time : (p : Pace) (paths : SyncPaths) (n : ℕ) → KeepParams p.params → IsLog p.largest → n ≤ 512
+pub short_time : (p : SettlingParams) (paths : SyncPaths) (n : ℕ) → KeepParams p.params → IsLog p.largest → n ≤ 512
     → paths.delay ≤ 16000000000
     → settling_span_with p paths n ≤ 195000000000000
 short_time p paths n params log few short =

@@ -4,13 +4,13 @@ use Rattle.std.specs.List.{All}
 use Rattle.gptp_roles.specs.Selection.{clock_of}
 use Rattle.gptp_pdelay.specs.GoodLink.{IsGoodLink}
 use Rattle.gptp_setup.specs.declared.setup.Params.{Params}
-use Rattle.gptp_setup.specs.Pace.{lapse_span}
+use Rattle.gptp_setup.specs.SettlingParams.{lapse_span}
 use Rattle.gptp_plan.specs.Change.{system_after, link_after}
 use Rattle.gptp_plan.specs.Network.{NetworkState}
 use Rattle.gptp_plan.specs.SyncWait.{sync_paths, sync_wait}
 use Rattle.gptp_plan.specs.declared.change.Timed.{Timed}
-use Rattle.gptp_plan.specs.declared.network.Member.{Member}
-use Rattle.gptp_plan.specs.declared.network.Wire.{Wire}
+use Rattle.gptp_plan.specs.declared.network.SystemSpec.{SystemSpec}
+use Rattle.gptp_plan.specs.declared.network.LinkSpec.{LinkSpec}
 use Rattle.gptp_plan.specs.declared.sync_wait.SyncPaths.{SyncPaths}
 
 -- the time of the last of these, or 0
@@ -20,30 +20,30 @@ last_change (t ∷ []) = t.at
 last_change (t ∷ (u ∷ us)) = last_change (u ∷ us)
 
 -- the system with this clock lives after the events
-pub record IsLive (systems : List Member) (events : List Timed) (name : ℕ) : Type 0 where
+pub record IsLive (systems : List SystemSpec) (events : List Timed) (name : ℕ) : Type 0 where
   pub place : ℕ
-  pub system : Member
+  pub system : SystemSpec
   pub there : slice_get systems place ≡ Some system
   pub clock : clock_of system.identity ≡ name
   pub live : (system_after events system).live ≡ true
 
 -- the link is up and joins two live systems
-pub record IsUsed (systems : List Member) (events : List Timed) (w : Wire) : Type 0 where
+pub record IsUsed (systems : List SystemSpec) (events : List Timed) (w : LinkSpec) : Type 0 where
   pub up : w.up ≡ true
   pub a : IsLive systems events w.a.clock
   pub b : IsLive systems events w.b.clock
 
 -- the link loses nothing, and is short enough for the threshold
-pub record IsQuiet (turnaround threshold : ℕ) (w : Wire) : Type 0 where
+pub record IsQuiet (turnaround threshold : ℕ) (w : LinkSpec) : Type 0 where
   pub lossless : w.bounds.loss ≡ 0
   pub good : IsGoodLink w.bounds.max turnaround threshold
 
 -- where a link is up between two live systems after the events, it is quiet
-abbrev pub Rests : Params → List Member → List Timed → Wire → Type 0
+abbrev pub Rests : Params → List SystemSpec → List Timed → LinkSpec → Type 0
 Rests p systems events w =
     IsUsed systems events (link_after events w) → IsQuiet p.turnaround p.threshold (link_after events w)
 
-abbrev pub AllRest : Params → List Member → List Wire → List Timed → Type 0
+abbrev pub AllRest : Params → List SystemSpec → List LinkSpec → List Timed → Type 0
 AllRest p systems links events = All (Rests p systems events) links
 
 -- No Slave port ages what it holds for want of Sync: syncReceiptTimeout (IEEE 802.1AS-2020, 10.7.3.1) is 0, which is

@@ -9,11 +9,11 @@ use Rattle.gptp_plan.specs.declared.change.Act.TheVariants as acts
 use Rattle.gptp_plan.specs.declared.change.Change.{Change}
 use Rattle.gptp_plan.specs.declared.change.Change.TheVariants as changes
 use Rattle.gptp_plan.specs.declared.change.Timed.{Timed}
-use Rattle.gptp_plan.specs.declared.network.Member.{Member}
-use Rattle.gptp_plan.specs.declared.network.Wire.{Wire}
+use Rattle.gptp_plan.specs.declared.network.SystemSpec.{SystemSpec}
+use Rattle.gptp_plan.specs.declared.network.LinkSpec.{LinkSpec}
 
 -- at first a system lives, and has the identity that it was given
-abbrev pub standing : Member → Standing
+abbrev pub standing : SystemSpec → Standing
 standing m = record { identity = m.identity; live = true }
 
 abbrev pub with_live : Bool → Standing → Standing
@@ -33,10 +33,10 @@ system_changed (changes.Recover clock) own s = if clock == own then with_live tr
 system_changed (changes.Priority1 clock value) own s = if clock == own then with_priority1 value s else s
 system_changed (changes.Inject clock port octets) own s = s
 
-abbrev pub with_up : Bool → Wire → Wire
+abbrev pub with_up : Bool → LinkSpec → LinkSpec
 with_up up w = record { a = w.a; b = w.b; bounds = w.bounds; up = up }
 
-abbrev pub member_with_bounds : ℕ → ℕ → ℕ → Wire → Wire
+abbrev pub member_with_bounds : ℕ → ℕ → ℕ → LinkSpec → LinkSpec
 member_with_bounds least greatest loss w = record {
   a = w.a;
   b = w.b;
@@ -45,12 +45,12 @@ member_with_bounds least greatest loss w = record {
 }
 
 -- the link is at this port
-abbrev pub is_at : ℕ → ℕ → Wire → Bool
+abbrev pub is_at : ℕ → ℕ → LinkSpec → Bool
 is_at clock port w =
     same_port w.a (record { clock = clock; port = port }) || same_port w.b (record { clock = clock; port = port })
 
 -- what a change makes of a link
-abbrev pub link_changed : Change → Wire → Wire
+abbrev pub link_changed : Change → LinkSpec → LinkSpec
 link_changed (changes.LinkDown clock port) w = if is_at clock port w then with_up false w else w
 link_changed (changes.LinkUp clock port) w = if is_at clock port w then with_up true w else w
 link_changed (changes.LinkSet clock port least greatest loss) w =
@@ -66,7 +66,7 @@ system_acted (acts.Deliver link direction) own s = s
 system_acted (acts.Expire clock timer) own s = s
 system_acted (acts.Change change) own s = system_changed change own s
 
-abbrev pub link_acted : Act → Wire → Wire
+abbrev pub link_acted : Act → LinkSpec → LinkSpec
 link_acted (acts.Deliver link direction) w = w
 link_acted (acts.Expire clock timer) w = w
 link_acted (acts.Change change) w = link_changed change w
@@ -76,18 +76,18 @@ abbrev pub system_stands : List Timed → ℕ → Standing → Standing
 system_stands [] own s = s
 system_stands (t ∷ ts) own s = system_stands ts own (system_acted t.act own s)
 
-abbrev pub link_after : List Timed → Wire → Wire
+abbrev pub link_after : List Timed → LinkSpec → LinkSpec
 link_after [] w = w
 link_after (t ∷ ts) w = link_after ts (link_acted t.act w)
 
 -- a system after these acts
-abbrev pub system_after : List Timed → Member → Standing
+abbrev pub system_after : List Timed → SystemSpec → Standing
 system_after ts m = system_stands ts (clock_of m.identity) (standing m)
 
 -- a system that lives after these acts: its identity then, and how many ports it has
-abbrev pub live_after : List Timed → Member → Option (ℕ × ℕ)
+abbrev pub live_after : List Timed → SystemSpec → Option (ℕ × ℕ)
 live_after ts m = if (system_after ts m).live then Some ((system_after ts m).identity, m.ports) else None
 
 -- the ports of a link that is up after these acts
-abbrev pub joined_after : List Timed → Wire → Option (PortId × PortId)
+abbrev pub joined_after : List Timed → LinkSpec → Option (PortId × PortId)
 joined_after ts w = if (link_after ts w).up then Some (w.a, w.b) else None

@@ -1,7 +1,7 @@
 -- The limits of what is the same for all systems of a network (profile).
 use Rattle.std.specs.Prelude.{◌<◌, ◌≤◌, ℕ, ◌+◌, ◌*◌, ℤ, pos, neg_ℤ, Bool, not, ◌&&◌, nat_lt, nat_le, int_le, [], ◌∷◌, Option}
 use Rattle.gptp_setup.specs.Intervals.{AreParams, interval_of, IsLog}
-use Rattle.gptp_setup.specs.Pace.{largest_interval, Pace}
+use Rattle.gptp_setup.specs.SettlingParams.{largest_interval, SettlingParams}
 use Rattle.gptp_setup.specs.declared.setup.Params.{Params}
 use Rattle.gptp_plan.specs.Faults.{first_fault}
 use Rattle.gptp_plan.specs.declared.fault.NetworkFault.{NetworkFault}
@@ -56,7 +56,7 @@ pub record KeepParams (p : Params) : Type 0 where
   pub relayed : p.residence < interval_of p.sync
 
 -- so do these with the largest announce interval of a network
-pub record KeepPace (p : Pace) : Type 0 where
+pub record KeepPace (p : SettlingParams) : Type 0 where
   pub params : KeepParams p.params
   pub largest : IsLog p.largest
   pub requests : interval_of p.params.pdelay ≤ largest_interval p

@@ -6,10 +6,10 @@ use Rattle.gptp_plan.specs.declared.change.Change.TheVariants.{LinkSet}
 use Rattle.gptp_plan.specs.declared.change.Timed.{Timed}
 
 -- a link is set to no delay above this one, in ns
-abbrev pub IsPromptAct : ℕ → Act → Type 0
-IsPromptAct most (Changing (LinkSet number port least greatest loss)) = greatest ≤ most
-IsPromptAct most act = ⊤
+abbrev pub DelayFitsInterval : ℕ → Act → Type 0
+DelayFitsInterval most (Changing (LinkSet number port least greatest loss)) = greatest ≤ most
+DelayFitsInterval most act = ⊤
 
 -- so it is in each act of a list
 abbrev pub ArePromptActs : ℕ → List Timed → Type 0
-ArePromptActs most acts = (place : ℕ) (timed : Timed) → slice_get acts place ≡ Some timed → IsPromptAct most timed.act
+ArePromptActs most acts = (place : ℕ) (timed : Timed) → slice_get acts place ≡ Some timed → DelayFitsInterval most timed.act

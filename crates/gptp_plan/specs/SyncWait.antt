@@ -3,7 +3,7 @@
 use Rattle.std.specs.Prelude.{ℕ, ◌+◌, ◌-◌, ◌*◌, pred, nat_lt, if◌then◌else◌, List}
 use Rattle.gptp_setup.specs.declared.setup.Params.{Params}
 use Rattle.gptp_setup.specs.Intervals.{interval_of}
-use Rattle.gptp_setup.specs.Pace.{Pace, lapse_span, largest_interval}
+use Rattle.gptp_setup.specs.SettlingParams.{SettlingParams, lapse_span, largest_interval}
 use Rattle.gptp_plan.specs.InUse.{greatest_delay, path_systems}
 use Rattle.gptp_plan.specs.Network.{NetworkState}
 use Rattle.gptp_plan.specs.declared.change.Timed.{Timed}
@@ -24,7 +24,7 @@ sync_wait p paths = interval_of p.sync + pred paths.systems * (p.residence + pat
 -- What a step of distance from the best takes longer than the two announce intervals that it takes anyway. A step
 -- waits for the next Sync and then for the next Announce, which arrives within the greatest delay. It takes no longer
 -- where syncReceiptTimeout is off, whose span is 0.
-abbrev pub step_more : Pace → SyncPaths → ℕ
+abbrev pub step_more : SettlingParams → SyncPaths → ℕ
 step_more p paths =
     if nat_lt (sync_wait p.params paths) (lapse_span p.params)
     then sync_wait p.params paths + paths.delay - largest_interval p

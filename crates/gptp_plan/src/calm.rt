@@ -8,7 +8,7 @@ ghost use Rattle.gptp_plan.specs.InUse.{is_used, count_live, lives};
 ghost use Rattle.gptp_plan.specs.SyncWait.{sync_paths};
 
 use crate::change::{Act, Change, Timed};
-use crate::network::{Member, Network, Wire};
+use crate::network::{SystemSpec, Network, LinkSpec};
 use crate::sync_wait::{comes_in_time, sync_paths};
 use gptp_links::Bounds;
 use gptp_setup::Params;
@@ -59,7 +59,7 @@ fn change_system(change: &Change, own: ClockId, system: &mut Standing)
 }
 
 /// Whether a link is at this port.
-fn is_at(clock: ClockId, port: u16, wire: &Wire) -> bool
+fn is_at(clock: ClockId, port: u16, wire: &LinkSpec) -> bool
     ensures { result ≡ is_at clock port wire.now }
 {
     let port = PortId { clock, port };
@@ -67,7 +67,7 @@ fn is_at(clock: ClockId, port: u16, wire: &Wire) -> bool
 }
 
 /// Does to a link what a change does.
-fn change_link(change: &Change, wire: &mut Wire)
+fn change_link(change: &Change, wire: &mut LinkSpec)
     ensures { wire.new ≡ link_changed change.now wire.old }
 {
     match *change {
@@ -120,7 +120,7 @@ fn act_on_system(act: &Act, own: ClockId, system: &mut Standing)
 }
 
 /// Does to a link what an act does.
-fn act_on_link(act: &Act, wire: &mut Wire)
+fn act_on_link(act: &Act, wire: &mut LinkSpec)
     ensures { wire.new ≡ link_acted act.now wire.old }
 {
     match act {
@@ -134,7 +134,7 @@ fn act_on_link(act: &Act, wire: &mut Wire)
 }
 
 /// A system after these events.
-pub(crate) fn system_after(events: &[Timed], member: &Member) -> Standing
+pub(crate) fn system_after(events: &[Timed], member: &SystemSpec) -> Standing
     ensures { result ≡ system_after events.now member.now }
 {
     let own = member.identity.clock();
@@ -149,7 +149,7 @@ pub(crate) fn system_after(events: &[Timed], member: &Member) -> Standing
 }
 
 /// A link after these events.
-pub(crate) fn link_after(events: &[Timed], wire: &Wire) -> Wire
+pub(crate) fn link_after(events: &[Timed], wire: &LinkSpec) -> LinkSpec
     ensures { result ≡ link_after events.now wire.now }
 {
     let mut after = *wire;
@@ -160,7 +160,7 @@ pub(crate) fn link_after(events: &[Timed], wire: &Wire) -> Wire
 }
 
 /// A system that lives after these events: its identity then, and how many ports it has.
-pub(crate) fn live_after(events: &[Timed], member: &Member) -> Option<(Identity, u8)>
+pub(crate) fn live_after(events: &[Timed], member: &SystemSpec) -> Option<(Identity, u8)>
     ensures { result ≡ live_after events.now member.now }
 {
     let system = system_after(events, member);
@@ -172,7 +172,7 @@ pub(crate) fn live_after(events: &[Timed], member: &Member) -> Option<(Identity,
 }
 
 /// The ports of a link that is up after these events.
-pub(crate) fn joined_after(events: &[Timed], wire: &Wire) -> Option<(PortId, PortId)>
+pub(crate) fn joined_after(events: &[Timed], wire: &LinkSpec) -> Option<(PortId, PortId)>
     ensures { result ≡ joined_after events.now wire.now }
 {
     if link_after(events, wire).up {
@@ -183,7 +183,7 @@ pub(crate) fn joined_after(events: &[Timed], wire: &Wire) -> Option<(PortId, Por
 }
 
 /// Whether the system with this clock lives after these events.
-fn is_live(systems: &[Member], events: &[Timed], clock: ClockId) -> bool
+fn is_live(systems: &[SystemSpec], events: &[Timed], clock: ClockId) -> bool
     ensures is { result ≡ lives systems.now events.now clock }
     ensures live { IsTrue result ↔ IsLive systems.now events.now clock }
 {
@@ -192,7 +192,7 @@ fn is_live(systems: &[Member], events: &[Timed], clock: ClockId) -> bool
 }
 
 /// Whether a link is up and joins two live systems.
-pub(crate) fn is_used(systems: &[Member], events: &[Timed], wire: &Wire) -> bool
+pub(crate) fn is_used(systems: &[SystemSpec], events: &[Timed], wire: &LinkSpec) -> bool
     ensures is { result ≡ is_used systems.now events.now wire.now }
     ensures used { IsTrue result ↔ IsUsed systems.now events.now wire.now }
 {
@@ -200,7 +200,7 @@ pub(crate) fn is_used(systems: &[Member], events: &[Timed], wire: &Wire) -> bool
 }
 
 /// Whether a link loses nothing, and is short enough for the threshold.
-fn is_quiet(params: &Params, wire: &Wire) -> bool
+fn is_quiet(params: &Params, wire: &LinkSpec) -> bool
     requires { KeepParams params.now }
     ensures { IsTrue result ↔ IsQuiet params.now.turnaround params.now.threshold wire.now }
 {
@@ -211,7 +211,7 @@ fn is_quiet(params: &Params, wire: &Wire) -> bool
 }
 
 /// Whether a link that is up between two live systems after these events is quiet.
-fn rests(params: &Params, systems: &[Member], events: &[Timed], wire: &Wire) -> bool
+fn rests(params: &Params, systems: &[SystemSpec], events: &[Timed], wire: &LinkSpec) -> bool
     requires { KeepParams params.now }
     ensures { IsTrue result ↔ Rests params.now systems.now events.now wire.now }
 {
@@ -220,7 +220,7 @@ fn rests(params: &Params, systems: &[Member], events: &[Timed], wire: &Wire) -> 
 }
 
 /// Whether each link rests after these events.
-fn all_rest(params: &Params, systems: &[Member], links: &[Wire], events: &[Timed]) -> bool
+fn all_rest(params: &Params, systems: &[SystemSpec], links: &[LinkSpec], events: &[Timed]) -> bool
     requires { KeepParams params.now }
     ensures { IsTrue result ↔ AllRest params.now systems.now links.now events.now }
 {
@@ -230,7 +230,7 @@ fn all_rest(params: &Params, systems: &[Member], links: &[Wire], events: &[Timed
 }
 
 /// Whether nothing lapses for want of Sync once a network of these has settled.
-fn syncs_come_in_time(params: &Params, systems: &[Member], links: &[Wire], events: &[Timed]) -> bool
+fn syncs_come_in_time(params: &Params, systems: &[SystemSpec], links: &[LinkSpec], events: &[Timed]) -> bool
     requires params { KeepParams params.now }
     requires few { length systems.now ≤ 512 }
     ensures { IsTrue result ↔ SyncsComeInTime params.now
@@ -240,7 +240,7 @@ fn syncs_come_in_time(params: &Params, systems: &[Member], links: &[Wire], event
 }
 
 /// Whether a network of these is calm after these events.
-pub(crate) fn is_calm(params: &Params, systems: &[Member], links: &[Wire], events: &[Timed]) -> bool
+pub(crate) fn is_calm(params: &Params, systems: &[SystemSpec], links: &[LinkSpec], events: &[Timed]) -> bool
     requires params { KeepParams params.now }
     requires few { length systems.now ≤ 512 }
     ensures { IsTrue result
@@ -250,7 +250,7 @@ pub(crate) fn is_calm(params: &Params, systems: &[Member], links: &[Wire], event
 }
 
 /// How many systems live after these events.
-pub(crate) fn live_systems(systems: &[Member], events: &[Timed]) -> u64
+pub(crate) fn live_systems(systems: &[SystemSpec], events: &[Timed]) -> u64
     ensures count { result ≡ count_live systems.now events.now }
     ensures bound { result ≤ length systems.now }
 {

@@ -30,7 +30,7 @@ use std::marker::Model;
 
 /// A system of a network, with the announce intervals of its ports.
 #[derive(Debug, Drop)]
-pub(crate) struct Member {
+pub(crate) struct SystemSpec {
     pub identity: Identity,
     pub ports: u8,
     pub phase: u64,
@@ -40,7 +40,7 @@ pub(crate) struct Member {
 
 /// A link of a network: its ends, its bounds, and whether it is up at first.
 #[derive(Clone, Copy, Debug)]
-pub(crate) struct Wire {
+pub(crate) struct LinkSpec {
     pub a: PortId,
     pub b: PortId,
     pub bounds: Bounds,
@@ -52,8 +52,8 @@ pub(crate) struct Wire {
 #[derive(Drop)]
 pub struct Network {
     params: Params,
-    systems: Vec<Member>,
-    links: Vec<Wire>,
+    systems: Vec<SystemSpec>,
+    links: Vec<LinkSpec>,
     // The smallest and the largest announce interval of its ports, where it has any.
     smallest: Option<i8>,
     largest: Option<i8>,
@@ -116,7 +116,7 @@ impl Network {
         ensures added { OnOk result (self.new ≡ with_system (member identity ports phase drift intervals) self.old) }
         ensures kept { OnErr result (self.new ≡ self.old) }
     {
-        let member = Member {
+        let member = SystemSpec {
             identity,
             ports,
             phase,
@@ -152,7 +152,7 @@ impl Network {
         ensures kept { OnErr result (self.new ≡ self.old) }
     {
         let link = self.links.len();
-        let wire = Wire {
+        let wire = LinkSpec {
             a,
             b,
             bounds: Bounds {
@@ -330,7 +330,7 @@ impl Network {
 
     /// The first test that one more system fails.
     #[tactic(auto, using(crate::proofs::LogLemmas::all_prompt))]
-    fn system_fault(&self, member: &Member) -> Option<NetworkFault>
+    fn system_fault(&self, member: &SystemSpec) -> Option<NetworkFault>
         ensures is { result ≡ system_fault self.now member.now }
         ensures fits { result ≡ None → CanAddSystem self.now member.now }
     {
@@ -350,7 +350,7 @@ impl Network {
     }
 
     /// The first test that one more link fails.
-    fn link_fault(&self, wire: &Wire) -> Option<NetworkFault>
+    fn link_fault(&self, wire: &LinkSpec) -> Option<NetworkFault>
         requires { wire.now.bounds.link ≡ length self.now.links }
         ensures is { result ≡ link_fault self.now wire.now }
         ensures fits { result ≡ None → CanAddLink self.now wire.now }
@@ -373,7 +373,7 @@ impl Network {
     }
 
     /// Puts a system behind the others.
-    fn push_system(&mut self, member: Member) -> Result<(), NetworkFault>
+    fn push_system(&mut self, member: SystemSpec) -> Result<(), NetworkFault>
         requires { CanAddSystem self.old member }
         ensures added { OnOk result (self.new ≡ with_system member self.old) }
         ensures kept { OnErr result (self.new ≡ self.old) }
@@ -388,7 +388,7 @@ impl Network {
     }
 
     /// Puts a link behind the others.
-    fn push_link(&mut self, wire: Wire) -> Result<(), NetworkFault>
+    fn push_link(&mut self, wire: LinkSpec) -> Result<(), NetworkFault>
         requires { CanAddLink self.old wire }
         ensures added { OnOk result (self.new ≡ with_link wire self.old) }
         ensures kept { OnErr result (self.new ≡ self.old) }
@@ -400,7 +400,7 @@ impl Network {
 }
 
 /// Whether each value of a system lies in its range.
-fn is_member_in_range(member: &Member) -> bool
+fn is_member_in_range(member: &SystemSpec) -> bool
     ensures is { result ≡ is_member_in_range member.now }
     ensures limits { result ≡ true → IsMember member.now }
 {
@@ -420,7 +420,7 @@ fn are_logs(intervals: &[i8]) -> bool
 }
 
 /// Whether requests are no rarer than the announcements of any port of a system.
-fn is_member_timed(params: &Params, member: &Member) -> bool
+fn is_member_timed(params: &Params, member: &SystemSpec) -> bool
     ensures is { result ≡ is_member_timed params.now member.now }
     ensures timed { result ≡ true → IsMemberTimed params.now member.now }
 {
@@ -432,7 +432,7 @@ fn is_member_timed(params: &Params, member: &Member) -> bool
 }
 
 /// Whether the greatest delay of one of these links is above an interval.
-fn is_any_slower(links: &[Wire], interval: i8) -> bool
+fn is_any_slower(links: &[LinkSpec], interval: i8) -> bool
     requires { IsLog interval }
     ensures { result ≡ is_any_slower links.now interval }
 {
@@ -441,7 +441,7 @@ fn is_any_slower(links: &[Wire], interval: i8) -> bool
 }
 
 /// Whether the greatest delay of one of these links is above one of these intervals.
-fn are_any_slower(links: &[Wire], intervals: &[i8]) -> bool
+fn are_any_slower(links: &[LinkSpec], intervals: &[i8]) -> bool
     requires { All IsLog intervals.now }
     ensures { result ≡ list_any (is_any_slower links.now) intervals.now }
 {
@@ -454,7 +454,7 @@ fn are_any_slower(links: &[Wire], intervals: &[i8]) -> bool
 }
 
 /// Whether each value of a link lies in its range.
-fn is_wire_in_range(wire: &Wire) -> bool
+fn is_wire_in_range(wire: &LinkSpec) -> bool
     ensures is { result ≡ is_wire_in_range wire.now }
     ensures a { result ≡ true → 1 ≤ wire.now.a.port }
     ensures b { result ≡ true → 1 ≤ wire.now.b.port }
@@ -477,7 +477,7 @@ fn are_bounds_in_range(bounds: &Bounds) -> bool
 }
 
 /// Whether a system has this clock.
-fn has_clock(systems: &[Member], clock: ClockId) -> bool
+fn has_clock(systems: &[SystemSpec], clock: ClockId) -> bool
     ensures is { result ≡ members_have_clock systems.now clock }
     ensures fresh { result ≡ false → IsNewClock systems.now clock }
 {
@@ -487,7 +487,7 @@ fn has_clock(systems: &[Member], clock: ClockId) -> bool
 }
 
 /// Whether the system with the clock of this port has so many ports.
-fn has_port(systems: &[Member], port: PortId) -> bool
+fn has_port(systems: &[SystemSpec], port: PortId) -> bool
     ensures is { result ≡ has_port systems.now port }
     ensures port { result ≡ true → 1 ≤ port.port → IsPort systems.now port }
 {
@@ -496,7 +496,7 @@ fn has_port(systems: &[Member], port: PortId) -> bool
 }
 
 /// Whether there are the ports of this link.
-fn have_ports(systems: &[Member], wire: &Wire) -> bool
+fn have_ports(systems: &[SystemSpec], wire: &LinkSpec) -> bool
     ensures is { result ≡ (has_port systems.now wire.now.a && has_port systems.now wire.now.b) }
     ensures a { result ≡ true → 1 ≤ wire.now.a.port → IsPort systems.now wire.now.a }
     ensures b { result ≡ true → 1 ≤ wire.now.b.port → IsPort systems.now wire.now.b }
@@ -505,7 +505,7 @@ fn have_ports(systems: &[Member], wire: &Wire) -> bool
 }
 
 /// Whether a link is at one of the ports of this one.
-fn are_taken(links: &[Wire], wire: &Wire) -> bool
+fn are_taken(links: &[LinkSpec], wire: &LinkSpec) -> bool
     ensures is { result ≡ (is_taken links.now wire.now.a || is_taken links.now wire.now.b) }
     ensures free_a { result ≡ false → IsFree links.now wire.now.a }
     ensures free_b { result ≡ false → IsFree links.now wire.now.b }
@@ -514,7 +514,7 @@ fn are_taken(links: &[Wire], wire: &Wire) -> bool
 }
 
 /// Whether a link is at this port.
-fn is_taken(links: &[Wire], port: PortId) -> bool
+fn is_taken(links: &[LinkSpec], port: PortId) -> bool
     ensures is { result ≡ is_taken links.now port }
     ensures free { result ≡ false → IsFree links.now port }
 {

@@ -6,11 +6,11 @@ ghost use Rattle.gptp_plan.specs.InUse.{any_differ, far_clock, greatest_delay, l
 ghost use Rattle.gptp_plan.specs.Params.{KeepParams};
 ghost use Rattle.gptp_plan.specs.SyncWait.{step_more, sync_wait};
 ghost use Rattle.gptp_setup.specs.Intervals.{IsLog};
-ghost use Rattle.gptp_setup.specs.Pace.{lapse_span};
+ghost use Rattle.gptp_setup.specs.SettlingParams.{lapse_span};
 
 use crate::calm::{is_used, link_after, live_systems, system_after};
 use crate::change::Timed;
-use crate::network::{Member, Wire};
+use crate::network::{SystemSpec, LinkSpec};
 use gptp_setup::{Params, interval_of, lapse_span};
 use gptp_vector::ClockId;
 
@@ -25,7 +25,7 @@ pub struct SyncPaths {
 
 /// The greatest delay of those of these links that are in use after these events, as they then stand, or 0.
 #[tactic(auto, using(crate::proofs::InUseLemmas::delay_moves))]
-pub(crate) fn greatest_delay(systems: &[Member], events: &[Timed], links: &[Wire]) -> u64
+pub(crate) fn greatest_delay(systems: &[SystemSpec], events: &[Timed], links: &[LinkSpec]) -> u64
     ensures { result ≡ greatest_delay systems.now events.now links.now }
 {
     let mut greatest = 0;
@@ -36,7 +36,7 @@ pub(crate) fn greatest_delay(systems: &[Member], events: &[Timed], links: &[Wire
 }
 
 /// The greater of a delay and that of this link, where it is in use.
-fn with_delay(systems: &[Member], events: &[Timed], wire: &Wire, greatest: u64) -> u64
+fn with_delay(systems: &[SystemSpec], events: &[Timed], wire: &LinkSpec, greatest: u64) -> u64
     ensures { result ≡ with_delay systems.now events.now wire.now greatest }
 {
     let after = link_after(events, wire);
@@ -48,7 +48,7 @@ fn with_delay(systems: &[Member], events: &[Timed], wire: &Wire, greatest: u64) 
 }
 
 /// The system that a link joins to the one with this clock.
-fn far_clock(clock: ClockId, wire: &Wire) -> Option<ClockId>
+fn far_clock(clock: ClockId, wire: &LinkSpec) -> Option<ClockId>
     ensures { result ≡ far_clock clock wire.now }
 {
     if wire.a.clock == clock {
@@ -61,7 +61,7 @@ fn far_clock(clock: ClockId, wire: &Wire) -> Option<ClockId>
 }
 
 /// So where the link is in use after these events.
-fn neighbour(systems: &[Member], events: &[Timed], clock: ClockId, wire: &Wire) -> Option<ClockId>
+fn neighbour(systems: &[SystemSpec], events: &[Timed], clock: ClockId, wire: &LinkSpec) -> Option<ClockId>
     ensures { result ≡ neighbour systems.now events.now clock wire.now }
 {
     let far = far_clock(clock, wire)?;
@@ -74,8 +74,8 @@ fn neighbour(systems: &[Member], events: &[Timed], clock: ClockId, wire: &Wire) 
 
 /// The first system that a link in use joins to the one with this clock.
 fn first_neighbour(
-    systems: &[Member],
-    links: &[Wire],
+    systems: &[SystemSpec],
+    links: &[LinkSpec],
     events: &[Timed],
     clock: ClockId,
 ) -> Option<ClockId>
@@ -92,11 +92,11 @@ fn first_neighbour(
 
 /// Whether a link in use joins the system with this clock to another than the first.
 fn leads_elsewhere(
-    systems: &[Member],
+    systems: &[SystemSpec],
     events: &[Timed],
     clock: ClockId,
     first: ClockId,
-    wire: &Wire,
+    wire: &LinkSpec,
 ) -> bool
     ensures { result ≡ leads_elsewhere systems.now events.now clock first wire.now }
 {
@@ -108,8 +108,8 @@ fn leads_elsewhere(
 
 /// Whether one of these links does.
 fn any_leads_elsewhere(
-    systems: &[Member],
-    links: &[Wire],
+    systems: &[SystemSpec],
+    links: &[LinkSpec],
     events: &[Timed],
     clock: ClockId,
     first: ClockId,
@@ -121,7 +121,7 @@ fn any_leads_elsewhere(
 
 /// Whether links in use join the system with this clock to two different systems.
 #[tactic(auto, using(crate::proofs::InUseLemmas::several_by, crate::proofs::InUseLemmas::several_of_none))]
-fn has_two_neighbours(systems: &[Member], links: &[Wire], events: &[Timed], clock: ClockId) -> bool
+fn has_two_neighbours(systems: &[SystemSpec], links: &[LinkSpec], events: &[Timed], clock: ClockId) -> bool
     ensures { result ≡ any_differ (neighbours systems.now links.now events.now clock) }
 {
     match first_neighbour(systems, links, events, clock) {
@@ -131,7 +131,7 @@ fn has_two_neighbours(systems: &[Member], links: &[Wire], events: &[Timed], cloc
 }
 
 /// Whether a system lives and links in use join it to two different systems.
-fn lives_between(systems: &[Member], links: &[Wire], events: &[Timed], member: &Member) -> bool
+fn lives_between(systems: &[SystemSpec], links: &[LinkSpec], events: &[Timed], member: &SystemSpec) -> bool
     ensures { result ≡ lives_between systems.now links.now events.now member.now }
 {
     system_after(events, member).live
@@ -139,7 +139,7 @@ fn lives_between(systems: &[Member], links: &[Wire], events: &[Timed], member: &
 }
 
 /// How many systems do.
-fn live_between(systems: &[Member], links: &[Wire], events: &[Timed]) -> u64
+fn live_between(systems: &[SystemSpec], links: &[LinkSpec], events: &[Timed]) -> u64
     ensures count { result ≡ count_by (lives_between systems.now links.now events.now) systems.now }
     ensures bound { result ≤ length systems.now }
 {
@@ -152,7 +152,7 @@ fn live_between(systems: &[Member], links: &[Wire], events: &[Timed]) -> u64
 
 /// How many systems a path over the live systems and the links in use has at most.
 #[tactic(auto, unfolding(crate::specs::InUse::path_systems))]
-fn path_systems(systems: &[Member], links: &[Wire], events: &[Timed]) -> usize
+fn path_systems(systems: &[SystemSpec], links: &[LinkSpec], events: &[Timed]) -> usize
     requires few { length systems.now ≤ 512 }
     ensures is { result ≡ path_systems systems.now links.now events.now }
     ensures few { result ≤ 512 }
@@ -161,7 +161,7 @@ fn path_systems(systems: &[Member], links: &[Wire], events: &[Timed]) -> usize
 }
 
 /// What Sync has to cross in a network of these after these events.
-pub(crate) fn sync_paths(systems: &[Member], links: &[Wire], events: &[Timed]) -> SyncPaths
+pub(crate) fn sync_paths(systems: &[SystemSpec], links: &[LinkSpec], events: &[Timed]) -> SyncPaths
     requires few { length systems.now ≤ 512 }
     ensures systems { result.systems ≡ path_systems systems.now links.now events.now }
     ensures delay { result.delay ≡ greatest_delay systems.now events.now links.now }

@@ -10,7 +10,7 @@ use Rattle.gptp_graph.specs.Path.{IsPath, Reaches, Route}
 use Rattle.gptp_graph.specs.SettledChoice.{IsParentIfAny, IsSettledChoice, IsSettledLine}
 use Rattle.gptp_graph.specs.SettledRole.{Disabled, IsMasterPort, IsSettledRole, IsSlavePort, Master, Passive, Role, Slave}
 use Rattle.gptp_graph.specs.Snapshot.{IsLinked, Joins, Link, PortIdentity, Snapshot, System, clocks, port_of}
-use Rattle.gptp_lists.proofs.MemberLemmas.{In-map, from_map}
+use Rattle.gptp_lists.proofs.SystemSpecLemmas.{In-map, from_map}
 use Rattle.gptp_network.proofs.SnapshotLemmas.{In-permutation}
 use Rattle.gptp_kept.proofs.SystemLemmas.{clock_in}
 use Rattle.gptp_reached.specs.AlikeLaws.{AreAlike}

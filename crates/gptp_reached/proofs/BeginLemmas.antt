@@ -15,7 +15,7 @@ use Rattle.gptp_plan.specs.Network.{NetworkState, pace_of}
 use Rattle.gptp_acts.specs.World.{WorldState}
 use Rattle.gptp_lists.proofs.MappedLemmas.{mapped_there, same_there}
 use Rattle.gptp_lists.proofs.PlaceLemmas.{map-set}
-use Rattle.gptp_reached.specs.Reached.{Shape, StandsAs, shape, channel_wire}
+use Rattle.gptp_reached.specs.Reached.{Shape, StandsAsPlanned, shape, channel_wire}
 use Rattle.gptp_reached.proofs.KeptLemmas.{KeepLinks, Keeps, calls_keep, keeps_on, same_keeps}
 
 -- ---- one system
@@ -119,7 +119,7 @@ length_map f [] = refl
 length_map f (x ∷ xs) = ap suc (length_map f xs)
 
 pub begun_stands : {F : Type 0} (answers : Bounds → ℕ → F → Option ℕ → F → Type 0) (n : NetworkState)
-    (fate fate_after : F) (w : WorldState) → Begun answers n fate fate_after w → StandsAs n [] w
+    (fate fate_after : F) (w : WorldState) → Begun answers n fate fate_after w → StandsAsPlanned n [] w
 begun_stands answers n fate fate_after w begun =
     let slept = map shape (stations_of n) in
     let many : length slept ≡ length n.systems =

@@ -3,7 +3,7 @@ use Rattle.std.proofs.Common.{◌≤◌, ◌+◌, ℕ, List, [], ◌∷◌, Opti
 use Rattle.gptp_graph.specs.Snapshot.{Snapshot}
 use Rattle.gptp_lists.proofs.MappedLemmas.{alike}
 use Rattle.gptp_links.specs.declared.bounds.Bounds.{Bounds}
-use Rattle.gptp_setup.specs.Pace.{Pace}
+use Rattle.gptp_setup.specs.SettlingParams.{SettlingParams}
 use Rattle.gptp_setup.specs.declared.setup.Setup.{Setup}
 use Rattle.gptp_plan.specs.declared.change.Act.{Act}
 use Rattle.gptp_acts.specs.declared.item.Item.{Item}
@@ -45,7 +45,7 @@ advances_keep answers until (one ∷ told) fate fate_after w w' (drawn, between,
     (advances_keep answers until told drawn fate_after between w' rest)
 
 -- systems start with what they started with
-pace_kept : (p : Pace) (w w' : WorldState) → KeepsNetwork w w' → HavePace p w → HavePace p w'
+pace_kept : (p : SettlingParams) (w w' : WorldState) → KeepsNetwork w w' → HavePace p w → HavePace p w'
 pace_kept p w w' kept have place station there =
     let setup : Station → Setup = λ s. s.setup in
     let (old, here, same) = alike setup setup w.stations w'.stations (sym kept.setups) place station there in

@@ -6,8 +6,8 @@ use Rattle.std.proofs.lemmas.List.Recursion.{is_count_by}
 use Rattle.std.proofs.lemmas.Option.{get_or_from_slice_get, slice_get_within}
 use Rattle.gptp_roles.specs.Selection.{clock_of}
 use Rattle.gptp_plan.specs.declared.change.Timed.{Timed}
-use Rattle.gptp_plan.specs.declared.network.Member.{Member}
-use Rattle.gptp_plan.specs.declared.network.Wire.{Wire}
+use Rattle.gptp_plan.specs.declared.network.SystemSpec.{SystemSpec}
+use Rattle.gptp_plan.specs.declared.network.LinkSpec.{LinkSpec}
 use Rattle.gptp_acts.specs.declared.station.Station.{Station}
 use Rattle.gptp_plan.specs.Calm.{IsCalm, IsLive, IsQuiet, Rests, SyncsComeInTime}
 use Rattle.gptp_plan.specs.Change.{link_after, live_after, system_after}
@@ -24,25 +24,25 @@ use Rattle.gptp_network.specs.Snapshot.{events_by}
 use Rattle.gptp_network.proofs.SnapshotLemmas.{clock_after}
 use Rattle.gptp_kept.specs.Calm.{IsQuietLink, IsQuietWorld, sync_paths_of}
 use Rattle.gptp_kept.specs.CalmFor.{IsCalmFor}
-use Rattle.gptp_kept.specs.Claimed.{Claimed}
+use Rattle.gptp_kept.specs.SettlingInvariant.{SettlingInvariant}
 use Rattle.gptp_kept.specs.Known.{AreSet, IsSetTo}
 use Rattle.gptp_kept.specs.Standing.{channel_is_used, stations_have_clock, live_stations, snapshot_of}
 use Rattle.gptp_kept.proofs.StandsLemmas.{sender_lives, used_up}
 use Rattle.gptp_kept.proofs.SystemLemmas.{clock_in, clock_lives, live_from}
 use Rattle.gptp_links.specs.declared.link.Direction.TheVariants.{FromA, FromB}
-use Rattle.gptp_reached.specs.Reached.{Shape, StandsAs, shape, shape_after, channel_wire}
+use Rattle.gptp_reached.specs.Reached.{Shape, StandsAsPlanned, shape, shape_after, channel_wire}
 use Rattle.gptp_reached.specs.PlayedLaws.{DocumentIsAtRest, IsReached}
 use Rattle.gptp_reached.proofs.SnapshotLemmas.{systems_stand}
 use Rattle.gptp_reached.proofs.SyncPathLemmas.{paths_stand}
 
 -- ---- how many systems live
 
-network_count : (events : List Timed) (members : List Member)
+network_count : (events : List Timed) (members : List SystemSpec)
     → length (network.live_systems members events) ≡ acts.count_live members events
 network_count events =
     is_count_by (λ members. length (network.live_systems members events)) (λ m. (system_after events m).live) refl one
   where
-    one : (m : Member) (members : List Member)
+    one : (m : SystemSpec) (members : List SystemSpec)
         → length (network.live_systems (m ∷ members) events)
         ≡ cond (system_after events m).live (1 + length (network.live_systems members events))
         (length (network.live_systems members events))
@@ -57,7 +57,7 @@ network_count events =
         by true = omega arith
         by false = refl
 
-pub count_stands : (n : NetworkState) (events : List Timed) (w : WorldState) → StandsAs n events w → IsSound w
+pub count_stands : (n : NetworkState) (events : List Timed) (w : WorldState) → StandsAsPlanned n events w → IsSound w
     → length (snapshot_of w).systems ≡ acts.count_live n.systems events
 count_stands n events w so sound = ap length (systems_stand n events w so sound) ∙ network_count events n.systems
 
@@ -65,11 +65,11 @@ count_stands n events w so sound = ap length (systems_stand n events w so sound)
 
 -- what stands somewhere is one of the network's after the events
 record IsMemberAt (n : NetworkState) (events : List Timed) (place : ℕ) (station : Station) : Type 0 where
-  pub member : Member
+  pub member : SystemSpec
   pub there : slice_get n.systems place ≡ Some member
   pub is : shape_after (pace_of n) events member ≡ shape station
 
-member_at : (n : NetworkState) (events : List Timed) (w : WorldState) → StandsAs n events w → (place : ℕ)
+member_at : (n : NetworkState) (events : List Timed) (w : WorldState) → StandsAsPlanned n events w → (place : ℕ)
     (station : Station) → slice_get w.stations place ≡ Some station → IsMemberAt n events place station
 member_at n events w so place station here =
     let (m, there, is) = alike (shape_after (pace_of n) events) shape n.systems w.stations (sym so.systems) place
@@ -78,7 +78,7 @@ member_at n events w so place station here =
 
 -- ---- links
 
-lives_so : (n : NetworkState) (events : List Timed) (w : WorldState) → StandsAs n events w → (number : ℕ)
+lives_so : (n : NetworkState) (events : List Timed) (w : WorldState) → StandsAsPlanned n events w → (number : ℕ)
     → stations_have_clock (live_stations w.stations) number ≡ true → IsLive n.systems events number
 lives_so n events w so number has =
     let (s, among, same) = clock_lives w.stations number has in
@@ -99,7 +99,7 @@ pub each_at : {X : Type 0} (P : X → Type 0) (xs : List X) → All P xs → (pl
 each_at P xs each place x there =
     subst P (get_or_from_slice_get xs place x x there) (each place x (slice_get_within xs place x there))
 
-quiet_link : (n : NetworkState) (events : List Timed) (w : WorldState) → StandsAs n events w → IsCalm n events
+quiet_link : (n : NetworkState) (events : List Timed) (w : WorldState) → StandsAsPlanned n events w → IsCalm n events
     → (link : ℕ) (channel : Channel) → slice_get w.net.channels link ≡ Some channel
     → channel_is_used (live_stations w.stations) channel ≡ true → IsQuietLink n.params channel
 quiet_link n events w so calm link channel here used =
@@ -109,14 +109,14 @@ quiet_link n events w so calm link channel here used =
     let a = lives_so n events w so channel.a.clock (sender_lives systems FromA channel used) in
     let b = lives_so n events w so channel.b.clock (sender_lives systems FromB channel used) in
     let quiet = rests (record {
-      up = ap (λ (x : Wire). x.up) is ∙ used_up systems channel used;
-      a = subst (λ (x : Wire). IsLive n.systems events x.a.clock) (sym is) a;
-      b = subst (λ (x : Wire). IsLive n.systems events x.b.clock) (sym is) b;
+      up = ap (λ (x : LinkSpec). x.up) is ∙ used_up systems channel used;
+      a = subst (λ (x : LinkSpec). IsLive n.systems events x.a.clock) (sym is) a;
+      b = subst (λ (x : LinkSpec). IsLive n.systems events x.b.clock) (sym is) b;
     }) in
     let same = subst (IsQuiet n.params.turnaround n.params.threshold) is quiet in
     record { lossless = same.lossless; good = same.good }
 
-pub quiet_stands : (n : NetworkState) (events : List Timed) (w : WorldState) → IsNetwork n → StandsAs n events w
+pub quiet_stands : (n : NetworkState) (events : List Timed) (w : WorldState) → IsNetwork n → StandsAsPlanned n events w
     → IsSound w → IsCalm n events
     → IsQuietWorld n.params w
 quiet_stands n events w is so sound calm = record {
@@ -126,7 +126,7 @@ quiet_stands n events w is so sound calm = record {
 
 -- ---- parameters
 
-pub pace_stands : (n : NetworkState) (events : List Timed) (w : WorldState) → StandsAs n events w
+pub pace_stands : (n : NetworkState) (events : List Timed) (w : WorldState) → StandsAsPlanned n events w
     → HavePace (pace_of n) w
 pace_stands n events w so place station here =
     let of = member_at n events w so place station here in
@@ -135,7 +135,7 @@ pace_stands n events w so place station here =
       largest = ap (λ (x : Shape). x.setup.largest) (sym of.is);
     }
 
-pub set_stands : (n : NetworkState) (events : List Timed) (w : WorldState) → StandsAs n events w → Claimed w
+pub set_stands : (n : NetworkState) (events : List Timed) (w : WorldState) → StandsAsPlanned n events w → SettlingInvariant w
     → AreSet (pace_of n) w
 set_stands n events w so claimed place station here =
     let set = claimed.is.world.known.set place station here in
@@ -147,7 +147,7 @@ set_stands n events w so claimed place station here =
 -- ---- a document
 
 pub document_calm : (d : DocumentState) (until : ℕ) (w : WorldState) → IsNetwork d.network → IsReached d until w
-    → Claimed w → DocumentIsAtRest d until → IsCalmFor settling_span_with w
+    → SettlingInvariant w → DocumentIsAtRest d until → IsCalmFor settling_span_with w
 document_calm d until w is reached claimed rest = record {
   pace = pace_of n;
   set = pace_stands n events w so;
@@ -161,7 +161,7 @@ document_calm d until w is reached claimed rest = record {
     events : List Timed
     events = events_by until d.events
 
-    so : StandsAs n events w
+    so : StandsAsPlanned n events w
     so = reached.stands
 
     late : w.last_change + settling_span_with (pace_of n) (sync_paths_of w) (length (snapshot_of w).systems) ≤ w.time

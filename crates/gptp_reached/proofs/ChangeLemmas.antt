@@ -14,8 +14,8 @@ use Rattle.gptp_plan.specs.declared.change.Change.{Change}
 use Rattle.gptp_plan.specs.declared.change.Change.TheVariants.{LinkDown, LinkUp, LinkSet, Fail, Recover, Priority1, Inject}
 use Rattle.gptp_plan.specs.declared.change.Timed.{Timed}
 use Rattle.gptp_acts.specs.declared.done.Done.{Done}
-use Rattle.gptp_plan.specs.declared.network.Member.{Member}
-use Rattle.gptp_plan.specs.declared.network.Wire.{Wire}
+use Rattle.gptp_plan.specs.declared.network.SystemSpec.{SystemSpec}
+use Rattle.gptp_plan.specs.declared.network.LinkSpec.{LinkSpec}
 use Rattle.gptp_acts.specs.declared.station.Station.{Station}
 use Rattle.gptp_acts.specs.Acts.{Acts, Changes, at, set_to}
 use Rattle.gptp_plan.specs.Change.{is_at, link_acted, link_after, link_changed, system_acted, system_after, system_changed, standing, member_with_bounds, with_up}
@@ -27,7 +27,7 @@ use Rattle.gptp_acts.specs.World.{Channel, WorldState, port_id, sender}
 use Rattle.gptp_lists.proofs.MappedLemmas.{alike}
 use Rattle.gptp_lists.proofs.PlaceLemmas.{map-set, map-set_same}
 use Rattle.gptp_network.proofs.SnapshotLemmas.{clock_after}
-use Rattle.gptp_reached.specs.Reached.{Shape, StandsAs, shape, shape_after, channel_wire}
+use Rattle.gptp_reached.specs.Reached.{Shape, StandsAsPlanned, shape, shape_after, channel_wire}
 use Rattle.gptp_reached.proofs.KeptLemmas.{Keeps, injects_keep, tells_keep}
 use Rattle.gptp_reached.proofs.BeginLemmas.{SystemBecomes, of_setup}
 use Rattle.gptp_reached.proofs.EventLemmas.{last_behind, link_behind, map_each, set_one, system_behind}
@@ -54,12 +54,12 @@ is_same_port p q same =
     (eq-eqb p.clock q.clock (ap (λ (x : PortId). x.clock) same))
     (eq-eqb p.port q.port (ap (λ (x : PortId). x.port) same))
 
-is_at_port : (number port : ℕ) (v : Wire) → (v.a ≡ port_id number port) ⊎ (v.b ≡ port_id number port)
+is_at_port : (number port : ℕ) (v : LinkSpec) → (v.a ≡ port_id number port) ⊎ (v.b ≡ port_id number port)
     → is_at number port v ≡ true
 is_at_port number port v (inl same) = or_left _ _ (is_same_port v.a (port_id number port) same)
 is_at_port number port v (inr same) = or_right _ _ (is_same_port v.b (port_id number port) same)
 
-at_port : (number port : ℕ) (v : Wire) → is_at number port v ≡ true
+at_port : (number port : ℕ) (v : LinkSpec) → is_at number port v ≡ true
     → (v.a ≡ port_id number port) ⊎ (v.b ≡ port_id number port)
 at_port number port v is =
     elim (or_cases (same_port v.a (port_id number port)) (same_port v.b (port_id number port)) is) [
@@ -70,7 +70,7 @@ at_port number port v is =
 -- ---- links
 
 -- one link stands otherwise, and all else as it stood
-record LinkBecomes (place : ℕ) (new : Wire) (w w' : WorldState) : Type 0 where
+record LinkBecomes (place : ℕ) (new : LinkSpec) (w w' : WorldState) : Type 0 where
   pub systems : map shape w'.stations ≡ map shape w.stations
   pub links : map channel_wire w'.net.channels ≡ slice_set (map channel_wire w.net.channels) place new
   pub last : w'.last_change ≡ w.last_change
@@ -120,14 +120,14 @@ abbrev marked : Timed → WorldState → WorldState
 marked timed w = record (at timed.at w) { last_change = timed.at }
 
 module _ (n : NetworkState) (events : List Timed) (timed : Timed) (change : Change) (w w' : WorldState)
-    (act : timed.act ≡ Changing change) (sound : IsSound w) (so : StandsAs n events w) where
+    (act : timed.act ≡ Changing change) (sound : IsSound w) (so : StandsAsPlanned n events w) where
   abbrev more : List Timed
   more = events ++ timed ∷ []
 
-  wire_more : (v : Wire) → link_after more v ≡ link_changed change (link_after events v)
+  wire_more : (v : LinkSpec) → link_after more v ≡ link_changed change (link_after events v)
   wire_more v = link_behind events timed v ∙ ap (λ a. link_acted a (link_after events v)) act
 
-  shape_more : (m : Member) → shape_after (pace_of n) more m
+  shape_more : (m : SystemSpec) → shape_after (pace_of n) more m
       ≡ (let s = system_changed change (clock_of m.identity) (system_after events m) in
       record {
         setup = record (setup_of (pace_of n) m) { identity = s.identity };
@@ -144,8 +144,8 @@ module _ (n : NetworkState) (events : List Timed) (timed : Timed) (change : Chan
       ∙ ap (λ a. system_acted a (clock_of m.identity) (system_after events m)) act)
 
   -- no system and no link becomes another
-  stands_still : ((m : Member) → shape_after (pace_of n) more m ≡ shape_after (pace_of n) events m)
-      → ((v : Wire) → link_changed change v ≡ v) → Keeps (marked timed w) w' → StandsAs n more w'
+  stands_still : ((m : SystemSpec) → shape_after (pace_of n) more m ≡ shape_after (pace_of n) events m)
+      → ((v : LinkSpec) → link_changed change v ≡ v) → Keeps (marked timed w) w' → StandsAsPlanned n more w'
   stands_still still same k = record {
     systems = k.systems ∙ so.systems
         ∙ sym (map_each (shape_after (pace_of n) events) (shape_after (pace_of n) more) n.systems
@@ -157,11 +157,11 @@ module _ (n : NetworkState) (events : List Timed) (timed : Timed) (change : Chan
   }
 
   -- a change of one link, at a port
-  link_stands : (number port place : ℕ) (channel : Channel) (step : Wire → Wire)
+  link_stands : (number port place : ℕ) (channel : Channel) (step : LinkSpec → LinkSpec)
       → IsChannel (port_id number port) place w.net channel
-      → ((v : Wire) → link_changed change v ≡ (if is_at number port v then step v else v))
-      → ((m : Member) → shape_after (pace_of n) more m ≡ shape_after (pace_of n) events m)
-      → LinkBecomes place (step (channel_wire channel)) (marked timed w) w' → StandsAs n more w'
+      → ((v : LinkSpec) → link_changed change v ≡ (if is_at number port v then step v else v))
+      → ((m : SystemSpec) → shape_after (pace_of n) more m ≡ shape_after (pace_of n) events m)
+      → LinkBecomes place (step (channel_wire channel)) (marked timed w) w' → StandsAsPlanned n more w'
   link_stands number port place channel step is does still k = record {
     systems = k.systems ∙ so.systems
         ∙ sym (map_each (shape_after (pace_of n) events) (shape_after (pace_of n) more) n.systems
@@ -171,7 +171,7 @@ module _ (n : NetworkState) (events : List Timed) (timed : Timed) (change : Chan
   }
     where
       -- the link of the network that stands there
-      own : (v : Wire) × (slice_get n.links place ≡ Some v) × (link_after events v ≡ channel_wire channel)
+      own : (v : LinkSpec) × (slice_get n.links place ≡ Some v) × (link_after events v ≡ channel_wire channel)
       own = alike (link_after events) channel_wire n.links w.net.channels (sym so.links) place channel is.here
 
       hit : link_after more own.0 ≡ step (channel_wire channel)
@@ -181,7 +181,7 @@ module _ (n : NetworkState) (events : List Timed) (timed : Timed) (change : Chan
           (is_at_port number port (channel_wire channel) is.joined)
 
       -- no other is at the port
-      missed : (i : ℕ) (v : Wire) (other : Channel) → i ≢ place → slice_get w.net.channels i ≡ Some other
+      missed : (i : ℕ) (v : LinkSpec) (other : Channel) → i ≢ place → slice_get w.net.channels i ≡ Some other
           → channel_wire other ≡ v → (b : Bool) → is_at number port v ≡ b → (if b then step v else v) ≡ v
       missed i v other apart here same false off = refl
       missed i v other apart here same true on =
@@ -190,7 +190,7 @@ module _ (n : NetworkState) (events : List Timed) (timed : Timed) (change : Chan
           let two = ending channel (port_id number port) is.joined in
           absurd (apart (sound.wired.apart i place one.0 two.0 other channel here is.here (one.1 ∙ sym two.1)))
 
-      miss : (i : ℕ) (v : Wire) → i ≢ place → slice_get n.links i ≡ Some v → link_after more v ≡ link_after events v
+      miss : (i : ℕ) (v : LinkSpec) → i ≢ place → slice_get n.links i ≡ Some v → link_after more v ≡ link_after events v
       miss i v apart there =
           let (other, here, same) = alike channel_wire (link_after events) w.net.channels n.links so.links i v there in
           let now = link_after events v in
@@ -204,7 +204,7 @@ module _ (n : NetworkState) (events : List Timed) (timed : Timed) (change : Chan
 
   -- the system that stands at a place
   record Found (place : ℕ) (station : Station) : Type 0 where
-    member : Member
+    member : SystemSpec
     there : slice_get n.systems place ≡ Some member
     same : shape station ≡ shape_after (pace_of n) events member
     named : clock_of member.identity ≡ clock station.system
@@ -223,12 +223,12 @@ module _ (n : NetworkState) (events : List Timed) (timed : Timed) (change : Chan
 
   -- a change of one system
   system_stands_so : (number place : ℕ) (station : Station) (new : Shape) → IsStation number place w station
-      → ((m : Member) → (number == clock_of m.identity) ≡ false
+      → ((m : SystemSpec) → (number == clock_of m.identity) ≡ false
       → shape_after (pace_of n) more m ≡ shape_after (pace_of n) events m)
-      → ((m : Member) → (number == clock_of m.identity) ≡ true → shape station ≡ shape_after (pace_of n) events m
+      → ((m : SystemSpec) → (number == clock_of m.identity) ≡ true → shape station ≡ shape_after (pace_of n) events m
       → new ≡ shape_after (pace_of n) more m)
-      → ((v : Wire) → link_changed change v ≡ v)
-      → SystemBecomes place new (marked timed w) w' → StandsAs n more w'
+      → ((v : LinkSpec) → link_changed change v ≡ v)
+      → SystemBecomes place new (marked timed w) w' → StandsAsPlanned n more w'
   system_stands_so number place station new is others becomes still k = record {
     systems = k.systems ∙ ap (λ ss. slice_set ss place new) so.systems
         ∙ ap (slice_set (map (shape_after (pace_of n) events) n.systems) place) hit
@@ -246,7 +246,7 @@ module _ (n : NetworkState) (events : List Timed) (timed : Timed) (change : Chan
       hit : new ≡ shape_after (pace_of n) more own.member
       hit = becomes own.member (eq-eqb number (clock_of own.member.identity) (sym is.named ∙ sym own.named)) own.same
 
-      missed : (i : ℕ) (m : Member) → i ≢ place → slice_get n.systems i ≡ Some m → (b : Bool)
+      missed : (i : ℕ) (m : SystemSpec) → i ≢ place → slice_get n.systems i ≡ Some m → (b : Bool)
           → (number == clock_of m.identity) ≡ b → shape_after (pace_of n) more m ≡ shape_after (pace_of n) events m
       missed i m apart there false off = others m off
       missed i m apart there true on =
@@ -258,13 +258,13 @@ module _ (n : NetworkState) (events : List Timed) (timed : Timed) (change : Chan
           let one = eqb-true number (clock_of m.identity) on in
           absurd (apart (sound.wired.clocks i place at station here is.here (named ∙ sym one ∙ sym is.named)))
 
-      miss : (i : ℕ) (m : Member) → i ≢ place → slice_get n.systems i ≡ Some m
+      miss : (i : ℕ) (m : SystemSpec) → i ≢ place → slice_get n.systems i ≡ Some m
           → shape_after (pace_of n) more m ≡ shape_after (pace_of n) events m
       miss i m apart there = missed i m apart there (number == clock_of m.identity) refl
 
 changed_stands : (change : Change) (n : NetworkState) (events : List Timed) (timed : Timed) (w : WorldState)
-    (draws : List Draw) (w' : WorldState) → timed.act ≡ Changing change → IsSound w → StandsAs n events w
-    → Changes change (marked timed w) draws w' → StandsAs n (events ++ timed ∷ []) w'
+    (draws : List Draw) (w' : WorldState) → timed.act ≡ Changing change → IsSound w → StandsAsPlanned n events w
+    → Changes change (marked timed w) draws w' → StandsAsPlanned n (events ++ timed ∷ []) w'
 changed_stands (LinkDown number port) n events timed w draws w' act sound so k =
     let change = LinkDown number port in
     link_stands n events timed change w w' act sound so number port k.place k.channel (with_up false) k.is (λ v. refl)
@@ -326,7 +326,7 @@ changed_stands (Inject number port octets) n events timed w draws w' act sound s
 
 pub changes_stand : (n : NetworkState) (events : List Timed) (timed : Timed) (change : Change) (w : WorldState)
     (draws : List Draw) (done : Done) (w' : WorldState) → timed.act ≡ Changing change → IsSound w
-    → Acts timed.act (at timed.at w) draws done w' → StandsAs n events w → StandsAs n (events ++ timed ∷ []) w'
+    → Acts timed.act (at timed.at w) draws done w' → StandsAsPlanned n events w → StandsAsPlanned n (events ++ timed ∷ []) w'
 changes_stand n events timed change w draws done w' act sound k so =
     changed_stands change n events timed w draws w' act sound so
     (subst (λ a. Acts a (at timed.at w) draws done w') act k).1

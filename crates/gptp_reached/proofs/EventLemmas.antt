@@ -2,7 +2,7 @@
 use Rattle.std.proofs.Common.{◌≡◌, ◌≢◌, ℕ, zero, suc, List, [], ◌∷◌, ◌++◌, map, Some, slice_get, slice_set, refl, sym, ap, ◌∙◌, arith}
 use Rattle.std.proofs.lemmas.Option.{none-some, same_Some}
 use Rattle.gptp_plan.specs.declared.change.Timed.{Timed}
-use Rattle.gptp_plan.specs.declared.network.Wire.{Wire}
+use Rattle.gptp_plan.specs.declared.network.LinkSpec.{LinkSpec}
 use Rattle.gptp_plan.specs.Calm.{last_change}
 use Rattle.gptp_plan.specs.Change.{link_acted, link_after, system_acted, system_stands}
 
@@ -13,7 +13,7 @@ pub system_behind : (ts : List Timed) (t : Timed) (own : ℕ) (s : _)
 system_behind [] t own s = refl
 system_behind (u ∷ ts) t own s = system_behind ts t own (system_acted u.act own s)
 
-pub link_behind : (ts : List Timed) (t : Timed) (v : Wire)
+pub link_behind : (ts : List Timed) (t : Timed) (v : LinkSpec)
     → link_after (ts ++ t ∷ []) v ≡ link_acted t.act (link_after ts v)
 link_behind [] t v = refl
 link_behind (u ∷ ts) t v = link_behind ts t (link_acted u.act v)

@@ -1,6 +1,6 @@
 -- The theorem from its parts.
 use Rattle.std.proofs.Common.{◌≤◌, ◌+◌, ℕ, suc, List, Option, length, subst, arith}
-use Rattle.gptp_lists.proofs.MemberLemmas.{In-slice_get}
+use Rattle.gptp_lists.proofs.SystemSpecLemmas.{In-slice_get}
 use Rattle.gptp_graph.specs.Labelling.{SystemLine}
 use Rattle.gptp_graph.specs.PathBound.{BoundsPaths, path_bound}
 use Rattle.gptp_graph.specs.Snapshot.{IsWellFormed}
@@ -8,7 +8,7 @@ use Rattle.gptp_graph.proofs.ChoiceLemmas.{same_choice}
 use Rattle.gptp_graph.proofs.PathBoundLemmas.{paths_within}
 use Rattle.gptp_links.specs.declared.bounds.Bounds.{Bounds}
 use Rattle.gptp_scaled.specs.Counts.{AreWithin}
-use Rattle.gptp_setup.specs.Pace.{Pace}
+use Rattle.gptp_setup.specs.SettlingParams.{SettlingParams}
 use Rattle.gptp_plan.specs.Network.{pace_of}
 use Rattle.gptp_plan.specs.SettlingAtOnce.{settling_span_at_once}
 use Rattle.gptp_acts.specs.Acts.{at}
@@ -23,14 +23,14 @@ use Rattle.gptp_report.specs.Run.{PlaysRun}
 use Rattle.gptp_kept.specs.Bounded.{IsBoundedWorld}
 use Rattle.gptp_kept.specs.Calm.{IsQuietWorld}
 use Rattle.gptp_kept.specs.CalmFor.{IsCalmFor, at_once_span, span_over}
-use Rattle.gptp_kept.specs.Claimed.{Claimed}
+use Rattle.gptp_kept.specs.SettlingInvariant.{SettlingInvariant}
 use Rattle.gptp_kept.specs.Exact.{IsHeardExact, exact_span}
 use Rattle.gptp_kept.specs.Known.{AreSet}
 use Rattle.gptp_kept.specs.Settled.{Settled}
 use Rattle.gptp_kept.specs.Standing.{snapshot_of}
 use Rattle.gptp_kept.proofs.BoundedLemmas.{bounded_at_once, bounded_by_paths}
 use Rattle.gptp_kept.proofs.CalmKeptLemmas.{later_quiet}
-use Rattle.gptp_kept.proofs.ClaimedLemmas.{settled_at_once, settled_by_paths}
+use Rattle.gptp_kept.proofs.SettlingInvariantLemmas.{settled_at_once, settled_by_paths}
 use Rattle.gptp_kept.proofs.ExactLemmas.{receipts_are_exact}
 use Rattle.gptp_kept.proofs.HoldsLemmas.{systems_bound}
 use Rattle.gptp_kept.proofs.StandsLemmas.{stands_well}
@@ -41,7 +41,7 @@ use Rattle.gptp_reached.specs.Headline.{HasComeDown, HasPassed, Headline, Headli
 use Rattle.gptp_reached.specs.HeadlineLaws.{HasSnapshotOf, IsAtRestAtOnce, WorldsAreExact}
 use Rattle.gptp_reached.specs.PlayedLaws.{DocumentIsAtRest, IsPlayable}
 use Rattle.gptp_reached.proofs.CalmLemmas.{document_calm, pace_stands, quiet_stands}
-use Rattle.gptp_reached.proofs.ClaimedLemmas.{events_made, played_claimed}
+use Rattle.gptp_reached.proofs.SettlingInvariantLemmas.{events_made, played_claimed}
 use Rattle.gptp_reached.proofs.PlayedLemmas.{played_stands}
 use Rattle.gptp_reached.proofs.SnapshotLemmas.{snapshots_stand}
 use Rattle.gptp_reached.proofs.SyncPathLemmas.{paths_stand}
@@ -49,7 +49,7 @@ use Rattle.gptp_reached.proofs.SyncPathLemmas.{paths_stand}
 -- ---- of a world
 
 -- what is asked on the page is what the laws of gptp_kept ask
-pub quiet_as : (p : Pace) (w : WorldState) → WorldIsCalm p w → IsQuietWorld p.params w
+pub quiet_as : (p : SettlingParams) (w : WorldState) → WorldIsCalm p w → IsQuietWorld p.params w
 quiet_as p w calm = record {
   links = λ link channel here used.
       (let (lossless, good) = calm.links channel (In-slice_get channel w.net.channels link here) used in
@@ -57,10 +57,10 @@ quiet_as p w calm = record {
   lapses = calm.lapses;
 }
 
-calm_for : (p : Pace) (m : ℕ) (w : WorldState) → WorldIsCalm p w → HasPassed p m w → IsCalmFor (span_over m) w
+calm_for : (p : SettlingParams) (m : ℕ) (w : WorldState) → WorldIsCalm p w → HasPassed p m w → IsCalmFor (span_over m) w
 calm_for p m w calm passed = record { pace = p; set = calm.of; quiet = quiet_as p w calm; late = passed }
 
-abbrev exact_for : (p : Pace) (m steps time : ℕ) (w : WorldState) → WorldIsCalm p w → HasComeDown p m steps time w
+abbrev exact_for : (p : SettlingParams) (m steps time : ℕ) (w : WorldState) → WorldIsCalm p w → HasComeDown p m steps time w
     → IsCalmFor (exact_span m steps) (at time w)
 exact_for p m steps time w calm come = record {
   pace = p;
@@ -70,7 +70,7 @@ exact_for p m steps time w calm come = record {
 }
 
 -- a settled world, of which what the systems state is bounded
-module _ (w : WorldState) (claimed : Claimed w) (settled : Settled w) (bounded : IsBoundedWorld w) where
+module _ (w : WorldState) (claimed : SettlingInvariant w) (settled : Settled w) (bounded : IsBoundedWorld w) where
   wf : IsWellFormed (snapshot_of w)
   wf =
       let is = claimed.is.world in
@@ -88,26 +88,26 @@ module _ (w : WorldState) (claimed : Claimed w) (settled : Settled w) (bounded :
   is_settled = record { tree = settled_is_tree w claimed settled; certified = certified }
 
 -- a calm one is such
-pub settled_for : (m : ℕ) (w : WorldState) → Claimed w → BoundsPaths (snapshot_of w) m → IsCalmFor (span_over m) w
+pub settled_for : (m : ℕ) (w : WorldState) → SettlingInvariant w → BoundsPaths (snapshot_of w) m → IsCalmFor (span_over m) w
     → IsSettled w
 settled_for m w claimed paths calm =
     is_settled w claimed (settled_by_paths m w claimed paths calm) (bounded_by_paths m w claimed paths calm)
 
-pub worlds_settle : (w : WorldState) → Claimed w → Headline w
+pub worlds_settle : (w : WorldState) → SettlingInvariant w → Headline w
 worlds_settle w claimed p m calm paths passed = settled_for m w claimed paths (calm_for p m w calm passed)
 
-pub at_once : (w : WorldState) → Claimed w → HeadlineAtOnce w
+pub at_once : (w : WorldState) → SettlingInvariant w → HeadlineAtOnce w
 at_once w claimed p m calm off paths passed =
     let sooner : IsCalmFor (at_once_span m) w =
     record { pace = p; set = calm.of; quiet = quiet_as p w calm; late = passed } in
     is_settled w claimed (settled_at_once m w claimed paths sooner off) (bounded_at_once m w claimed paths sooner off)
 
-pub by_systems : (w : WorldState) → Claimed w → HeadlineBySystems w
+pub by_systems : (w : WorldState) → SettlingInvariant w → HeadlineBySystems w
 by_systems w claimed p calm passed =
     worlds_settle w claimed p (length (snapshot_of w).systems) calm
     (systems_bound claimed.pace w claimed.is.world) passed
 
-pub by_neighbours : (w : WorldState) → Claimed w → HeadlineByNeighbours w
+pub by_neighbours : (w : WorldState) → SettlingInvariant w → HeadlineByNeighbours w
 by_neighbours w claimed p calm passed =
     let is = claimed.is.world in
     worlds_settle w claimed p (path_bound (snapshot_of w)) calm
@@ -126,7 +126,7 @@ worlds_are_exact answers timed fate fate_after w w' done all k moment p m steps 
         offset reads used leaves.shows leaves.is m steps error ahead (exact_for p m (suc steps) timed.at w calm come)
         bounded near way is_ahead
 
-pub of_a_network : (w : WorldState) → Claimed w → (p : Pace) × HavePace p w × AreSet p w
+pub of_a_network : (w : WorldState) → SettlingInvariant w → (p : SettlingParams) × HavePace p w × AreSet p w
 of_a_network w claimed =
     let set = claimed.is.world.known.set in (claimed.pace, λ place station here. (set place station here).starts, set)
 

@@ -21,7 +21,7 @@ use Rattle.gptp_acts.specs.World.{Channel, WorldState, receiver}
 use Rattle.gptp_acts.proofs.BareLemmas.{DifferInFlight, calls_bare, same_but_flight, sends_one_bare, takes_bare}
 use Rattle.gptp_lists.proofs.PlaceLemmas.{map-set_same}
 use Rattle.gptp_kept.specs.SeenLaws.{IsNoChange}
-use Rattle.gptp_reached.specs.Reached.{StandsAs, shape, channel_wire}
+use Rattle.gptp_reached.specs.Reached.{StandsAsPlanned, shape, channel_wire}
 
 -- ---- links
 
@@ -137,16 +137,16 @@ acts_keep (Changing change) w draws done w' none k = absurd none
 
 -- ---- it stands as it stood
 
-pub keeps_standing : (n : NetworkState) (events : List Timed) (w w' : WorldState) → Keeps w w' → StandsAs n events w
-    → StandsAs n events w'
+pub keeps_standing : (n : NetworkState) (events : List Timed) (w w' : WorldState) → Keeps w w' → StandsAsPlanned n events w
+    → StandsAsPlanned n events w'
 keeps_standing n events w w' k so =
     record { systems = k.systems ∙ so.systems; links = k.links ∙ so.links; last = k.last ∙ so.last }
 
 pub acts_stand : (n : NetworkState) (events : List Timed) (act : Act) (w : WorldState) (draws : List Draw) (done : Done)
-    (w' : WorldState) → IsNoChange act → Acts act w draws done w' → StandsAs n events w → StandsAs n events w'
+    (w' : WorldState) → IsNoChange act → Acts act w draws done w' → StandsAsPlanned n events w → StandsAsPlanned n events w'
 acts_stand n events act w draws done w' none k =
     keeps_standing n events w w' (acts_keep act w draws done w' none k)
 
-pub time_stands : (n : NetworkState) (events : List Timed) (w : WorldState) (time : ℕ) → StandsAs n events w
-    → StandsAs n events (at time w)
+pub time_stands : (n : NetworkState) (events : List Timed) (w : WorldState) (time : ℕ) → StandsAsPlanned n events w
+    → StandsAsPlanned n events (at time w)
 time_stands n events w time so = record { systems = so.systems; links = so.links; last = so.last }

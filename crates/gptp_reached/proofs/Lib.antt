@@ -9,7 +9,7 @@ pub mod SyncPathLemmas
 pub mod CalmLemmas
 pub mod AlikeLemmas
 pub mod SettleLemmas
-pub mod ClaimedLemmas
+pub mod SettlingInvariantLemmas
 pub mod OctetLemmas
 pub mod RestLemmas
 pub mod HeadlineLemmas

@@ -8,9 +8,9 @@ use Rattle.gptp_plan.specs.Network.{IsNetwork}
 use Rattle.gptp_network.specs.Document.{DocumentState, Means}
 use Rattle.gptp_network.specs.Events.{AreEvents}
 use Rattle.gptp_network.proofs.MeantLemmas.{SetsOctets, meant_octets}
-use Rattle.gptp_kept.specs.LegibleLaws.{SetsAnOctet}
+use Rattle.gptp_kept.specs.EncodableLaws.{SetsAnOctet}
 use Rattle.gptp_reached.specs.PlayedLaws.{IsPlayable}
-use Rattle.gptp_reached.proofs.ClaimedLemmas.{each_there}
+use Rattle.gptp_reached.proofs.SettlingInvariantLemmas.{each_there}
 
 sets_octet : (act : Act) → SetsOctets act → SetsAnOctet act
 sets_octet (Deliver link direction) is = tt

@@ -25,7 +25,7 @@ use Rattle.gptp_network.specs.Document.{DocumentState}
 use Rattle.gptp_network.specs.Snapshot.{events_by}
 use Rattle.gptp_report.specs.Run.{Goes, PlaysRun}
 use Rattle.gptp_kept.specs.SeenLaws.{IsNoChange}
-use Rattle.gptp_reached.specs.Reached.{StandsAs}
+use Rattle.gptp_reached.specs.Reached.{StandsAsPlanned}
 use Rattle.gptp_reached.specs.PlayedLaws.{IsMade, IsReached}
 use Rattle.gptp_reached.proofs.BeginLemmas.{begun_stands}
 use Rattle.gptp_reached.proofs.ChangeLemmas.{changes_stand}
@@ -38,7 +38,7 @@ no_change (Expiry place timer) act w (station, here, is) = subst IsNoChange (sym
 
 -- it stands so, and is sound
 record Is (n : NetworkState) (events : List Timed) (w : WorldState) : Type 0 where
-  stands : StandsAs n events w
+  stands : StandsAsPlanned n events w
   sound : IsSound w
 
 module _ {F : Type 0} (answers : Bounds → ℕ → F → Option ℕ → F → Type 0) (n : NetworkState) where

@@ -2,29 +2,29 @@
 use Rattle.std.proofs.Common.{◌≡◌, ◌≤◌, ◌+◌, ◌^◌, ℕ, List, [], ◌∷◌, ◌++◌, Option, sym, subst, inl, inr, arith}
 use Rattle.std.specs.List.{AllByRecursion}
 use Rattle.gptp_lists.specs.Members.{In}
-use Rattle.gptp_lists.proofs.MemberLemmas.{In-parts}
+use Rattle.gptp_lists.proofs.SystemSpecLemmas.{In-parts}
 use Rattle.gptp_links.specs.declared.bounds.Bounds.{Bounds}
 use Rattle.gptp_plan.specs.declared.change.Timed.{Timed}
 use Rattle.gptp_plan.specs.Allowed.{IsFitAct}
 use Rattle.gptp_acts.specs.Acts.{at}
 use Rattle.gptp_acts.specs.Course.{WasDone}
 use Rattle.gptp_acts.specs.declared.done.Done.{Done}
-use Rattle.gptp_acts.specs.Prompt.{IsPromptIn, NoneFaster}
+use Rattle.gptp_acts.specs.Prompt.{DelaysFitIntervals, NoneFaster}
 use Rattle.gptp_acts.specs.World.{WorldState}
 use Rattle.gptp_acts.proofs.AdvanceLemmas.{leaves_less, next_fits, nothing_sooner}
 use Rattle.gptp_acts.proofs.PromptLemmas.{begun_none_faster, next_prompt, prompt_within, stays_none_faster}
 use Rattle.gptp_acts.proofs.SoundLemmas.{later_sound}
 use Rattle.gptp_acts.proofs.StayLemmas.{done_stays}
-use Rattle.gptp_world.proofs.ClaimedLemmas.{next_octet}
+use Rattle.gptp_world.proofs.SettlingInvariantLemmas.{next_octet}
 use Rattle.gptp_world.proofs.InitialLemmas.{initial_sound}
 use Rattle.gptp_network.specs.Snapshot.{events_by}
 use Rattle.gptp_report.specs.Transitions.{Courses, Makes, Passes, PassesTo, Transition, transition}
-use Rattle.gptp_kept.specs.LegibleLaws.{SetsAnOctet}
-use Rattle.gptp_kept.specs.TimedClaim.{AllClaimed}
+use Rattle.gptp_kept.specs.EncodableLaws.{SetsAnOctet}
+use Rattle.gptp_kept.specs.TimedClaim.{WorldInvariant}
 use Rattle.gptp_kept.proofs.ExactLemmas.{all_begins, all_kept, all_later}
 use Rattle.gptp_reached.specs.Headline.{HeadlineOnTime}
 use Rattle.gptp_reached.specs.HeadlineLaws.{RunsAreExact}
-use Rattle.gptp_reached.proofs.ClaimedLemmas.{IsFitEvent, events_fit, least_of}
+use Rattle.gptp_reached.proofs.SettlingInvariantLemmas.{IsFitEvent, events_fit, least_of}
 use Rattle.gptp_reached.proofs.HeadlineLemmas.{worlds_are_exact}
 
 -- each of these acts leaves exact offsets
@@ -40,11 +40,11 @@ both_exact ts us vs are first rest t member = elim (In-parts t ts us (subst (In 
 module _ {F : Type 0} (answers : Bounds → ℕ → F → Option ℕ → F → Type 0) (least : ℕ) where
   -- a world of which all is claimed, none of whose ports announces at an interval below the least
   record IsKept (w : WorldState) : Type 0 where
-    all : AllClaimed w
+    all : WorldInvariant w
     slow : NoneFaster least w
 
   kept_act : (timed : Timed) (fate fate_after : F) (w w' : WorldState) (done : Done) → IsFitAct timed.act
-      → IsPromptIn w timed.act → SetsAnOctet timed.act → WasDone answers timed fate fate_after w w' done → IsKept w
+      → DelaysFitIntervals w timed.act → SetsAnOctet timed.act → WasDone answers timed fate fate_after w w' done → IsKept w
       → IsKept w'
   kept_act timed fate fate_after w w' done fit prompt octet was kept = record {
     all = all_kept answers timed fate fate_after w w' done fit prompt octet was kept.all;

@@ -10,7 +10,7 @@ use Rattle.gptp_plan.specs.Network.{IsNetwork}
 use Rattle.gptp_network.specs.Document.{DocumentState}
 use Rattle.gptp_network.specs.Snapshot.{IsSnapshot, events_by}
 use Rattle.gptp_report.specs.Run.{PlaysRun}
-use Rattle.gptp_kept.specs.Claimed.{Claimed}
+use Rattle.gptp_kept.specs.SettlingInvariant.{SettlingInvariant}
 use Rattle.gptp_kept.specs.Standing.{snapshot_of}
 use Rattle.gptp_certificate.specs.Stated.{States}
 use Rattle.gptp_certificate.proofs.SettledLemmas.{right_in_time}
@@ -18,12 +18,12 @@ use Rattle.gptp_reached.specs.AlikeLaws.{AreAlike}
 use Rattle.gptp_reached.specs.PlayedLaws.{DocumentIsAtRest, IsPlayable, IsReached}
 use Rattle.gptp_reached.proofs.AlikeLemmas.{same_choice}
 use Rattle.gptp_reached.proofs.CalmLemmas.{document_calm}
-use Rattle.gptp_reached.proofs.ClaimedLemmas.{events_made, played_claimed}
+use Rattle.gptp_reached.proofs.SettlingInvariantLemmas.{events_made, played_claimed}
 use Rattle.gptp_reached.proofs.PlayedLemmas.{played_stands}
 use Rattle.gptp_reached.proofs.SnapshotLemmas.{snapshots_stand}
 
 pub documents_settle : (d : DocumentState) (until : ℕ) (w : WorldState) (lines : List SystemLine) (g : Snapshot)
-    → IsNetwork d.network → IsReached d until w → Claimed w → DocumentIsAtRest d until → States w lines
+    → IsNetwork d.network → IsReached d until w → SettlingInvariant w → DocumentIsAtRest d until → States w lines
     → IsSnapshot d until g
     → IsSettledChoice g lines
 documents_settle d until w lines g is reached claimed rest states stands =

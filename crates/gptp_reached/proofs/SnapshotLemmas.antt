@@ -7,14 +7,14 @@ use Rattle.std.proofs.lemmas.List.Sorted.{list_any-IsPermutation}
 use Rattle.gptp_graph.specs.Snapshot.{Link, Snapshot, System}
 use Rattle.gptp_vector.specs.declared.port.PortId.{PortId}
 use Rattle.gptp_roles.specs.Selection.{clock_of}
-use Rattle.gptp_setup.specs.Pace.{Pace}
+use Rattle.gptp_setup.specs.SettlingParams.{SettlingParams}
 use Rattle.gptp_plan.specs.declared.change.Act.{Act}
 use Rattle.gptp_plan.specs.declared.change.Act.TheVariants.{Deliver, Expire, Change as Changing}
 use Rattle.gptp_plan.specs.declared.change.Change.{Change}
 use Rattle.gptp_plan.specs.declared.change.Change.TheVariants.{LinkDown, LinkUp, LinkSet, Fail, Recover, Priority1, Inject}
 use Rattle.gptp_plan.specs.declared.change.Timed.{Timed}
-use Rattle.gptp_plan.specs.declared.network.Member.{Member}
-use Rattle.gptp_plan.specs.declared.network.Wire.{Wire}
+use Rattle.gptp_plan.specs.declared.network.SystemSpec.{SystemSpec}
+use Rattle.gptp_plan.specs.declared.network.LinkSpec.{LinkSpec}
 use Rattle.gptp_acts.specs.declared.station.Station.{Station}
 use Rattle.gptp_plan.specs.Change.{is_at, joined_after, link_acted, link_after, link_changed, live_after, system_after, member_with_bounds, with_up}
 use Rattle.gptp_plan.specs.Network.{NetworkState, pace_of}
@@ -23,7 +23,7 @@ use Rattle.gptp_acts.specs.World.{Channel, WorldState}
 use Rattle.gptp_network.specs.Snapshot as network
 use Rattle.gptp_network.specs.Snapshot.{StandsAfter, joins_two, link_of}
 use Rattle.gptp_kept.specs.Standing.{stations_have_clock, live_stations, snapshot_of, standing_system, used_channels}
-use Rattle.gptp_reached.specs.Reached.{Shape, StandsAs, shape, shape_after, channel_wire}
+use Rattle.gptp_reached.specs.Reached.{Shape, StandsAsPlanned, shape, shape_after, channel_wire}
 
 -- ---- systems
 
@@ -69,7 +69,7 @@ world_living (first ∷ stations) have =
         } ∷ ss) rest
     by false ports rest = rest
 
-network_living : (p : Pace) (events : List Timed) (members : List Member)
+network_living : (p : SettlingParams) (events : List Timed) (members : List SystemSpec)
     → network.live_systems members events ≡ living (map (shape_after p events) members)
 network_living p events [] = refl
 network_living p events (m ∷ members) = by (system_after events m).live (network_living p events members)
@@ -84,7 +84,7 @@ network_living p events (m ∷ members) = by (system_after events m).live (netwo
     by true rest = ap (λ ss. system_of (shape_after p events m) ∷ ss) rest
     by false rest = rest
 
-pub systems_stand : (n : NetworkState) (events : List Timed) (w : WorldState) → StandsAs n events w → IsSound w
+pub systems_stand : (n : NetworkState) (events : List Timed) (w : WorldState) → StandsAsPlanned n events w → IsSound w
     → live_stations w.stations ≡ network.live_systems n.systems events
 systems_stand n events w so sound =
     world_living w.stations (λ place station here. (sound.wired.setups place station here).ports)
@@ -93,14 +93,14 @@ systems_stand n events w so sound =
 -- ---- links
 
 -- the ends of a link stay
-abbrev ends : Wire → PortId × PortId
+abbrev ends : LinkSpec → PortId × PortId
 ends v = (v.a, v.b)
 
-either : (test : Bool) (x y : Wire) → ends x ≡ ends y → ends (if test then x else y) ≡ ends y
+either : (test : Bool) (x y : LinkSpec) → ends x ≡ ends y → ends (if test then x else y) ≡ ends y
 either true x y same = same
 either false x y same = refl
 
-changed_ends : (change : Change) (v : Wire) → ends (link_changed change v) ≡ ends v
+changed_ends : (change : Change) (v : LinkSpec) → ends (link_changed change v) ≡ ends v
 changed_ends (LinkDown number port) v = either (is_at number port v) (with_up false v) v refl
 changed_ends (LinkUp number port) v = either (is_at number port v) (with_up true v) v refl
 changed_ends (LinkSet number port least greatest loss) v =
@@ -110,12 +110,12 @@ changed_ends (Recover number) v = refl
 changed_ends (Priority1 number value) v = refl
 changed_ends (Inject number port octets) v = refl
 
-acted_ends : (act : Act) (v : Wire) → ends (link_acted act v) ≡ ends v
+acted_ends : (act : Act) (v : LinkSpec) → ends (link_acted act v) ≡ ends v
 acted_ends (Deliver link direction) v = refl
 acted_ends (Expire number timer) v = refl
 acted_ends (Changing change) v = changed_ends change v
 
-ends_after : (events : List Timed) (v : Wire) → ends (link_after events v) ≡ ends v
+ends_after : (events : List Timed) (v : LinkSpec) → ends (link_after events v) ≡ ends v
 ends_after [] v = refl
 ends_after (t ∷ events) v = ends_after events (link_acted t.act v) ∙ acted_ends t.act v
 
@@ -124,7 +124,7 @@ abbrev used_before : (ℕ → Bool) → Bool → PortId × PortId → List Link 
 used_before has up (a, b) rest = if up && (has a.clock && has b.clock) then link_of (a, b) ∷ rest else rest
 
 -- the links in use of some wires
-abbrev used : (ℕ → Bool) → List Wire → List Link
+abbrev used : (ℕ → Bool) → List LinkSpec → List Link
 used has [] = []
 used has (v ∷ wires) = used_before has v.up (v.a, v.b) (used has wires)
 
@@ -134,7 +134,7 @@ world_used systems [] = refl
 world_used systems (channel ∷ channels) =
     ap (used_before (stations_have_clock systems) channel.up (channel.a, channel.b)) (world_used systems channels)
 
-network_used : (events : List Timed) (systems : List System) (wires : List Wire)
+network_used : (events : List Timed) (systems : List System) (wires : List LinkSpec)
     → network.used_links wires events systems ≡ used (network.has_clock systems) (map (link_after events) wires)
 network_used events systems [] = refl
 network_used events systems (v ∷ wires) =
@@ -160,14 +160,14 @@ any_clock (s ∷ systems) number = ap (λ more. (s.clock == number) || more) (an
 
 -- ---- the whole world
 
-systems_move : (n : NetworkState) (events : List Timed) (w : WorldState) (g : Snapshot) → StandsAs n events w
+systems_move : (n : NetworkState) (events : List Timed) (w : WorldState) (g : Snapshot) → StandsAsPlanned n events w
     → IsSound w → StandsAfter n events g
     → IsPermutation (live_stations w.stations) g.systems
 systems_move n events w g so sound stands =
     subst (λ ss. IsPermutation ss g.systems) (sym (systems_stand n events w so sound)) stands.systems
 
 -- the same systems have clocks
-pub clocks_stand : (n : NetworkState) (events : List Timed) (w : WorldState) (g : Snapshot) → StandsAs n events w
+pub clocks_stand : (n : NetworkState) (events : List Timed) (w : WorldState) (g : Snapshot) → StandsAsPlanned n events w
     → IsSound w → StandsAfter n events g
     → (number : ℕ) → stations_have_clock (live_stations w.stations) number ≡ network.has_clock g.systems number
 clocks_stand n events w g so sound stands number =
@@ -176,7 +176,7 @@ clocks_stand n events w g so sound stands number =
     (systems_move n events w g so sound stands)
 
 pub snapshots_stand : (n : NetworkState) (events : List Timed) (w : WorldState) (g : Snapshot)
-    → StandsAs n events w → IsSound w → StandsAfter n events g
+    → StandsAsPlanned n events w → IsSound w → StandsAfter n events g
     → IsPermutation (snapshot_of w).systems g.systems × ((snapshot_of w).links ≡ g.links)
 snapshots_stand n events w g so sound stands = (systems_move n events w g so sound stands, links)
   where

@@ -2,7 +2,7 @@
 use Rattle.std.proofs.Common.{◌≤◌, ◌+◌, ℕ, List, [], ◌∷◌, Option, subst, sym, arith}
 use Rattle.gptp_links.specs.declared.bounds.Bounds.{Bounds}
 use Rattle.gptp_graph.specs.PathBound.{path_bound}
-use Rattle.gptp_setup.specs.Pace.{Pace}
+use Rattle.gptp_setup.specs.SettlingParams.{SettlingParams}
 use Rattle.gptp_plan.specs.Network.{pace_of}
 use Rattle.gptp_plan.specs.declared.change.Act.TheVariants.{Change as Changing}
 use Rattle.gptp_plan.specs.declared.change.Change.TheVariants.{LinkUp}
@@ -11,11 +11,11 @@ use Rattle.gptp_acts.specs.Advancing.{Advances, Told}
 use Rattle.gptp_acts.specs.World.{WorldState}
 use Rattle.gptp_acts.proofs.AdvanceLemmas.{next_fits}
 use Rattle.gptp_acts.proofs.PromptLemmas.{next_prompt}
-use Rattle.gptp_world.proofs.ClaimedLemmas.{next_octet}
+use Rattle.gptp_world.proofs.SettlingInvariantLemmas.{next_octet}
 use Rattle.gptp_world.proofs.InitialLemmas.{initial_sound}
 use Rattle.gptp_kept.specs.Bounded.{IsBoundedWorld}
 use Rattle.gptp_kept.specs.Calm.{HaveQuietLinks}
-use Rattle.gptp_kept.specs.Claimed.{Claimed, IsClaimed}
+use Rattle.gptp_kept.specs.SettlingInvariant.{SettlingInvariant, KeepsAll}
 use Rattle.gptp_kept.specs.Settled.{Settled}
 use Rattle.gptp_kept.specs.SoundWorld.{IsSoundWorld}
 use Rattle.gptp_kept.specs.Standing.{snapshot_of}
@@ -26,15 +26,15 @@ use Rattle.gptp_kept.proofs.RestSoundLemmas.{rest_sound}
 use Rattle.gptp_kept.proofs.SoundWorldLemmas.{sound_acts, sound_begins, sound_gains, sound_later}
 use Rattle.gptp_reached.specs.Headline.{WorldIsCalm, IsSettled}
 use Rattle.gptp_reached.specs.Soon.{GainsAreSound, GainsSettle, LinksUpSettle, RestsAreSound, SoundGoesOn, StartsAreSound, StartsSettle}
-use Rattle.gptp_reached.proofs.ClaimedLemmas.{advanced_claimed}
+use Rattle.gptp_reached.proofs.SettlingInvariantLemmas.{advanced_claimed}
 use Rattle.gptp_reached.proofs.HeadlineLemmas.{is_settled, quiet_as}
 use Rattle.gptp_reached.proofs.PlayedLemmas.{no_change}
 
-quiet_links : (p : Pace) (w : WorldState) → WorldIsCalm p w → HaveQuietLinks p.params w
+quiet_links : (p : SettlingParams) (w : WorldState) → WorldIsCalm p w → HaveQuietLinks p.params w
 quiet_links p w calm = (quiet_as p w calm).links
 
 -- what has settled, and states what is bounded, is settled as on the page
-settled : (p : Pace) (w : WorldState) → IsClaimed p w → Settled w × IsBoundedWorld w → IsSettled w
+settled : (p : SettlingParams) (w : WorldState) → KeepsAll p w → Settled w × IsBoundedWorld w → IsSettled w
 settled p w is both = is_settled w (record { pace = p; is = is }) both.0 both.1
 
 module _ {F : Type 0} (answers : Bounds → ℕ → F → Option ℕ → F → Type 0) where
@@ -73,8 +73,8 @@ module _ {F : Type 0} (answers : Bounds → ℕ → F → Option ℕ → F → T
   starts_are_sound n fate begun w network start =
       sound_begins answers n fate begun w network (initial_sound n network) start
 
-  sound_advances : (p : Pace) (until : ℕ) (told : List Told) (fate fate_after : F) (w w' : WorldState)
-      → Advances answers until told fate fate_after w w' → IsClaimed p w → IsSoundWorld w → IsSoundWorld w'
+  sound_advances : (p : SettlingParams) (until : ℕ) (told : List Told) (fate fate_after : F) (w w' : WorldState)
+      → Advances answers until told fate fate_after w w' → KeepsAll p w → IsSoundWorld w → IsSoundWorld w'
   sound_advances p until [] fate fate_after w w' k claim sound = subst IsSoundWorld (sym k.1) sound
   sound_advances p until (one ∷ told) fate fate_after w w' (drawn, between, k, rest) claim sound =
       let timed = one.timed in

@@ -7,8 +7,8 @@ use Rattle.std.proofs.lemmas.List.Sorted.{IsPermutation-map, length_permutation,
 use Rattle.gptp_graph.specs.PathBound.{has_two_neighbours, path_bound, with_two_neighbours}
 use Rattle.gptp_graph.specs.Snapshot.{Link, Snapshot, System, clocks}
 use Rattle.gptp_plan.specs.declared.change.Timed.{Timed}
-use Rattle.gptp_plan.specs.declared.network.Member.{Member}
-use Rattle.gptp_plan.specs.declared.network.Wire.{Wire}
+use Rattle.gptp_plan.specs.declared.network.SystemSpec.{SystemSpec}
+use Rattle.gptp_plan.specs.declared.network.LinkSpec.{LinkSpec}
 use Rattle.gptp_plan.specs.Change.{link_after}
 use Rattle.gptp_plan.specs.InUse.{lives, path_systems}
 use Rattle.gptp_plan.specs.InUse as plans
@@ -23,17 +23,17 @@ use Rattle.gptp_network.proofs.InUseLemmas.{live_there, paths_are, there_live}
 use Rattle.gptp_network.proofs.PassLemmas.{same_tests}
 use Rattle.gptp_kept.specs.Calm.{delay_in, greatest_channel_delay, sync_paths_of}
 use Rattle.gptp_kept.specs.Standing.{stations_have_clock, live_stations, snapshot_of}
-use Rattle.gptp_reached.specs.Reached.{StandsAs, channel_wire}
+use Rattle.gptp_reached.specs.Reached.{StandsAsPlanned, channel_wire}
 use Rattle.gptp_reached.proofs.SnapshotLemmas.{clocks_stand, snapshots_stand}
 
 -- ---- the greatest delay
 
 -- a link is up between two systems that are so
-abbrev is_between : (ℕ → Bool) → Wire → Bool
+abbrev is_between : (ℕ → Bool) → LinkSpec → Bool
 is_between has v = v.up && (has v.a.clock && has v.b.clock)
 
 -- the greatest delay of such links
-abbrev delay_by : (ℕ → Bool) → List Wire → ℕ
+abbrev delay_by : (ℕ → Bool) → List LinkSpec → ℕ
 delay_by has [] = 0
 delay_by has (v ∷ vs) = if is_between has v then max v.bounds.max (delay_by has vs) else delay_by has vs
 
@@ -48,19 +48,19 @@ and_both : (a b c : Bool) → ((a && b) && c) ≡ (a && (b && c))
 and_both true b c = refl
 and_both false b c = refl
 
-network_delay : (members : List Member) (events : List Timed) (links : List Wire)
+network_delay : (members : List SystemSpec) (events : List Timed) (links : List LinkSpec)
     → plans.greatest_delay members events links ≡ delay_by (lives members events) (map (link_after events) links)
 network_delay members events [] = refl
 network_delay members events (v ∷ links) =
-    let w : Wire = link_after events v in
+    let w : LinkSpec = link_after events v in
     ap (λ used. if used then max w.bounds.max (plans.greatest_delay members events links)
     else plans.greatest_delay members events links)
     (and_both w.up (lives members events w.a.clock) (lives members events w.b.clock))
     ∙ ap (λ rest. if is_between (lives members events) w then max w.bounds.max rest else rest)
     (network_delay members events links)
 
-pub delay_stands : (systems : List System) (members : List Member) (events : List Timed) (channels : List Channel)
-    (links : List Wire) → ((number : ℕ) → stations_have_clock systems number ≡ lives members events number)
+pub delay_stands : (systems : List System) (members : List SystemSpec) (events : List Timed) (channels : List Channel)
+    (links : List LinkSpec) → ((number : ℕ) → stations_have_clock systems number ≡ lives members events number)
     → map channel_wire channels ≡ map (link_after events) links
     → greatest_channel_delay systems channels ≡ plans.greatest_delay members events links
 delay_stands systems members events channels links same stands =
@@ -104,7 +104,7 @@ module _ (g h : Snapshot) (systems : IsPermutation g.systems h.systems) (links :
 
 -- ---- the whole world
 
-pub paths_stand : (n : NetworkState) (events : List Timed) (w : WorldState) → IsNetwork n → StandsAs n events w
+pub paths_stand : (n : NetworkState) (events : List Timed) (w : WorldState) → IsNetwork n → StandsAsPlanned n events w
     → IsSound w → sync_paths n events ≡ sync_paths_of w
 paths_stand n events w is so sound = λ i. record { systems = paths i; delay = delay i }
   where

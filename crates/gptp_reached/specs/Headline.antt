@@ -17,7 +17,7 @@ use Rattle.gptp_messages.specs.declared.message.Message.TheVariants as messages
 use Rattle.gptp_messages.specs.Grammar.{Reads}
 use Rattle.gptp_pdelay.specs.GoodLink.{ceil_div}
 use Rattle.gptp_scaled.specs.Counts.{AreWithin}
-use Rattle.gptp_setup.specs.Pace.{Pace, largest_interval}
+use Rattle.gptp_setup.specs.SettlingParams.{SettlingParams, largest_interval}
 use Rattle.gptp_plan.specs.Calm.{SyncsComeInTime}
 use Rattle.gptp_plan.specs.SyncWait.{step_more}
 use Rattle.gptp_system.specs.declared.answer.Answer.TheVariants as answers
@@ -40,7 +40,7 @@ use Rattle.gptp_certificate.specs.Stated.{States}
 -- network and with the largest announce interval of any of its ports, as those of every world do. And what a Slave port
 -- holds doesn't lapse for want of Sync: syncReceiptTimeout is 0, or the paths of the snapshot are so short, and its
 -- links so prompt, that a settled system always hears the next Sync sooner.
-pub record WorldIsCalm (p : Pace) (w : WorldState) : Type 0 where
+pub record WorldIsCalm (p : SettlingParams) (w : WorldState) : Type 0 where
   pub of : HavePace p w
   pub links : (link : Channel) → In link w.net.channels → channel_is_used (live_stations w.stations) link ≡ true
       → (link.bounds.loss ≡ 0)
@@ -51,7 +51,7 @@ pub record WorldIsCalm (p : Pace) (w : WorldState) : Type 0 where
 -- delay requests in a row may be lost, and the interval the largest announce interval of any port. Where
 -- syncReceiptTimeout isn't 0, m times has passed too what the wait for the next Sync and the greatest delay of a link
 -- are together above one interval.
-abbrev pub HasPassed : Pace → ℕ → WorldState → Type 0
+abbrev pub HasPassed : SettlingParams → ℕ → WorldState → Type 0
 HasPassed p m w =
     w.last_change
     + (((p.params.timeout + 3) * m + p.params.lost + 5) * largest_interval p + m * step_more p (sync_paths_of w))
@@ -61,7 +61,7 @@ HasPassed p m w =
 -- 5 intervals, in which ports become capable, and of 2 intervals, and k intervals and that delay for each of m systems,
 -- in which all that is held becomes wholly clean; then an interval, and the delay for each further system. That is
 -- never longer than what is above, where anybody lives.
-abbrev pub HasPassedAtOnce : Pace → ℕ → WorldState → Type 0
+abbrev pub HasPassedAtOnce : SettlingParams → ℕ → WorldState → Type 0
 HasPassedAtOnce p m w =
     w.last_change
     + (max ((p.params.lost + 5) * largest_interval p)
@@ -87,24 +87,24 @@ pub record IsSettled (w : WorldState) : Type 0 where
 -- The theorem: a calm world is settled once so long has passed since its last change, where no path of its snapshot has
 -- more than m systems.
 abbrev pub Headline : WorldState → Type 0
-Headline w = (p : Pace) (m : ℕ)
+Headline w = (p : SettlingParams) (m : ℕ)
     → WorldIsCalm p w → BoundsPaths (snapshot_of w) m → HasPassed p m w
     → IsSettled w
 
 -- where nothing lapses for want of Sync, so it is sooner
 abbrev pub HeadlineAtOnce : WorldState → Type 0
-HeadlineAtOnce w = (p : Pace) (m : ℕ)
+HeadlineAtOnce w = (p : SettlingParams) (m : ℕ)
     → WorldIsCalm p w → p.params.sync_timeout ≡ 0 → BoundsPaths (snapshot_of w) m → HasPassedAtOnce p m w
     → IsSettled w
 
 -- such an m is the number of live systems, and such is 2 more than there are systems with two neighbours or more
 abbrev pub HeadlineBySystems : WorldState → Type 0
-HeadlineBySystems w = (p : Pace)
+HeadlineBySystems w = (p : SettlingParams)
     → WorldIsCalm p w → HasPassed p (length (snapshot_of w).systems) w
     → IsSettled w
 
 abbrev pub HeadlineByNeighbours : WorldState → Type 0
-HeadlineByNeighbours w = (p : Pace)
+HeadlineByNeighbours w = (p : SettlingParams)
     → WorldIsCalm p w → HasPassed p (path_bound (snapshot_of w)) w
     → IsSettled w
 
@@ -112,7 +112,7 @@ HeadlineByNeighbours w = (p : Pace)
 
 -- By this time a Sync that left the root when all was settled has come down a way of so many links, even where each
 -- takes as long as a good link may, and where it stays a residence at each system.
-abbrev pub HasComeDown : Pace → ℕ → ℕ → ℕ → WorldState → Type 0
+abbrev pub HasComeDown : SettlingParams → ℕ → ℕ → ℕ → WorldState → Type 0
 HasComeDown p m steps time w =
     w.last_change
     + (((p.params.timeout + 3) * m + p.params.lost + 5) * largest_interval p + m * step_more p (sync_paths_of w))
@@ -138,7 +138,7 @@ pub record LeavesOffset (number : ℕ) (offset : ℤ) (w' : WorldState) (done : 
 -- is what each link costs, its jitter, and what each bridge costs: its residence times the error of the rate so far, to
 -- which each link above adds its jitter over the interval of peer delay requests.
 abbrev pub HeadlineOnTime : WorldState → ℕ → WorldState → Done → Type 0
-HeadlineOnTime w time w' done = (p : Pace) (m steps number error : ℕ) (offset ahead : ℤ)
+HeadlineOnTime w time w' done = (p : SettlingParams) (m steps number error : ℕ) (offset ahead : ℤ)
     → WorldIsCalm p w → BoundsPaths (snapshot_of w) m → HasComeDown p m (suc steps) time w
     → LeavesOffset number offset w' done
     → IsNear (snapshot_of w) number → IsWayError p.params w number (suc steps) error → IsAhead w number time ahead

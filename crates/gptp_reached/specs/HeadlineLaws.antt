@@ -3,7 +3,7 @@ use Rattle.std.specs.Prelude.{◌≤◌, ◌+◌, ◌^◌, ℕ, List, Option}
 use Rattle.gptp_lists.specs.Members.{In}
 use Rattle.gptp_graph.specs.Snapshot.{Snapshot}
 use Rattle.gptp_links.specs.declared.bounds.Bounds.{Bounds}
-use Rattle.gptp_setup.specs.Pace.{Pace}
+use Rattle.gptp_setup.specs.SettlingParams.{SettlingParams}
 use Rattle.gptp_plan.specs.Calm.{IsCalm, NothingLapses, last_change}
 use Rattle.gptp_plan.specs.Network.{pace_of}
 use Rattle.gptp_plan.specs.SettlingAtOnce.{settling_span_at_once}
@@ -18,36 +18,36 @@ use Rattle.gptp_network.specs.Document.{DocumentState}
 use Rattle.gptp_network.specs.Snapshot.{IsSnapshot, events_by}
 use Rattle.gptp_report.specs.Run.{PlaysRun}
 use Rattle.gptp_report.specs.Transitions.{Transition, Unfolds}
-use Rattle.gptp_kept.specs.Claimed.{Claimed}
+use Rattle.gptp_kept.specs.SettlingInvariant.{SettlingInvariant}
 use Rattle.gptp_kept.specs.Known.{AreSet}
 use Rattle.gptp_kept.specs.Standing.{snapshot_of}
-use Rattle.gptp_kept.specs.TimedClaim.{AllClaimed}
+use Rattle.gptp_kept.specs.TimedClaim.{WorldInvariant}
 use Rattle.gptp_reached.specs.AlikeLaws.{AreAlike}
 use Rattle.gptp_reached.specs.Headline.{Headline, HeadlineAtOnce, HeadlineByNeighbours, HeadlineBySystems, HeadlineOnTime, IsSettled}
 use Rattle.gptp_reached.specs.PlayedLaws.{DocumentIsAtRest, IsPlayable}
 
 -- what `World::well_formed` shows of every world is all that the theorem asks beside calm and the time
 abbrev pub WorldsSettle : Type 0
-WorldsSettle = (w : WorldState) → Claimed w → Headline w
+WorldsSettle = (w : WorldState) → SettlingInvariant w → Headline w
 
 abbrev pub WorldsSettleAtOnce : Type 0
-WorldsSettleAtOnce = (w : WorldState) → Claimed w → HeadlineAtOnce w
+WorldsSettleAtOnce = (w : WorldState) → SettlingInvariant w → HeadlineAtOnce w
 
 abbrev pub WorldsSettleBySystems : Type 0
-WorldsSettleBySystems = (w : WorldState) → Claimed w → HeadlineBySystems w
+WorldsSettleBySystems = (w : WorldState) → SettlingInvariant w → HeadlineBySystems w
 
 abbrev pub WorldsSettleByNeighbours : Type 0
-WorldsSettleByNeighbours = (w : WorldState) → Claimed w → HeadlineByNeighbours w
+WorldsSettleByNeighbours = (w : WorldState) → SettlingInvariant w → HeadlineByNeighbours w
 
 -- and its systems always have the parameters of one network, and none of their ports an announce interval above its
 -- largest
 abbrev pub WorldsAreOfANetwork : Type 0
-WorldsAreOfANetwork = (w : WorldState) → Claimed w → (p : Pace) × HavePace p w × AreSet p w
+WorldsAreOfANetwork = (w : WorldState) → SettlingInvariant w → (p : SettlingParams) × HavePace p w × AreSet p w
 
 -- each act in such a world leaves exact offsets, whatever is drawn for its frames, as long as clocks can show the time
 abbrev pub WorldsAreExact : {F : Type 0} → (Bounds → ℕ → F → Option ℕ → F → Type 0) → Type 0
 WorldsAreExact {F} answers = (timed : Timed) (fate fate_after : F) (w w' : WorldState) (done : Done)
-    → AllClaimed w → WasDone answers timed fate fate_after w w' done → timed.at ≤ 10 ^ 18
+    → WorldInvariant w → WasDone answers timed fate fate_after w w' done → timed.at ≤ 10 ^ 18
     → HeadlineOnTime w timed.at w' done
 
 -- so does each act of a run of a document, whatever is drawn for the frames meanwhile

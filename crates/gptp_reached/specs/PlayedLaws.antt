@@ -17,9 +17,9 @@ use Rattle.gptp_network.specs.Events.{AreEvents}
 use Rattle.gptp_network.specs.Snapshot.{events_by}
 use Rattle.gptp_report.specs.Run.{PlaysRun}
 use Rattle.gptp_kept.specs.CalmFor.{IsCalmFor}
-use Rattle.gptp_kept.specs.Claimed.{Claimed}
-use Rattle.gptp_kept.specs.LegibleLaws.{SetsAnOctet}
-use Rattle.gptp_reached.specs.Reached.{StandsAs}
+use Rattle.gptp_kept.specs.SettlingInvariant.{SettlingInvariant}
+use Rattle.gptp_kept.specs.EncodableLaws.{SetsAnOctet}
+use Rattle.gptp_reached.specs.Reached.{StandsAsPlanned}
 
 -- the event is a change that may be made
 pub record IsMade (timed : Timed) : Type 0 where
@@ -29,7 +29,7 @@ pub record IsMade (timed : Timed) : Type 0 where
 
 -- what the world is that a document leads to by a time
 pub record IsReached (d : DocumentState) (until : ℕ) (w : WorldState) : Type 0 where
-  pub stands : StandsAs d.network (events_by until d.events) w
+  pub stands : StandsAsPlanned d.network (events_by until d.events) w
   pub sound : IsSound w
   pub now : w.time ≡ until
 
@@ -61,7 +61,7 @@ PlayedStands {F} answers = (d : DocumentState) (until : ℕ) (fate : F) (told : 
 abbrev pub PlayedClaimed : {F : Type 0} → (Bounds → ℕ → F → Option ℕ → F → Type 0) → Type 0
 PlayedClaimed {F} answers = (d : DocumentState) (until : ℕ) (fate : F) (told : List Told) (w : WorldState)
     → IsPlayable d → PlaysRun answers d until fate told w
-    → Claimed w
+    → SettlingInvariant w
 
 -- A document is at rest at a time: its network is calm after the events up to then, and has settled by then.
 pub record DocumentIsAtRest (d : DocumentState) (until : ℕ) : Type 0 where
@@ -78,5 +78,5 @@ CalmRests = (d : DocumentState) (until : ℕ)
 -- systems.
 abbrev pub DocumentIsCalm : Type 0
 DocumentIsCalm = (d : DocumentState) (until : ℕ) (w : WorldState)
-    → IsNetwork d.network → IsReached d until w → Claimed w → DocumentIsAtRest d until
+    → IsNetwork d.network → IsReached d until w → SettlingInvariant w → DocumentIsAtRest d until
     → IsCalmFor settling_span_with w

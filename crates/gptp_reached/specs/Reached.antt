@@ -1,10 +1,10 @@
 -- How a world stands that a network and its events lead to.
 use Rattle.std.specs.Prelude.{◌≡◌, ℕ, Bool, if◌then◌else◌, List, map}
-use Rattle.gptp_setup.specs.Pace.{Pace}
+use Rattle.gptp_setup.specs.SettlingParams.{SettlingParams}
 use Rattle.gptp_setup.specs.declared.setup.Setup.{Setup}
 use Rattle.gptp_plan.specs.declared.change.Timed.{Timed}
-use Rattle.gptp_plan.specs.declared.network.Member.{Member}
-use Rattle.gptp_plan.specs.declared.network.Wire.{Wire}
+use Rattle.gptp_plan.specs.declared.network.SystemSpec.{SystemSpec}
+use Rattle.gptp_plan.specs.declared.network.LinkSpec.{LinkSpec}
 use Rattle.gptp_acts.specs.declared.station.Station.{Station}
 use Rattle.gptp_plan.specs.Calm.{last_change}
 use Rattle.gptp_plan.specs.Change.{link_after, system_after}
@@ -29,7 +29,7 @@ shape station = record {
 }
 
 -- of a system of a network after events
-abbrev pub shape_after : Pace → List Timed → Member → Shape
+abbrev pub shape_after : SettlingParams → List Timed → SystemSpec → Shape
 shape_after p events m = record {
   setup = record (setup_of p m) { identity = (system_after events m).identity };
   live = (system_after events m).live;
@@ -39,13 +39,13 @@ shape_after p events m = record {
 -- ---- links
 
 -- a link without what is in flight on it
-abbrev pub channel_wire : Channel → Wire
+abbrev pub channel_wire : Channel → LinkSpec
 channel_wire channel = record { a = channel.a; b = channel.b; bounds = channel.bounds; up = channel.up }
 
 -- ---- the whole world
 
 -- The world has the systems and links of the network after these events, and the last of them was the last change.
-pub record StandsAs (n : NetworkState) (events : List Timed) (w : WorldState) : Type 0 where
+pub record StandsAsPlanned (n : NetworkState) (events : List Timed) (w : WorldState) : Type 0 where
   pub systems : map shape w.stations ≡ map (shape_after (pace_of n) events) n.systems
   pub links : map channel_wire w.net.channels ≡ map (link_after events) n.links
   pub last : w.last_change ≡ last_change events

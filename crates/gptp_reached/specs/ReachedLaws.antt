@@ -13,30 +13,30 @@ use Rattle.gptp_plan.specs.Network.{NetworkState}
 use Rattle.gptp_acts.specs.Sound.{IsSound}
 use Rattle.gptp_acts.specs.World.{WorldState}
 use Rattle.gptp_kept.specs.SeenLaws.{IsNoChange}
-use Rattle.gptp_reached.specs.Reached.{StandsAs}
+use Rattle.gptp_reached.specs.Reached.{StandsAsPlanned}
 
 -- the world of a network as it begins
 abbrev pub BegunStands : {F : Type 0} → (Bounds → ℕ → F → Option ℕ → F → Type 0) → Type 0
 BegunStands {F} answers = (n : NetworkState) (fate fate_after : F) (w : WorldState)
     → Begun answers n fate fate_after w
-    → StandsAs n [] w
+    → StandsAsPlanned n [] w
 
 -- an act that changes nothing of the network leaves it so
 abbrev pub ActsStand : Type 0
 ActsStand = (n : NetworkState) (events : List Timed) (act : Act) (w : WorldState) (draws : List Draw) (done : Done)
     (w' : WorldState)
-    → IsNoChange act → Acts act w draws done w' → StandsAs n events w
-    → StandsAs n events w'
+    → IsNoChange act → Acts act w draws done w' → StandsAsPlanned n events w
+    → StandsAsPlanned n events w'
 
 -- and so does time that passes
 abbrev pub TimeStands : Type 0
 TimeStands = (n : NetworkState) (events : List Timed) (w : WorldState) (time : ℕ)
-    → StandsAs n events w
-    → StandsAs n events (at time w)
+    → StandsAsPlanned n events w
+    → StandsAsPlanned n events (at time w)
 
 -- a change at a time leads to one event more
 abbrev pub ChangesStand : Type 0
 ChangesStand = (n : NetworkState) (events : List Timed) (timed : Timed) (change : Change) (w : WorldState)
     (draws : List Draw) (done : Done) (w' : WorldState)
-    → timed.act ≡ Changing change → IsSound w → Acts timed.act (at timed.at w) draws done w' → StandsAs n events w
-    → StandsAs n (events ++ timed ∷ []) w'
+    → timed.act ≡ Changing change → IsSound w → Acts timed.act (at timed.at w) draws done w' → StandsAsPlanned n events w
+    → StandsAsPlanned n (events ++ timed ∷ []) w'

@@ -10,7 +10,7 @@ use Rattle.gptp_plan.specs.Network.{IsNetwork}
 use Rattle.gptp_network.specs.Document.{DocumentState}
 use Rattle.gptp_network.specs.Snapshot.{IsSnapshot}
 use Rattle.gptp_report.specs.Run.{PlaysRun}
-use Rattle.gptp_kept.specs.Claimed.{Claimed}
+use Rattle.gptp_kept.specs.SettlingInvariant.{SettlingInvariant}
 use Rattle.gptp_certificate.specs.Stated.{States}
 use Rattle.gptp_reached.specs.PlayedLaws.{DocumentIsAtRest, IsPlayable, IsReached}
 
@@ -18,7 +18,7 @@ use Rattle.gptp_reached.specs.PlayedLaws.{DocumentIsAtRest, IsPlayable, IsReache
 -- settled choice of its snapshot.
 abbrev pub DocumentsSettle : Type 0
 DocumentsSettle = (d : DocumentState) (until : ℕ) (w : WorldState) (lines : List SystemLine) (g : Snapshot)
-    → IsNetwork d.network → IsReached d until w → Claimed w → DocumentIsAtRest d until → States w lines
+    → IsNetwork d.network → IsReached d until w → SettlingInvariant w → DocumentIsAtRest d until → States w lines
     → IsSnapshot d until g
     → IsSettledChoice g lines
 

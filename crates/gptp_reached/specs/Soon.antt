@@ -13,7 +13,7 @@
 use Rattle.std.specs.Prelude.{◌≤◌, ◌+◌, ℕ, List, Option, length}
 use Rattle.gptp_graph.specs.PathBound.{BoundsPaths, path_bound}
 use Rattle.gptp_links.specs.declared.bounds.Bounds.{Bounds}
-use Rattle.gptp_setup.specs.Pace.{Pace}
+use Rattle.gptp_setup.specs.SettlingParams.{SettlingParams}
 use Rattle.gptp_plan.specs.Allowed.{IsFitAct}
 use Rattle.gptp_plan.specs.Network.{IsNetwork, NetworkState, pace_of}
 use Rattle.gptp_plan.specs.SettlingTime.{capability_span}
@@ -24,12 +24,12 @@ use Rattle.gptp_acts.specs.Acts.{at as at_time}
 use Rattle.gptp_acts.specs.Advancing.{Advanced, Told}
 use Rattle.gptp_acts.specs.Course.{Begun, WasDone}
 use Rattle.gptp_acts.specs.declared.done.Done.{Done}
-use Rattle.gptp_acts.specs.Prompt.{IsPromptIn}
+use Rattle.gptp_acts.specs.Prompt.{DelaysFitIntervals}
 use Rattle.gptp_acts.specs.World.{WorldState, port_id}
 use Rattle.gptp_kept.specs.Calm.{delay_in, sync_paths_of}
-use Rattle.gptp_kept.specs.Claimed.{IsClaimed}
+use Rattle.gptp_kept.specs.SettlingInvariant.{KeepsAll}
 use Rattle.gptp_kept.specs.Elsewhere.{IsOtherLink}
-use Rattle.gptp_kept.specs.LegibleLaws.{SetsAnOctet}
+use Rattle.gptp_kept.specs.EncodableLaws.{SetsAnOctet}
 use Rattle.gptp_kept.specs.LinkView.{LinkPlace}
 use Rattle.gptp_kept.specs.NewsCourse.{HasSettledBy, SettlesFrom, capable_from}
 use Rattle.gptp_kept.specs.NewsWorld.{AllLive}
@@ -51,9 +51,9 @@ StartsSettle {F} answers = (n : NetworkState) (fate begun fate_after : F) (until
 -- A network in which all that is held is sound, and which has been left alone for L + 5 announce intervals, when a link
 -- comes up that leads to no failed system, and which then goes on by itself.
 abbrev pub LinksUpSettle : {F : Type 0} → (Bounds → ℕ → F → Option ℕ → F → Type 0) → Type 0
-LinksUpSettle {F} answers = (p : Pace) (number port time : ℕ) (fate drawn fate_after : F) (until m : ℕ)
+LinksUpSettle {F} answers = (p : SettlingParams) (number port time : ℕ) (fate drawn fate_after : F) (until m : ℕ)
     (told : List Told) (done : Done) (w between w' : WorldState)
-    → IsClaimed p w → IsSoundWorld w → w.last_change + capability_span p ≤ time
+    → KeepsAll p w → IsSoundWorld w → w.last_change + capability_span p ≤ time
     → WasDone answers (record { at = time; act = Changing (LinkUp number port) }) fate drawn w between done
     → ((at : LinkPlace) → StandsUnanswered at between → IsOtherLink at (port_id number port) w)
     → Advanced answers until told drawn fate_after between w'
@@ -64,10 +64,10 @@ LinksUpSettle {F} answers = (p : Pace) (number port time : ℕ) (fate drawn fate
 -- from two announce intervals and three of peer delay after the gain, or L + 5 announce intervals beside failed
 -- systems.
 abbrev pub GainsSettle : {F : Type 0} → (Bounds → ℕ → F → Option ℕ → F → Type 0) → Type 0
-GainsSettle {F} answers = (p : Pace) (change : Change) (time start : ℕ) (fate drawn fate_after : F) (until m : ℕ)
+GainsSettle {F} answers = (p : SettlingParams) (change : Change) (time start : ℕ) (fate drawn fate_after : F) (until m : ℕ)
     (told : List Told) (done : Done) (w between w' : WorldState)
-    → IsClaimed p w → IsSoundWorld w → IsGain change (at_time time w)
-    → IsFitAct (Changing change) → IsPromptIn w (Changing change) → SetsAnOctet (Changing change)
+    → KeepsAll p w → IsSoundWorld w → IsGain change (at_time time w)
+    → IsFitAct (Changing change) → DelaysFitIntervals w (Changing change) → SetsAnOctet (Changing change)
     → WasDone answers (record { at = time; act = Changing change }) fate drawn w between done
     → Advanced answers until told drawn fate_after between w'
     → WorldIsCalm p w' → BoundsPaths (snapshot_of w') m
@@ -84,16 +84,16 @@ StartsAreSound {F} answers = (n : NetworkState) (fate begun : F) (w : WorldState
 
 -- while it goes on by itself
 abbrev pub SoundGoesOn : {F : Type 0} → (Bounds → ℕ → F → Option ℕ → F → Type 0) → Type 0
-SoundGoesOn {F} answers = (p : Pace) (until : ℕ) (told : List Told) (fate fate_after : F) (w w' : WorldState)
-    → IsClaimed p w → IsSoundWorld w → Advanced answers until told fate fate_after w w'
+SoundGoesOn {F} answers = (p : SettlingParams) (until : ℕ) (told : List Told) (fate fate_after : F) (w w' : WorldState)
+    → KeepsAll p w → IsSoundWorld w → Advanced answers until told fate fate_after w w'
     → IsSoundWorld w'
 
 -- and through a gain
 abbrev pub GainsAreSound : {F : Type 0} → (Bounds → ℕ → F → Option ℕ → F → Type 0) → Type 0
-GainsAreSound {F} answers = (p : Pace) (change : Change) (time : ℕ) (fate fate_after : F) (w w' : WorldState)
+GainsAreSound {F} answers = (p : SettlingParams) (change : Change) (time : ℕ) (fate fate_after : F) (w w' : WorldState)
     (done : Done)
-    → IsClaimed p w → IsSoundWorld w → IsGain change (at_time time w)
-    → IsFitAct (Changing change) → IsPromptIn w (Changing change) → SetsAnOctet (Changing change)
+    → KeepsAll p w → IsSoundWorld w → IsGain change (at_time time w)
+    → IsFitAct (Changing change) → DelaysFitIntervals w (Changing change) → SetsAnOctet (Changing change)
     → WasDone answers (record { at = time; act = Changing change }) fate fate_after w w' done
     → IsSoundWorld w'
 
@@ -101,8 +101,8 @@ GainsAreSound {F} answers = (p : Pace) (change : Change) (time : ℕ) (fate fate
 -- passed from its last change, k of them and the greatest delay of a link for each system of a path, and that delay
 -- once more.
 abbrev pub RestsAreSound : Type 0
-RestsAreSound = (p : Pace) (w : WorldState)
-    → IsClaimed p w → AllLive w → WorldIsCalm p w
+RestsAreSound = (p : SettlingParams) (w : WorldState)
+    → KeepsAll p w → AllLive w → WorldIsCalm p w
     → w.last_change + clean_span (path_bound (snapshot_of w)) p (sync_paths_of w) (length (snapshot_of w).systems)
     + delay_in w
     ≤ w.time

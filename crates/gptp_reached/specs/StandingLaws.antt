@@ -11,37 +11,37 @@ use Rattle.gptp_acts.specs.Sound.{IsSound}
 use Rattle.gptp_acts.specs.World.{WorldState}
 use Rattle.gptp_network.specs.Snapshot.{StandsAfter}
 use Rattle.gptp_kept.specs.Calm.{IsQuietWorld, sync_paths_of}
-use Rattle.gptp_kept.specs.Claimed.{Claimed}
+use Rattle.gptp_kept.specs.SettlingInvariant.{SettlingInvariant}
 use Rattle.gptp_kept.specs.Known.{AreSet}
 use Rattle.gptp_kept.specs.Standing.{snapshot_of}
-use Rattle.gptp_reached.specs.Reached.{StandsAs}
+use Rattle.gptp_reached.specs.Reached.{StandsAsPlanned}
 
 -- its snapshot is that of the network after those events, but for the order of the systems
 abbrev pub StandsSnapshot : Type 0
 StandsSnapshot = (n : NetworkState) (events : List Timed) (w : WorldState) (g : Snapshot)
-    → StandsAs n events w → IsSound w → StandsAfter n events g
+    → StandsAsPlanned n events w → IsSound w → StandsAfter n events g
     → IsPermutation (snapshot_of w).systems g.systems × ((snapshot_of w).links ≡ g.links)
 
 -- as many systems live
 abbrev pub StandsCount : Type 0
 StandsCount = (n : NetworkState) (events : List Timed) (w : WorldState)
-    → StandsAs n events w → IsSound w
+    → StandsAsPlanned n events w → IsSound w
     → length (snapshot_of w).systems ≡ count_live n.systems events
 
 -- Sync has the same to cross
 abbrev pub StandsPaths : Type 0
 StandsPaths = (n : NetworkState) (events : List Timed) (w : WorldState)
-    → IsNetwork n → StandsAs n events w → IsSound w
+    → IsNetwork n → StandsAsPlanned n events w → IsSound w
     → sync_paths n events ≡ sync_paths_of w
 
 -- it is quiet where the network is calm
 abbrev pub StandsQuiet : Type 0
 StandsQuiet = (n : NetworkState) (events : List Timed) (w : WorldState)
-    → IsNetwork n → StandsAs n events w → IsSound w → IsCalm n events
+    → IsNetwork n → StandsAsPlanned n events w → IsSound w → IsCalm n events
     → IsQuietWorld n.params w
 
 -- all its systems have the parameters of the network, and its largest announce interval
 abbrev pub StandsSet : Type 0
 StandsSet = (n : NetworkState) (events : List Timed) (w : WorldState)
-    → StandsAs n events w → Claimed w
+    → StandsAsPlanned n events w → SettlingInvariant w
     → AreSet (pace_of n) w

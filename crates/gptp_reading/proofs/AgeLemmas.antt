@@ -9,7 +9,7 @@ use Rattle.gptp_graph.specs.Snapshot.{IsWellFormed, PortIdentity, Snapshot, port
 use Rattle.gptp_graph.proofs.DistanceLemmas.{IsDistance-unique}
 use Rattle.gptp_graph.proofs.LinkLemmas.{Joins-sym}
 use Rattle.gptp_graph.proofs.PathBoundLemmas.{IsDistance-within}
-use Rattle.gptp_setup.specs.Pace.{Pace, lapse_span}
+use Rattle.gptp_setup.specs.SettlingParams.{SettlingParams, lapse_span}
 use Rattle.gptp_plan.specs.Calm.{SyncsComeInTime}
 use Rattle.gptp_plan.specs.SettlingTime.{settling_span_with}
 use Rattle.gptp_plan.specs.SyncWait.{sync_wait}
@@ -29,15 +29,15 @@ use Rattle.gptp_settling.proofs.SyncLemmas.{flight_left, known_station, parent_t
 use Rattle.gptp_settling.proofs.SyncRunLemmas.{prompt}
 use Rattle.gptp_kept.specs.Calm.{IsQuietWorld, in_turn, paths_with, sync_paths_of}
 use Rattle.gptp_kept.specs.CalmFor.{IsCalmFor, span_over}
-use Rattle.gptp_kept.specs.Claimed.{Claimed, IsClaimed}
-use Rattle.gptp_kept.specs.Holds.{BecomeCapable, IsSettling, IsWorld, quick_network, settling_network, start_of}
+use Rattle.gptp_kept.specs.SettlingInvariant.{SettlingInvariant, KeepsAll}
+use Rattle.gptp_kept.specs.SettlesAsMachine.{BecomeCapable, IsSettling, IsWorld, quick_network, settling_network, start_of}
 use Rattle.gptp_kept.specs.Settled.{Settled}
 use Rattle.gptp_kept.specs.Standing.{snapshot_of}
 use Rattle.gptp_kept.specs.View.{says_sync, station_view, view}
-use Rattle.gptp_kept.proofs.ClaimedLemmas.{settled_by_paths}
+use Rattle.gptp_kept.proofs.SettlingInvariantLemmas.{settled_by_paths}
 use Rattle.gptp_kept.proofs.ClaimLemmas.{claim_capable}
 use Rattle.gptp_kept.proofs.DelayLemmas.{delay_short}
-use Rattle.gptp_kept.proofs.HoldsLemmas.{is_calm, is_network, paths_bound}
+use Rattle.gptp_kept.proofs.SettlesAsMachineLemmas.{is_calm, is_network, paths_bound}
 use Rattle.gptp_kept.proofs.PlaceLemmas.{station_there}
 use Rattle.gptp_kept.proofs.SettledLemmas.{span_ends}
 use Rattle.gptp_kept.proofs.StandsLemmas.{stands_well}
@@ -95,7 +95,7 @@ le_pred : (a b : ℕ) → a < b → a ≤ pred b
 le_pred a zero h = absurd (omega arith)
 le_pred a (suc b) h = omega arith
 
-module _ (p : Pace) (w : WorldState) (claimed : IsClaimed p w) (quiet : IsQuietWorld p.params w)
+module _ (p : SettlingParams) (w : WorldState) (claimed : KeepsAll p w) (quiet : IsQuietWorld p.params w)
     (passed : w.last_change + settling_span_with p (sync_paths_of w) (path_bound (snapshot_of w)) ≤ w.time) where
   abbrev g : Snapshot
   g = snapshot_of w
@@ -201,14 +201,14 @@ module _ (p : Pace) (w : WorldState) (claimed : IsClaimed p w) (quiet : IsQuietW
         by (inr short) = started_lately short
 
 -- a world with a system has the parameters and the largest interval that its systems start with
-pub claimed_alike : (w : WorldState) (claimed : Claimed w) (p : Pace) → WorldIsCalm p w → (place : ℕ) (station : Station)
-    → slice_get w.stations place ≡ Some station → IsClaimed p w
+pub claimed_alike : (w : WorldState) (claimed : SettlingInvariant w) (p : SettlingParams) → WorldIsCalm p w → (place : ℕ) (station : Station)
+    → slice_get w.stations place ≡ Some station → KeepsAll p w
 claimed_alike w claimed p calm place station here =
     let known = (claimed.is.world.known.set place station here).starts in
     let starts = calm.of place station here in
     let params = sym known.params ∙ starts.params in
     let largest = sym known.largest ∙ starts.largest in
-    subst (λ q. IsClaimed q w) (λ i. record { params = params i; largest = largest i }) claimed.is
+    subst (λ q. KeepsAll q w) (λ i. record { params = params i; largest = largest i }) claimed.is
 
 pub worlds_are_recent : WorldsAreRecent
 worlds_are_recent w claimed p number port due s calm passed near shows slave lapse =

@@ -19,7 +19,7 @@ use Rattle.gptp_links.specs.declared.bounds.Bounds.{Bounds}
 use Rattle.gptp_links.specs.declared.link.Direction.{Direction}
 use Rattle.gptp_links.specs.Fate.{Draw}
 use Rattle.gptp_links.specs.Queue.{Frame, frame}
-use Rattle.gptp_setup.specs.Pace.{Pace}
+use Rattle.gptp_setup.specs.SettlingParams.{SettlingParams}
 use Rattle.gptp_plan.specs.SettlingTime.{settling_span_with}
 use Rattle.gptp_plan.specs.declared.change.Act.{Act}
 use Rattle.gptp_plan.specs.declared.change.Act.TheVariants.{Deliver, Expire, Change as Changing}
@@ -46,16 +46,16 @@ use Rattle.gptp_timing.specs.Tree.{IsWayTo}
 use Rattle.gptp_timing.proofs.TreeLemmas.{way_ends_at_parent}
 use Rattle.gptp_kept.specs.Calm.{clock_place, sync_paths_of}
 use Rattle.gptp_kept.specs.CalmFor.{IsCalmFor, span_over}
-use Rattle.gptp_kept.specs.Claimed.{IsClaimed}
+use Rattle.gptp_kept.specs.SettlingInvariant.{KeepsAll}
 use Rattle.gptp_kept.specs.Followers.{HasWay, IsFollower, follower_clock, follower_setting, follower_parts, follower_state}
 use Rattle.gptp_kept.specs.LinkView.{LinkPlace, other_direction}
 use Rattle.gptp_kept.specs.Standing.{snapshot_of}
 use Rattle.gptp_kept.specs.Timed.{AllMeasureRight, IsSettledFrom}
-use Rattle.gptp_kept.specs.TimedClaim.{AllClaimed, CarriesWhereCalm, IsCalmBy}
+use Rattle.gptp_kept.specs.TimedClaim.{WorldInvariant, CarriesWhereCalm, IsCalmBy}
 use Rattle.gptp_kept.specs.TimedLaws.{IsRootOf}
 use Rattle.gptp_kept.specs.View.{port_identity_number}
 use Rattle.gptp_kept.proofs.CalmKeptLemmas.{acts_keep}
-use Rattle.gptp_kept.proofs.ClaimedLemmas.{over_capable}
+use Rattle.gptp_kept.proofs.SettlingInvariantLemmas.{over_capable}
 use Rattle.gptp_kept.proofs.ExactLemmas.{all_later}
 use Rattle.gptp_kept.proofs.FollowClaimLemmas.{settled_from}
 use Rattle.gptp_kept.proofs.FollowDeliveryLemmas.{opposite_same}
@@ -173,7 +173,7 @@ record IsUsedHere (w : WorldState) (place : LinkPlace) (f : IsFollower place w) 
   front : world_queue place.direction f.channel ≡ frame w.time octets ∷ rest
   used : IsUsedBy (receiver place.direction f.channel).port m w.time (follower_state place w f) after
 
-module _ (p : Pace) (settled longest : ℕ) (w : WorldState) (is : IsSettledFrom p settled longest w) (place : LinkPlace)
+module _ (p : SettlingParams) (settled longest : ℕ) (w : WorldState) (is : IsSettledFrom p settled longest w) (place : LinkPlace)
     (f : IsFollower place w) (link : ℕ) (direction : Direction) (w' : WorldState) (number : ℕ)
     (u : HasUser direction link w w' number) (own : f.own.station ≡ u.station)
     (named : follower_clock place w f ≡ number) where
@@ -211,9 +211,9 @@ module _ (p : Pace) (settled longest : ℕ) (w : WorldState) (is : IsSettledFrom
 -- ---- in a calm world
 
 module _ (link : ℕ) (direction : Direction) (w w' : WorldState) (draws : List Draw) (number : ℕ) (done : Done)
-    (p : Pace) (m steps : ℕ) (system : SystemState) (way : Way) (phase : ℕ → ℕ)
+    (p : SettlingParams) (m steps : ℕ) (system : SystemState) (way : Way) (phase : ℕ → ℕ)
     (k : Acts (Deliver link direction) w draws done w') (uses : UsesFollowUp number done)
-    (shows : ShowsLive number w' system) (claimed : IsClaimed p w) (carries : CarriesWhereCalm p w) (calm : WorldIsCalm p w)
+    (shows : ShowsLive number w' system) (claimed : KeepsAll p w) (carries : CarriesWhereCalm p w) (calm : WorldIsCalm p w)
     (bounded : BoundsPaths (snapshot_of w) m) (come : HasComeDown p m (suc steps) w.time w)
     (early : w.time ≤ 10 ^ 18) (near : IsNear (snapshot_of w) number)
     (leads : IsWayTo (follower_parts p.params w) (snapshot_of w) (suc steps) number way phase) where
@@ -324,14 +324,14 @@ module _ (link : ℕ) (direction : Direction) (w w' : WorldState) (draws : List 
 -- ---- every act
 
 -- a world with a system has the parameters and the largest interval that its systems start with
-pub all_alike : (w : WorldState) → AllClaimed w → (p : Pace) → HavePace p w → (place : ℕ) (station : Station)
-    → slice_get w.stations place ≡ Some station → IsClaimed p w × CarriesWhereCalm p w
+pub all_alike : (w : WorldState) → WorldInvariant w → (p : SettlingParams) → HavePace p w → (place : ℕ) (station : Station)
+    → slice_get w.stations place ≡ Some station → KeepsAll p w × CarriesWhereCalm p w
 all_alike w all p have place station here =
     let known = (all.is.world.known.set place station here).starts in
     let is = have place station here in
     let params = sym known.params ∙ is.params in
     let largest = sym known.largest ∙ is.largest in
-    subst (λ q. IsClaimed q w × CarriesWhereCalm q w)
+    subst (λ q. KeepsAll q w × CarriesWhereCalm q w)
     (λ i. record { params = params i; largest = largest i }) (all.is, all.carries)
 
 -- what shows at one time of a world shows at another
@@ -351,7 +351,7 @@ best_then w time number moment shown is = record {
   is = is.is;
 }
 
-calm_then : (p : Pace) (w : WorldState) (time : ℕ) → WorldIsCalm p w → WorldIsCalm p (at time w)
+calm_then : (p : SettlingParams) (w : WorldState) (time : ℕ) → WorldIsCalm p w → WorldIsCalm p (at time w)
 calm_then p w time calm = record { of = calm.of; links = calm.links; lapses = calm.lapses }
 
 pub worlds_leave_time : {F : Type 0} (answers : Bounds → ℕ → F → Option ℕ → F → Type 0) → WorldsLeaveTime answers

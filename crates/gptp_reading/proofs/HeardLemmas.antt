@@ -13,7 +13,7 @@ use Rattle.gptp_graph.proofs.BestLemmas.{IsBest-unique}
 use Rattle.gptp_graph.proofs.ParentLemmas.{IsParent-unique}
 use Rattle.gptp_lists.specs.Members.{In}
 use Rattle.gptp_lists.proofs.MappedLemmas.{same_there}
-use Rattle.gptp_lists.proofs.MemberLemmas.{In-left, In-right}
+use Rattle.gptp_lists.proofs.SystemSpecLemmas.{In-left, In-right}
 use Rattle.gptp_lists.proofs.PlaceLemmas.{get-set_all, get-set_same}
 use Rattle.gptp_vector.specs.declared.port.PortId.{PortId}
 use Rattle.gptp_messages.specs.declared.follow_up.FollowUp.{FollowUp}
@@ -21,7 +21,7 @@ use Rattle.gptp_messages.specs.declared.message.Message.TheVariants as messages
 use Rattle.gptp_messages.specs.Grammar.{Reads}
 use Rattle.gptp_links.specs.declared.bounds.Bounds.{Bounds}
 use Rattle.gptp_setup.specs.declared.setup.Params.{Params}
-use Rattle.gptp_setup.specs.Pace.{Pace, lapse_span}
+use Rattle.gptp_setup.specs.SettlingParams.{SettlingParams, lapse_span}
 use Rattle.gptp_setup.proofs.IntervalLemmas.{interval_positive}
 use Rattle.gptp_plan.specs.declared.change.Act.{Act}
 use Rattle.gptp_plan.specs.declared.change.Act.TheVariants.{Deliver, Expire, Change as Changing}
@@ -51,16 +51,16 @@ use Rattle.gptp_report.specs.Transitions.{Transition, transition}
 use Rattle.gptp_settling.specs.Settled.{IsSlaveOf}
 use Rattle.gptp_kept.specs.Calm.{sync_paths_of}
 use Rattle.gptp_kept.specs.CalmFor.{IsCalmFor, span_over}
-use Rattle.gptp_kept.specs.Claimed.{IsClaimed}
+use Rattle.gptp_kept.specs.SettlingInvariant.{KeepsAll}
 use Rattle.gptp_kept.specs.SeenLaws.{IsNoChange}
 use Rattle.gptp_kept.specs.Settled.{IsSettledSystem, Settled}
 use Rattle.gptp_kept.specs.Standing.{snapshot_of}
 use Rattle.gptp_kept.specs.TimedClaim.{IsCalmBy}
 use Rattle.gptp_kept.proofs.CalmKeptLemmas.{KeepsNetwork, acts_keep, earlier_quiet, same_paths, same_snapshot, stays_quiet}
-use Rattle.gptp_kept.proofs.ClaimedLemmas.{settled_by_paths}
+use Rattle.gptp_kept.proofs.SettlingInvariantLemmas.{settled_by_paths}
 use Rattle.gptp_kept.proofs.ClaimLemmas.{claim_begins, claim_kept, claim_later}
 use Rattle.gptp_kept.proofs.FollowClaimLemmas.{acts_time}
-use Rattle.gptp_kept.proofs.HoldsLemmas.{paths_bound}
+use Rattle.gptp_kept.proofs.SettlesAsMachineLemmas.{paths_bound}
 use Rattle.gptp_kept.proofs.OutlineLemmas.{change_is_last, starts_are_last}
 use Rattle.gptp_kept.proofs.StandsLemmas.{stands_well}
 use Rattle.gptp_reached.specs.Headline.{HasPassed, WorldIsCalm, UsesFollowUp}
@@ -107,8 +107,8 @@ abbrev IsTimedBy : Snapshot → List Transition → ℕ → ℕ → Station → 
 IsTimedBy g acts settled span station = station.live ≡ true → IsNear g (clock station.system) → (due : ℕ)
     → station.system.lapse ≡ Some due → IsStarted acts settled span (clock station.system) due
 
-record AreTimed (p : Pace) (acts : List Transition) (w : WorldState) : Type 0 where
-  claimed : IsClaimed p w
+record AreTimed (p : SettlingParams) (acts : List Transition) (w : WorldState) : Type 0 where
+  claimed : KeepsAll p w
   each : Each w
   timed : (m settled : ℕ) → IsCalmBy p m settled w → settled ≤ w.time → (place : ℕ) (station : Station)
       → slice_get w.stations place ≡ Some station
@@ -116,7 +116,7 @@ record AreTimed (p : Pace) (acts : List Transition) (w : WorldState) : Type 0 wh
 
 -- ---- as time passes
 
-calm_earlier : (p : Pace) (m settled : ℕ) (w : WorldState) (time : ℕ) → IsCalmBy p m settled (at time w)
+calm_earlier : (p : SettlingParams) (m settled : ℕ) (w : WorldState) (time : ℕ) → IsCalmBy p m settled (at time w)
     → IsCalmBy p m settled w
 calm_earlier p m settled w time calm = record {
   quiet = earlier_quiet p.params (path_bound (snapshot_of w)) w time calm.quiet;
@@ -124,7 +124,7 @@ calm_earlier p m settled w time calm = record {
   passed = calm.passed;
 }
 
-timed_later : (p : Pace) (acts : List Transition) (w : WorldState) (time : ℕ) → w.time ≤ time
+timed_later : (p : SettlingParams) (acts : List Transition) (w : WorldState) (time : ℕ) → w.time ≤ time
     → NothingBefore time w.net.pending → AreTimed p acts w → AreTimed p acts (at time w)
 timed_later p acts w time later first are = record {
   claimed = claim_later p w time later first are.claimed;
@@ -180,7 +180,7 @@ same_octets : (n p : ℕ) (x y : List ℕ) → FrameHeard n x ≡ FrameHeard p y
 same_octets n p x y e = cc
 
 -- the network has settled
-settled_choice : (p : Pace) (m settled : ℕ) (w : WorldState) → IsClaimed p w → IsCalmBy p m settled w
+settled_choice : (p : SettlingParams) (m settled : ℕ) (w : WorldState) → KeepsAll p w → IsCalmBy p m settled w
     → settled ≤ w.time → Settled w
 settled_choice p m settled w claimed calm late =
     let is : IsCalmFor (span_over m) w = record {
@@ -192,7 +192,7 @@ settled_choice p m settled w claimed calm late =
     settled_by_paths m w (record { pace = p; is = claimed }) calm.bounded is
 
 -- no world has settled at its last change
-at_once : (p : Pace) (w : WorldState) → IsClaimed p w → w.last_change ≡ w.time → (m settled : ℕ)
+at_once : (p : SettlingParams) (w : WorldState) → KeepsAll p w → w.last_change ≡ w.time → (m settled : ℕ)
     → IsCalmBy p m settled w → settled ≤ w.time → ⊥
 at_once p w claimed now m settled calm late =
     let passed = calm.passed in
@@ -209,7 +209,7 @@ keeps_back w w' k = record {
   change = sym k.change;
 }
 
-calm_before : (p : Pace) (m settled : ℕ) (w w' : WorldState) → KeepsNetwork w w' → IsCalmBy p m settled w'
+calm_before : (p : SettlingParams) (m settled : ℕ) (w w' : WorldState) → KeepsNetwork w w' → IsCalmBy p m settled w'
     → IsCalmBy p m settled w
 calm_before p m settled w w' k calm = record {
   quiet = stays_quiet w' w (keeps_back w w' k) p.params calm.quiet;
@@ -220,7 +220,7 @@ calm_before p m settled w w' k calm = record {
       omega (arith, passed, same, more);
 }
 
-module _ {F : Type 0} (answers' : Bounds → ℕ → F → Option ℕ → F → Type 0) (p : Pace) (acts : List Transition)
+module _ {F : Type 0} (answers' : Bounds → ℕ → F → Option ℕ → F → Type 0) (p : SettlingParams) (acts : List Transition)
     (timed : Timed) (done : Done) (w w' : WorldState) (k : IsKeptAct answers' timed done w w')
     (are : AreTimed p acts w) where
   abbrev then : WorldState
@@ -238,7 +238,7 @@ module _ {F : Type 0} (answers' : Bounds → ℕ → F → Option ℕ → F → 
   before : AreTimed p acts then
   before = timed_later p acts w timed.at k.was.ready.timely.now k.was.ready.timely.first are
 
-  claimed' : IsClaimed p w'
+  claimed' : KeepsAll p w'
   claimed' = claim_kept answers' p timed k.fate k.fate_after w w' done k.fit k.prompt k.octet k.was are.claimed
 
   -- what was so is so with one act more
@@ -415,7 +415,7 @@ timed_begins answers' n fate fate_after w network k =
           late);
     }
 
-module _ (p : Pace) (acts : List Transition) (w : WorldState) (are : AreTimed p acts w) (calm : WorldIsCalm p w)
+module _ (p : SettlingParams) (acts : List Transition) (w : WorldState) (are : AreTimed p acts w) (calm : WorldIsCalm p w)
     (earlier number port : ℕ) (s : SystemState) (above : 0 < p.params.sync_timeout)
     (passed : HasPassed p (path_bound (snapshot_of w)) (at earlier w))
     (waited : earlier + sync_wait p.params (sync_paths_of w) < w.time) (near : IsNear (snapshot_of w) number)
@@ -490,5 +490,5 @@ runs_hear_in_time answers' d until fate start w ts p earlier number port s playa
     let params = sym known.params ∙ starts.params in
     let largest = sym known.largest ∙ starts.largest in
     let pace : pace_of n ≡ p = λ i. record { params = params i; largest = largest i } in
-    heard_lately p ts w (subst (λ (q : Pace). AreTimed q ts w) pace are) calm earlier number port s above passed waited
+    heard_lately p ts w (subst (λ (q : SettlingParams). AreTimed q ts w) pace are) calm earlier number port s above passed waited
     near shows slave can

@@ -9,13 +9,13 @@ use Rattle.gptp_graph.specs.PathBound.{BoundsPaths}
 use Rattle.gptp_graph.specs.Snapshot.{System}
 use Rattle.gptp_lists.specs.Members.{In}
 use Rattle.gptp_lists.proofs.MappedLemmas.{alike}
-use Rattle.gptp_lists.proofs.MemberLemmas.{In-parts, slice_get-In}
+use Rattle.gptp_lists.proofs.SystemSpecLemmas.{In-parts, slice_get-In}
 use Rattle.gptp_links.specs.declared.bounds.Bounds.{Bounds}
 use Rattle.gptp_scaled.specs.Counts.{AreWithin}
 use Rattle.gptp_pdelay.specs.Clock.{local_clock}
 use Rattle.gptp_pdelay.specs.GoodLink.{ceil_div}
 use Rattle.gptp_setup.specs.declared.setup.Setup.{Setup}
-use Rattle.gptp_setup.specs.Pace.{Pace}
+use Rattle.gptp_setup.specs.SettlingParams.{SettlingParams}
 use Rattle.gptp_setup.proofs.IntervalLemmas.{interval_positive}
 use Rattle.gptp_plan.specs.declared.change.Act.{Act}
 use Rattle.gptp_plan.specs.declared.change.Act.TheVariants.{Deliver, Expire, Change as Changing}
@@ -33,10 +33,10 @@ use Rattle.gptp_network.specs.Document.{DocumentState}
 use Rattle.gptp_report.specs.Transitions.{Transition, Unfolds, transition}
 use Rattle.gptp_timing.specs.Tree.{IsWayTo}
 use Rattle.gptp_kept.specs.Calm.{IsQuietWorld, sync_paths_of}
-use Rattle.gptp_kept.specs.Claimed.{IsClaimed}
+use Rattle.gptp_kept.specs.SettlingInvariant.{KeepsAll}
 use Rattle.gptp_kept.specs.Followers.{follower_parts}
 use Rattle.gptp_kept.specs.Standing.{snapshot_of}
-use Rattle.gptp_kept.specs.TimedClaim.{AllClaimed}
+use Rattle.gptp_kept.specs.TimedClaim.{WorldInvariant}
 use Rattle.gptp_kept.proofs.CalmKeptLemmas.{KeepsNetwork, acts_keep, keeps_on, same_paths, same_snapshot, stays_quiet}
 use Rattle.gptp_kept.proofs.ExactLemmas.{claimed_of}
 use Rattle.gptp_kept.proofs.FollowClaimLemmas.{acts_time}
@@ -169,7 +169,7 @@ grows way steps soon late less =
     adds : (a x y : ℕ) → x ≤ y → a + x ≤ a + y
     adds a x y h = omega (arith, h)
 
-module _ (p : Pace) (v w : WorldState) (keeps : KeepsNetwork v w) (calm : WorldIsCalm p w) where
+module _ (p : SettlingParams) (v w : WorldState) (keeps : KeepsNetwork v w) (calm : WorldIsCalm p w) where
   -- it was calm
   pace_before : HavePace p v
   pace_before place station here =
@@ -209,7 +209,7 @@ module _ (p : Pace) (v w : WorldState) (keeps : KeepsNetwork v w) (calm : WorldI
       (subst (λ x. IsWayTo x (snapshot_of w) steps number way phase) (same_parts p.params v w keeps) leads)
 
   -- and the clock of the best showed the same
-  best_before : (number time : ℕ) (shown : ℤ) → IsClaimed p v → IsClaimed p w → IsBestsTime w number time shown
+  best_before : (number time : ℕ) (shown : ℤ) → KeepsAll p v → KeepsAll p w → IsBestsTime w number time shown
       → IsBestsTime v number time shown
   best_before number time shown claimed_v claimed_w best =
       let is_best = subst (λ g. IsBest g number best.best) (same_snapshot v w keeps) best.is_best in
@@ -284,7 +284,7 @@ pub record IsLikeEnd {F : Type 0} (answers : Bounds → ℕ → F → Option ℕ
   pub kept : IsKeptAct answers act.told.timed act.told.done act.before act.after
   pub keeps : KeepsNetwork act.before w
 
-pub runs_have_readings : {F : Type 0} (answers : Bounds → ℕ → F → Option ℕ → F → Type 0) (p : Pace)
+pub runs_have_readings : {F : Type 0} (answers : Bounds → ℕ → F → Option ℕ → F → Type 0) (p : SettlingParams)
     (m steps earlier number time : ℕ) (w : WorldState) (act : Transition) (s : SystemState) (way : Way)
     (phase : ℕ → ℕ) → IsLikeEnd answers w act → WorldIsCalm p w → BoundsPaths (snapshot_of w) m
     → HasComeDown p m (suc steps) earlier w → earlier ≤ act.told.timed.at
@@ -304,7 +304,7 @@ runs_have_readings answers p m steps earlier number time w act s way phase is ca
 -- of every world where a run ends all is claimed
 pub ends_claimed : {F : Type 0} (answers : Bounds → ℕ → F → Option ℕ → F → Type 0) (d : DocumentState) (until : ℕ)
     (fate : F) (start w : WorldState) (acts : List Transition) → IsPlayable d → until ≤ 10 ^ 18
-    → Unfolds answers d until fate start acts w → AllClaimed w
+    → Unfolds answers d until fate start acts w → WorldInvariant w
 ends_claimed answers d until fate start w acts playable moment unfolds =
     let (also, kept) = runs_keep answers (λ us x. AreKept answers us) (one_more answers)
     (λ us x time later first so. so) d until fate start w acts playable moment unfolds (λ u none. absurd none) in

@@ -8,7 +8,7 @@ use Rattle.gptp_setup.proofs.IntervalLemmas.{interval_positive}
 use Rattle.gptp_kept.specs.Calm.{sync_paths_of}
 use Rattle.gptp_kept.specs.Standing.{snapshot_of}
 use Rattle.gptp_kept.proofs.ExactLemmas.{claimed_of}
-use Rattle.gptp_kept.proofs.HoldsLemmas.{paths_bound}
+use Rattle.gptp_kept.proofs.SettlesAsMachineLemmas.{paths_bound}
 use Rattle.gptp_reading.specs.Age.{RunsReadLately}
 use Rattle.gptp_reading.specs.Reading.{reading}
 use Rattle.gptp_reading.specs.Readings.{LeavesReading}

@@ -4,7 +4,7 @@ use Rattle.std.proofs.Common.{◌≡◌, ◌≤◌, ◌+◌, ◌^◌, ℕ, List,
 use Rattle.std.specs.List.{AllByRecursion}
 use Rattle.std.proofs.lemmas.List.{append-nil}
 use Rattle.gptp_lists.specs.Members.{In}
-use Rattle.gptp_lists.proofs.MemberLemmas.{In-parts}
+use Rattle.gptp_lists.proofs.SystemSpecLemmas.{In-parts}
 use Rattle.gptp_links.specs.declared.bounds.Bounds.{Bounds}
 use Rattle.gptp_plan.specs.declared.change.Timed.{Timed}
 use Rattle.gptp_plan.specs.Allowed.{IsFitAct}
@@ -12,22 +12,22 @@ use Rattle.gptp_acts.specs.Acts.{at}
 use Rattle.gptp_acts.specs.Course.{WasDone}
 use Rattle.gptp_acts.specs.declared.done.Done.{Done}
 use Rattle.gptp_acts.specs.Pending.{NothingBefore}
-use Rattle.gptp_acts.specs.Prompt.{IsPromptIn, NoneFaster}
+use Rattle.gptp_acts.specs.Prompt.{DelaysFitIntervals, NoneFaster}
 use Rattle.gptp_acts.specs.World.{WorldState}
 use Rattle.gptp_acts.proofs.AdvanceLemmas.{leaves_less, next_fits, nothing_sooner}
 use Rattle.gptp_acts.proofs.PromptLemmas.{begun_none_faster, next_prompt, prompt_within, stays_none_faster}
 use Rattle.gptp_acts.proofs.SoundLemmas.{later_sound}
 use Rattle.gptp_acts.proofs.StayLemmas.{done_stays}
-use Rattle.gptp_world.proofs.ClaimedLemmas.{next_octet}
+use Rattle.gptp_world.proofs.SettlingInvariantLemmas.{next_octet}
 use Rattle.gptp_world.proofs.InitialLemmas.{initial_sound}
 use Rattle.gptp_network.specs.Document.{DocumentState}
 use Rattle.gptp_network.specs.Snapshot.{events_by}
 use Rattle.gptp_report.specs.Transitions.{Courses, Makes, Passes, PassesTo, Transition, Unfolds, transition}
-use Rattle.gptp_kept.specs.LegibleLaws.{SetsAnOctet}
-use Rattle.gptp_kept.specs.TimedClaim.{AllClaimed}
+use Rattle.gptp_kept.specs.EncodableLaws.{SetsAnOctet}
+use Rattle.gptp_kept.specs.TimedClaim.{WorldInvariant}
 use Rattle.gptp_kept.proofs.ExactLemmas.{all_begins, all_kept, all_later}
 use Rattle.gptp_reached.specs.PlayedLaws.{IsPlayable}
-use Rattle.gptp_reached.proofs.ClaimedLemmas.{IsFitEvent, events_fit, least_of}
+use Rattle.gptp_reached.proofs.SettlingInvariantLemmas.{IsFitEvent, events_fit, least_of}
 use Rattle.gptp_reading.specs.Readings.{RunsReadExactly}
 use Rattle.gptp_reading.proofs.ExactLemmas.{worlds_read_exactly}
 
@@ -38,9 +38,9 @@ pub record IsKeptAct {F : Type 0} (answers : Bounds → ℕ → F → Option ℕ
     (w w' : WorldState) : Type 0 where
   pub fate : F
   pub fate_after : F
-  pub all : AllClaimed w
+  pub all : WorldInvariant w
   pub fit : IsFitAct timed.act
-  pub prompt : IsPromptIn w timed.act
+  pub prompt : DelaysFitIntervals w timed.act
   pub octet : SetsAnOctet timed.act
   pub was : WasDone answers timed fate fate_after w w' done
   pub moment : timed.at ≤ 10 ^ 18
@@ -55,7 +55,7 @@ module _ {F : Type 0} (answers : Bounds → ℕ → F → Option ℕ → F → T
     → NothingBefore time w.net.pending → Q ts w → Q ts (at time w)) where
   -- a world of which all is claimed, none of whose ports announces at an interval below the least; and so it is
   record IsKept (ts : List Transition) (w : WorldState) : Type 0 where
-    all : AllClaimed w
+    all : WorldInvariant w
     slow : NoneFaster least w
     so : Q ts w
 
@@ -153,8 +153,8 @@ module _ {F : Type 0} (answers : Bounds → ℕ → F → Option ℕ → F → T
 
   pub begun_keeps : (until : ℕ) (events : List Timed) (ts : List Transition) (fate fate_after : F)
       (start w : WorldState) → until ≤ 10 ^ 18 → AllByRecursion (IsFitEvent least) events
-      → Courses answers until events ts fate fate_after start w → AllClaimed start → NoneFaster least start
-      → Q [] start → AllClaimed w × Q ts w
+      → Courses answers until events ts fate fate_after start w → WorldInvariant start → NoneFaster least start
+      → Q [] start → WorldInvariant w × Q ts w
   begun_keeps until events ts fate fate_after start w moment fit k all slow so =
       let last = courses_keep until events [] ts fate fate_after start w moment fit k
       (record { all = all; slow = slow; so = so }) in
@@ -170,7 +170,7 @@ pub runs_keep : {F : Type 0} (answers : Bounds → ℕ → F → Option ℕ → 
     → ((ts : List Transition) (w : WorldState) (time : ℕ) → w.time ≤ time → NothingBefore time w.net.pending → Q ts w
     → Q ts (at time w))
     → (d : DocumentState) (until : ℕ) (fate : F) (start w : WorldState) (ts : List Transition) → IsPlayable d
-    → until ≤ 10 ^ 18 → Unfolds answers d until fate start ts w → Q [] start → AllClaimed w × Q ts w
+    → until ≤ 10 ^ 18 → Unfolds answers d until fate start ts w → Q [] start → WorldInvariant w × Q ts w
 runs_keep answers Q act_keeps later_keeps d until fate start w ts playable moment k so =
     let sound = initial_sound d.network playable.network in
     begun_keeps answers (least_of d) Q act_keeps later_keeps until (events_by until d.events) ts k.started k.drawn start

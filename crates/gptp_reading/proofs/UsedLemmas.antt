@@ -17,7 +17,7 @@ use Rattle.gptp_correction.specs.declared.sync_in.SyncInfo.{SyncInfo}
 use Rattle.gptp_correction.specs.Correction.{held_sum, link_time, nearest_rate, sync_received}
 use Rattle.gptp_correction.specs.SyncIn.{KeptSync, belongs, information, together}
 use Rattle.gptp_setup.specs.declared.setup.Params.{Params}
-use Rattle.gptp_setup.specs.Pace.{Pace, has_sync_timeout}
+use Rattle.gptp_setup.specs.SettlingParams.{SettlingParams, has_sync_timeout}
 use Rattle.gptp_system.specs.declared.answer.Answer.{Answer}
 use Rattle.gptp_system.specs.declared.answer.Answer.TheVariants as answers
 use Rattle.gptp_system.specs.declared.sending.Sending.{Sending}
@@ -206,7 +206,7 @@ less_by whole part less is = omega (arith, ints, is)
 back_again : (x y : ℤ) → (x -ℤ y) +ℤ y ≡ x
 back_again x y = omega (arith, ints)
 
-module _ (p : Pace) (settled longest : ℕ) (w : WorldState) (is : IsSettledFrom p settled longest w)
+module _ (p : SettlingParams) (settled longest : ℕ) (w : WorldState) (is : IsSettledFrom p settled longest w)
     (right : AllMeasureRight p.params w) (carries : CarriesTime p.params settled longest w) (place : LinkPlace)
     (f : IsFollower place w) (steps : ℕ) (h : HasWay p.params place w f steps) (octets : List ℕ) (rest : List Frame)
     (front : world_queue place.direction f.channel ≡ frame w.time octets ∷ rest) (m : FollowUpFields)

@@ -9,7 +9,7 @@ use Rattle.gptp_graph.specs.Distance.{IsNear}
 use Rattle.gptp_graph.specs.PathBound.{path_bound}
 use Rattle.gptp_links.specs.declared.bounds.Bounds.{Bounds}
 use Rattle.gptp_scaled.specs.Counts.{AreWithin}
-use Rattle.gptp_setup.specs.Pace.{Pace, lapse_span}
+use Rattle.gptp_setup.specs.SettlingParams.{SettlingParams, lapse_span}
 use Rattle.gptp_plan.specs.SyncWait.{sync_wait}
 use Rattle.gptp_system.specs.State.{SystemState, can_lead}
 use Rattle.gptp_acts.specs.Acts.{at}
@@ -18,7 +18,7 @@ use Rattle.gptp_acts.specs.World.{WorldState}
 use Rattle.gptp_network.specs.Document.{DocumentState}
 use Rattle.gptp_report.specs.Transitions.{Transition, Unfolds}
 use Rattle.gptp_kept.specs.Calm.{sync_paths_of}
-use Rattle.gptp_kept.specs.Claimed.{Claimed}
+use Rattle.gptp_kept.specs.SettlingInvariant.{SettlingInvariant}
 use Rattle.gptp_kept.specs.Standing.{snapshot_of}
 use Rattle.gptp_reached.specs.Headline.{HasComeDown, HasPassed, WorldIsCalm, UsesFollowUp}
 use Rattle.gptp_reached.specs.PlayedLaws.{IsPlayable}
@@ -29,14 +29,14 @@ use Rattle.gptp_reading.specs.Readings.{LeavesReading}
 -- was started no longer ago than such a system waits for the next Sync: a sync interval, and for each link of a path a
 -- residence and the greatest delay.
 abbrev pub HeadlineOnAge : WorldState → Type 0
-HeadlineOnAge w = (p : Pace) (number port due : ℕ) (s : SystemState)
+HeadlineOnAge w = (p : SettlingParams) (number port due : ℕ) (s : SystemState)
     → WorldIsCalm p w → HasPassed p (path_bound (snapshot_of w)) w
     → IsNear (snapshot_of w) number → ShowsLive number w s → s.slave ≡ Some port → s.lapse ≡ Some due
     → w.time + lapse_span p.params ≤ due + sync_wait p.params (sync_paths_of w)
 
 -- so it is in every world
 abbrev pub WorldsAreRecent : Type 0
-WorldsAreRecent = (w : WorldState) → Claimed w → HeadlineOnAge w
+WorldsAreRecent = (w : WorldState) → SettlingInvariant w → HeadlineOnAge w
 
 -- by one of these acts the system with this clock used a Follow_Up, no more than a span before a time
 pub record HeardWithin (acts : List Transition) (number span time : ℕ) : Type 0 where
@@ -50,7 +50,7 @@ pub record HeardWithin (acts : List Transition) (number span time : ℕ) : Type 
 -- grandmaster, used a Follow_Up no longer ago than such a system waits for the next Sync. What it reads is no older.
 abbrev pub RunsHearInTime : {F : Type 0} → (Bounds → ℕ → F → Option ℕ → F → Type 0) → Type 0
 RunsHearInTime {F} answers = (d : DocumentState) (until : ℕ) (fate : F) (start w : WorldState) (acts : List Transition)
-    (p : Pace) (earlier number port : ℕ) (s : SystemState)
+    (p : SettlingParams) (earlier number port : ℕ) (s : SystemState)
     → IsPlayable d → until ≤ 10 ^ 18 → Unfolds answers d until fate start acts w
     → WorldIsCalm p w → 0 < p.params.sync_timeout → HasPassed p (path_bound (snapshot_of w)) (at earlier w)
     → earlier + sync_wait p.params (sync_paths_of w) < w.time
@@ -72,7 +72,7 @@ pub record ReadsWithin (acts : List Transition) (number span time error : ℕ) (
 -- error for the wait of what the clock of the best shows.
 abbrev pub RunsReadLately : {F : Type 0} → (Bounds → ℕ → F → Option ℕ → F → Type 0) → Type 0
 RunsReadLately {F} answers = (d : DocumentState) (until : ℕ) (fate : F) (start w : WorldState) (acts : List Transition)
-    (p : Pace) (earlier steps number port error : ℕ) (s : SystemState) (shown : ℤ)
+    (p : SettlingParams) (earlier steps number port error : ℕ) (s : SystemState) (shown : ℤ)
     → IsPlayable d → until ≤ 10 ^ 18 → Unfolds answers d until fate start acts w
     → WorldIsCalm p w → 0 < p.params.sync_timeout → HasComeDown p (path_bound (snapshot_of w)) (suc steps) earlier w
     → earlier + sync_wait p.params (sync_paths_of w) < w.time

@@ -11,7 +11,7 @@ use Rattle.gptp_graph.specs.Distance.{IsNear}
 use Rattle.gptp_graph.specs.PathBound.{BoundsPaths}
 use Rattle.gptp_links.specs.declared.bounds.Bounds.{Bounds}
 use Rattle.gptp_scaled.specs.Counts.{AreWithin}
-use Rattle.gptp_setup.specs.Pace.{Pace}
+use Rattle.gptp_setup.specs.SettlingParams.{SettlingParams}
 use Rattle.gptp_accuracy.specs.TimeError.{Way}
 use Rattle.gptp_timing.specs.Tree.{IsWayTo}
 use Rattle.gptp_kept.specs.Followers.{follower_parts}
@@ -24,7 +24,7 @@ use Rattle.gptp_acts.specs.World.{WorldState}
 use Rattle.gptp_network.specs.Document.{DocumentState}
 use Rattle.gptp_report.specs.Transitions.{Transition, Unfolds}
 use Rattle.gptp_kept.specs.Standing.{snapshot_of}
-use Rattle.gptp_kept.specs.TimedClaim.{AllClaimed}
+use Rattle.gptp_kept.specs.TimedClaim.{WorldInvariant}
 use Rattle.gptp_reached.specs.Headline.{HasComeDown, WorldIsCalm, UsesFollowUp}
 use Rattle.gptp_reached.specs.PlayedLaws.{IsPlayable}
 use Rattle.gptp_reading.specs.Reading.{IsBestsTime, IsReadingErrorOf, reading}
@@ -51,7 +51,7 @@ pub record LeavesTime (time : ℕ) (s : SystemState) : Type 0 where
 -- of the system's way, and what the error of the rate makes of the time since the Follow_Up and of the jitter of the
 -- last link. It may be long after: then the best may have failed, and the network may have become another.
 abbrev pub HeadlineOnReadings : WorldState → ℕ → WorldState → Done → Type 0
-HeadlineOnReadings w time w' done = (p : Pace) (m steps number later error : ℕ) (read shown : ℤ)
+HeadlineOnReadings w time w' done = (p : SettlingParams) (m steps number later error : ℕ) (read shown : ℤ)
     → WorldIsCalm p w → BoundsPaths (snapshot_of w) m → HasComeDown p m (suc steps) time w
     → LeavesReading number w' done (time + later) read
     → IsNear (snapshot_of w) number → IsReadingErrorOf p.params w number steps later error
@@ -61,22 +61,22 @@ HeadlineOnReadings w time w' done = (p : Pace) (m steps number later error : ℕ
 -- each act in a world leaves exact readings, whatever is drawn for its frames, as long as clocks can show its time
 abbrev pub WorldsReadExactly : {F : Type 0} → (Bounds → ℕ → F → Option ℕ → F → Type 0) → Type 0
 WorldsReadExactly {F} answers = (timed : Timed) (fate fate_after : F) (w w' : WorldState) (done : Done)
-    → AllClaimed w → WasDone answers timed fate fate_after w w' done → timed.at ≤ 10 ^ 18
+    → WorldInvariant w → WasDone answers timed fate fate_after w w' done → timed.at ≤ 10 ^ 18
     → HeadlineOnReadings w timed.at w' done
 
 -- and so it leaves time, wherever a Follow_Up is used by it
 abbrev pub WorldsLeaveTime : {F : Type 0} → (Bounds → ℕ → F → Option ℕ → F → Type 0) → Type 0
 WorldsLeaveTime {F} answers = (timed : Timed) (fate fate_after : F) (w w' : WorldState) (done : Done) (number : ℕ)
     (s : SystemState)
-    → AllClaimed w → WasDone answers timed fate fate_after w w' done → UsesFollowUp number done → ShowsLive number w' s
+    → WorldInvariant w → WasDone answers timed fate fate_after w w' done → UsesFollowUp number done → ShowsLive number w' s
     → LeavesTime timed.at s
 
 -- In such a world each Follow_Up that is used leaves a reading, also where something can lapse: the numbers of the
 -- offset fit. Here way and phase are those of the system's way.
 abbrev pub WorldsHaveReadings : {F : Type 0} → (Bounds → ℕ → F → Option ℕ → F → Type 0) → Type 0
 WorldsHaveReadings {F} answers = (timed : Timed) (fate fate_after : F) (w w' : WorldState) (done : Done)
-    → AllClaimed w → WasDone answers timed fate fate_after w w' done → timed.at ≤ 10 ^ 18
-    → (p : Pace) (m steps number : ℕ) (s : SystemState) (way : Way) (phase : ℕ → ℕ)
+    → WorldInvariant w → WasDone answers timed fate fate_after w w' done → timed.at ≤ 10 ^ 18
+    → (p : SettlingParams) (m steps number : ℕ) (s : SystemState) (way : Way) (phase : ℕ → ℕ)
     → WorldIsCalm p w → BoundsPaths (snapshot_of w) m → HasComeDown p m (suc steps) timed.at w
     → UsesFollowUp number done → ShowsLive number w' s
     → IsNear (snapshot_of w) number → IsWayTo (follower_parts p.params w) (snapshot_of w) (suc steps) number way phase
@@ -93,7 +93,7 @@ RunsReadExactly {F} answers = (d : DocumentState) (until : ℕ) (fate : F) (star
 -- longer ago than a span it is within the reading error for that span of what the clock of the best shows.
 abbrev pub RunsReadInTime : {F : Type 0} → (Bounds → ℕ → F → Option ℕ → F → Type 0) → Type 0
 RunsReadInTime {F} answers = (d : DocumentState) (until : ℕ) (fate : F) (start w : WorldState) (acts : List Transition)
-    (act : Transition) (p : Pace) (m steps number earlier later error : ℕ) (read shown : ℤ)
+    (act : Transition) (p : SettlingParams) (m steps number earlier later error : ℕ) (read shown : ℤ)
     → IsPlayable d → until ≤ 10 ^ 18 → Unfolds answers d until fate start acts w → In act acts
     → WorldIsCalm p w → BoundsPaths (snapshot_of w) m → HasComeDown p m (suc steps) earlier w
     → earlier ≤ act.told.timed.at → w.time ≤ act.told.timed.at + later

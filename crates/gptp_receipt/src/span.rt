@@ -2,7 +2,7 @@
 
 ghost use Rattle.std.specs.Prelude.{◌≡◌, ◌≤◌, IfSome};
 ghost use Rattle.gptp_setup.specs.Intervals.{IsLog};
-ghost use Rattle.gptp_setup.specs.Pace.{kept_log};
+ghost use Rattle.gptp_setup.specs.SettlingParams.{kept_log};
 ghost use Rattle.gptp_receipt.specs.Span.{span_of};
 
 use crate::held::Held;

@@ -3,7 +3,7 @@
 ghost use Rattle.std.specs.Prelude.{◌≡◌, ◌≢◌, ◌≤◌, IfOk, OnErr, OnOk};
 ghost use Rattle.std.specs.Io.KnownBytes.{Appends};
 ghost use Rattle.gptp_plan.specs.Allowed.{IsAllowed};
-ghost use Rattle.gptp_acts.specs.Prompt.{IsPromptIn};
+ghost use Rattle.gptp_acts.specs.Prompt.{DelaysFitIntervals};
 ghost use Rattle.gptp_acts.specs.Course.{WasDone};
 ghost use Rattle.gptp_report.specs.Following.{BreaksSeen};
 ghost use Rattle.gptp_sink.specs.Sink.{AppendsSome};
@@ -21,9 +21,9 @@ pub(crate) fn done_of<F: Fate + Drop>(
     timed: &Timed,
 ) -> Result<Done, AllocError>
     requires allowed { IsAllowed timed.now }
-    requires prompt { IsPromptIn world.old.scene timed.now.act }
+    requires prompt { DelaysFitIntervals world.old.world_core timed.now.act }
     ensures done { IfOk result
-        (WasDone F.answers timed.now world.old.fate world.new.fate world.old.scene world.new.scene) }
+        (WasDone F.answers timed.now world.old.fate world.new.fate world.old.world_core world.new.world_core) }
     ensures kept { OnErr result (world.new ≡ world.old) }
 {
     match world.carry_out(timed) {
@@ -42,9 +42,9 @@ pub(crate) fn go_on<F: Fate + Drop, O: Observer, K: Sink>(
     sink: &mut K,
 ) -> Result<(), Cut>
     requires moment { until ≤ 1000000000000000 }
-    ensures gone { OnOk result (PassesSeen F.answers O.tells until world.old.fate world.new.fate world.old.scene
-        world.new.scene observer.old observer.new (Appends (K.written sink.old) (K.written sink.new))) }
-    ensures broken { OnErr result (BreaksSeen F.answers O.tells until world.old.fate world.old.scene observer.old
+    ensures gone { OnOk result (PassesSeen F.answers O.tells until world.old.fate world.new.fate world.old.world_core
+        world.new.world_core observer.old observer.new (Appends (K.written sink.old) (K.written sink.new))) }
+    ensures broken { OnErr result (BreaksSeen F.answers O.tells until world.old.fate world.old.world_core observer.old
         (AppendsSome (K.written sink.old) (K.written sink.new))) }
     ensures works { result ≢ Err Cut.Write → K.failures sink.new ≡ K.failures sink.old }
     ensures fails { result ≡ Err Cut.Write → K.failures sink.new ≢ K.failures sink.old }

@@ -54,8 +54,8 @@ fn write_system_of<F: Fate + Drop>(
     world: &World<F>,
     clock: ClockId,
 ) -> Result<(), AllocError>
-    requires { AtSystem clock world.now.scene AnySystem }
-    ensures { OnOk result (WritesSystem clock world.now.scene (string_bytes text.old) (string_bytes text.new)) }
+    requires { AtSystem clock world.now.world_core AnySystem }
+    ensures { OnOk result (WritesSystem clock world.now.world_core (string_bytes text.old) (string_bytes text.new)) }
 {
     match world.system(clock) {
         Some(system) => write_system(text, clock, system),
@@ -69,8 +69,8 @@ fn write_system_at<F: Fate + Drop>(
     world: &World<F>,
     place: usize,
 ) -> Result<(), AllocError>
-    ensures { OnOk result ((clock : ℕ) → slice_get (rising_clocks world.now.scene) place ≡ Some clock
-        → WritesSystem clock world.now.scene (string_bytes text.old) (string_bytes text.new)) }
+    ensures { OnOk result ((clock : ℕ) → slice_get (rising_clocks world.now.world_core) place ≡ Some clock
+        → WritesSystem clock world.now.world_core (string_bytes text.old) (string_bytes text.new)) }
 {
     match world.clock_at(place) {
         Some(clock) => write_system_of(text, world, clock),
@@ -80,7 +80,7 @@ fn write_system_at<F: Fate + Drop>(
 
 /// The lines of all systems, by rising clock.
 fn write_systems<F: Fate + Drop>(text: &mut String, world: &World<F>) -> Result<(), AllocError>
-    ensures { OnOk result ((lines : List (List ℕ)) × ShowsSystems (rising_clocks world.now.scene) world.now.scene lines
+    ensures { OnOk result ((lines : List (List ℕ)) × ShowsSystems (rising_clocks world.now.world_core) world.now.world_core lines
         × (string_bytes text.new ≡ string_bytes text.old ++ text_of lines)) }
 {
     for place in 0..world.count() {
@@ -104,7 +104,7 @@ pub fn write_report<F: Fate + Drop>(
     until: u64,
     world: &World<F>,
 ) -> Result<(), AllocError>
-    ensures { OnOk result ((lines : List (List ℕ)) × Reports document.now until world.now.scene lines
+    ensures { OnOk result ((lines : List (List ℕ)) × Reports document.now until world.now.world_core lines
         × (string_bytes text.new ≡ string_bytes text.old ++ text_of lines)) }
 {
     write_time(text, until)?;

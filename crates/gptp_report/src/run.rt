@@ -4,7 +4,7 @@ ghost use Rattle.std.specs.Prelude.{◌≡◌, ◌≢◌, ◌⊎◌, ◌≤◌, 
 ghost use Rattle.std.specs.Io.KnownBytes.{Appends};
 ghost use Rattle.gptp_acts.specs.Course.{Begun, WasDone};
 ghost use Rattle.gptp_plan.specs.Allowed.{AreAllowed, IsAllowed};
-ghost use Rattle.gptp_acts.specs.Prompt.{ArePromptIn, IsPromptIn};
+ghost use Rattle.gptp_acts.specs.Prompt.{AllDelaysFitIntervals, DelaysFitIntervals};
 ghost use Rattle.gptp_report.specs.Following.{BreaksAbout, MakesIf};
 ghost use Rattle.gptp_spelling.specs.Lines.{text_of};
 ghost use Rattle.gptp_network.specs.Snapshot.{events_by};
@@ -31,12 +31,12 @@ fn make<F: Fate + Drop, O: Observer, K: Sink>(
     sink: &mut K,
 ) -> Result<(), Cut>
     requires allowed { IsAllowed event.now }
-    requires prompt { IsPromptIn world.old.scene event.now.act }
+    requires prompt { DelaysFitIntervals world.old.world_core event.now.act }
     ensures made { OnOk result ((ts : List Transition)
-        × Makes F.answers event.now ts world.old.fate world.new.fate world.old.scene world.new.scene
+        × Makes F.answers event.now ts world.old.fate world.new.fate world.old.world_core world.new.world_core
         × Observed O.tells ts observer.old observer.new (Appends (K.written sink.old) (K.written sink.new))) }
     ensures broken { OnErr result ((ts : List Transition) × (o_after : O)
-        × BreaksAbout F.answers event.now ts world.old.fate world.old.scene
+        × BreaksAbout F.answers event.now ts world.old.fate world.old.world_core
         × Observed O.tells ts observer.old o_after (AppendsSome (K.written sink.old) (K.written sink.new))) }
     ensures works { result ≢ Err Cut.Write → K.failures sink.new ≡ K.failures sink.old }
     ensures fails { result ≡ Err Cut.Write → K.failures sink.new ≢ K.failures sink.old }
@@ -57,13 +57,13 @@ fn make_if_due<F: Fate + Drop, O: Observer, K: Sink>(
     sink: &mut K,
 ) -> Result<(), Cut>
     requires allowed { IsAllowed event.now }
-    requires prompt { IsPromptIn world.old.scene event.now.act }
+    requires prompt { DelaysFitIntervals world.old.world_core event.now.act }
     ensures made { OnOk result ((ts : List Transition) × MakesIf F.answers (nat_le event.now.at until) event.now ts
-        world.old.fate world.new.fate world.old.scene world.new.scene
+        world.old.fate world.new.fate world.old.world_core world.new.world_core
         × Observed O.tells ts observer.old observer.new (Appends (K.written sink.old) (K.written sink.new))) }
     ensures due { OnErr result (nat_le event.now.at until ≡ true) }
     ensures broken { OnErr result ((ts : List Transition) × (o_after : O)
-        × BreaksAbout F.answers event.now ts world.old.fate world.old.scene
+        × BreaksAbout F.answers event.now ts world.old.fate world.old.world_core
         × Observed O.tells ts observer.old o_after (AppendsSome (K.written sink.old) (K.written sink.new))) }
     ensures works { result ≢ Err Cut.Write → K.failures sink.new ≡ K.failures sink.old }
     ensures fails { result ≡ Err Cut.Write → K.failures sink.new ≢ K.failures sink.old }
@@ -91,13 +91,13 @@ pub fn play<F: Fate + Drop, O: Observer, K: Sink>(
     sink: &mut K,
 ) -> Result<(), Cut>
     requires events { AreAllowed events.now }
-    requires prompt { ArePromptIn world.old.scene events.now }
+    requires prompt { AllDelaysFitIntervals world.old.world_core events.now }
     requires moment { until ≤ 1000000000000000 }
     ensures played { OnOk result ((ts : List Transition) × Courses F.answers until (events_by until events.now) ts
-        world.old.fate world.new.fate world.old.scene world.new.scene
+        world.old.fate world.new.fate world.old.world_core world.new.world_core
         × Observed O.tells ts observer.old observer.new (Appends (K.written sink.old) (K.written sink.new))) }
     ensures broken { OnErr result ((ts : List Transition) × (o_after : O)
-        × CoursesSoFar F.answers until (events_by until events.now) ts world.old.fate world.old.scene
+        × CoursesSoFar F.answers until (events_by until events.now) ts world.old.fate world.old.world_core
         × Observed O.tells ts observer.old o_after (AppendsSome (K.written sink.old) (K.written sink.new))) }
     ensures works { result ≢ Err Cut.Write → K.failures sink.new ≡ K.failures sink.old }
     ensures fails { result ≡ Err Cut.Write → K.failures sink.new ≢ K.failures sink.old }
@@ -116,9 +116,9 @@ pub fn begin<F: Fate + Drop>(
     document: &Document,
     fate: F,
 ) -> Result<World<F>, AllocError>
-    ensures begun { IfOk result (λ world. Begun F.answers document.now.network fate world.fate world.scene) }
+    ensures begun { IfOk result (λ world. Begun F.answers document.now.network fate world.fate world.world_core) }
     ensures allowed { AreAllowed document.now.events }
-    ensures prompt { IfOk result (λ world. ArePromptIn world.scene document.now.events) }
+    ensures prompt { IfOk result (λ world. AllDelaysFitIntervals world.world_core document.now.events) }
 {
     document.well_formed();
     let network = document.network();
@@ -143,7 +143,7 @@ pub fn run_document<F: Fate + Drop, K: Sink>(
 ) -> Result<World<F>, Cut>
     requires moment { until ≤ 1000000000000000 }
     ensures led { IfOk result (λ world. (lines : List (List ℕ))
-        × LeadsTo F.answers document.now until frames fate world.scene lines
+        × LeadsTo F.answers document.now until frames fate world.world_core lines
         × Appends (K.written sink.old) (K.written sink.new) (text_of lines)) }
     ensures broken { OnErr result ((lines : List (List ℕ))
         × ((lines ≡ []) ⊎ LeadsSoFar F.answers document.now until frames fate lines)

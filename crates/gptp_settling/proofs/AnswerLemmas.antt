@@ -3,7 +3,7 @@ use Rattle.std.proofs.Common.{◌≡◌, ◌≢◌, ◌⊎◌, ◌<◌, ◌≤�
 use native.Mathlib.Decide.{ℕ_discrete}
 use Rattle.gptp_lists.specs.Members.{In}
 use Rattle.gptp_graph.specs.Snapshot.{PortIdentity, port_of}
-use Rattle.gptp_lists.proofs.MemberLemmas.{In-right}
+use Rattle.gptp_lists.proofs.SystemSpecLemmas.{In-right}
 use Rattle.gptp_settling.specs.Frame.{Announce, Spelling, AnnounceFrame, Lane, Send}
 use Rattle.gptp_settling.specs.Station.{Reception, Held, Disabled, Aged, Mine, Received, Port, Station, MachineState}
 use Rattle.gptp_settling.specs.Touch.{StationTouch, Hear, Grow, HeldInTouch}

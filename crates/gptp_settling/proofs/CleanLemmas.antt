@@ -7,7 +7,7 @@ use Rattle.gptp_graph.specs.PathBound.{BoundsPaths}
 use Rattle.gptp_graph.proofs.LinkLemmas.{Joins-sym}
 use Rattle.gptp_graph.proofs.PathLemmas.{IsPath-self}
 use Rattle.gptp_graph.proofs.SystemLemmas.{In-clocks}
-use Rattle.gptp_lists.proofs.MemberLemmas.{In-parts}
+use Rattle.gptp_lists.proofs.SystemSpecLemmas.{In-parts}
 use Rattle.gptp_settling.specs.Frame.{Announce, Spelling, AnnounceFrame, Lane, Send}
 use Rattle.gptp_settling.specs.Station.{Station, MachineState}
 use Rattle.gptp_settling.specs.Touch.{StationTouch, Hear}

@@ -1,7 +1,7 @@
 -- The links of a calm network: what is known of their ends, once all that is held is sound.
 use Rattle.std.proofs.Common.{◌≡◌, ◌≢◌, ◌⊎◌, ◌≤◌, ◌<◌, ◌+◌, ℕ, suc, true, List, [], ◌∷◌, Some, length, slice_get, sym, ap, subst, ◌∙◌, inl, inr, arith}
 use Rattle.std.proofs.lemmas.List.{length-append}
-use Rattle.gptp_lists.proofs.MemberLemmas.{In-parts}
+use Rattle.gptp_lists.proofs.SystemSpecLemmas.{In-parts}
 use native.Mathlib.Decide.{dec_le}
 use Rattle.gptp_lists.specs.Members.{In}
 use Rattle.gptp_graph.specs.Order.{IsLower}

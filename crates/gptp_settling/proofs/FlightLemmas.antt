@@ -1,7 +1,7 @@
 -- Once all has settled what is sent names the best, so that in the end all is wholly clean.
 use Rattle.std.proofs.Common.{◌≡◌, ◌⊎◌, ◌≤◌, ◌<◌, ◌+◌, ℕ, true, List, sym, ap, subst, ◌∙◌, inl, inr, arith}
 use Rattle.gptp_lists.specs.Members.{In}
-use Rattle.gptp_lists.proofs.MemberLemmas.{In-parts}
+use Rattle.gptp_lists.proofs.SystemSpecLemmas.{In-parts}
 use Rattle.gptp_graph.specs.Snapshot.{System, PortIdentity, Joins}
 use Rattle.gptp_graph.specs.Best.{IsBest}
 use Rattle.gptp_graph.proofs.LinkLemmas.{Joins-clock}

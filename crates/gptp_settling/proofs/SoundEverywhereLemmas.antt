@@ -1,7 +1,7 @@
 -- All that is held and in flight stays sound, whatever happens, and where the network gains systems and links.
 use Rattle.std.proofs.Common.{◌≡◌, ◌⊎◌, ◌≤◌, ◌<◌, ◌+◌, ℕ, suc, true, List, Some, slice_get, refl, sym, ap, subst, ◌∙◌, inl, inr, arith}
 use Rattle.gptp_lists.specs.Members.{In}
-use Rattle.gptp_lists.proofs.MemberLemmas.{In-parts}
+use Rattle.gptp_lists.proofs.SystemSpecLemmas.{In-parts}
 use Rattle.gptp_graph.specs.Snapshot.{Adjacent, IsWellFormed, Joins, PortIdentity, Snapshot, clocks, port_of}
 use Rattle.gptp_graph.specs.Path.{IsPath}
 use Rattle.gptp_graph.proofs.BestLemmas.{IsBest-neighbour}

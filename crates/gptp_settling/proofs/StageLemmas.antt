@@ -1,7 +1,7 @@
 -- The stages of a link, over the teller's timer, what the hearer holds and the frames between: what each event does.
 use Rattle.std.proofs.Common.{◌≡◌, ◌<◌, ◌≤◌, ◌+◌, ◌++◌, ℕ, List, [], ◌∷◌, refl, subst, inl, inr, arith}
 use Rattle.gptp_lists.specs.Members.{In}
-use Rattle.gptp_lists.proofs.MemberLemmas.{In-left, In-right, In-parts}
+use Rattle.gptp_lists.proofs.SystemSpecLemmas.{In-left, In-right, In-parts}
 use Rattle.gptp_settling.specs.Frame.{Announce, Spelling, AnnounceFrame}
 use Rattle.gptp_settling.specs.Station.{Held, Received}
 use Rattle.gptp_settling.specs.Stage.{Wiring, IsFinal, AllFinal, FrameSaysAnnounce, FinalTail, FinalAnnounceStays, Stage}

@@ -7,7 +7,7 @@ use Rattle.gptp_graph.specs.Path.{Route, IsPath}
 use Rattle.gptp_graph.specs.PathBound.{BoundsPaths}
 use Rattle.gptp_graph.proofs.SystemLemmas.{In-clocks}
 use Rattle.gptp_graph.proofs.PathLemmas.{IsPath-self}
-use Rattle.gptp_lists.proofs.MemberLemmas.{In-left, In-take}
+use Rattle.gptp_lists.proofs.SystemSpecLemmas.{In-left, In-take}
 use Rattle.gptp_settling.specs.Frame.{Announce}
 use Rattle.gptp_settling.specs.Clean.{Clean, Whole}
 use Rattle.gptp_settling.specs.CleanLaws.{EndsInPath}

@@ -1,2 +1,2 @@
 pub mod IntervalLemmas
-pub mod PaceLemmas
+pub mod SettlingParamsLemmas

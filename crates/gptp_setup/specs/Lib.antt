@@ -1,2 +1,2 @@
 pub mod Intervals
-pub mod Pace
+pub mod SettlingParams

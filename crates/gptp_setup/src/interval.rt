@@ -2,7 +2,7 @@
 
 ghost use Rattle.std.specs.Prelude.{◌≡◌, ◌≤◌};
 ghost use Rattle.gptp_setup.specs.Intervals.{AreParams, IsLog, interval_of};
-ghost use Rattle.gptp_setup.specs.Pace.{lapse_span};
+ghost use Rattle.gptp_setup.specs.SettlingParams.{lapse_span};
 
 use crate::setup::Params;
 

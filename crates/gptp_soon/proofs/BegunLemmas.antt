@@ -2,7 +2,7 @@
 use Rattle.std.proofs.Common.{◌≡◌, ◌≤◌, ◌+◌, ◌*◌, ℕ, List, [], Option, refl, ap, subst, arith}
 use Rattle.gptp_graph.specs.PathBound.{path_bound}
 use Rattle.gptp_links.specs.declared.bounds.Bounds.{Bounds}
-use Rattle.gptp_setup.specs.Pace.{Pace, largest_interval, longest_span}
+use Rattle.gptp_setup.specs.SettlingParams.{SettlingParams, largest_interval, longest_span}
 use Rattle.gptp_plan.specs.Calm.{last_change}
 use Rattle.gptp_plan.specs.Network.{NetworkState, pace_of}
 use Rattle.gptp_plan.specs.SyncWait.{sync_paths}
@@ -20,7 +20,7 @@ use Rattle.gptp_kept.specs.NewsWorld.{IsNews}
 use Rattle.gptp_kept.specs.SoundWorld.{IsSoundWorld}
 use Rattle.gptp_kept.specs.Standing.{snapshot_of}
 use Rattle.gptp_kept.proofs.ClaimLemmas.{claim_begins}
-use Rattle.gptp_kept.proofs.HoldsLemmas.{paths_bound}
+use Rattle.gptp_kept.proofs.SettlesAsMachineLemmas.{paths_bound}
 use Rattle.gptp_kept.proofs.OutlineLemmas.{starts_are_last}
 use Rattle.gptp_kept.proofs.RestSoundLemmas.{rest_sound_beside_failed}
 use Rattle.gptp_kept.proofs.StartNewsLemmas.{start_news}
@@ -36,7 +36,7 @@ use Rattle.gptp_soon.proofs.KeptToLemmas.{KeepsTo}
 module _ {F : Type 0} (answers : Bounds → ℕ → F → Option ℕ → F → Type 0) (d : DocumentState)
     (playable : IsPlayable d) (fate fate_after : F) (w : WorldState) (k : Begun answers d.network fate fate_after w)
   where
-    abbrev p : Pace
+    abbrev p : SettlingParams
     p = pace_of d.network
 
     abbrev n : NetworkState

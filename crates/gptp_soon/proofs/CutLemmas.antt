@@ -4,7 +4,7 @@ use Rattle.std.proofs.lemmas.Bool.{cases_lt}
 use Rattle.std.proofs.lemmas.Bool.Decides.{nat_tests}
 use Rattle.std.specs.List.{AllByRecursion}
 use Rattle.gptp_lists.specs.Members.{In}
-use Rattle.gptp_lists.proofs.MemberLemmas.{In-left, In-parts, In-right}
+use Rattle.gptp_lists.proofs.SystemSpecLemmas.{In-left, In-parts, In-right}
 use Rattle.gptp_links.specs.declared.bounds.Bounds.{Bounds}
 use Rattle.gptp_plan.specs.declared.change.Timed.{Timed}
 use Rattle.gptp_acts.specs.Acts.{Acts, at}
@@ -21,7 +21,7 @@ use Rattle.gptp_kept.proofs.FollowClaimLemmas.{acts_time}
 use Rattle.gptp_kept.proofs.OutlineLemmas.{change_time, starts_are_last}
 use Rattle.gptp_reached.specs.PlayedLaws.{IsMade}
 use Rattle.gptp_reached.proofs.BeginLemmas.{begun_stands}
-use Rattle.gptp_reached.proofs.ClaimedLemmas.{events_made}
+use Rattle.gptp_reached.proofs.SettlingInvariantLemmas.{events_made}
 use Rattle.gptp_reached.proofs.PlayedLemmas.{no_change}
 use Rattle.gptp_soon.specs.Documents.{RunsBeginSo}
 

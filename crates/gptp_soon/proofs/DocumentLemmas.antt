@@ -5,7 +5,7 @@ use Rattle.gptp_lists.specs.Members.{In}
 use Rattle.gptp_graph.specs.PathBound.{BoundsPaths}
 use Rattle.gptp_graph.proofs.PathBoundLemmas.{paths_within}
 use Rattle.gptp_links.specs.declared.bounds.Bounds.{Bounds}
-use Rattle.gptp_setup.specs.Pace.{Pace, largest_interval}
+use Rattle.gptp_setup.specs.SettlingParams.{SettlingParams, largest_interval}
 use Rattle.gptp_setup.proofs.IntervalLemmas.{interval_positive}
 use Rattle.gptp_plan.specs.Calm.{last_change}
 use Rattle.gptp_plan.specs.Network.{NetworkState, pace_of}
@@ -22,7 +22,7 @@ use Rattle.gptp_kept.specs.Standing.{snapshot_of}
 use Rattle.gptp_kept.proofs.StandsLemmas.{stands_well}
 use Rattle.gptp_reached.specs.PlayedLaws.{IsMade, IsPlayable}
 use Rattle.gptp_reached.proofs.CalmLemmas.{quiet_stands}
-use Rattle.gptp_reached.proofs.ClaimedLemmas.{IsFitEvent, events_fit, events_made, least_of}
+use Rattle.gptp_reached.proofs.SettlingInvariantLemmas.{IsFitEvent, events_fit, events_made, least_of}
 use Rattle.gptp_reached.proofs.HeadlineLemmas.{is_settled}
 use Rattle.gptp_reached.proofs.SnapshotLemmas.{snapshots_stand}
 use Rattle.gptp_reached.proofs.SyncPathLemmas.{paths_stand}
@@ -42,7 +42,7 @@ module _ {F : Type 0} (answers : Bounds → ℕ → F → Option ℕ → F → T
   abbrev n : NetworkState
   n = d.network
 
-  abbrev p : Pace
+  abbrev p : SettlingParams
   p = pace_of d.network
 
   abbrev all : List Timed

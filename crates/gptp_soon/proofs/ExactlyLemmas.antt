@@ -2,7 +2,7 @@
 use Rattle.std.proofs.Common.{◌≡◌, ◌<◌, ◌≤◌, ◌+◌, ◌*◌, ℕ, List, [], ◌∷◌, Option, refl, sym, ap, subst, inl, inr, arith}
 use Rattle.gptp_links.specs.declared.bounds.Bounds.{Bounds}
 use Rattle.gptp_setup.specs.Intervals.{interval_of}
-use Rattle.gptp_setup.specs.Pace.{Pace, largest_interval}
+use Rattle.gptp_setup.specs.SettlingParams.{SettlingParams, largest_interval}
 use Rattle.gptp_setup.proofs.IntervalLemmas.{interval_positive}
 use Rattle.gptp_plan.specs.Network.{pace_of}
 use Rattle.gptp_plan.specs.declared.change.Act.TheVariants.{Change as Changing}
@@ -12,7 +12,7 @@ use Rattle.gptp_acts.specs.Acts.{at as at_time}
 use Rattle.gptp_acts.specs.Advancing.{Advances, Told}
 use Rattle.gptp_acts.specs.Initial.{initial}
 use Rattle.gptp_acts.specs.World.{WorldState}
-use Rattle.gptp_world.proofs.ClaimedLemmas.{next_octet}
+use Rattle.gptp_world.proofs.SettlingInvariantLemmas.{next_octet}
 use Rattle.gptp_world.proofs.InitialLemmas.{initial_sound}
 use Rattle.gptp_kept.specs.NewsCourse.{capable_from}
 use Rattle.gptp_kept.specs.NewsWorld.{AreSilentBy}
@@ -49,7 +49,7 @@ module _ {F : Type 0} (answers : Bounds → ℕ → F → Option ℕ → F → T
       (no_change happens.next.item one.timed.act w happens.next.act) was.acts))
       (advances_keep told drawn fate_after between w' rest)
 
-  module _ (p : Pace) (m start settled : ℕ) where
+  module _ (p : SettlingParams) (m start settled : ℕ) where
     advances_timed : (told : List Told) (fate fate_after : F) (w w' : WorldState)
         → Advances answers until told fate fate_after w w' → IsTimed p m start settled w → IsTimed p m start settled w'
     advances_timed [] fate fate_after w w' (same, is) timed = subst (IsTimed p m start settled) (sym is) timed
@@ -72,7 +72,7 @@ news_are_exact answers p start settled until m told timed fate drawn fate_after 
 -- ---- since a change
 
 -- no world settles at its last change
-early : (p : Pace) (m start settled : ℕ) (w now : WorldState) → KeepPace p → KeepsNetwork w now
+early : (p : SettlingParams) (m start settled : ℕ) (w now : WorldState) → KeepPace p → KeepsNetwork w now
     → w.last_change ≡ w.time → IsSettledBy p m start settled now → w.time < settled
 early p m start settled w now pace keeps last by =
     let some = interval_positive p.largest pace.largest in
@@ -81,7 +81,7 @@ early p m start settled w now pace keeps last by =
     omega (arith, some, same, old, last)
 
 -- ports are capable from the same time on in a world that has the same network
-same_from : (p : Pace) (time : ℕ) (w w' : WorldState) → KeepsNetwork w w'
+same_from : (p : SettlingParams) (time : ℕ) (w w' : WorldState) → KeepsNetwork w w'
     → capable_from p w' time ≡ capable_from p w time
 same_from p time w w' keeps =
     ap (λ delay. time + interval_of p.params.pdelay + (delay + p.params.turnaround + delay) + 1) (delay_kept w w' keeps)

@@ -2,7 +2,7 @@
 use Rattle.std.proofs.Common.{◌≡◌, inl, inr, ◌<◌, ◌≤◌, ℕ, List, [], ◌∷◌, ◌++◌, Option, sym, ap, subst, ◌∙◌, append_assoc, append-nil, arith}
 use Rattle.std.specs.List.{AllByRecursion}
 use Rattle.gptp_lists.specs.Members.{In}
-use Rattle.gptp_lists.proofs.MemberLemmas.{In-parts}
+use Rattle.gptp_lists.proofs.SystemSpecLemmas.{In-parts}
 use Rattle.gptp_links.specs.declared.bounds.Bounds.{Bounds}
 use Rattle.gptp_setup.proofs.IntervalLemmas.{interval_positive}
 use Rattle.gptp_plan.specs.Calm.{last_change}
@@ -13,7 +13,7 @@ use Rattle.gptp_world.specs.Transitions.{PassesTo, Transition, transition}
 use Rattle.gptp_network.specs.Document.{DocumentState}
 use Rattle.gptp_report.specs.Transitions.{Courses, Makes}
 use Rattle.gptp_reached.specs.PlayedLaws.{IsMade, IsPlayable}
-use Rattle.gptp_reached.proofs.ClaimedLemmas.{IsFitEvent, least_of}
+use Rattle.gptp_reached.proofs.SettlingInvariantLemmas.{IsFitEvent, least_of}
 use Rattle.gptp_soon.specs.Gains.{AllTakeNothing, AreCapableAnyway, AreCapableFrom, AreCapableNext, HasRested}
 use Rattle.gptp_soon.proofs.BegunLemmas.{rested_sound}
 use Rattle.gptp_soon.proofs.KeptToLemmas.{IsLastTo, IsNewsTo, KeepsTo, keeps_act, keeps_later, last_act_to, last_later_to, news_act_to, news_later_to}

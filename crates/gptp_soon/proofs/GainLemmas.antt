@@ -10,8 +10,8 @@ use Rattle.gptp_plan.specs.Network.{IsEnd, NetworkState, pace_of}
 use Rattle.gptp_plan.specs.declared.change.Change.{Change}
 use Rattle.gptp_plan.specs.declared.change.Change.TheVariants.{LinkDown, LinkUp, LinkSet, Fail, Recover, Priority1, Inject}
 use Rattle.gptp_plan.specs.declared.change.Timed.{Timed}
-use Rattle.gptp_plan.specs.declared.network.Member.{Member}
-use Rattle.gptp_plan.specs.declared.network.Wire.{Wire}
+use Rattle.gptp_plan.specs.declared.network.SystemSpec.{SystemSpec}
+use Rattle.gptp_plan.specs.declared.network.LinkSpec.{LinkSpec}
 use Rattle.gptp_system.specs.State.{clock}
 use Rattle.gptp_acts.specs.declared.station.Station.{Station}
 use Rattle.gptp_acts.specs.Changing.{IsStation}
@@ -20,7 +20,7 @@ use Rattle.gptp_acts.specs.World.{WorldState, port_id}
 use Rattle.gptp_network.proofs.SnapshotLemmas.{clock_after}
 use Rattle.gptp_kept.specs.NewsWorld.{AllLive}
 use Rattle.gptp_kept.specs.SoundWorld.{IsDownAt, IsGain}
-use Rattle.gptp_reached.specs.Reached.{Shape, StandsAs, shape, shape_after, channel_wire}
+use Rattle.gptp_reached.specs.Reached.{Shape, StandsAsPlanned, shape, shape_after, channel_wire}
 use Rattle.gptp_soon.specs.Gains.{AllLiveAfter, IsDownAfter, IsGainAfter, IsIdleAfter, IsNoWorse, IsUpAfter}
 use Rattle.gptp_soon.specs.Idle.{IsIdle, IsUpAt}
 
@@ -35,11 +35,11 @@ clock_shape station setup = by station.live
 
 -- what stands somewhere is one of the network's after the events
 record IsMemberAt (n : NetworkState) (events : List Timed) (place : ℕ) (station : Station) : Type 0 where
-  member : Member
+  member : SystemSpec
   there : slice_get n.systems place ≡ Some member
   is : shape_after (pace_of n) events member ≡ shape station
 
-module _ (n : NetworkState) (events : List Timed) (w : WorldState) (so : StandsAs n events w) where
+module _ (n : NetworkState) (events : List Timed) (w : WorldState) (so : StandsAsPlanned n events w) where
   member_at : (place : ℕ) (station : Station) → slice_get w.stations place ≡ Some station
       → IsMemberAt n events place station
   member_at place station here =
@@ -64,7 +64,7 @@ module _ (n : NetworkState) (events : List Timed) (w : WorldState) (so : StandsA
       is.here in
       let end : IsEnd port (channel_wire channel) = is.joined in
       let off : (link_after events v).up ≡ false = down place v there (subst (IsEnd port) (sym same) end) in
-      sym (ap (λ (x : Wire). x.up) same) ∙ off
+      sym (ap (λ (x : LinkSpec). x.up) same) ∙ off
 
   up_so : (port : PortId) → IsUpAfter n events port → IsUpAt port w
   up_so port up place channel is =
@@ -72,7 +72,7 @@ module _ (n : NetworkState) (events : List Timed) (w : WorldState) (so : StandsA
       is.here in
       let end : IsEnd port (channel_wire channel) = is.joined in
       let on : (link_after events v).up ≡ true = up place v there (subst (IsEnd port) (sym same) end) in
-      sym (ap (λ (x : Wire). x.up) same) ∙ on
+      sym (ap (λ (x : LinkSpec). x.up) same) ∙ on
 
   module _ (sound : IsSound w) where
     named_as : (place number : ℕ) (station : Station) → IsStation number place w station

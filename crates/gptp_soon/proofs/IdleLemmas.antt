@@ -2,7 +2,7 @@
 use Rattle.std.proofs.Common.{◌≡◌, ◌≤◌, ◌+◌, ◌*◌, ℕ, zero, suc, List, Option, sym, subst, inl, inr, arith}
 use Rattle.gptp_links.specs.declared.bounds.Bounds.{Bounds}
 use Rattle.gptp_links.specs.Fate.{Draw}
-use Rattle.gptp_setup.specs.Pace.{Pace, largest_interval}
+use Rattle.gptp_setup.specs.SettlingParams.{SettlingParams, largest_interval}
 use Rattle.gptp_plan.specs.Allowed.{IsFitAct}
 use Rattle.gptp_plan.specs.declared.change.Act.TheVariants.{Change as Changing}
 use Rattle.gptp_plan.specs.declared.change.Change.{Change}
@@ -11,15 +11,15 @@ use Rattle.gptp_acts.specs.Acts.{Changes, at as at_time}
 use Rattle.gptp_acts.specs.Changing.{ComesUpIf, FailsIf, GoesDownIf, InjectsIf, RecoversIf}
 use Rattle.gptp_acts.specs.Course.{WasDone}
 use Rattle.gptp_acts.specs.declared.done.Done.{Done}
-use Rattle.gptp_acts.specs.Prompt.{IsPromptIn}
+use Rattle.gptp_acts.specs.Prompt.{DelaysFitIntervals}
 use Rattle.gptp_acts.specs.World.{WorldState, port_id}
 use Rattle.gptp_settling.specs.Frame.{Lane}
 use Rattle.gptp_settling.specs.Network.{Network}
 use Rattle.gptp_settling.specs.Station.{MachineState, Station as SeenStation}
 use Rattle.gptp_settling.specs.Syncs.{SyncsAreExpected, TellsBy}
-use Rattle.gptp_kept.specs.Claimed.{IsClaimed}
-use Rattle.gptp_kept.specs.Holds.{IsWorld}
-use Rattle.gptp_kept.specs.LegibleLaws.{SetsAnOctet}
+use Rattle.gptp_kept.specs.SettlingInvariant.{KeepsAll}
+use Rattle.gptp_kept.specs.SettlesAsMachine.{IsWorld}
+use Rattle.gptp_kept.specs.EncodableLaws.{SetsAnOctet}
 use Rattle.gptp_kept.specs.LinkView.{LinkPlace}
 use Rattle.gptp_kept.specs.Measured.{StationIsLiveAt, LinkIsMeasured, LinkStandsAt}
 use Rattle.gptp_kept.specs.NewsWorld.{IsNews, IsReadyBy, turn_network}
@@ -28,7 +28,7 @@ use Rattle.gptp_kept.specs.View.{says_sync, view}
 use Rattle.gptp_kept.proofs.ClaimLemmas.{claim_kept}
 use Rattle.gptp_kept.proofs.NewsCourseLemmas.{news_advance}
 use Rattle.gptp_kept.proofs.NewsWorldLemmas.{news_go_on}
-use Rattle.gptp_reached.proofs.ClaimedLemmas.{advanced_claimed}
+use Rattle.gptp_reached.proofs.SettlingInvariantLemmas.{advanced_claimed}
 use Rattle.gptp_reached.proofs.HeadlineLemmas.{is_settled, quiet_as}
 use Rattle.gptp_soon.specs.Idle.{IdlesStayNews, IdlesStaySettled, IsIdle}
 use Rattle.gptp_soon.proofs.TimedNewsLemmas.{CanSettle, has_settled}
@@ -71,7 +71,7 @@ idle_fit (Recover number) w idle = tt
 idle_fit (Priority1 number value) w idle = tt
 idle_fit (Inject number port octets) w idle = tt
 
-idle_prompt : (change : Change) (v w : WorldState) → IsIdle change v → IsPromptIn w (Changing change)
+idle_prompt : (change : Change) (v w : WorldState) → IsIdle change v → DelaysFitIntervals w (Changing change)
 idle_prompt (LinkDown number port) v w idle = λ place station log here among. tt
 idle_prompt (LinkUp number port) v w idle = λ place station log here among. tt
 idle_prompt (LinkSet number port min max loss) v w idle = absurd idle
@@ -119,7 +119,7 @@ module _ (n : Network) (gone : ℕ) where
 
 -- ---- the last change alone is another
 
-module _ (p : Pace) (start : ℕ) (w : WorldState) (news : IsNews p start w) where
+module _ (p : SettlingParams) (start : ℕ) (w : WorldState) (news : IsNews p start w) where
   abbrev changed : WorldState
   changed = record w { last_change = w.time }
 
@@ -177,9 +177,9 @@ module _ (p : Pace) (start : ℕ) (w : WorldState) (news : IsNews p start w) whe
 -- ---- the laws
 
 module _ {F : Type 0} (answers : Bounds → ℕ → F → Option ℕ → F → Type 0) where
-  idle_claimed : (p : Pace) (time : ℕ) (change : Change) (fate fate_after : F) (w w' : WorldState) (done : Done)
-      → IsClaimed p w → IsIdle change (at_time time w) → SetsAnOctet (Changing change)
-      → WasDone answers (record { at = time; act = Changing change }) fate fate_after w w' done → IsClaimed p w'
+  idle_claimed : (p : SettlingParams) (time : ℕ) (change : Change) (fate fate_after : F) (w w' : WorldState) (done : Done)
+      → KeepsAll p w → IsIdle change (at_time time w) → SetsAnOctet (Changing change)
+      → WasDone answers (record { at = time; act = Changing change }) fate fate_after w w' done → KeepsAll p w'
   idle_claimed p time change fate fate_after w w' done claim idle octet k =
       claim_kept answers p (record { at = time; act = Changing change }) fate fate_after w w' done
       (idle_fit change (at_time time w) idle) (idle_prompt change (at_time time w) w idle) octet k claim

@@ -1,7 +1,7 @@
 -- The worlds of a document: what they keep as they go on by themselves.
 use Rattle.std.proofs.Common.{◌≤◌, ◌+◌, ℕ, List, Option}
 use Rattle.gptp_links.specs.declared.bounds.Bounds.{Bounds}
-use Rattle.gptp_setup.specs.Pace.{largest_interval}
+use Rattle.gptp_setup.specs.SettlingParams.{largest_interval}
 use Rattle.gptp_plan.specs.Calm.{last_change}
 use Rattle.gptp_plan.specs.Network.{pace_of}
 use Rattle.gptp_plan.specs.declared.change.Timed.{Timed}
@@ -15,23 +15,23 @@ use Rattle.gptp_acts.proofs.AdvanceLemmas.{next_fits}
 use Rattle.gptp_acts.proofs.PromptLemmas.{next_prompt, stays_none_faster}
 use Rattle.gptp_acts.proofs.StayLemmas.{done_stays}
 use Rattle.gptp_world.specs.Transitions.{Transition}
-use Rattle.gptp_world.proofs.ClaimedLemmas.{next_octet}
+use Rattle.gptp_world.proofs.SettlingInvariantLemmas.{next_octet}
 use Rattle.gptp_network.specs.Document.{DocumentState}
-use Rattle.gptp_kept.specs.Claimed.{IsClaimed}
+use Rattle.gptp_kept.specs.SettlingInvariant.{KeepsAll}
 use Rattle.gptp_kept.specs.NewsWorld.{IsNews}
 use Rattle.gptp_kept.proofs.ClaimLemmas.{claim_kept, claim_later}
 use Rattle.gptp_kept.proofs.NewsActLemmas.{news_done}
 use Rattle.gptp_kept.proofs.NewsWorldLemmas.{news_go_on}
-use Rattle.gptp_reached.specs.Reached.{StandsAs}
-use Rattle.gptp_reached.proofs.ClaimedLemmas.{least_of}
+use Rattle.gptp_reached.specs.Reached.{StandsAsPlanned}
+use Rattle.gptp_reached.proofs.SettlingInvariantLemmas.{least_of}
 use Rattle.gptp_reached.proofs.KeptLemmas.{acts_stand, time_stands}
 use Rattle.gptp_reached.proofs.PlayedLemmas.{no_change}
 use Rattle.gptp_soon.proofs.TimedNewsLemmas.{IsTimed, timed_act, timed_later}
 
 -- A world keeps what all do, and stands as the network of the document does after these events.
 pub record KeepsTo (d : DocumentState) (events : List Timed) (w : WorldState) : Type 0 where
-  pub claim : IsClaimed (pace_of d.network) w
-  pub stands : StandsAs d.network events w
+  pub claim : KeepsAll (pace_of d.network) w
+  pub stands : StandsAsPlanned d.network events w
   pub slow : NoneFaster (least_of d) w
 
 -- and it is one since news, whose ports are capable from a start on

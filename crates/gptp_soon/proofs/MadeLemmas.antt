@@ -5,7 +5,7 @@ use Rattle.gptp_links.specs.declared.bounds.Bounds.{Bounds}
 use Rattle.gptp_links.specs.declared.link.Direction.{Direction}
 use Rattle.gptp_links.specs.declared.link.Direction.TheVariants.{FromA, FromB}
 use Rattle.gptp_setup.specs.Intervals.{interval_of}
-use Rattle.gptp_setup.specs.Pace.{Pace, largest_interval}
+use Rattle.gptp_setup.specs.SettlingParams.{SettlingParams, largest_interval}
 use Rattle.gptp_setup.proofs.IntervalLemmas.{interval_positive}
 use Rattle.gptp_plan.specs.Calm.{IsLive, last_change}
 use Rattle.gptp_plan.specs.Change.{link_after}
@@ -15,7 +15,7 @@ use Rattle.gptp_plan.specs.declared.change.Act.TheVariants.{Change as Changing}
 use Rattle.gptp_plan.specs.declared.change.Change.{Change}
 use Rattle.gptp_plan.specs.declared.change.Change.TheVariants.{LinkDown, LinkUp, LinkSet, Fail, Recover, Priority1, Inject}
 use Rattle.gptp_plan.specs.declared.change.Timed.{Timed}
-use Rattle.gptp_plan.specs.declared.network.Wire.{Wire}
+use Rattle.gptp_plan.specs.declared.network.LinkSpec.{LinkSpec}
 use Rattle.gptp_plan.specs.declared.sync_wait.SyncPaths.{SyncPaths}
 use Rattle.gptp_acts.specs.Acts.{Acts, at}
 use Rattle.gptp_acts.specs.Changing.{IsChannel}
@@ -26,9 +26,9 @@ use Rattle.gptp_acts.proofs.PromptLemmas.{prompt_within, stays_none_faster}
 use Rattle.gptp_acts.proofs.StayLemmas.{acts_stay, done_stays}
 use Rattle.gptp_network.specs.Document.{DocumentState}
 use Rattle.gptp_kept.specs.Calm.{delay_in}
-use Rattle.gptp_kept.specs.Claimed.{IsClaimed}
-use Rattle.gptp_kept.specs.Holds.{IsWorld}
-use Rattle.gptp_kept.specs.LegibleLaws.{SetsAnOctet}
+use Rattle.gptp_kept.specs.SettlingInvariant.{KeepsAll}
+use Rattle.gptp_kept.specs.SettlesAsMachine.{IsWorld}
+use Rattle.gptp_kept.specs.EncodableLaws.{SetsAnOctet}
 use Rattle.gptp_kept.specs.LinkView.{LinkPlace}
 use Rattle.gptp_kept.specs.Measured.{LinkIsMeasured}
 use Rattle.gptp_kept.specs.NewsWorld.{AreReadyBy, AreSilentBy, IsNews}
@@ -41,9 +41,9 @@ use Rattle.gptp_kept.proofs.NewsWorldLemmas.{news_go_on, none_silent}
 use Rattle.gptp_kept.proofs.OutlineLemmas.{change_is_last, change_time}
 use Rattle.gptp_kept.proofs.SoundWorldLemmas.{sound_later}
 use Rattle.gptp_reached.specs.PlayedLaws.{IsMade, IsPlayable}
-use Rattle.gptp_reached.specs.Reached.{StandsAs, channel_wire}
+use Rattle.gptp_reached.specs.Reached.{StandsAsPlanned, channel_wire}
 use Rattle.gptp_reached.proofs.ChangeLemmas.{changes_stand}
-use Rattle.gptp_reached.proofs.ClaimedLemmas.{IsFitEvent, least_of}
+use Rattle.gptp_reached.proofs.SettlingInvariantLemmas.{IsFitEvent, least_of}
 use Rattle.gptp_reached.proofs.KeptLemmas.{time_stands}
 use Rattle.gptp_reached.proofs.SyncPathLemmas.{paths_stand}
 use Rattle.gptp_soon.specs.Gains.{AreCapableAnyway, AreCapableNext, AreCapableStill, ChangesNothing, IsIdleAfter, JoinsLive, LeavesCapable, TakesNothing}
@@ -98,7 +98,7 @@ module _ {F : Type 0} (answers : Bounds → ℕ → F → Option ℕ → F → T
     (playable : IsPlayable d) (made : List Timed) (event : Timed) (fate fate_after : F) (w w' : WorldState)
     (done : Done) (is : IsMade event) (fit : IsFitEvent (least_of d) event)
     (k : WasDone answers event fate fate_after w w' done) where
-  abbrev p : Pace
+  abbrev p : SettlingParams
   p = pace_of d.network
 
   abbrev n : NetworkState
@@ -133,10 +133,10 @@ module _ {F : Type 0} (answers : Bounds → ℕ → F → Option ℕ → F → T
   IsNewsFrom next = IsNews p next w'
 
   module _ (keeps : KeepsTo d made w) (sound : IsSoundWorld w) (nothing : TakesNothing n made event.act) where
-    claim_then : IsClaimed p then
+    claim_then : KeepsAll p then
     claim_then = claim_later p w event.at k.ready.timely.now k.ready.timely.first keeps.claim
 
-    stands_then : StandsAs n made then
+    stands_then : StandsAsPlanned n made then
     stands_then = time_stands n made w event.at keeps.stands
 
     sound_then : IsSoundWorld then
@@ -170,8 +170,8 @@ module _ {F : Type 0} (answers : Bounds → ℕ → F → Option ℕ → F → T
         let ends = live place.link v there (subst (IsEnd (port_id number port)) (sym wire) joined) in
         let lives : IsLive n.systems more (receiver place.direction s.channel).clock =
         end_so (IsLive n.systems more) place.direction s.channel
-        (subst (λ (x : Wire). IsLive n.systems more x.a.clock) wire ends.0)
-        (subst (λ (x : Wire). IsLive n.systems more x.b.clock) wire ends.1) in
+        (subst (λ (x : LinkSpec). IsLive n.systems more x.a.clock) wire ends.0)
+        (subst (λ (x : LinkSpec). IsLive n.systems more x.b.clock) wire ends.1) in
         let on = lives_so n more w' after.stands after.claim.world.sound (receiver place.direction s.channel).clock
         lives place.answering s.answering.station
         (record { here = s.answering.here; named = s.answering.named }) in

@@ -6,14 +6,14 @@ use Rattle.gptp_vector.specs.declared.port.PortId.{PortId}
 use Rattle.gptp_links.specs.declared.link.Direction.{Direction}
 use Rattle.gptp_setup.specs.declared.setup.Params.{Params}
 use Rattle.gptp_setup.specs.Intervals.{interval_of}
-use Rattle.gptp_setup.specs.Pace.{Pace}
+use Rattle.gptp_setup.specs.SettlingParams.{SettlingParams}
 use Rattle.gptp_system.specs.declared.port.Port.{Port}
 use Rattle.gptp_system.specs.State.{clock, number, own}
 use Rattle.gptp_acts.specs.declared.station.Station.{Station}
 use Rattle.gptp_acts.specs.World.{Channel, WorldState, receiver, sender}
 use Rattle.gptp_measuring.specs.Measured.{HasMeasured}
 use Rattle.gptp_kept.specs.Calm.{HaveQuietLinks}
-use Rattle.gptp_kept.specs.Holds.{IsWorld}
+use Rattle.gptp_kept.specs.SettlesAsMachine.{IsWorld}
 use Rattle.gptp_kept.specs.Known.{IsKnown}
 use Rattle.gptp_kept.specs.LinkView.{IsLinkOf, LinkPlace, least_delay, other_direction, link_setting}
 use Rattle.gptp_kept.specs.Measured.{StationIsLiveAt, LinkStandsAt}
@@ -35,7 +35,7 @@ record HasMeasuredAt (at : LinkPlace) (w : WorldState) : Type 0 where
   link : IsLinkOf at w
   measured : HasMeasured (link_setting at w link) (least_delay at w link) link.asking.state.peer.last
 
-ready_measured : (p : Pace) (start : ℕ) (at : LinkPlace) (w : WorldState) → IsKnown p w → IsReadyBy p start at w
+ready_measured : (p : SettlingParams) (start : ℕ) (at : LinkPlace) (w : WorldState) → IsKnown p w → IsReadyBy p start at w
     → start ≤ w.time → HasMeasuredAt at w
 ready_measured p start at w known (inl (first, (l, by))) late =
     record { link = l.link; measured = (first_full at first w l (omega (arith, by, late))).1 }
@@ -73,7 +73,7 @@ receiver_lives w direction channel used =
       };
     }
 
-module _ (p : Pace) (start : ℕ) (w : WorldState) (is : IsWorld p w) (ready : AreReadyBy p start w)
+module _ (p : SettlingParams) (start : ℕ) (w : WorldState) (is : IsWorld p w) (ready : AreReadyBy p start w)
     (quiet : HaveQuietLinks p.params w) (late : start ≤ w.time) (place : ℕ) (station : Station)
     (here : slice_get w.stations place ≡ Some station) (live : station.live ≡ true) where
   -- where a way from a port of the system stands
@@ -146,7 +146,7 @@ module _ (p : Pace) (start : ℕ) (w : WorldState) (is : IsWorld p w) (ready : A
             x.measured;
       }
 
-pub news_measured : (p : Pace) (start : ℕ) (w : WorldState) → IsNews p start w → HaveQuietLinks p.params w
+pub news_measured : (p : SettlingParams) (start : ℕ) (w : WorldState) → IsNews p start w → HaveQuietLinks p.params w
     → start ≤ w.time → HaveMeasuredLinks w
 news_measured p start w news quiet late place station here live i h q holds there to joins =
     way_measured p start w news.world news.ready quiet late place station here live i q to there joins

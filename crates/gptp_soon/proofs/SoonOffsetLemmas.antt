@@ -11,7 +11,7 @@ use Rattle.gptp_links.specs.declared.bounds.Bounds.{Bounds}
 use Rattle.gptp_links.specs.declared.link.Direction.{Direction}
 use Rattle.gptp_links.specs.Fate.{Draw}
 use Rattle.gptp_setup.specs.declared.setup.Params.{Params}
-use Rattle.gptp_setup.specs.Pace.{Pace}
+use Rattle.gptp_setup.specs.SettlingParams.{SettlingParams}
 use Rattle.gptp_plan.specs.declared.change.Act.{Act}
 use Rattle.gptp_plan.specs.declared.change.Act.TheVariants.{Deliver, Expire, Change as Changing}
 use Rattle.gptp_plan.specs.declared.change.Timed.{Timed}
@@ -90,7 +90,7 @@ stood link direction w draws done w' sound k place place' station station' here 
     ∙ sym (place_is w sound.wired.clocks place station here)
 
 module _ (link : ℕ) (direction : Direction) (w w' : WorldState) (draws : List Draw) (number port : ℕ)
-    (octets : List ℕ) (done : Done) (p : Pace) (settled steps error : ℕ) (ahead offset : ℤ) (s : SystemState)
+    (octets : List ℕ) (done : Done) (p : SettlingParams) (settled steps error : ℕ) (ahead offset : ℤ) (s : SystemState)
     (k : Acts (Deliver link direction) w draws done w')
     (tells : TellsHearing (port_id number port) (Some answers.Used) octets done)
     (message : FollowUp) (reads : Reads octets (messages.FollowUp message)) (shows : ShowsLive number w' s)
@@ -165,7 +165,7 @@ module _ (link : ℕ) (direction : Direction) (w w' : WorldState) (draws : List 
 -- ---- every act
 
 module _ {F : Type 0} (answers : Bounds → ℕ → F → Option ℕ → F → Type 0) (timed : Timed) (fate fate_after : F)
-    (w w' : WorldState) (p : Pace) (m start settled : ℕ) (is : IsTimed p m start settled w)
+    (w w' : WorldState) (p : SettlingParams) (m start settled : ℕ) (is : IsTimed p m start settled w)
     (can : CanSettle p m start settled w) (old : IsOldBy p settled w) (early : timed.at ≤ 10 ^ 18) where
   abbrev then : WorldState
   then = at timed.at w

@@ -5,7 +5,7 @@ use Rattle.std.specs.Prelude.{if◌then◌else◌}
 use Rattle.gptp_graph.specs.PathBound.{BoundsPaths}
 use Rattle.gptp_graph.specs.Snapshot.{System}
 use Rattle.gptp_links.specs.declared.bounds.Bounds.{Bounds}
-use Rattle.gptp_setup.specs.Pace.{Pace, largest_interval}
+use Rattle.gptp_setup.specs.SettlingParams.{SettlingParams, largest_interval}
 use Rattle.gptp_plan.specs.declared.change.Timed.{Timed}
 use Rattle.gptp_acts.specs.Acts.{at}
 use Rattle.gptp_acts.specs.Course.{WasDone}
@@ -14,7 +14,7 @@ use Rattle.gptp_acts.specs.Pending.{NothingBefore}
 use Rattle.gptp_acts.specs.World.{Channel, WorldState}
 use Rattle.gptp_kept.specs.Bounded.{IsBoundedWorld}
 use Rattle.gptp_kept.specs.Calm.{HaveQuietLinks, delay_in, greatest_channel_delay, paths_with, step_with}
-use Rattle.gptp_kept.specs.LegibleLaws.{SetsAnOctet}
+use Rattle.gptp_kept.specs.EncodableLaws.{SetsAnOctet}
 use Rattle.gptp_kept.specs.NewsWorld.{IsNews}
 use Rattle.gptp_kept.specs.SeenLaws.{IsNoChange}
 use Rattle.gptp_kept.specs.Settled.{Settled}
@@ -26,7 +26,7 @@ use Rattle.gptp_kept.proofs.FollowClaimLemmas.{acts_time}
 use Rattle.gptp_kept.proofs.FollowLaterLemmas.{time_begins, time_carries}
 use Rattle.gptp_kept.proofs.FollowMeasureLemmas.{measured_right}
 use Rattle.gptp_kept.proofs.FollowWorldLemmas.{done_carries}
-use Rattle.gptp_kept.proofs.HoldsLemmas.{kept_back}
+use Rattle.gptp_kept.proofs.SettlesAsMachineLemmas.{kept_back}
 use Rattle.gptp_kept.proofs.NewsActLemmas.{news_done}
 use Rattle.gptp_kept.proofs.NewsWorldLemmas.{news_above, news_above_in_turn, news_go_on, news_worlds_settle, news_worlds_settle_in_turn}
 use Rattle.gptp_soon.specs.Exactly.{SettlesBy}
@@ -52,17 +52,17 @@ used_within systems (first ∷ channels) bound each =
 -- ---- a world that settles by a time
 
 -- its links are quiet, and it settles by then where its ports are capable from a start on
-pub record CanSettle (p : Pace) (m start settled : ℕ) (w : WorldState) : Type 0 where
+pub record CanSettle (p : SettlingParams) (m start settled : ℕ) (w : WorldState) : Type 0 where
   pub quiet : HaveQuietLinks p.params w
   pub bounded : BoundsPaths (snapshot_of w) m
   pub settles : SettlesBy p (paths_with m w) start settled
 
 -- by then frames of before its last change are gone
-abbrev pub IsOldBy : Pace → ℕ → WorldState → Type 0
+abbrev pub IsOldBy : SettlingParams → ℕ → WorldState → Type 0
 IsOldBy p settled w = w.last_change + largest_interval p ≤ settled
 
 -- ports are capable by then
-starts_before : (p : Pace) (m start settled : ℕ) (w : WorldState) → CanSettle p m start settled w → start ≤ settled
+starts_before : (p : SettlingParams) (m start settled : ℕ) (w : WorldState) → CanSettle p m start settled w → start ≤ settled
 starts_before p m start settled w can = by can.settles
   where
     by : SettlesBy p (paths_with m w) start settled → start ≤ settled
@@ -70,7 +70,7 @@ starts_before p m start settled w can = by can.settles
     by (inr (short, late)) = omega (arith, late)
 
 -- a world that settles later on in the same network settles so now
-can_back : (p : Pace) (m start settled : ℕ) (w w' : WorldState) → KeepsNetwork w w' → CanSettle p m start settled w'
+can_back : (p : SettlingParams) (m start settled : ℕ) (w w' : WorldState) → KeepsNetwork w w' → CanSettle p m start settled w'
     → CanSettle p m start settled w
 can_back p m start settled w w' k can = record {
   quiet = links_quiet w' w (kept_back w w' k) p.params can.quiet;
@@ -80,19 +80,19 @@ can_back p m start settled w w' k can = record {
 }
 
 -- so it is at another time
-can_earlier : (p : Pace) (m start settled : ℕ) (w : WorldState) (time : ℕ) → CanSettle p m start settled (at time w)
+can_earlier : (p : SettlingParams) (m start settled : ℕ) (w : WorldState) (time : ℕ) → CanSettle p m start settled (at time w)
     → CanSettle p m start settled w
 can_earlier p m start settled w time can =
     record { quiet = can.quiet; bounded = can.bounded; settles = can.settles }
 
-pub can_later : (p : Pace) (m start settled : ℕ) (w : WorldState) (time : ℕ) → CanSettle p m start settled w
+pub can_later : (p : SettlingParams) (m start settled : ℕ) (w : WorldState) (time : ℕ) → CanSettle p m start settled w
     → CanSettle p m start settled (at time w)
 can_later p m start settled w time can =
     record { quiet = can.quiet; bounded = can.bounded; settles = can.settles }
 
 -- ---- since news
 
-module _ (p : Pace) (m start settled : ℕ) where
+module _ (p : SettlingParams) (m start settled : ℕ) where
   -- by then it has settled, and what its systems state is bounded
   pub has_settled : (w : WorldState) → IsNews p start w → CanSettle p m start settled w → settled ≤ w.time
       → Settled w × IsBoundedWorld w

@@ -10,7 +10,7 @@ use Rattle.gptp_graph.specs.Distance.{IsNear}
 use Rattle.gptp_graph.specs.PathBound.{BoundsPaths}
 use Rattle.gptp_links.specs.declared.bounds.Bounds.{Bounds}
 use Rattle.gptp_scaled.specs.Counts.{AreWithin}
-use Rattle.gptp_setup.specs.Pace.{Pace, lapse_span, largest_interval}
+use Rattle.gptp_setup.specs.SettlingParams.{SettlingParams, lapse_span, largest_interval}
 use Rattle.gptp_plan.specs.Allowed.{IsFitAct}
 use Rattle.gptp_plan.specs.Calm.{NothingLapses}
 use Rattle.gptp_plan.specs.Network.{IsNetwork, NetworkState, pace_of}
@@ -25,13 +25,13 @@ use Rattle.gptp_acts.specs.Acts.{at as at_time}
 use Rattle.gptp_acts.specs.Advancing.{Advances, Told}
 use Rattle.gptp_acts.specs.Course.{Begun, WasDone}
 use Rattle.gptp_acts.specs.declared.done.Done.{Done}
-use Rattle.gptp_acts.specs.Prompt.{IsPromptIn}
+use Rattle.gptp_acts.specs.Prompt.{DelaysFitIntervals}
 use Rattle.gptp_acts.specs.World.{WorldState, port_id}
 use Rattle.gptp_kept.specs.Calm.{paths_with, step_with}
-use Rattle.gptp_kept.specs.Claimed.{IsClaimed}
+use Rattle.gptp_kept.specs.SettlingInvariant.{KeepsAll}
 use Rattle.gptp_kept.specs.Elsewhere.{IsOtherLink}
 use Rattle.gptp_kept.specs.Exact.{IsAhead, IsWayError}
-use Rattle.gptp_kept.specs.LegibleLaws.{SetsAnOctet}
+use Rattle.gptp_kept.specs.EncodableLaws.{SetsAnOctet}
 use Rattle.gptp_kept.specs.LinkView.{LinkPlace}
 use Rattle.gptp_kept.specs.NewsCourse.{SettlesFrom, capable_from}
 use Rattle.gptp_kept.specs.NewsWorld.{IsNews}
@@ -44,7 +44,7 @@ use Rattle.gptp_reached.specs.Headline.{WorldIsCalm, LeavesOffset}
 
 -- A network whose ports at links are all capable from a start on has settled by this time, where Sync has such paths to
 -- cross: as `HasSettledBy` of gptp_kept says of a world at its own time.
-abbrev pub SettlesBy : Pace → SyncPaths → ℕ → ℕ → Type 0
+abbrev pub SettlesBy : SettlingParams → SyncPaths → ℕ → ℕ → Type 0
 SettlesBy p paths start settled =
     (NothingLapses p.params × (start + largest_interval p + pred paths.systems * paths.delay ≤ settled))
     ⊎ ((sync_wait p.params paths < lapse_span p.params)
@@ -52,7 +52,7 @@ SettlesBy p paths start settled =
 
 -- So has a world no path of which has more than m systems, and by then an announce interval has passed since its last
 -- change.
-pub record IsSettledBy (p : Pace) (m start settled : ℕ) (w : WorldState) : Type 0 where
+pub record IsSettledBy (p : SettlingParams) (m start settled : ℕ) (w : WorldState) : Type 0 where
   pub bounded : BoundsPaths (snapshot_of w) m
   pub settles : SettlesBy p (paths_with m w) start settled
   pub old : w.last_change + largest_interval p ≤ settled
@@ -61,7 +61,7 @@ pub record IsSettledBy (p : Pace) (m start settled : ℕ) (w : WorldState) : Typ
 
 -- The offset that an act at a time leaves a near system, if it leaves one by a Follow_Up, is within the time error of
 -- the system's way of its clock less its best's: where a Sync has had the time to come down that way since this one.
-abbrev pub AreExactFrom : Pace → ℕ → WorldState → ℕ → WorldState → Done → Type 0
+abbrev pub AreExactFrom : SettlingParams → ℕ → WorldState → ℕ → WorldState → Done → Type 0
 AreExactFrom p settled w time w' done = (steps number error : ℕ) (offset ahead : ℤ)
     → settled + suc steps * (p.params.threshold + p.params.residence) ≤ time
     → LeavesOffset number offset w' done
@@ -73,7 +73,7 @@ AreExactFrom p settled w time w' done = (steps number error : ℕ) (offset ahead
 -- A world since news whose ports are capable from a start on, and in which nothing is changed: each act in it that is
 -- done once it has settled.
 abbrev pub NewsAreExact : {F : Type 0} → (Bounds → ℕ → F → Option ℕ → F → Type 0) → Type 0
-NewsAreExact {F} answers = (p : Pace) (start settled until m : ℕ) (told : List Told) (timed : Timed)
+NewsAreExact {F} answers = (p : SettlingParams) (start settled until m : ℕ) (told : List Told) (timed : Timed)
     (fate drawn fate_after : F) (w now w' : WorldState) (done : Done)
     → IsNews p start w → w.time < settled → Advances answers until told fate drawn w now
     → WasDone answers timed drawn fate_after now w' done → timed.at ≤ 10 ^ 18
@@ -92,9 +92,9 @@ StartsAreExact {F} answers = (n : NetworkState) (settled until m : ℕ) (told : 
 -- such is one in which a link comes up between live systems, where all that it holds is sound and it has been left
 -- alone for L + 5 announce intervals
 abbrev pub LinksUpAreExact : {F : Type 0} → (Bounds → ℕ → F → Option ℕ → F → Type 0) → Type 0
-LinksUpAreExact {F} answers = (p : Pace) (number port time settled until m : ℕ) (told : List Told) (timed : Timed)
+LinksUpAreExact {F} answers = (p : SettlingParams) (number port time settled until m : ℕ) (told : List Told) (timed : Timed)
     (fate drawn later fate_after : F) (w between now w' : WorldState) (made done : Done)
-    → IsClaimed p w → IsSoundWorld w → w.last_change + capability_span p ≤ time
+    → KeepsAll p w → IsSoundWorld w → w.last_change + capability_span p ≤ time
     → WasDone answers (record { at = time; act = Changing (LinkUp number port) }) fate drawn w between made
     → ((at : LinkPlace) → StandsUnanswered at between → IsOtherLink at (port_id number port) w)
     → Advances answers until told drawn later between now
@@ -104,10 +104,10 @@ LinksUpAreExact {F} answers = (p : Pace) (number port time settled until m : ℕ
 
 -- and one in which anything else is gained, whenever that is
 abbrev pub GainsAreExact : {F : Type 0} → (Bounds → ℕ → F → Option ℕ → F → Type 0) → Type 0
-GainsAreExact {F} answers = (p : Pace) (change : Change) (time start settled until m : ℕ) (told : List Told)
+GainsAreExact {F} answers = (p : SettlingParams) (change : Change) (time start settled until m : ℕ) (told : List Told)
     (timed : Timed) (fate drawn later fate_after : F) (w between now w' : WorldState) (made done : Done)
-    → IsClaimed p w → IsSoundWorld w → IsGain change (at_time time w)
-    → IsFitAct (Changing change) → IsPromptIn w (Changing change) → SetsAnOctet (Changing change)
+    → KeepsAll p w → IsSoundWorld w → IsGain change (at_time time w)
+    → IsFitAct (Changing change) → DelaysFitIntervals w (Changing change) → SetsAnOctet (Changing change)
     → WasDone answers (record { at = time; act = Changing change }) fate drawn w between made
     → Advances answers until told drawn later between now
     → WasDone answers timed later fate_after now w' done → timed.at ≤ 10 ^ 18

@@ -4,7 +4,7 @@ use Rattle.std.specs.Prelude.{◌≡◌, ◌<◌, ◌≤◌, ◌⊎◌, ◌+◌,
 use Rattle.gptp_vector.specs.declared.port.PortId.{PortId}
 use Rattle.gptp_roles.specs.Selection.{clock_of}
 use Rattle.gptp_setup.specs.Intervals.{interval_of}
-use Rattle.gptp_setup.specs.Pace.{Pace, largest_interval, longest_span}
+use Rattle.gptp_setup.specs.SettlingParams.{SettlingParams, largest_interval, longest_span}
 use Rattle.gptp_plan.specs.Calm.{IsCalm, IsLive, last_change}
 use Rattle.gptp_plan.specs.Change.{link_after, system_after}
 use Rattle.gptp_plan.specs.Network.{IsEnd, NetworkState, pace_of}
@@ -15,8 +15,8 @@ use Rattle.gptp_plan.specs.declared.change.Act.TheVariants.{Deliver, Expire, Cha
 use Rattle.gptp_plan.specs.declared.change.Change.{Change}
 use Rattle.gptp_plan.specs.declared.change.Change.TheVariants.{LinkDown, LinkUp, LinkSet, Fail, Recover, Priority1, Inject}
 use Rattle.gptp_plan.specs.declared.change.Timed.{Timed}
-use Rattle.gptp_plan.specs.declared.network.Member.{Member}
-use Rattle.gptp_plan.specs.declared.network.Wire.{Wire}
+use Rattle.gptp_plan.specs.declared.network.SystemSpec.{SystemSpec}
+use Rattle.gptp_plan.specs.declared.network.LinkSpec.{LinkSpec}
 use Rattle.gptp_plan.specs.declared.sync_wait.SyncPaths.{SyncPaths}
 use Rattle.gptp_acts.specs.World.{port_id}
 
@@ -24,12 +24,12 @@ use Rattle.gptp_acts.specs.World.{port_id}
 
 -- after these events the link at the port is down
 abbrev pub IsDownAfter : NetworkState → List Timed → PortId → Type 0
-IsDownAfter n events port = (place : ℕ) (v : Wire) → slice_get n.links place ≡ Some v → IsEnd port (link_after events v)
+IsDownAfter n events port = (place : ℕ) (v : LinkSpec) → slice_get n.links place ≡ Some v → IsEnd port (link_after events v)
     → (link_after events v).up ≡ false
 
 -- the system with this clock lives after these events, and this priority1 makes its identity no worse
 abbrev pub IsNoWorse : NetworkState → List Timed → ℕ → ℕ → Type 0
-IsNoWorse n events number value = (place : ℕ) (m : Member) → slice_get n.systems place ≡ Some m
+IsNoWorse n events number value = (place : ℕ) (m : SystemSpec) → slice_get n.systems place ≡ Some m
     → clock_of m.identity ≡ number
     → ((system_after events m).live ≡ true)
     × (value * 2 ^ 104 + (system_after events m).identity % 2 ^ 104 ≤ (system_after events m).identity)
@@ -52,7 +52,7 @@ TakesNothing n events (Changing change) = IsGainAfter n events change
 
 -- after these events the link at the port is up
 abbrev pub IsUpAfter : NetworkState → List Timed → PortId → Type 0
-IsUpAfter n events port = (place : ℕ) (v : Wire) → slice_get n.links place ≡ Some v → IsEnd port (link_after events v)
+IsUpAfter n events port = (place : ℕ) (v : LinkSpec) → slice_get n.links place ≡ Some v → IsEnd port (link_after events v)
     → (link_after events v).up ≡ true
 
 -- The change finds all as it would make it: a link goes down that is down, or comes up that is up; a system fails that
@@ -94,7 +94,7 @@ pub record HasRested (n : NetworkState) (events : List Timed) (time : ℕ) : Typ
 
 -- no system has failed
 abbrev pub AllLiveAfter : NetworkState → List Timed → Type 0
-AllLiveAfter n events = (place : ℕ) (m : Member) → slice_get n.systems place ≡ Some m
+AllLiveAfter n events = (place : ℕ) (m : SystemSpec) → slice_get n.systems place ≡ Some m
     → (system_after events m).live ≡ true
 
 -- From this time on each port at a link is capable after these events, whatever they are: 2 announce intervals and 3 of
@@ -107,13 +107,13 @@ AreCapableAnyway n events start =
 
 -- ports at a link are capable that first ask at this time: one peer delay interval, one exchange over the slowest link,
 -- and 1 ns later
-abbrev pub exchanged_from : Pace → SyncPaths → ℕ → ℕ
+abbrev pub exchanged_from : SettlingParams → SyncPaths → ℕ → ℕ
 exchanged_from p paths time =
     time + interval_of p.params.pdelay + (paths.delay + p.params.turnaround + paths.delay) + 1
 
 -- both ends of the link at the port live after these events
 abbrev pub JoinsLive : NetworkState → List Timed → PortId → Type 0
-JoinsLive n events port = (place : ℕ) (v : Wire) → slice_get n.links place ≡ Some v → IsEnd port (link_after events v)
+JoinsLive n events port = (place : ℕ) (v : LinkSpec) → slice_get n.links place ≡ Some v → IsEnd port (link_after events v)
     → IsLive n.systems events (link_after events v).a.clock × IsLive n.systems events (link_after events v).b.clock
 
 -- These changes leave other ports as capable as they are: a link between live systems that comes up, whose own two

@@ -2,7 +2,7 @@
 use Rattle.std.specs.Prelude.{◌≡◌, ℕ, true, false, List, Option}
 use Rattle.gptp_graph.specs.PathBound.{BoundsPaths}
 use Rattle.gptp_links.specs.declared.bounds.Bounds.{Bounds}
-use Rattle.gptp_setup.specs.Pace.{Pace}
+use Rattle.gptp_setup.specs.SettlingParams.{SettlingParams}
 use Rattle.gptp_plan.specs.declared.change.Act.TheVariants.{Change as Changing}
 use Rattle.gptp_plan.specs.declared.change.Change.{Change}
 use Rattle.gptp_plan.specs.declared.change.Change.TheVariants.{LinkDown, LinkUp, LinkSet, Fail, Recover, Priority1, Inject}
@@ -14,8 +14,8 @@ use Rattle.gptp_acts.specs.Course.{WasDone}
 use Rattle.gptp_acts.specs.declared.done.Done.{Done}
 use Rattle.gptp_acts.specs.declared.station.Station.{Station}
 use Rattle.gptp_acts.specs.World.{Channel, WorldState, port_id}
-use Rattle.gptp_kept.specs.Claimed.{IsClaimed}
-use Rattle.gptp_kept.specs.LegibleLaws.{SetsAnOctet}
+use Rattle.gptp_kept.specs.SettlingInvariant.{KeepsAll}
+use Rattle.gptp_kept.specs.EncodableLaws.{SetsAnOctet}
 use Rattle.gptp_kept.specs.NewsCourse.{HasSettledBy}
 use Rattle.gptp_kept.specs.NewsWorld.{IsNews}
 use Rattle.gptp_kept.specs.SoundWorld.{IsDownAt}
@@ -46,17 +46,17 @@ IsIdle (Inject number port octets) w = IsDownAt (port_id number port) w
 
 -- what is claimed of a world since news stays as it was, with the start that it had
 abbrev pub IdlesStayNews : {F : Type 0} → (Bounds → ℕ → F → Option ℕ → F → Type 0) → Type 0
-IdlesStayNews {F} answers = (p : Pace) (start time : ℕ) (change : Change) (fate fate_after : F) (w w' : WorldState)
+IdlesStayNews {F} answers = (p : SettlingParams) (start time : ℕ) (change : Change) (fate fate_after : F) (w w' : WorldState)
     (done : Done)
-    → IsClaimed p w → IsNews p start w → IsIdle change (at_time time w) → SetsAnOctet (Changing change)
+    → KeepsAll p w → IsNews p start w → IsIdle change (at_time time w) → SetsAnOctet (Changing change)
     → WasDone answers (record { at = time; act = Changing change }) fate fate_after w w' done
     → IsNews p start w'
 
 -- So a world that has settled is settled after such a change at once, and while it goes on by itself.
 abbrev pub IdlesStaySettled : {F : Type 0} → (Bounds → ℕ → F → Option ℕ → F → Type 0) → Type 0
-IdlesStaySettled {F} answers = (p : Pace) (start time until m : ℕ) (change : Change) (told : List Told)
+IdlesStaySettled {F} answers = (p : SettlingParams) (start time until m : ℕ) (change : Change) (told : List Told)
     (fate drawn fate_after : F) (w between w' : WorldState) (done : Done)
-    → IsClaimed p w → IsNews p start w → IsIdle change (at_time time w) → SetsAnOctet (Changing change)
+    → KeepsAll p w → IsNews p start w → IsIdle change (at_time time w) → SetsAnOctet (Changing change)
     → WasDone answers (record { at = time; act = Changing change }) fate drawn w between done
     → Advanced answers until told drawn fate_after between w'
     → WorldIsCalm p w' → BoundsPaths (snapshot_of w') m → HasSettledBy p m start w'

@@ -22,7 +22,7 @@ use Rattle.gptp_system.specs.Facts.{AreHeld, IsAtRest}
 use Rattle.gptp_system.specs.Selection.{Becomes, Selects, SelectsIf}
 use Rattle.gptp_system.specs.State.{SystemState, change_at, clock, held_at, number, on_held, own}
 use Rattle.gptp_system.proofs.RestLemmas.{selects_itself}
-use Rattle.gptp_system.proofs.TouchedLemmas.{compared_touches}
+use Rattle.gptp_system.proofs.TimersChangedLemmas.{compared_touches}
 
 -- ---- a port that received the same vector again
 

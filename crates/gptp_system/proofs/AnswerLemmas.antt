@@ -31,9 +31,9 @@ use Rattle.gptp_system.specs.Input.{Input, IsTimely, Steps, PortUp, PortDown, Fr
 use Rattle.gptp_system.specs.Facts.{AreShown, IsAtRest}
 use Rattle.gptp_system.specs.Touch.{Touch, Hear, Tick, Grow, Disable, Other, IsFrameSeenAs, IsSeenAs, IsTurn}
 use Rattle.gptp_system.specs.Reacts.{Reacts}
-use Rattle.gptp_setup.specs.Pace.{has_sync_timeout}
+use Rattle.gptp_setup.specs.SettlingParams.{has_sync_timeout}
 use Rattle.gptp_system.proofs.LapseLemmas.{lapsed_mids}
-use Rattle.gptp_system.proofs.TouchedLemmas.{compared_same}
+use Rattle.gptp_system.proofs.TimersChangedLemmas.{compared_same}
 use Rattle.gptp_system.specs.Messages.{Announcing, Answering, Telling}
 use Rattle.gptp_system.proofs.SendLemmas.{responds_answer, syncs_tell}
 use Rattle.gptp_system.proofs.TimelyLemmas.{moment_of}

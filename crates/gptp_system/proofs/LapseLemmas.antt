@@ -13,16 +13,16 @@ use Rattle.gptp_receipt.specs.declared.held.Reception.{Reception}
 use Rattle.gptp_receipt.specs.Held.{HoldsFor, received}
 use Rattle.gptp_roles.specs.Choice.{slave_port}
 use Rattle.gptp_setup.specs.declared.setup.Params.{Params}
-use Rattle.gptp_setup.specs.Pace.{has_sync_timeout, lapse_span}
+use Rattle.gptp_setup.specs.SettlingParams.{has_sync_timeout, lapse_span}
 use Rattle.gptp_system.specs.State.{SystemState, can_lead, change, clock, held_at, lapse_of, on_held, own}
 use Rattle.gptp_system.specs.Selection.{follows_on, lapse_after, same_number}
 use Rattle.gptp_system.specs.Lapse.{dropped, lapsed}
 use Rattle.gptp_system.specs.Times.{WaitsAnew}
 use Rattle.gptp_system.specs.Touch.{Touch, Grow, Other, IsLapseSeenAs, PortHoldsInTouch}
 use Rattle.gptp_system.proofs.ChangedLemmas.{Changed, change-get, number-get}
-use Rattle.gptp_system.proofs.FactLemmas.{Touched}
+use Rattle.gptp_system.proofs.FactLemmas.{TimersChanged}
 use Rattle.gptp_system.proofs.MidLemmas.{Mids}
-use Rattle.gptp_system.proofs.TouchedLemmas.{holds_touches}
+use Rattle.gptp_system.proofs.TimersChangedLemmas.{holds_touches}
 
 -- ---- the timer
 
@@ -96,12 +96,12 @@ dropped_on helds.Aged on = on
 dropped_on (helds.Mine root steps) on = on
 dropped_on (helds.Received r) on = λ e. absurd cc
 
-dropped_touches : (p : ℕ) (s : SystemState) → Touched s (on_held p dropped s)
+dropped_touches : (p : ℕ) (s : SystemState) → TimersChanged s (on_held p dropped s)
 dropped_touches p s =
     holds_touches p dropped s (λ h came. dropped_came (own s p) h came) (λ h e. rw e refl) (λ h on. dropped_on h on)
 
 -- the timer stops beside that
-stops_touches : (s t : SystemState) → Touched s t → Touched s (record t { lapse = None })
+stops_touches : (s t : SystemState) → TimersChanged s t → TimersChanged s (record t { lapse = None })
 stops_touches s t k = record {
   kept = record {
     params = k.kept.params;
@@ -116,7 +116,7 @@ stops_touches s t k = record {
   shown = λ a. let b = k.shown a in record { places = b.places; each = b.each };
 }
 
-itself_touches : (s : SystemState) → Touched s s
+itself_touches : (s : SystemState) → TimersChanged s s
 itself_touches s = record {
   kept = record {
     params = refl;
@@ -138,10 +138,10 @@ lapsed_at slave s = record s {
   lapse = None;
 }
 
-pub lapsed_touches : (s : SystemState) → Touched s (lapsed s)
+pub lapsed_touches : (s : SystemState) → TimersChanged s (lapsed s)
 lapsed_touches s = go s.slave
   where
-    go : (o : Option ℕ) → Touched s (lapsed_at o s)
+    go : (o : Option ℕ) → TimersChanged s (lapsed_at o s)
     go None = stops_touches s s (itself_touches s)
     go (Some p) = stops_touches s (on_held p dropped s) (dropped_touches p s)
 

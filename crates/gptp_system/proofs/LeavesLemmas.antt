@@ -12,8 +12,8 @@ use Rattle.gptp_system.specs.declared.answer.Answer.TheVariants as answers
 use Rattle.gptp_system.specs.declared.sending.Sending.{Sending}
 use Rattle.gptp_setup.specs.declared.timer.Timer.{Timer}
 use Rattle.gptp_setup.specs.declared.timer.Timer.TheVariants as timers
-use Rattle.gptp_system.specs.declared.touched.Touched.{Touched}
-use Rattle.gptp_system.specs.declared.touched.Touched.TheVariants as touches
+use Rattle.gptp_system.specs.declared.touched.TimersChanged.{TimersChanged}
+use Rattle.gptp_system.specs.declared.touched.TimersChanged.TheVariants as touches
 use Rattle.gptp_system.specs.Announcing.{answer_to_heard, compared, replaces_held, HearsQualified}
 use Rattle.gptp_system.specs.Input.{Input, Frame, Expires}
 use Rattle.gptp_system.specs.Measuring.{is_turned, TurnsIf}
@@ -21,10 +21,10 @@ use Rattle.gptp_system.specs.Reach.{is_selected, is_touched, is_touched_by, same
 use Rattle.gptp_system.specs.Selection.{SelectsIf}
 use Rattle.gptp_system.specs.State.{SystemState, held_at, number, own}
 use Rattle.gptp_system.specs.Steps.{Expires as TimerExpires, HearsMessage, HasPortNumber, IsTimerOf}
-use Rattle.gptp_system.specs.Touched.{asking_touches, holds, message_touches, selected_if, takes_place, timer_touches, IsTouchedOf, Touches}
+use Rattle.gptp_system.specs.TimersChanged.{asking_touches, holds, message_touches, selected_if, takes_place, timer_touches, IsTouchedOf, Touches}
 use Rattle.gptp_system.proofs.CalmLemmas.{calm_peer}
 use Rattle.gptp_system.proofs.ReachLemmas.{hears_message, steps_reach}
-use Rattle.gptp_system.proofs.TouchedLemmas.{compared_same}
+use Rattle.gptp_system.proofs.TimersChangedLemmas.{compared_same}
 use Rattle.gptp_system.proofs.TypeLemmas.{type_number}
 
 -- a state that stays has all timers due when they were
@@ -94,7 +94,7 @@ message_leaves p (messages.Announce a) now s s' sends answer (inr (inr k)) leave
     qualified_leaves p a now s s' sends answer leaves k
 
 pub message_touches_these : (p : ℕ) (octets : List ℕ) (m : Message) (now : ℕ) (s s' : SystemState)
-    (sends : List Sending) (answer : Answer) (touched : Touched) → HasPortNumber s p
+    (sends : List Sending) (answer : Answer) (touched : TimersChanged) → HasPortNumber s p
     → HearsMessage p m now s s' sends answer → touched ≡ message_touches s p m answer
     → Touches (Frame p octets) touched s s'
 message_touches_these p octets m now s s' sends answer touched of k are =
@@ -157,7 +157,7 @@ timer_covers timers.Sync s other off = (off, off)
 timer_covers timers.Relay s other off = (off, off)
 timer_covers timers.Lapse s other off = (off, not_lapse other off)
 
-pub timer_touches_these : (timer : Timer) (now : ℕ) (s s' : SystemState) (sends : List Sending) (touched : Touched)
+pub timer_touches_these : (timer : Timer) (now : ℕ) (s s' : SystemState) (sends : List Sending) (touched : TimersChanged)
     → IsTimerOf s timer → TimerExpires timer now s s' sends → touched ≡ timer_touches timer s
     → Touches (Expires timer) touched s s'
 timer_touches_these timer now s s' sends touched of k are =

@@ -8,7 +8,7 @@ pub mod SelectionLemmas
 pub mod MeasuringLemmas
 pub mod PortLemmas
 pub mod FactLemmas
-pub mod TouchedLemmas
+pub mod TimersChangedLemmas
 pub mod LapseLemmas
 pub mod StepLemmas
 pub mod RestLemmas

@@ -21,7 +21,7 @@ use Rattle.gptp_system.specs.State.{SystemState, held_at, is_capable_at, local_t
 use Rattle.gptp_system.specs.Selection.{Becomes, Selects, SelectsIf, announced_again, choosing, fresh_ports}
 use Rattle.gptp_system.specs.Measuring.{Turns, TurnsAndAsks, TurnsIf, answering_done, asking, down, is_turned, owes, owing, silenced, turned}
 use Rattle.gptp_system.specs.Announcing.{aged_at, announced_at, compared, replaces_held, with_priority}
-use Rattle.gptp_setup.specs.Pace.{has_sync_timeout}
+use Rattle.gptp_setup.specs.SettlingParams.{has_sync_timeout}
 use Rattle.gptp_system.specs.Lapse.{lapsed}
 use Rattle.gptp_system.specs.Syncing.{HearsFollowUpIf, HearsSyncIf, KeepsIf, KnowsBy, KnowsIf, RelaysBy, RelaysIf, SyncsIf, delay_at, forgetting, is_followed, keeping, knowing, is_leading, offset_of, root_rate_at, refreshing, restarted, said_on, timer_stopped, telling}
 use Rattle.gptp_system.specs.Steps.{Expires as TimerExpires, HearsFrame, HearsMessage}

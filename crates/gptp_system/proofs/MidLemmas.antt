@@ -15,7 +15,7 @@ use Rattle.gptp_system.specs.declared.port.Port.{Port}
 use Rattle.gptp_system.specs.declared.sending.Sending.{Sending}
 use Rattle.gptp_setup.specs.declared.timer.Timer.TheVariants as timers
 use Rattle.gptp_setup.specs.Intervals.{interval_of}
-use Rattle.gptp_setup.specs.Pace.{span_by}
+use Rattle.gptp_setup.specs.SettlingParams.{span_by}
 use Rattle.gptp_system.specs.State.{SystemState, age_due, clock, due, held_at, is_capable_at, number, on_port, own}
 use Rattle.gptp_system.specs.Measuring.{down, held_if, held_turned, is_turned, silenced, turned}
 use Rattle.gptp_system.specs.Announcing.{aged_at, aged_by, compared, with_priority}
@@ -24,7 +24,7 @@ use Rattle.gptp_system.specs.Touch.{Touch, Hear, Tick, Grow, Enable, Disable, Ot
 use Rattle.gptp_system.specs.Reacts.{IsAnnounce, IsOwnAnnounce, PlaceReacts, PortEnds, Reacts, PortAnnounces}
 use Rattle.gptp_system.proofs.ChangedLemmas.{Changed, change-get, number-get}
 use Rattle.gptp_system.proofs.EndLemmas.{Concludes, Ends}
-use Rattle.gptp_system.proofs.TouchedLemmas.{priority_clock}
+use Rattle.gptp_system.proofs.TimersChangedLemmas.{priority_clock}
 
 -- ---- ports that go on
 

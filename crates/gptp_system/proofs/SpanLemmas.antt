@@ -13,13 +13,13 @@ use Rattle.gptp_setup.specs.declared.setup.Setup.{Setup}
 use Rattle.gptp_setup.specs.declared.timer.Timer.{Timer}
 use Rattle.gptp_setup.specs.declared.timer.Timer.TheVariants as timers
 use Rattle.gptp_setup.specs.Intervals.{AreIntervals, IsLog, IsLogUpTo, interval_of}
-use Rattle.gptp_setup.specs.Pace.{span_by}
+use Rattle.gptp_setup.specs.SettlingParams.{span_by}
 use Rattle.gptp_system.specs.State.{SystemState, age_due, announce_due, due, held_at, is_mine, number}
 use Rattle.gptp_system.specs.Ready.{IsReadyPort, IsReady}
 use Rattle.gptp_system.specs.Start.{all_disabled, new_port, started}
 use Rattle.gptp_system.specs.Times.{IsInTime, IsPortInTime}
 use Rattle.gptp_setup.proofs.IntervalLemmas.{interval_most}
-use Rattle.gptp_setup.proofs.PaceLemmas.{lapse_most, span_within}
+use Rattle.gptp_setup.proofs.SettlingParamsLemmas.{lapse_most, span_within}
 use Rattle.gptp_system.proofs.StartLemmas.{disabled_at, new_port_at}
 use Rattle.gptp_system.proofs.StartedLemmas.{at_number, mine_due}
 

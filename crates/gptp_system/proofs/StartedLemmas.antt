@@ -17,9 +17,9 @@ use Rattle.gptp_system.specs.declared.sending.Sending.{Sending}
 use Rattle.gptp_setup.specs.declared.timer.Timer.{Timer}
 use Rattle.gptp_setup.specs.declared.timer.Timer.TheVariants as timers
 use Rattle.gptp_setup.specs.Intervals.{AreParams, IsLog, interval_of}
-use Rattle.gptp_setup.specs.Pace.{has_sync_timeout, span_by}
+use Rattle.gptp_setup.specs.SettlingParams.{has_sync_timeout, span_by}
 use Rattle.gptp_setup.proofs.IntervalLemmas.{interval_positive}
-use Rattle.gptp_setup.proofs.PaceLemmas.{lapse_positive, span_within}
+use Rattle.gptp_setup.proofs.SettlingParamsLemmas.{lapse_positive, span_within}
 use Rattle.gptp_system.specs.State.{SystemState, age_due, announce_due, clock, due, held_at, is_mine, number}
 use Rattle.gptp_system.specs.Input.{Input, IsTimely, Steps, PortUp, PortDown, Frame, Expires, Priority}
 use Rattle.gptp_system.specs.Facts.{AreShown, IsAtRest, Keeps}

@@ -18,7 +18,7 @@ use Rattle.gptp_system.specs.declared.sending.Sending.{Sending}
 use Rattle.gptp_setup.specs.declared.timer.Timer.{Timer}
 use Rattle.gptp_setup.specs.declared.timer.Timer.TheVariants as timers
 use Rattle.gptp_setup.specs.Intervals.{interval_of}
-use Rattle.gptp_setup.specs.Pace.{has_sync_timeout}
+use Rattle.gptp_setup.specs.SettlingParams.{has_sync_timeout}
 use Rattle.gptp_system.specs.State.{SystemState, held_at, is_capable_at, local_time, number, on_port, own, with_peer}
 use Rattle.gptp_system.specs.Selection.{Becomes, SelectsIf, announced_again}
 use Rattle.gptp_system.specs.Measuring.{GoesDown, Turns, TurnsAndAsks, TurnsIf, answering_done, asking, down, is_turned, owes, owing, turned}
@@ -30,7 +30,7 @@ use Rattle.gptp_system.specs.Input.{Input, Steps, PortUp, PortDown, Frame, Expir
 use Rattle.gptp_system.proofs.PortLemmas.{Marked, counted-get, counted-map, with_sync}
 use Rattle.gptp_system.proofs.LapseLemmas.{lapsed_touches}
 use Rattle.gptp_system.proofs.FactLemmas.{Quiet, Sound, Steady, on_port_quiet, ports_quiet, quiet_steady, selects_sound, selects_steady, steady_on}
-use Rattle.gptp_system.proofs.TouchedLemmas.{aged_touches, compared_same, compared_touches, down_touches, not_turned, priority_touches, turned_touches}
+use Rattle.gptp_system.proofs.TimersChangedLemmas.{aged_touches, compared_same, compared_touches, down_touches, not_turned, priority_touches, turned_touches}
 
 -- ---- states
 

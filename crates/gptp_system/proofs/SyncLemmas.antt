@@ -10,7 +10,7 @@ use Rattle.gptp_correction.specs.declared.sync_in.SyncInfo.{SyncInfo}
 use Rattle.gptp_system.specs.declared.answer.Answer.{Answer}
 use Rattle.gptp_system.specs.declared.port.Port.{Port}
 use Rattle.gptp_system.specs.declared.sending.Sending.{Sending}
-use Rattle.gptp_setup.specs.Pace.{has_sync_timeout}
+use Rattle.gptp_setup.specs.SettlingParams.{has_sync_timeout}
 use Rattle.gptp_system.specs.Ready.{IsReadyPort, IsReady}
 use Rattle.gptp_system.specs.State.{SystemState, is_capable_at, is_mine}
 use Rattle.gptp_system.specs.Syncing.{counting, counted_by_rates, sync_of, follow_up_of, syncs, telling, delay_at, root_rate_at, said_on, offset_of, HearsFollowUp, IsOffset, KnowsBy, OffsetFits}

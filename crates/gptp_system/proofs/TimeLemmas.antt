@@ -16,7 +16,7 @@ use Rattle.gptp_setup.specs.declared.setup.Params.{Params}
 use Rattle.gptp_setup.specs.declared.timer.Timer.{Timer}
 use Rattle.gptp_setup.specs.declared.timer.Timer.TheVariants as timers
 use Rattle.gptp_setup.specs.Intervals.{interval_of}
-use Rattle.gptp_setup.specs.Pace.{has_sync_timeout, lapse_span}
+use Rattle.gptp_setup.specs.SettlingParams.{has_sync_timeout, lapse_span}
 use Rattle.gptp_system.specs.State.{SystemState, held_at, is_capable_at, number, own, with_peer}
 use Rattle.gptp_system.specs.Selection.{Becomes, Selects, SelectsIf, follows_on, kept_if}
 use Rattle.gptp_system.specs.Measuring.{Turns, TurnsAndAsks, TurnsIf, down, is_turned, turned}

@@ -18,5 +18,5 @@ pub mod Measures
 pub mod Messages
 pub mod Times
 pub mod Reach
-pub mod Touched
+pub mod TimersChanged
 pub mod Counters

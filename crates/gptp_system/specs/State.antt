@@ -17,7 +17,7 @@ use Rattle.gptp_system.specs.declared.port.Port.{Port}
 use Rattle.gptp_setup.specs.declared.setup.Params.{Params}
 use Rattle.gptp_setup.specs.declared.timer.Timer.{Timer}
 use Rattle.gptp_setup.specs.declared.timer.Timer.TheVariants as timers
-use Rattle.gptp_setup.specs.Pace.{has_sync_timeout, lapse_span, span_by}
+use Rattle.gptp_setup.specs.SettlingParams.{has_sync_timeout, lapse_span, span_by}
 
 -- What a system knows; `largest` is the largest announce interval of its network. The first port stands first in both
 -- lists, and has the number 1. Times of timers are in ns.

@@ -23,7 +23,7 @@ use Rattle.gptp_system.specs.declared.port.Port.{Port}
 use Rattle.gptp_system.specs.declared.sending.Sending.{Sending}
 use Rattle.gptp_system.specs.declared.sending.Body.TheVariants as bodies
 use Rattle.gptp_setup.specs.Intervals.{interval_of}
-use Rattle.gptp_setup.specs.Pace.{has_sync_timeout}
+use Rattle.gptp_setup.specs.SettlingParams.{has_sync_timeout}
 use Rattle.gptp_system.specs.State.{SystemState, number, clock, local_time, held_at, is_capable_at, is_mine}
 use Rattle.gptp_system.specs.State.{can_lead, lapse_of}
 use Rattle.gptp_system.specs.Sends.{head_from, next_sequence}

@@ -5,7 +5,7 @@ ghost use Rattle.std.specs.Prelude.{◌≡◌};
 use crate::answer::Answer;
 use crate::sending::Outbox;
 use crate::state::State;
-use crate::touched::{Touched, asking_touches, selected_if, takes_place};
+use crate::touched::{TimersChanged, asking_touches, selected_if, takes_place};
 use gptp_messages::{Message, decode};
 use gptp_setup::Timer;
 
@@ -35,11 +35,11 @@ pub struct Stepped {
     /// What became of a frame. An input that is no frame has no answer, and Used stands here.
     pub answer: Answer,
     /// The timers that the step can have set or stopped.
-    pub touched: Touched,
+    pub touched: TimersChanged,
 }
 
 /// A step by an input that has no answer.
-fn unanswered(touched: Touched) -> Stepped
+fn unanswered(touched: TimersChanged) -> Stepped
     ensures { result.touched ≡ touched }
 {
     Stepped {
@@ -57,7 +57,7 @@ impl State {
     ghost use Rattle.gptp_system.specs.Ready.{IsReady, state_of};
     ghost use Rattle.gptp_system.specs.State.{held_at, is_capable_at};
     ghost use Rattle.gptp_system.specs.Steps.{Expires, HearsFrame, HearsMessage, HasPortNumber, IsTimerOf};
-    ghost use Rattle.gptp_system.specs.Touched.{message_touches, timer_touches, Touches};
+    ghost use Rattle.gptp_system.specs.TimersChanged.{message_touches, timer_touches, Touches};
 
     /// A port hears a message.
     fn hear(&mut self, port: u8, message: &Message<'_>, now: u64, outbox: &mut Outbox) -> Stepped
@@ -76,19 +76,19 @@ impl State {
         match message {
             Message::Sync { head } => Stepped {
                 answer: self.hear_sync(port, head, now),
-                touched: Touched::Nothing,
+                touched: TimersChanged::Nothing,
             },
             Message::PdelayReq { head } => Stepped {
                 answer: self.hear_request(port, head, now),
-                touched: Touched::One(Timer::Respond(port)),
+                touched: TimersChanged::One(Timer::Respond(port)),
             },
             Message::PdelayResp(response) => Stepped {
                 answer: self.hear_response(port, response, now),
-                touched: Touched::Nothing,
+                touched: TimersChanged::Nothing,
             },
             Message::FollowUp(follow_up) => Stepped {
                 answer: self.hear_follow_up(port, follow_up, now),
-                touched: Touched::Time,
+                touched: TimersChanged::Time,
             },
             Message::PdelayRespFollowUp(follow_up) => {
                 let (turned, answer) = self.hear_response_follow_up(port, follow_up, now, outbox);
@@ -121,13 +121,13 @@ impl State {
             Ok(message) => self.hear(port, &message, now, outbox),
             Err(refused) => Stepped {
                 answer: Answer::Refused(refused),
-                touched: Touched::Nothing,
+                touched: TimersChanged::Nothing,
             },
         }
     }
 
     /// A timer runs out.
-    fn expire(&mut self, timer: Timer, now: u64, outbox: &mut Outbox) -> Touched
+    fn expire(&mut self, timer: Timer, now: u64, outbox: &mut Outbox) -> TimersChanged
         requires ready { IsReady (state_of self.old) }
         requires moment { IsMoment now }
         requires timer { IsTimerOf (state_of self.old) timer }
@@ -140,7 +140,7 @@ impl State {
             Timer::Announce(port) => self.on_announce_timer(port, now, outbox),
             Timer::Age(port) => {
                 self.on_age_timer(port, now, outbox);
-                return Touched::Selected;
+                return TimersChanged::Selected;
             }
             Timer::Pdelay(port) => {
                 return asking_touches(self.on_pdelay_timer(port, now, outbox), port);
@@ -150,10 +150,10 @@ impl State {
             Timer::Relay => self.on_relay_timer(now, outbox),
             Timer::Lapse => {
                 self.on_lapse_timer(now, outbox);
-                return Touched::Selected;
+                return TimersChanged::Selected;
             }
         }
-        Touched::One(timer)
+        TimersChanged::One(timer)
     }
 
     /// A system between its calls is given an input.
@@ -174,6 +174,6 @@ impl State {
             Input::Expires(timer) => return unanswered(self.expire(timer, now, outbox)),
             Input::Priority(value) => self.set_priority(value, now, outbox),
         }
-        unanswered(Touched::All)
+        unanswered(TimersChanged::All)
     }
 }

@@ -31,4 +31,4 @@ pub use input::{Input, Stepped};
 pub use reach::Reach;
 pub use sending::{Body, Outbox, Sending};
 pub use system::System;
-pub use touched::Touched;
+pub use touched::TimersChanged;

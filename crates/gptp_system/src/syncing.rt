@@ -248,7 +248,7 @@ fn as_received(info: &SyncInfo) -> Relayed
 impl State {
     ghost use Rattle.std.specs.Prelude.{◌≡◌, ◌⊎◌, ◌≤◌, [], length};
     ghost use Rattle.gptp_setup.specs.Intervals.{IsMoment};
-    ghost use Rattle.gptp_setup.specs.Pace.{has_sync_timeout};
+    ghost use Rattle.gptp_setup.specs.SettlingParams.{has_sync_timeout};
     ghost use Rattle.gptp_system.specs.Ready.{IsReady, state_of};
     ghost use Rattle.gptp_system.specs.Syncing.{is_followed, is_slave_at, is_leading, slave_delay, slave_rate, telling, told_by, HearsFollowUp, HearsSync, IsDropped, IsForgotten};
     ghost use Rattle.gptp_system.specs.Syncing.{OffsetIsKnown, IsRefreshed, IsRelayed, IsSentOn, IsToldAtLimits, KnowsBy, RelayExpires, SyncExpires};

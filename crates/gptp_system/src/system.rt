@@ -44,7 +44,7 @@ impl System {
     ghost use Rattle.gptp_system.specs.Start.{role_at, started};
     ghost use Rattle.gptp_system.specs.State.{due, is_capable_at, local_time, number, parent, trace};
     ghost use Rattle.gptp_system.specs.Steps.{Expires, HearsFrame, IsDue, HasPortNumber, IsTimerOf, IsUp};
-    ghost use Rattle.gptp_system.specs.Touched.{Touches};
+    ghost use Rattle.gptp_system.specs.TimersChanged.{Touches};
 
     /// A system as it starts at `now`, in ns: its own root, with all ports Disabled until their links come up, each of
     /// which announces at its own interval. The setup keeps its limits.

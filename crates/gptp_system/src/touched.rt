@@ -1,14 +1,14 @@
 //! The timers that a step of a system sets or stops.
 
 ghost use Rattle.std.specs.Prelude.{◌≡◌};
-ghost use Rattle.gptp_system.specs.Touched.{asking_touches, selected_if, takes_place};
+ghost use Rattle.gptp_system.specs.TimersChanged.{asking_touches, selected_if, takes_place};
 
 use crate::answer::Answer;
 use gptp_setup::Timer;
 
 /// The timers of a system that a step can have set or stopped. All others are due when they were.
 #[derive(Clone, Copy, Debug, PartialEq, Eq, Hash)]
-pub enum Touched {
+pub enum TimersChanged {
     /// None.
     Nothing,
     /// This one alone.
@@ -22,22 +22,22 @@ pub enum Touched {
 }
 
 /// Those that selection can change, where the system may have selected.
-pub(crate) fn selected_if(selects: bool) -> Touched
+pub(crate) fn selected_if(selects: bool) -> TimersChanged
     ensures { result ≡ selected_if selects }
 {
     match selects {
-        true => Touched::Selected,
-        false => Touched::Nothing,
+        true => TimersChanged::Selected,
+        false => TimersChanged::Nothing,
     }
 }
 
 /// Those of a port that asks its neighbour, and may have stopped being asCapable before that.
-pub(crate) fn asking_touches(stops: bool, port: u8) -> Touched
+pub(crate) fn asking_touches(stops: bool, port: u8) -> TimersChanged
     ensures { result ≡ asking_touches stops port }
 {
     match stops {
-        true => Touched::All,
-        false => Touched::One(Timer::Pdelay(port)),
+        true => TimersChanged::All,
+        false => TimersChanged::One(Timer::Pdelay(port)),
     }
 }
 

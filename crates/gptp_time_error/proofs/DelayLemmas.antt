@@ -10,26 +10,26 @@ use Rattle.gptp_plan.specs.declared.change.Act.TheVariants as acts
 use Rattle.gptp_plan.specs.declared.change.Change.{Change}
 use Rattle.gptp_plan.specs.declared.change.Change.TheVariants as changes
 use Rattle.gptp_plan.specs.declared.change.Timed.{Timed}
-use Rattle.gptp_plan.specs.declared.network.Wire.{Wire}
+use Rattle.gptp_plan.specs.declared.network.LinkSpec.{LinkSpec}
 use Rattle.gptp_time_error.specs.Ways.{HasDelays, unbroken}
 
 -- two links with the same ends and bounds
-pub record AreAlike (v w : Wire) : Type 0 where
+pub record AreAlike (v w : LinkSpec) : Type 0 where
   pub a : v.a ≡ w.a
   pub b : v.b ≡ w.b
   pub bounds : v.bounds ≡ w.bounds
 
 -- one that comes up or goes down stays alike
-up_alike : (test up : Bool) (v w : Wire) → AreAlike v w → AreAlike (cond test (with_up up v) v) w
+up_alike : (test up : Bool) (v w : LinkSpec) → AreAlike v w → AreAlike (cond test (with_up up v) v) w
 up_alike true up v w h = record { a = h.a; b = h.b; bounds = h.bounds }
 up_alike false up v w h = h
 
-alike_up : (test up : Bool) (v w : Wire) → AreAlike v w → AreAlike v (cond test (with_up up w) w)
+alike_up : (test up : Bool) (v w : LinkSpec) → AreAlike v w → AreAlike v (cond test (with_up up w) w)
 alike_up true up v w h = record { a = h.a; b = h.b; bounds = h.bounds }
 alike_up false up v w h = h
 
 -- and so do both where they get other bounds
-set_alike : (test : Bool) (least greatest loss : ℕ) (v w : Wire) → AreAlike v w
+set_alike : (test : Bool) (least greatest loss : ℕ) (v w : LinkSpec) → AreAlike v w
     → AreAlike (cond test (member_with_bounds least greatest loss v) v) (cond test (member_with_bounds least greatest loss w) w)
 set_alike true least greatest loss v w h = record {
   a = h.a;
@@ -39,13 +39,13 @@ set_alike true least greatest loss v w h = record {
 set_alike false least greatest loss v w h = h
 
 -- they are at the same ports
-at_alike : (clock port : ℕ) (v w : Wire) → AreAlike v w → is_at clock port v ≡ is_at clock port w
+at_alike : (clock port : ℕ) (v w : LinkSpec) → AreAlike v w → is_at clock port v ≡ is_at clock port w
 at_alike clock port v w h =
     let p : PortId = record { clock = clock; port = port } in
     ap (λ a. same_port a p || same_port v.b p) h.a ∙ ap (λ b. same_port w.a p || same_port b p) h.b
 
 -- a change does the same to both
-changed_alike : (change : Change) (v w : Wire) → AreAlike v w
+changed_alike : (change : Change) (v w : LinkSpec) → AreAlike v w
     → AreAlike (link_changed change v) (link_changed change w)
 changed_alike (changes.LinkDown clock port) v w h =
     alike_up (is_at clock port w) false _ w (up_alike (is_at clock port v) false v w h)
@@ -58,20 +58,20 @@ changed_alike (changes.Recover clock) v w h = h
 changed_alike (changes.Priority1 clock value) v w h = h
 changed_alike (changes.Inject clock port octets) v w h = h
 
-acted_alike : (act : Act) (v w : Wire) → AreAlike v w
+acted_alike : (act : Act) (v w : LinkSpec) → AreAlike v w
     → AreAlike (link_acted act v) (link_acted act w)
 acted_alike (acts.Deliver link direction) v w h = h
 acted_alike (acts.Expire clock timer) v w h = h
 acted_alike (acts.Change change) v w h = changed_alike change v w h
 
 -- links that are alike are so after events
-pub after_alike : (events : List Timed) (v w : Wire) → AreAlike v w
+pub after_alike : (events : List Timed) (v w : LinkSpec) → AreAlike v w
     → AreAlike (link_after events v) (link_after events w)
 after_alike [] v w h = h
 after_alike (t ∷ ts) v w h = after_alike ts (link_acted t.act v) (link_acted t.act w) (acted_alike t.act v w h)
 
 -- after an act a link is alike to one that is up with the same ends and the bounds that the act leaves
-changed_ends : (change : Change) (w : Wire)
+changed_ends : (change : Change) (w : LinkSpec)
     → AreAlike (link_changed change w) (unbroken w.a w.b (link_changed change w).bounds)
 changed_ends (changes.LinkDown clock port) w = by (is_at clock port w)
   where
@@ -96,7 +96,7 @@ changed_ends (changes.Recover clock) w = record { a = refl; b = refl; bounds = r
 changed_ends (changes.Priority1 clock value) w = record { a = refl; b = refl; bounds = refl }
 changed_ends (changes.Inject clock port octets) w = record { a = refl; b = refl; bounds = refl }
 
-acted_ends : (act : Act) (w : Wire) → AreAlike (link_acted act w) (unbroken w.a w.b (link_acted act w).bounds)
+acted_ends : (act : Act) (w : LinkSpec) → AreAlike (link_acted act w) (unbroken w.a w.b (link_acted act w).bounds)
 acted_ends (acts.Deliver link direction) w = record { a = refl; b = refl; bounds = refl }
 acted_ends (acts.Expire clock timer) w = record { a = refl; b = refl; bounds = refl }
 acted_ends (acts.Change change) w = changed_ends change w
@@ -110,15 +110,15 @@ bounds_more t ts a b before after e =
     ∙ sym (after_alike ts (link_acted t.act (unbroken a b before)) _ (acted_ends t.act (unbroken a b before))).bounds
 
 -- a link is alike to one that is up with the same ends and bounds
-pub alike_itself : (w : Wire) → AreAlike w (unbroken w.a w.b w.bounds)
+pub alike_itself : (w : LinkSpec) → AreAlike w (unbroken w.a w.b w.bounds)
 alike_itself w = record { a = refl; b = refl; bounds = refl }
 
-end_of : (w : Wire) (a b p : PortId) → a ≡ w.a → b ≡ w.b → (a ≡ p) ⊎ (b ≡ p) → IsEnd p w
+end_of : (w : LinkSpec) (a b p : PortId) → a ≡ w.a → b ≡ w.b → (a ≡ p) ⊎ (b ≡ p) → IsEnd p w
 end_of w a b p e f (inl h) = inl (sym e ∙ h)
 end_of w a b p e f (inr h) = inr (sym f ∙ h)
 
 -- the delays that were found are those of the link
-pub delays_found : (n : NetworkState) (events : List Timed) (clock port : ℕ) (w : Wire) (a b : PortId) (bounds : Bounds)
+pub delays_found : (n : NetworkState) (events : List Timed) (clock port : ℕ) (w : LinkSpec) (a b : PortId) (bounds : Bounds)
     (up : Bool) (after : Bounds) → In w n.links
     → ◌≡◌ {A = PortId × PortId × Bounds × Bool} (a, b, bounds, up) (w.a, w.b, w.bounds, w.up)
     → (a ≡ record { clock = clock; port = port }) ⊎ (b ≡ record { clock = clock; port = port })

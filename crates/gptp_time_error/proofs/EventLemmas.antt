@@ -1,6 +1,6 @@
 -- The events up to a time: each is one of all, and the last change is no later than events may be.
 use Rattle.std.proofs.Common.{◌≤◌, ℕ, zero, suc, List, [], ◌∷◌, nat_le, refl, arith}
-use Rattle.gptp_lists.proofs.MemberLemmas.{In-slice_get, slice_get-In}
+use Rattle.gptp_lists.proofs.SystemSpecLemmas.{In-slice_get, slice_get-In}
 use Rattle.gptp_plan.specs.Allowed.{AreAllowed}
 use Rattle.gptp_plan.specs.Calm.{last_change}
 use Rattle.gptp_plan.specs.declared.change.Timed.{Timed}

@@ -3,7 +3,7 @@ use Rattle.std.proofs.Common.{◌≡◌, inl, inr, ℕ, ◌+◌, Bool, true, fal
 use Rattle.std.proofs.lemmas.List.{length-map, map-append, take_all}
 use Rattle.std.proofs.lemmas.Option.{same_Some}
 use Rattle.gptp_lists.proofs.MappedLemmas.{mapped_there, taken}
-use Rattle.gptp_lists.proofs.MemberLemmas.{In-parts, In-slice_get}
+use Rattle.gptp_lists.proofs.SystemSpecLemmas.{In-parts, In-slice_get}
 use Rattle.gptp_graph.specs.Labelling.{SystemLine, line_clocks}
 use Rattle.gptp_graph.specs.Distance.{IsDistance}
 use Rattle.gptp_graph.specs.Order.{IsRising}

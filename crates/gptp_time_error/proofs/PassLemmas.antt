@@ -6,7 +6,7 @@ use Rattle.std.proofs.lemmas.Bool.{cases_lt}
 use Rattle.std.proofs.lemmas.List.Sorted.{IsNonDecreasingBy-from_sort, IsPermutation-sym}
 use Rattle.std.proofs.lemmas.Option.{get_or_from_slice_get, same_Some, slice_get_within}
 use Rattle.gptp_lists.specs.Members.{In}
-use Rattle.gptp_lists.proofs.MemberLemmas.{In-left, In-parts, In-right, In-slice_get, slice_get-In}
+use Rattle.gptp_lists.proofs.SystemSpecLemmas.{In-left, In-parts, In-right, In-slice_get, slice_get-In}
 use Rattle.gptp_lists.proofs.PlaceLemmas.{same_place}
 use Rattle.gptp_graph.specs.Labelling.{SystemLine, IsBare, line_clocks}
 use Rattle.gptp_graph.specs.Order.{IsRising}
@@ -20,8 +20,8 @@ use Rattle.gptp_graph.proofs.StatementLemmas.{line_of}
 use Rattle.gptp_roles.specs.Selection.{clock_of}
 use Rattle.gptp_plan.specs.Network.{NetworkState, IsEnd}
 use Rattle.gptp_plan.specs.declared.change.Timed.{Timed}
-use Rattle.gptp_plan.specs.declared.network.Member.{Member}
-use Rattle.gptp_plan.specs.declared.network.Wire.{Wire}
+use Rattle.gptp_plan.specs.declared.network.SystemSpec.{SystemSpec}
+use Rattle.gptp_plan.specs.declared.network.LinkSpec.{LinkSpec}
 use Rattle.gptp_network.specs.Snapshot.{StandsAfter}
 use Rattle.gptp_network.specs.SnapshotTables.{HasClock}
 use Rattle.gptp_network.proofs.SnapshotLemmas.{In-permutation}
@@ -197,14 +197,14 @@ module _ (g : Snapshot) (lines : List SystemLine) (network : IsWellFormed g) (ri
 pub record HasLink (n : NetworkState) (g : Snapshot) (line : SystemLine) (l : ParentLink) : Type 0 where
   pub is : IsParent g line.clock l
   pub near : line.steps < 255
-  pub wire : Wire
+  pub wire : LinkSpec
   pub wire_there : In wire n.links
   pub end : IsEnd (record { clock = line.clock; port = l.own_port }) wire
 
 -- the system of a line is one of the network
 pub line_member : (n : NetworkState) (events : List Timed) (g : Snapshot) (line : SystemLine) → IsWellFormed g
     → StandsAfter n events g → IsSettledLine g line
-    → (m : Member) × In m n.systems × (clock_of m.identity ≡ line.clock)
+    → (m : SystemSpec) × In m n.systems × (clock_of m.identity ≡ line.clock)
 line_member n events g line network stands settled =
     member_stands n events g stands line.clock (IsDistance-clock g line.clock line.steps network settled.steps)
 

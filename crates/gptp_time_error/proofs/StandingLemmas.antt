@@ -4,7 +4,7 @@ use Rattle.std.specs.List.{filter_map}
 use Rattle.std.proofs.lemmas.List.Sorted.{IsPermutation-sym}
 use Rattle.std.proofs.lemmas.Option.{cond_some}
 use Rattle.gptp_lists.specs.Members.{In}
-use Rattle.gptp_lists.proofs.MemberLemmas.{from_map, slice_get-In}
+use Rattle.gptp_lists.proofs.SystemSpecLemmas.{from_map, slice_get-In}
 use Rattle.gptp_graph.specs.Snapshot.{System, PortIdentity, Link, Snapshot, Joins, clocks}
 use Rattle.gptp_roles.specs.Selection.{clock_of}
 use Rattle.gptp_pdelay.specs.Clock.{IsDrift}
@@ -12,8 +12,8 @@ use Rattle.gptp_plan.specs.Allowed.{AreAllowed}
 use Rattle.gptp_plan.specs.Change.{joined_after, link_after, live_after, system_after}
 use Rattle.gptp_plan.specs.Network.{NetworkState, IsEnd, IsNetwork}
 use Rattle.gptp_plan.specs.declared.change.Timed.{Timed}
-use Rattle.gptp_plan.specs.declared.network.Member.{Member}
-use Rattle.gptp_plan.specs.declared.network.Wire.{Wire}
+use Rattle.gptp_plan.specs.declared.network.SystemSpec.{SystemSpec}
+use Rattle.gptp_plan.specs.declared.network.LinkSpec.{LinkSpec}
 use Rattle.gptp_plan.proofs.AfterLemmas.{after_fits}
 use Rattle.gptp_network.specs.Snapshot.{StandsAfter, joins_two, link_of, live_systems, system_of}
 use Rattle.gptp_network.proofs.SnapshotLemmas.{In-permutation, clock_after, from_filter, from_filter_map, port_id_of}
@@ -21,7 +21,7 @@ use Rattle.gptp_time_error.specs.Ways.{HasDelays, HasDrift}
 
 module _ (n : NetworkState) (events : List Timed) (g : Snapshot) (stands : StandsAfter n events g) where
   -- the system with a clock that stands is one of the network
-  pub member_stands : (v : ℕ) → In v (clocks g) → (m : Member) × In m n.systems × (clock_of m.identity ≡ v)
+  pub member_stands : (v : ℕ) → In v (clocks g) → (m : SystemSpec) × In m n.systems × (clock_of m.identity ≡ v)
   member_stands v member =
       let (s, live, same) = from_map (λ (s : System). s.clock) v g.systems member in
       let moved = IsPermutation-sym (live_systems n.systems events) g.systems stands.systems in
@@ -35,7 +35,7 @@ module _ (n : NetworkState) (events : List Timed) (g : Snapshot) (stands : Stand
             ∙ same,
       )
 
-  wire_of : (l : Link) → In l g.links → (w : Wire) × In w n.links × (link_of (w.a, w.b) ≡ l)
+  wire_of : (l : Link) → In l g.links → (w : LinkSpec) × In w n.links × (link_of (w.a, w.b) ≡ l)
   wire_of l member =
       let (kept, both) =
       from_filter (joins_two g.systems) l (map link_of (filter_map (joined_after events) n.links))
@@ -45,7 +45,7 @@ module _ (n : NetworkState) (events : List Timed) (g : Snapshot) (stands : Stand
       (w, at, ap link_of (cond_some (link_after events w).up (w.a, w.b) pair up).1 ∙ seen)
 
   -- and so is the link at a port that is joined to another
-  pub wire_stands : (p q : PortIdentity) → Joins g p q → (w : Wire) × In w n.links × IsEnd (port_id_of p) w
+  pub wire_stands : (p q : PortIdentity) → Joins g p q → (w : LinkSpec) × In w n.links × IsEnd (port_id_of p) w
   wire_stands p q (inl member) =
       let (w, at, is) = wire_of (record { a = p; b = q }) member in
       (w, at, inl (ap (λ (k : Link). port_id_of k.a) is))

@@ -1,7 +1,7 @@
 -- A system has one way, whose numbers are those of a document.
 use Rattle.std.proofs.Common.{◌≡◌, ℕ, zero, suc, ◌≤◌, ℤ, List, length, Some, slice_get, sym, ap, ap₂, subst, ◌∙◌, arith}
 use Rattle.std.proofs.lemmas.Option.{same_Some}
-use Rattle.gptp_lists.proofs.MemberLemmas.{slice_get-In}
+use Rattle.gptp_lists.proofs.SystemSpecLemmas.{slice_get-In}
 use Rattle.gptp_graph.specs.Distance.{IsDistance}
 use Rattle.gptp_graph.specs.Parent.{ParentLink}
 use Rattle.gptp_graph.specs.Snapshot.{IsWellFormed, Snapshot}
@@ -11,8 +11,8 @@ use Rattle.gptp_pdelay.specs.Clock.{IsDrift}
 use Rattle.gptp_plan.specs.Change.{link_after}
 use Rattle.gptp_plan.specs.Network.{IsEnd, IsNetwork, NetworkState}
 use Rattle.gptp_plan.specs.declared.change.Timed.{Timed}
-use Rattle.gptp_plan.specs.declared.network.Member.{Member}
-use Rattle.gptp_plan.specs.declared.network.Wire.{Wire}
+use Rattle.gptp_plan.specs.declared.network.SystemSpec.{SystemSpec}
+use Rattle.gptp_plan.specs.declared.network.LinkSpec.{LinkSpec}
 use Rattle.gptp_roles.specs.Selection.{clock_of}
 use Rattle.gptp_vector.specs.declared.port.PortId.{PortId}
 use Rattle.gptp_accuracy.specs.TimeError.{WayLink, Way, drift_at}
@@ -37,9 +37,9 @@ way_distance n events g (suc h) clock w network (parent, above, l, follows, way,
 
 -- what ways are determined by: a clock names one system, and at a port is one link
 pub record HasOneEach (n : NetworkState) : Type 0 where
-  pub clocks : (i j : ℕ) (l m : Member) → slice_get n.systems i ≡ Some l → slice_get n.systems j ≡ Some m
+  pub clocks : (i j : ℕ) (l m : SystemSpec) → slice_get n.systems i ≡ Some l → slice_get n.systems j ≡ Some m
       → clock_of l.identity ≡ clock_of m.identity → i ≡ j
-  pub one_link : (i j : ℕ) (v w : Wire) (p : PortId) → slice_get n.links i ≡ Some v → slice_get n.links j ≡ Some w
+  pub one_link : (i j : ℕ) (v w : LinkSpec) (p : PortId) → slice_get n.links i ≡ Some v → slice_get n.links j ≡ Some w
       → IsEnd p v → IsEnd p w → i ≡ j
 
 pub one_each : (n : NetworkState) → IsNetwork n → HasOneEach n
@@ -54,7 +54,7 @@ module _ (n : NetworkState) (network : HasOneEach n) where
       let place = network.clocks i j one.system other.system at there (one.is ∙ sym other.is) in
       let same : one.system ≡ other.system =
       same_Some one.system other.system (sym at ∙ ap (slice_get n.systems) place ∙ there) in
-      one.drift_is ∙ ap (λ (m : Member). m.drift) same ∙ sym other.drift_is
+      one.drift_is ∙ ap (λ (m : SystemSpec). m.drift) same ∙ sym other.drift_is
 
   module _ (events : List Timed) where
     -- the link at a port
@@ -72,9 +72,9 @@ module _ (n : NetworkState) (network : HasOneEach n) where
     one_link clock parent k l one other =
         let same = one_wire clock parent.own_port k.least k.most l.least l.most one.delays other.delays in
         let least : k.least ≡ l.least =
-        one.delays.least_is ∙ ap (λ (w : Wire). (link_after events w).bounds.min) same ∙ sym other.delays.least_is in
+        one.delays.least_is ∙ ap (λ (w : LinkSpec). (link_after events w).bounds.min) same ∙ sym other.delays.least_is in
         let most : k.most ≡ l.most =
-        one.delays.most_is ∙ ap (λ (w : Wire). (link_after events w).bounds.max) same ∙ sym other.delays.most_is in
+        one.delays.most_is ∙ ap (λ (w : LinkSpec). (link_after events w).bounds.max) same ∙ sym other.delays.most_is in
         let drift : k.drift ≡ l.drift = one_drift clock k.drift l.drift one.drift other.drift in
         λ i. record { least = least i; most = most i; drift = drift i }
 

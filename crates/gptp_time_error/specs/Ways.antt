@@ -12,25 +12,25 @@ use Rattle.gptp_setup.specs.declared.setup.Params.{Params}
 use Rattle.gptp_plan.specs.Change.{link_after}
 use Rattle.gptp_plan.specs.Network.{NetworkState, IsEnd}
 use Rattle.gptp_plan.specs.declared.change.Timed.{Timed}
-use Rattle.gptp_plan.specs.declared.network.Member.{Member}
-use Rattle.gptp_plan.specs.declared.network.Wire.{Wire}
+use Rattle.gptp_plan.specs.declared.network.SystemSpec.{SystemSpec}
+use Rattle.gptp_plan.specs.declared.network.LinkSpec.{LinkSpec}
 use Rattle.gptp_accuracy.specs.TimeError.{WayLink, Way}
 use Rattle.gptp_accuracy.specs.WayLaws.{longer}
 
 -- the system with this clock has this drift
 pub record HasDrift (n : NetworkState) (clock : ℕ) (drift : ℤ) : Type 0 where
-  pub system : Member
+  pub system : SystemSpec
   pub there : In system n.systems
   pub is : clock_of system.identity ≡ clock
   pub drift_is : drift ≡ system.drift
 
 -- a link that is up, with these ports and bounds
-abbrev pub unbroken : PortId → PortId → Bounds → Wire
+abbrev pub unbroken : PortId → PortId → Bounds → LinkSpec
 unbroken a b bounds = record { a = a; b = b; bounds = bounds; up = true }
 
 -- these are the delays of the link at a port, as they are in force after the events
 pub record HasDelays (n : NetworkState) (events : List Timed) (clock port least most : ℕ) : Type 0 where
-  pub wire : Wire
+  pub wire : LinkSpec
   pub there : In wire n.links
   pub end : IsEnd (record { clock = clock; port = port }) wire
   pub least_is : least ≡ (link_after events wire).bounds.min

@@ -4,7 +4,7 @@ ghost use Rattle.std.specs.Prelude.{◌≡◌, ◌⊎◌, ◌↔◌, IsTrue, IfN
 ghost use Rattle.gptp_lists.specs.Members.{In};
 ghost use Rattle.gptp_plan.specs.Change.{link_acted, link_after, link_changed};
 ghost use Rattle.gptp_plan.specs.Network.{IsEnd};
-ghost use Rattle.gptp_plan.specs.declared.network.Wire.{Wire};
+ghost use Rattle.gptp_plan.specs.declared.network.LinkSpec.{LinkSpec};
 ghost use Rattle.gptp_time_error.specs.Ways.{HasDelays, unbroken};
 
 use gptp_links::Bounds;
@@ -84,7 +84,7 @@ fn delays_if_at(
     place: usize,
 ) -> Option<(u64, u64)>
     ensures some { IfSome result (λ d. HasDelays network.now events.now clock port d.0 d.1) }
-    ensures none { IfNone result ((w : Wire) → slice_get network.now.links place ≡ Some w
+    ensures none { IfNone result ((w : LinkSpec) → slice_get network.now.links place ≡ Some w
         → IsEnd (record { clock = clock; port = port }) w → ⊥) }
 {
     let (a, b, bounds, _) = network.link_at(place)?;
@@ -102,7 +102,7 @@ pub(crate) fn delays_at(
     clock: ClockId,
     port: u16,
 ) -> (u64, u64)
-    ensures { (w : Wire) → In w network.now.links → IsEnd (record { clock = clock; port = port }) w
+    ensures { (w : LinkSpec) → In w network.now.links → IsEnd (record { clock = clock; port = port }) w
         → HasDelays network.now events.now clock port result.0 result.1 }
 {
     for place in 0..network.links() {

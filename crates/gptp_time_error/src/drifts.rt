@@ -3,7 +3,7 @@
 ghost use Rattle.std.specs.Prelude.{◌≡◌, IfNone, IfSome, Some, slice_get};
 ghost use Rattle.gptp_lists.specs.Members.{In};
 ghost use Rattle.gptp_roles.specs.Selection.{clock_of};
-ghost use Rattle.gptp_plan.specs.declared.network.Member.{Member};
+ghost use Rattle.gptp_plan.specs.declared.network.SystemSpec.{SystemSpec};
 ghost use Rattle.gptp_time_error.specs.Ways.{HasDrift};
 
 use gptp_plan::Network;
@@ -12,7 +12,7 @@ use gptp_vector::ClockId;
 /// The drift of the system at a place, from 0, where that has a clock.
 fn drift_if_of(network: &Network, clock: ClockId, place: usize) -> Option<i32>
     ensures some { IfSome result (HasDrift network.now clock) }
-    ensures none { IfNone result ((m : Member) → slice_get network.now.systems place ≡ Some m
+    ensures none { IfNone result ((m : SystemSpec) → slice_get network.now.systems place ≡ Some m
         → clock_of m.identity ≡ clock → ⊥) }
 {
     network.well_formed();
@@ -25,7 +25,7 @@ fn drift_if_of(network: &Network, clock: ClockId, place: usize) -> Option<i32>
 
 /// The drift of the system with a clock, in units of 2^-41; 0 where there is none.
 pub(crate) fn drift_of(network: &Network, clock: ClockId) -> i32
-    ensures { (m : Member) → In m network.now.systems → clock_of m.identity ≡ clock
+    ensures { (m : SystemSpec) → In m network.now.systems → clock_of m.identity ≡ clock
         → HasDrift network.now clock result }
 {
     for place in 0..network.systems() {

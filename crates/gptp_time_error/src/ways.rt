@@ -8,8 +8,8 @@ ghost use Rattle.gptp_graph.specs.SettledChoice.{IsSettledChoice, IsSettledLine}
 ghost use Rattle.gptp_roles.specs.Selection.{clock_of};
 ghost use Rattle.gptp_plan.specs.Allowed.{AreAllowed};
 ghost use Rattle.gptp_plan.specs.Network.{IsEnd};
-ghost use Rattle.gptp_plan.specs.declared.network.Member.{Member};
-ghost use Rattle.gptp_plan.specs.declared.network.Wire.{Wire};
+ghost use Rattle.gptp_plan.specs.declared.network.SystemSpec.{SystemSpec};
+ghost use Rattle.gptp_plan.specs.declared.network.LinkSpec.{LinkSpec};
 ghost use Rattle.gptp_network.specs.Snapshot.{StandsAfter};
 ghost use Rattle.gptp_network.specs.SnapshotTables.{HasClock};
 ghost use Rattle.gptp_certificate_text.specs.Certificate.{line_of};
@@ -76,9 +76,9 @@ fn sums_of(snapshot: &Snapshot, sums: &[Sums], clock: ClockId) -> Sums
 
 /// The link of a way at a port of a system.
 fn link_to(network: &Network, events: &[Timed], clock: ClockId, port: u16) -> Link
-    ensures delays { (w : Wire) → In w network.now.links → IsEnd (record { clock = clock; port = port }) w
+    ensures delays { (w : LinkSpec) → In w network.now.links → IsEnd (record { clock = clock; port = port }) w
         → HasDelays network.now events.now clock port result.least result.most }
-    ensures drift { (m : Member) → In m network.now.systems → clock_of m.identity ≡ clock
+    ensures drift { (m : SystemSpec) → In m network.now.systems → clock_of m.identity ≡ clock
         → HasDrift network.now clock result.drift }
 {
     let (least, most) = delays_at(network, events, clock, port);

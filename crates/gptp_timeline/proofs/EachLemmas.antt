@@ -7,7 +7,7 @@ use Rattle.gptp_acts.specs.World.{WorldState}
 use Rattle.gptp_timeline.specs.Shown.{shown}
 use Rattle.gptp_timeline.specs.Watch.{lines_at, lines_each, measures_after, see_all, see_at, see_each, see_one, watched_after, WatchState}
 use Rattle.gptp_timeline.specs.declared.measures.Measures.{Measures}
-use Rattle.gptp_timeline.specs.declared.watched.Look.{Look}
+use Rattle.gptp_timeline.specs.declared.watched.ActView.{ActView}
 use Rattle.gptp_timeline.specs.declared.watched.Watched.{Watched}
 use Rattle.gptp_timeline.proofs.LineLemmas.{written_more, WrittenSoFar}
 
@@ -22,7 +22,7 @@ pub set_at_seam : {X : Type 0} (front : List X) (x y : X) (back : List X)
 set_at_seam [] x y back = refl
 set_at_seam (z ∷ front) x y back = ap (λ t. z ∷ t) (set_at_seam front x y back)
 
-module _ (look : Look) (w : WorldState) where
+module _ (look : ActView) (w : WorldState) where
   abbrev pub behind : Watched → Watched
   behind x = watched_after look (shown x.clock w) x
 
@@ -77,7 +77,7 @@ range_next place n below =
     rw e refl
 
 -- as many systems are kept after one is looked at
-pub same_count : (look : Look) (w : WorldState) (place : ℕ) (o : WatchState)
+pub same_count : (look : ActView) (w : WorldState) (place : ℕ) (o : WatchState)
     → length (see_at look w place o).systems ≡ length o.systems
 same_count look w place o = by (slice_get o.systems place)
   where
@@ -86,7 +86,7 @@ same_count look w place o = by (slice_get o.systems place)
     by (Some x) = length-set o.systems place (watched_after look (shown x.clock w) x)
 
 -- one more is looked at
-module _ (look : Look) (w : WorldState) (all : List (List ℕ)) (place n : ℕ) (below : place < n) (o next : WatchState)
+module _ (look : ActView) (w : WorldState) (all : List (List ℕ)) (place n : ℕ) (below : place < n) (o next : WatchState)
     (is : next ≡ see_at look w place o) where
   pub sees_more : (end : WatchState) → see_each look w (range_with_len place (n - place)) o ≡ end
       → see_each look w (range_with_len (place + 1) (n - (place + 1))) next ≡ end

@@ -4,11 +4,11 @@ use Rattle.std.specs.List.{AllByRecursion, filter}
 use Rattle.std.specs.List.Sorted.{IsPartitionPoint}
 use Rattle.std.proofs.lemmas.Bool.Decides.{nat_tests}
 use Rattle.std.proofs.lemmas.Option.{same_Some}
-use Rattle.gptp_acts.specs.Prompt.{ArePromptIn, IsPromptIn}
+use Rattle.gptp_acts.specs.Prompt.{AllDelaysFitIntervals, DelaysFitIntervals}
 use Rattle.gptp_acts.specs.World.{WorldState}
 use Rattle.gptp_acts.proofs.PromptLemmas.{stay_prompt}
 use Rattle.gptp_acts.proofs.StayLemmas.{Stays}
-use Rattle.gptp_lists.proofs.MemberLemmas.{In-slice_get, slice_get-In}
+use Rattle.gptp_lists.proofs.SystemSpecLemmas.{In-slice_get, slice_get-In}
 use Rattle.gptp_network.specs.Events.{AreInOrder}
 use Rattle.gptp_network.specs.Snapshot.{events_by}
 use Rattle.gptp_network.proofs.SnapshotLemmas.{from_filter}
@@ -189,17 +189,17 @@ pub record MayPass (until from : ℕ) (left : List Timed) (w : WorldState) : Typ
   pub due : Each (λ (e : Timed). nat_le e.at until ≡ true) left
   pub within : from ≤ until
   pub allowed : AreAllowed left
-  pub prompt : ArePromptIn w left
+  pub prompt : AllDelaysFitIntervals w left
 
 pub may_begin : (until : ℕ) (events : List Timed) (w : WorldState) → AreInOrder events → AreAllowed events
-    → ArePromptIn w events → MayPass until 0 (events_by until events) w
+    → AllDelaysFitIntervals w events → MayPass until 0 (events_by until events) w
 may_begin until events w order allowed prompt =
     let test : Timed → Bool = λ (e : Timed). nat_le e.at until in record {
       order = filter_in_order test events order;
       due = filter_passes test events;
       within = omega arith;
       allowed = filter_each IsAllowed test events allowed;
-      prompt = filter_each (λ (e : Timed). IsPromptIn w e.act) test events prompt;
+      prompt = filter_each (λ (e : Timed). DelaysFitIntervals w e.act) test events prompt;
     }
 
 -- behind a stretch with its events
@@ -215,7 +215,7 @@ may_next until from to left w w' may stays is =
       within = first_due until to (later_than from left) due is;
       allowed = filter_each IsAllowed test left may.allowed;
       prompt = stay_prompt (later_than from left) w w' stays
-          (filter_each (λ (e : Timed). IsPromptIn w e.act) test left may.prompt);
+          (filter_each (λ (e : Timed). DelaysFitIntervals w e.act) test left may.prompt);
     }
 
 -- a stretch ends no earlier than it begins

@@ -10,7 +10,7 @@ use Rattle.gptp_acts.proofs.StayLemmas.{acts_stay, stays_setups}
 use Rattle.gptp_graph.specs.Order.{IsRising}
 use Rattle.gptp_links.specs.Fate.{Draw}
 use Rattle.gptp_lists.specs.Members.{In}
-use Rattle.gptp_lists.proofs.MemberLemmas.{In-map, In-slice_get}
+use Rattle.gptp_lists.proofs.SystemSpecLemmas.{In-map, In-slice_get}
 use Rattle.gptp_plan.specs.declared.change.Act.{Act}
 use Rattle.gptp_system.specs.State.{clock}
 use Rattle.gptp_kept.proofs.NameLemmas.{clock_of_station, clocks_rise, In-rising}

@@ -20,11 +20,11 @@ use Rattle.gptp_graph.proofs.ParentLemmas.{IsParent-unique}
 use Rattle.gptp_graph.proofs.RoleLemmas.{RoleBy-unique}
 use Rattle.gptp_graph.proofs.SystemLemmas.{same_clock}
 use Rattle.gptp_kept.specs.CalmFor.{IsCalmFor, span_over}
-use Rattle.gptp_kept.specs.Claimed.{Claimed}
+use Rattle.gptp_kept.specs.SettlingInvariant.{SettlingInvariant}
 use Rattle.gptp_kept.specs.Settled.{IsSettledSystem, graph_role}
 use Rattle.gptp_kept.specs.Shown.{AreCapable}
 use Rattle.gptp_kept.specs.Standing.{snapshot_of, standing_system}
-use Rattle.gptp_kept.proofs.ClaimedLemmas.{over_capable, settled_by_paths}
+use Rattle.gptp_kept.proofs.SettlingInvariantLemmas.{over_capable, settled_by_paths}
 use Rattle.gptp_kept.proofs.ShownLemmas.{capable_shown}
 use Rattle.gptp_kept.proofs.SystemLemmas.{live_from, live_there}
 use Rattle.gptp_lists.specs.Members.{In}
@@ -221,7 +221,7 @@ lives_there w name x own member named =
 -- ---- a world that is at rest
 
 -- each near live system is at rest
-module _ (m : ℕ) (w : WorldState) (claimed : Claimed w) (bounded : BoundsPaths (snapshot_of w) m)
+module _ (m : ℕ) (w : WorldState) (claimed : SettlingInvariant w) (bounded : BoundsPaths (snapshot_of w) m)
     (calm : IsCalmFor (span_over m) w) where
   pub world_rests : (name : ℕ) (s : SystemState) → live_system name w ≡ Some s → IsNear (snapshot_of w) name
       → IsAtRest (snapshot_of w) s

@@ -26,8 +26,8 @@ use Rattle.gptp_graph.specs.PathBound.{BoundsPaths, path_bound}
 use Rattle.gptp_graph.specs.Snapshot.{clocks, IsWellFormed, Snapshot, System}
 use Rattle.gptp_graph.proofs.PathBoundLemmas.{paths_within}
 use Rattle.gptp_kept.specs.CalmFor.{IsCalmFor, span_over}
-use Rattle.gptp_kept.specs.Claimed.{IsClaimed}
-use Rattle.gptp_kept.specs.LegibleLaws.{SetsAnOctet}
+use Rattle.gptp_kept.specs.SettlingInvariant.{KeepsAll}
+use Rattle.gptp_kept.specs.EncodableLaws.{SetsAnOctet}
 use Rattle.gptp_kept.specs.SeenLaws.{IsNoChange}
 use Rattle.gptp_kept.specs.Standing.{snapshot_of}
 use Rattle.gptp_kept.specs.TimedClaim.{CarriesWhereCalm}
@@ -37,7 +37,7 @@ use Rattle.gptp_kept.proofs.FollowClaimLemmas.{carries_begins, carries_kept, car
 use Rattle.gptp_kept.proofs.StandsLemmas.{stands_well}
 use Rattle.gptp_links.specs.declared.bounds.Bounds.{Bounds}
 use Rattle.gptp_lists.specs.Members.{In}
-use Rattle.gptp_lists.proofs.MemberLemmas.{In-map}
+use Rattle.gptp_lists.proofs.SystemSpecLemmas.{In-map}
 use Rattle.gptp_network.specs.Document.{DocumentState}
 use Rattle.gptp_network.specs.Events.{AreInOrder, IsEvent}
 use Rattle.gptp_network.specs.Snapshot.{events_by, StandsAfter}
@@ -48,7 +48,7 @@ use Rattle.gptp_network.proofs.SnapshotLemmas as snapshots
 use Rattle.gptp_plan.specs.Allowed.{IsFitAct}
 use Rattle.gptp_plan.specs.Calm.{IsCalm, last_change}
 use Rattle.gptp_plan.specs.Network.{pace_of, smallest_of}
-use Rattle.gptp_plan.specs.Prompt.{IsPromptAct}
+use Rattle.gptp_plan.specs.Prompt.{DelayFitsInterval}
 use Rattle.gptp_plan.specs.SettlingTime.{settling_span_with}
 use Rattle.gptp_plan.specs.SyncWait.{sync_paths}
 use Rattle.gptp_plan.specs.declared.change.Act.{Act}
@@ -59,19 +59,19 @@ use Rattle.gptp_plan.specs.declared.sync_wait.SyncPaths.{SyncPaths}
 use Rattle.gptp_plan.proofs.LogLemmas.{smallest_log}
 use Rattle.gptp_reached.specs.AlikeLaws.{AreAlike}
 use Rattle.gptp_reached.specs.PlayedLaws.{IsPlayable}
-use Rattle.gptp_reached.specs.Reached.{StandsAs}
+use Rattle.gptp_reached.specs.Reached.{StandsAsPlanned}
 use Rattle.gptp_reached.proofs.BeginLemmas.{begun_stands}
 use Rattle.gptp_reached.proofs.CalmLemmas.{quiet_stands}
 use Rattle.gptp_reached.proofs.ChangeLemmas.{changes_stand}
-use Rattle.gptp_reached.proofs.ClaimedLemmas.{each_there}
+use Rattle.gptp_reached.proofs.SettlingInvariantLemmas.{each_there}
 use Rattle.gptp_reached.proofs.KeptLemmas.{acts_stand, time_stands}
 use Rattle.gptp_reached.proofs.SnapshotLemmas.{snapshots_stand}
 use Rattle.gptp_reached.proofs.SyncPathLemmas.{paths_stand}
 use Rattle.gptp_world.specs.Transitions.{Passes, PassesTo, Transition, transition}
 use Rattle.gptp_report.specs.Transitions.{Courses, Makes}
 use Rattle.gptp_setup.specs.Intervals.{interval_of}
-use Rattle.gptp_setup.specs.Pace.{Pace}
-use Rattle.gptp_world.proofs.ClaimedLemmas.{next_octet}
+use Rattle.gptp_setup.specs.SettlingParams.{SettlingParams}
+use Rattle.gptp_world.proofs.SettlingInvariantLemmas.{next_octet}
 use Rattle.gptp_world.proofs.InitialLemmas.{initial_sound}
 use Rattle.gptp_timeline.specs.Laws.{AllNear, Settle}
 use Rattle.gptp_timeline.specs.Passing.{first_time}
@@ -101,7 +101,7 @@ is_there w name s is =
 
 module _ {F : Type 0} (answers : Bounds → ℕ → F → Option ℕ → F → Type 0) (d : DocumentState)
     (playable : IsPlayable d) (names : List ℕ) where
-  abbrev pace : Pace
+  abbrev pace : SettlingParams
   pace = pace_of d.network
 
   abbrev least : ℕ
@@ -113,9 +113,9 @@ module _ {F : Type 0} (answers : Bounds → ℕ → F → Option ℕ → F → T
 
   -- A world keeps what all do, stands as the network does after these events, and has systems of these names.
   pub record Keeps (events : List Timed) (w : WorldState) : Type 0 where
-    pub claimed : IsClaimed pace w
+    pub claimed : KeepsAll pace w
     pub carries : CarriesWhereCalm pace w
-    pub stands : StandsAs d.network events w
+    pub stands : StandsAsPlanned d.network events w
     pub slow : NoneFaster least w
     pub named : AreNamed names w
 
@@ -136,7 +136,7 @@ module _ {F : Type 0} (answers : Bounds → ℕ → F → Option ℕ → F → T
     pub change : Change
     pub act : timed.act ≡ Changing change
     pub fit : IsFitAct timed.act
-    pub prompt : IsPromptAct least timed.act
+    pub prompt : DelayFitsInterval least timed.act
     pub octet : SetsAnOctet timed.act
 
   pub events_fit : Each IsFitEvent d.events
@@ -274,7 +274,7 @@ module _ {F : Type 0} (answers : Bounds → ℕ → F → Option ℕ → F → T
         λ v u us way. paths_within g well v u us (path (snapshot_of w) g alike v u us way)
 
     -- by whichever span, where so much has passed since the last change
-    pub calm_since : (over : Pace → SyncPaths → ℕ → ℕ) (w : WorldState) → Keeps events w
+    pub calm_since : (over : SettlingParams → SyncPaths → ℕ → ℕ) (w : WorldState) → Keeps events w
         → last_change events + over pace (sync_paths d.network events) (length (snapshot_of w).systems) ≤ w.time
         → (calm : IsCalmFor over w) × (calm.pace ≡ pace)
     calm_since over w keeps late =

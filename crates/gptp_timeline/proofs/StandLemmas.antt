@@ -3,12 +3,12 @@ use Rattle.std.proofs.Common.{◌≡◌, ℕ, zero, suc, Bool, true, false, List
 use Rattle.std.proofs.lemmas.Option.{same_Some}
 use Rattle.gptp_acts.specs.World.{WorldState}
 use Rattle.gptp_graph.specs.Order.{IsRising}
-use Rattle.gptp_lists.proofs.MemberLemmas.{In-slice_get}
+use Rattle.gptp_lists.proofs.SystemSpecLemmas.{In-slice_get}
 use Rattle.gptp_timeline.specs.Measures.{since_after}
 use Rattle.gptp_timeline.specs.Shown.{is_expecting, shown}
 use Rattle.gptp_timeline.specs.Watch.{watched_after}
 use Rattle.gptp_timeline.specs.declared.shown.Shown.{Shown}
-use Rattle.gptp_timeline.specs.declared.watched.Look.{Look}
+use Rattle.gptp_timeline.specs.declared.watched.ActView.{ActView}
 use Rattle.gptp_timeline.specs.declared.watched.Watched.{Watched}
 
 -- ---- lists of what is kept for each name
@@ -92,7 +92,7 @@ module _ (since errors : ℕ → Option ℕ) (w w' : WorldState) (at : ℕ) (rec
   made name s begun = record { clock = name; shown = s; since = begun; error = errors name }
 
   -- one that is looked at
-  looked : (look : Look) (name : ℕ) → look.at ≡ at → look.received ≡ receives name
+  looked : (look : ActView) (name : ℕ) → look.at ≡ at → look.received ≡ receives name
       → watched_after look (shown name w') (kept since errors w name) ≡ kept next errors w' name
   looked look name when received =
       ap (λ t. made name (shown name w') (since_after t look.received (is_expecting (shown name w))
@@ -126,7 +126,7 @@ module _ (since errors : ℕ → Option ℕ) (w w' : WorldState) (at : ℕ) (rec
     }
 
     -- one system alone is looked at
-    pub one : (look : Look) (place clock : ℕ) (x : Watched) → IsRising names → slice_get systems place ≡ Some x
+    pub one : (look : ActView) (place clock : ℕ) (x : Watched) → IsRising names → slice_get systems place ≡ Some x
         → x.clock ≡ clock → look.at ≡ at → look.received ≡ receives clock
         → ((name : ℕ) → (name ≡ clock → ⊥) → shown name w' ≡ shown name w)
         → ((name : ℕ) → (name ≡ clock → ⊥) → receives name ≡ false)
@@ -148,7 +148,7 @@ module _ (since errors : ℕ → Option ℕ) (w w' : WorldState) (at : ℕ) (rec
         }
 
     -- all are looked at
-    pub all : (look : Look) → look.at ≡ at → ((name : ℕ) → look.received ≡ receives name)
+    pub all : (look : ActView) → look.at ≡ at → ((name : ℕ) → look.received ≡ receives name)
         → Stands names next errors w' (map (λ (x : Watched). watched_after look (shown x.clock w') x) systems)
     all look when received = record {
       are = ap (map (λ (x : Watched). watched_after look (shown x.clock w') x)) stands.are

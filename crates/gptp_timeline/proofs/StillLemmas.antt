@@ -8,7 +8,7 @@ use Rattle.gptp_timeline.specs.Shown.{is_expecting, shown}
 use Rattle.gptp_timeline.specs.Watch.{lines_at, measures_after, one_lines, see_at, see_one, StaysSo, unless, watched_after, WatchState}
 use Rattle.gptp_timeline.specs.declared.measures.Measures.{Measures}
 use Rattle.gptp_timeline.specs.declared.shown.Shown.{Shown}
-use Rattle.gptp_timeline.specs.declared.watched.Look.{Look}
+use Rattle.gptp_timeline.specs.declared.watched.ActView.{ActView}
 use Rattle.gptp_timeline.specs.declared.watched.Watched.{Watched}
 use Rattle.gptp_timeline.proofs.SameLemmas.{choice_itself, known_itself, no_change_lines, roles_itself}
 
@@ -29,7 +29,7 @@ set_same [] place x there = absurd cc
 set_same (y ∷ ys) zero x there = ap (λ z. z ∷ ys) (sym (same_Some y x there))
 set_same (y ∷ ys) (suc place) x there = ap (λ zs. y ∷ zs) (set_same ys place x there)
 
-module _ (look : Look) (w : WorldState) (x : Watched) (so : StaysSo look w x) where
+module _ (look : ActView) (w : WorldState) (x : Watched) (so : StaysSo look w x) where
   waits : (since_after look.at look.received (is_expecting x.shown) (is_expecting x.shown) x.since ≡ x.since)
       × (ended_by look.at look.by_event look.received (is_expecting x.shown) x.since ≡ None)
   waits = wait_stays look.at look.by_event look.received (is_expecting x.shown) x.since so.waits_so

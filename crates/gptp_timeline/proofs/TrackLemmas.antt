@@ -10,7 +10,7 @@ use Rattle.gptp_timeline.specs.Watch.{lines_all, lines_each, measures_after, one
 use Rattle.gptp_timeline.specs.declared.measures.Greatest.{Greatest}
 use Rattle.gptp_timeline.specs.declared.measures.Measures.{Measures}
 use Rattle.gptp_timeline.specs.declared.shown.Shown.{Shown}
-use Rattle.gptp_timeline.specs.declared.watched.Look.{Look}
+use Rattle.gptp_timeline.specs.declared.watched.ActView.{ActView}
 use Rattle.gptp_timeline.specs.declared.watched.Watched.{Watched}
 use Rattle.gptp_timeline.proofs.EachLemmas.{at_seam, behind, measured_each, set_at_seam}
 use Rattle.gptp_timeline.proofs.StandLemmas.{kept}
@@ -37,7 +37,7 @@ pub same_made : (a b c a' b' c' : Option ℕ) (h e : Option Greatest) → a ≡ 
 same_made a b c a' b' c' h e x y z =
     ap (λ v. made v b c h e) x ∙ ap (λ v. made a' v c h e) y ∙ ap (λ v. made a' b' v h e) z
 
-module _ (look : Look) (since errors : ℕ → Option ℕ) (w w' : WorldState) where
+module _ (look : ActView) (since errors : ℕ → Option ℕ) (w w' : WorldState) where
   -- some of these systems aren't the same
   abbrev pub some_other : (Option Shown → Option Shown → Bool) → List ℕ → Bool
   some_other same names = list_any (λ name. not (same (shown name w) (shown name w'))) names
@@ -70,7 +70,7 @@ module _ (look : Look) (since errors : ℕ → Option ℕ) (w w' : WorldState) w
 
 -- ---- the lines of several systems
 
-module _ (look : Look) (w : WorldState) where
+module _ (look : ActView) (w : WorldState) where
   -- the lines of the systems after others that were looked at
   pub each_lines : (front back : List Watched) (o : WatchState) → o.systems ≡ front ++ back
       → lines_each look w (range_with_len (length front) (length back)) o

@@ -11,7 +11,7 @@ use Rattle.gptp_graph.specs.Snapshot.{IsWellFormed, Joins, PortIdentity, port_of
 use Rattle.gptp_graph.proofs.LinkLemmas.{Joins-sym}
 use Rattle.gptp_graph.proofs.ParentLemmas.{IsParent-unique}
 use Rattle.gptp_kept.specs.Followers.{bound_at, follower_parts}
-use Rattle.gptp_kept.specs.Legible.{IsLegible}
+use Rattle.gptp_kept.specs.Encodable.{IsEncodable}
 use Rattle.gptp_kept.specs.Standing.{live_stations, snapshot_of}
 use Rattle.gptp_kept.proofs.FollowPartLemmas.{bound_is, set_up_is}
 use Rattle.gptp_kept.proofs.WayLemmas.{way_of}
@@ -19,15 +19,15 @@ use Rattle.gptp_links.specs.declared.bounds.Bounds.{Bounds}
 use Rattle.gptp_links.specs.declared.link.Direction.{Direction}
 use Rattle.gptp_links.specs.declared.link.Direction.TheVariants.{FromA, FromB}
 use Rattle.gptp_lists.proofs.MappedLemmas.{alike}
-use Rattle.gptp_lists.proofs.MemberLemmas.{slice_get-In}
+use Rattle.gptp_lists.proofs.SystemSpecLemmas.{slice_get-In}
 use Rattle.gptp_network.proofs.SnapshotLemmas.{clock_after}
 use Rattle.gptp_plan.specs.Change.{link_after}
 use Rattle.gptp_plan.specs.Network.{IsEnd, IsNetwork, NetworkState, pace_of}
 use Rattle.gptp_plan.specs.declared.change.Timed.{Timed}
-use Rattle.gptp_plan.specs.declared.network.Wire.{Wire}
+use Rattle.gptp_plan.specs.declared.network.LinkSpec.{LinkSpec}
 use Rattle.gptp_plan.proofs.AfterLemmas.{after_keeps}
 use Rattle.gptp_reached.specs.AlikeLaws.{AreAlike}
-use Rattle.gptp_reached.specs.Reached.{Shape, shape, shape_after, StandsAs, channel_wire}
+use Rattle.gptp_reached.specs.Reached.{Shape, shape, shape_after, StandsAsPlanned, channel_wire}
 use Rattle.gptp_reached.proofs.AlikeLemmas.{distance, parent, turned}
 use Rattle.gptp_roles.specs.Selection.{clock_of}
 use Rattle.gptp_time_error.specs.Ways.{HasDrift, IsLinkTo, IsWay, root_way}
@@ -35,8 +35,8 @@ use Rattle.gptp_timing.specs.Tree.{IsWayTo, last_link, Parts}
 use Rattle.gptp_timing.proofs.TreeLemmas.{way_exists}
 use Rattle.gptp_vector.specs.declared.port.PortId.{PortId}
 
-module _ (n : NetworkState) (network : IsNetwork n) (events : List Timed) (w : WorldState) (so : StandsAs n events w)
-    (sound : IsSound w) (legible : IsLegible w) where
+module _ (n : NetworkState) (network : IsNetwork n) (events : List Timed) (w : WorldState) (so : StandsAsPlanned n events w)
+    (sound : IsSound w) (legible : IsEncodable w) where
   abbrev x : Parts
   x = follower_parts n.params w
 
@@ -57,15 +57,15 @@ module _ (n : NetworkState) (network : IsNetwork n) (events : List Timed) (w : W
       ∙ ap (λ (s : Shape). s.setup.drift) same ∙ sym has.drift_is
 
   -- the end of a link that receives
-  is_end : (direction : Direction) (channel : Channel) (v : Wire) (p : PortId) → link_after events v ≡ channel_wire channel
+  is_end : (direction : Direction) (channel : Channel) (v : LinkSpec) (p : PortId) → link_after events v ≡ channel_wire channel
       → receiver direction channel ≡ p → IsEnd p v
   is_end FromA channel v p same to =
-      inr (sym (after_keeps events v).b ∙ ap (λ (u : Wire). u.b) same ∙ to)
+      inr (sym (after_keeps events v).b ∙ ap (λ (u : LinkSpec). u.b) same ∙ to)
   is_end FromB channel v p same to =
-      inl (sym (after_keeps events v).a ∙ ap (λ (u : Wire). u.a) same ∙ to)
+      inl (sym (after_keeps events v).a ∙ ap (λ (u : LinkSpec). u.a) same ∙ to)
 
   -- a bound of the link at a port that is in use
-  bound_there : (f : Bounds → ℕ) (clock port : ℕ) (other : PortIdentity) (v : Wire) (place : ℕ)
+  bound_there : (f : Bounds → ℕ) (clock port : ℕ) (other : PortIdentity) (v : LinkSpec) (place : ℕ)
       → slice_get n.links place ≡ Some v → IsEnd (record { clock = clock; port = port }) v
       → Joins (snapshot_of w) (port_of clock port) other
       → bound_at f (live_stations w.stations) w.net.channels (port_of clock port) ≡ f (link_after events v).bounds
@@ -82,7 +82,7 @@ module _ (n : NetworkState) (network : IsNetwork n) (events : List Timed) (w : W
       let link : u ≡ v = same_Some u v (sym there ∙ ap (slice_get n.links) one ∙ at) in
       ap (bound_at f (live_stations w.stations) w.net.channels) (sym to)
       ∙ bound_is f w sound legible way.link way.direction way.channel way.here way.used
-      ∙ ap (λ (l : Wire). f l.bounds) (sym same) ∙ ap (λ l. f (link_after events l).bounds) link
+      ∙ ap (λ (l : LinkSpec). f l.bounds) (sym same) ∙ ap (λ l. f (link_after events l).bounds) link
 
   link_there : (clock : ℕ) (follows : ParentLink) (l : WayLink) → IsLinkTo n events clock follows l
       → IsParent (snapshot_of w) clock follows → last_link x clock follows ≡ l

@@ -15,18 +15,18 @@ use Rattle.gptp_graph.specs.PathBound.{BoundsPaths, path_bound}
 use Rattle.gptp_graph.specs.Snapshot.{IsWellFormed, Snapshot, System}
 use Rattle.gptp_graph.proofs.DistanceLemmas.{best_at_zero}
 use Rattle.gptp_kept.specs.CalmFor.{IsCalmFor}
-use Rattle.gptp_kept.specs.Claimed.{IsClaimed}
+use Rattle.gptp_kept.specs.SettlingInvariant.{KeepsAll}
 use Rattle.gptp_kept.specs.Exact.{exact_span, IsWayError, IsExactInTime}
 use Rattle.gptp_kept.specs.Followers.{follower_parts}
 use Rattle.gptp_kept.specs.Standing.{snapshot_of}
-use Rattle.gptp_kept.specs.TimedClaim.{AllClaimed}
+use Rattle.gptp_kept.specs.TimedClaim.{WorldInvariant}
 use Rattle.gptp_kept.proofs.CalmKeptLemmas.{acts_keep, KeepsNetwork, same_snapshot}
 use Rattle.gptp_kept.proofs.ExactLemmas.{receipts_are_exact}
 use Rattle.gptp_kept.proofs.FollowPartLemmas.{clock_shown, same_parts}
 use Rattle.gptp_kept.proofs.StandsLemmas.{stands_well}
 use Rattle.gptp_links.specs.declared.bounds.Bounds.{Bounds}
 use Rattle.gptp_lists.specs.Members.{In}
-use Rattle.gptp_lists.proofs.MemberLemmas.{slice_get-In}
+use Rattle.gptp_lists.proofs.SystemSpecLemmas.{slice_get-In}
 use Rattle.gptp_network.specs.Document.{DocumentState}
 use Rattle.gptp_network.specs.Snapshot.{events_by, StandsAfter}
 use Rattle.gptp_pdelay.specs.Clock.{local_clock}
@@ -39,12 +39,12 @@ use Rattle.gptp_plan.specs.declared.sync_wait.SyncPaths.{SyncPaths}
 use Rattle.gptp_reached.specs.AlikeLaws.{AreAlike}
 use Rattle.gptp_reached.specs.PlayedLaws.{IsPlayable}
 use Rattle.gptp_reached.proofs.AlikeLemmas.{distance, turned}
-use Rattle.gptp_reached.proofs.ClaimedLemmas.{each_there}
+use Rattle.gptp_reached.proofs.SettlingInvariantLemmas.{each_there}
 use Rattle.gptp_report.specs.Transitions.{Courses, Unfolds}
 use Rattle.gptp_roles.specs.Selection.{clock_of}
 use Rattle.gptp_scaled.specs.Counts.{AreWithin}
 use Rattle.gptp_setup.specs.Intervals.{IsLog}
-use Rattle.gptp_setup.specs.Pace.{largest_interval, Pace}
+use Rattle.gptp_setup.specs.SettlingParams.{largest_interval, SettlingParams}
 use Rattle.gptp_setup.proofs.IntervalLemmas.{interval_positive}
 use Rattle.gptp_system.specs.State.{local_time, SystemState}
 use Rattle.gptp_time_error.specs.TimeErrors.{AreTimeErrors, exact_from, IsFrom}
@@ -118,7 +118,7 @@ has_error name t error is = by_own (live_system name t.after) refl is
 -- ---- clocks
 
 -- what the clock of a live system shows
-shown_by : (p : Pace) (w : WorldState) → IsClaimed p w → (name : ℕ) (s : SystemState) → live_system name w ≡ Some s
+shown_by : (p : SettlingParams) (w : WorldState) → KeepsAll p w → (name : ℕ) (s : SystemState) → live_system name w ≡ Some s
     → (time : ℕ) → local_time s time
     ≡ local_clock ((follower_parts p.params w).phase name) ((follower_parts p.params w).drift name) time
 shown_by p w claimed name s is time =
@@ -136,7 +136,7 @@ late_enough change span from time most steps each is late few =
     let product : steps * each ≤ most * each = mul-le-mul few (le_refl each) in omega (arith, is, late, product)
 
 -- settling takes some time
-span_positive : (p : Pace) (paths : SyncPaths) (m : ℕ) → IsLog p.largest → 1 ≤ settling_span_with p paths m
+span_positive : (p : SettlingParams) (paths : SyncPaths) (m : ℕ) → IsLog p.largest → 1 ≤ settling_span_with p paths m
 span_positive p paths m log =
     let factor : 1 ≤ (p.params.timeout + 3) * m + p.params.lost + 5 = omega arith in
     let product : 1 * 1 ≤ ((p.params.timeout + 3) * m + p.params.lost + 5) * largest_interval p =
@@ -150,7 +150,7 @@ module _ {F : Type 0} (answers : Bounds → ℕ → F → Option ℕ → F → T
   abbrev n : NetworkState
   n = d.network
 
-  abbrev pace : Pace
+  abbrev pace : SettlingParams
   pace = pace_of n
 
   -- a world that keeps to these events
@@ -243,7 +243,7 @@ module _ {F : Type 0} (answers : Bounds → ℕ → F → Option ℕ → F → T
             (same_parts pace.params then t.after network)
             ∙ sym (shown_by pace w keeps.claimed number s before (at_of t))
 
-        all : AllClaimed w
+        all : WorldInvariant w
         all = record { pace = pace; is = keeps.claimed; carries = keeps.carries }
 
         error_is : IsWayError calm.0.pace.params w name (suc has.steps) bound
@@ -251,7 +251,7 @@ module _ {F : Type 0} (answers : Bounds → ℕ → F → Option ℕ → F → T
             let is = keeps.claimed.world in
             let (phase, leads) = way_there n playable.network events w keeps.stands is.sound is.legible g alike
             (suc has.steps) name has.way well has.far has.leads in
-            subst (λ (p : Pace). IsWayError p.params w name (suc has.steps) bound) (sym calm.1)
+            subst (λ (p : SettlingParams). IsWayError p.params w name (suc has.steps) bound) (sym calm.1)
             (record { way = has.way; phase = phase; leads = leads; is = has.bound_is })
 
         -- the best of the component, whose clock the root of the system names

@@ -20,24 +20,24 @@ use Rattle.gptp_timeline.specs.Stretch.{same_known}
 use Rattle.gptp_timeline.specs.declared.measures.Greatest.{Greatest}
 use Rattle.gptp_timeline.specs.declared.measures.Measures.{Measures}
 use Rattle.gptp_timeline.specs.declared.shown.Shown.{Shown}
-use Rattle.gptp_timeline.specs.declared.watched.Look.{Look}
+use Rattle.gptp_timeline.specs.declared.watched.ActView.{ActView}
 use Rattle.gptp_timeline.specs.declared.watched.Watched.{Watched}
 
 -- ---- one system
 
-abbrev pub since_behind : Look → Watched → Option Shown → Option ℕ
+abbrev pub since_behind : ActView → Watched → Option Shown → Option ℕ
 since_behind look x after = since_after look.at look.received (is_expecting x.shown) (is_expecting after) x.since
 
 -- an act that leaves a system as it is neither begins nor ends a wait of it: none is received, and it goes on to expect
 -- time where it waits
-abbrev pub leaves_wait : Look → Watched → Bool
+abbrev pub leaves_wait : ActView → Watched → Bool
 leaves_wait look x = not look.received && (is_none x.since || is_expecting x.shown)
 
-abbrev pub wait_behind : Look → Watched → Option Shown → Option Greatest
+abbrev pub wait_behind : ActView → Watched → Option Shown → Option Greatest
 wait_behind look x after =
     option_map (one_at x.clock) (ended_by look.at look.by_event look.received (is_expecting after) x.since)
 
-abbrev pub measures_after : Look → Watched → Option Shown → Measures → Measures
+abbrev pub measures_after : ActView → Watched → Option Shown → Measures → Measures
 measures_after look x after m = record {
   choice = last_if (same_choice x.shown after) look.at m.choice;
   roles = last_if (same_roles x.shown after) look.at m.roles;
@@ -46,11 +46,11 @@ measures_after look x after m = record {
   error = m.error;
 }
 
-abbrev pub watched_after : Look → Option Shown → Watched → Watched
+abbrev pub watched_after : ActView → Option Shown → Watched → Watched
 watched_after look after x = record x { shown = after; since = since_behind look x after }
 
 -- an act leaves all that is kept of it as it was
-pub record StaysSo (look : Look) (w : WorldState) (x : Watched) : Type 0 where
+pub record StaysSo (look : ActView) (w : WorldState) (x : Watched) : Type 0 where
   pub shown_so : shown x.clock w ≡ x.shown
   pub waits_so : leaves_wait look x ≡ true
 
@@ -94,33 +94,33 @@ unless true lines = []
 unless false lines = lines
 
 -- the system at a place is left so by an act
-abbrev pub taken : Look → ℕ → Watched → Option Shown → WatchState → WatchState
+abbrev pub taken : ActView → ℕ → Watched → Option Shown → WatchState → WatchState
 taken look place x after o = record o {
   systems = slice_set o.systems place (watched_after look after x);
   measures = measures_after look x after o.measures;
 }
 
 -- the system at a place is looked at, if there is one
-abbrev pub see_one : Look → WorldState → ℕ → Option Watched → WatchState → WatchState
+abbrev pub see_one : ActView → WorldState → ℕ → Option Watched → WatchState → WatchState
 see_one look w place None o = o
 see_one look w place (Some x) o = taken look place x (shown x.clock w) o
 
-abbrev pub see_at : Look → WorldState → ℕ → WatchState → WatchState
+abbrev pub see_at : ActView → WorldState → ℕ → WatchState → WatchState
 see_at look w place o = see_one look w place (slice_get o.systems place) o
 
-abbrev pub one_lines : Look → WorldState → Option Watched → List (List ℕ)
+abbrev pub one_lines : ActView → WorldState → Option Watched → List (List ℕ)
 one_lines look w None = []
 one_lines look w (Some x) = change_lines look.at x.clock x.shown (shown x.clock w)
 
-abbrev pub lines_at : Look → WorldState → ℕ → WatchState → List (List ℕ)
+abbrev pub lines_at : ActView → WorldState → ℕ → WatchState → List (List ℕ)
 lines_at look w place o = unless o.summary (one_lines look w (slice_get o.systems place))
 
 -- several are, one after another
-abbrev pub see_each : Look → WorldState → List ℕ → WatchState → WatchState
+abbrev pub see_each : ActView → WorldState → List ℕ → WatchState → WatchState
 see_each look w [] o = o
 see_each look w (place ∷ places) o = see_each look w places (see_at look w place o)
 
-abbrev pub lines_each : Look → WorldState → List ℕ → WatchState → List (List ℕ)
+abbrev pub lines_each : ActView → WorldState → List ℕ → WatchState → List (List ℕ)
 lines_each look w [] o = []
 lines_each look w (place ∷ places) o = lines_at look w place o ++ lines_each look w places (see_at look w place o)
 
@@ -129,18 +129,18 @@ places_of o = range_with_len 0 (length o.systems)
 
 -- ---- an event
 
-abbrev pub event_look : ℕ → Look
+abbrev pub event_look : ℕ → ActView
 event_look at = record { at = at; by_event = true; received = false }
 
-abbrev pub see_all : Look → WorldState → WatchState → WatchState
+abbrev pub see_all : ActView → WorldState → WatchState → WatchState
 see_all look w o = see_each look w (places_of o) o
 
-abbrev pub lines_all : Look → WorldState → WatchState → List (List ℕ)
+abbrev pub lines_all : ActView → WorldState → WatchState → List (List ℕ)
 lines_all look w o = lines_each look w (places_of o) o
 
 -- ---- a delivery or an expiry
 
-abbrev pub own_look : ℕ → Bool → Look
+abbrev pub own_look : ℕ → Bool → ActView
 own_look at received = record { at = at; by_event = false; received = received }
 
 -- the receipt of the system at a place, with its error, is measured

@@ -65,7 +65,7 @@ fn error_against(at: u64, offset: ScaledNs, system: &System, leader: &System) ->
 /// that of the system whose clock its root names; none where that doesn't live, or no offset is known.
 pub(crate) fn error_of<F: Fate + Drop>(at: u64, system: &System, world: &World<F>) -> Option<i128>
     requires { at ≤ 1000000000000000 }
-    ensures { result ≡ offset_error at system.now world.now.scene }
+    ensures { result ≡ offset_error at system.now world.now.world_core }
 {
     world.well_formed();
     let (root, _, _) = system.follows();

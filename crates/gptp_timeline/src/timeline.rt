@@ -4,7 +4,7 @@ ghost use Rattle.std.specs.Prelude.{◌≡◌, ◌≢◌, ◌≤◌, ◌++◌, �
 ghost use Rattle.std.specs.Io.KnownBytes.{Appends};
 ghost use Rattle.std.specs.List.{flat_map};
 ghost use Rattle.gptp_acts.specs.Course.{Begun};
-ghost use Rattle.gptp_acts.specs.Prompt.{ArePromptIn};
+ghost use Rattle.gptp_acts.specs.Prompt.{AllDelaysFitIntervals};
 ghost use Rattle.gptp_acts.specs.Views.{rising_clocks};
 ghost use Rattle.gptp_network.specs.Events.{AreInOrder};
 ghost use Rattle.gptp_network.specs.Snapshot.{events_by};
@@ -259,16 +259,16 @@ fn pass_stretch<F: Fate + Drop, K: Sink>(
     sink: &mut K,
 ) -> Result<StretchEnd, Cut>
     requires allowed { AreAllowed events.now }
-    requires prompt { ArePromptIn world.old.scene events.now }
+    requires prompt { AllDelaysFitIntervals world.old.world_core events.now }
     requires due { events_by plan.now.to events.now ≡ events.now }
     requires moment { plan.now.to ≤ 1000000000000000 }
     ensures passed { IfOk result (λ end. (told : List (List ℕ))
-        × StretchIsSeen F.answers plan.now events.now world.old.fate world.new.fate world.old.scene world.new.scene
+        × StretchIsSeen F.answers plan.now events.now world.old.fate world.new.fate world.old.world_core world.new.world_core
         watch.old watch.new told
         × (end ≡ end_of plan.now watch.new)
         × Appends (K.written sink.old) (K.written sink.new) (text_of (told ++ end_lines plan.now watch.new))) }
     ensures broken { OnErr result ((lines : List (List ℕ))
-        × StretchBreaksOff F.answers plan.now events.now world.old.fate world.old.scene watch.old lines
+        × StretchBreaksOff F.answers plan.now events.now world.old.fate world.old.world_core watch.old lines
         × AppendsSome (K.written sink.old) (K.written sink.new) (text_of lines)) }
     ensures works { result ≢ Err Cut.Write → K.failures sink.new ≡ K.failures sink.old }
     ensures fails { result ≡ Err Cut.Write → K.failures sink.new ≢ K.failures sink.old }
@@ -294,18 +294,18 @@ fn next_stretch<F: Fate + Drop, K: Sink>(
     sink: &mut K,
 ) -> Result<Kept, Cut>
     requires allowed { AreAllowed events.now }
-    requires prompt { ArePromptIn world.old.scene events.now }
+    requires prompt { AllDelaysFitIntervals world.old.world_core events.now }
     requires due { events_by to events.now ≡ events.now }
     requires moment { to ≤ 1000000000000000 }
     requires times { AreCalmTimes document.now times.now }
     ensures passed { IfOk result (λ kept. (plan : Plan) × (told : List (List ℕ))
         × IsTimelinePlan exact document.now from to (is_begun events.now) plan
-        × StretchIsSeen F.answers plan events.now world.old.fate world.new.fate world.old.scene world.new.scene
+        × StretchIsSeen F.answers plan events.now world.old.fate world.new.fate world.old.world_core world.new.world_core
         watch.old watch.new told
         × (kept ≡ kept_after limits.now (end_of plan watch.new) before)
         × Appends (K.written sink.old) (K.written sink.new) (text_of (told ++ end_lines plan watch.new))) }
     ensures broken { OnErr result ((lines : List (List ℕ))
-        × StopsSeen F.answers exact document.now from to events.now world.old.fate world.old.scene watch.old lines
+        × StopsSeen F.answers exact document.now from to events.now world.old.fate world.old.world_core watch.old lines
         × AppendsSome (K.written sink.old) (K.written sink.new) (text_of lines)) }
     ensures works { result ≢ Err Cut.Write → K.failures sink.new ≡ K.failures sink.old }
     ensures fails { result ≡ Err Cut.Write → K.failures sink.new ≢ K.failures sink.old }
@@ -329,22 +329,22 @@ fn all_stretches<F: Fate + Drop, K: Sink>(
     sink: &mut K,
 ) -> Result<Kept, Cut>
     requires moment { until ≤ 1000000000000000 }
-    requires begun { (fate : F) × Begun F.answers document.now.network fate world.old.fate world.old.scene }
-    requires prompt { ArePromptIn world.old.scene document.now.events }
-    requires starts { watch.old ≡ watch_at_start options.now world.old.scene }
+    requires begun { (fate : F) × Begun F.answers document.now.network fate world.old.fate world.old.world_core }
+    requires prompt { AllDelaysFitIntervals world.old.world_core document.now.events }
+    requires starts { watch.old ≡ watch_at_start options.now world.old.world_core }
     requires times { AreCalmTimes document.now times.now }
     ensures passed { IfOk result (λ kept. (passages : List Passage)
         × AllPass F.answers exact document.now until 0 (events_by until document.now.events) world.old.fate world.new.fate
-        world.old.scene world.new.scene passages
-        × (kept ≡ all_kept options.now.limits (rising_clocks world.old.scene) none_waits passages none_kept)
+        world.old.world_core world.new.world_core passages
+        × (kept ≡ all_kept options.now.limits (rising_clocks world.old.world_core) none_waits passages none_kept)
         × Appends (K.written sink.old) (K.written sink.new)
-        (text_of (all_lines options.now (rising_clocks world.old.scene) none_waits passages))) }
+        (text_of (all_lines options.now (rising_clocks world.old.world_core) none_waits passages))) }
     ensures broken { OnErr result ((passages : List Passage) × (acts : List Transition)
-        × SomePass F.answers exact document.now until 0 (events_by until document.now.events) world.old.fate world.old.scene
+        × SomePass F.answers exact document.now until 0 (events_by until document.now.events) world.old.fate world.old.world_core
         passages acts
         × AppendsSome (K.written sink.old) (K.written sink.new)
-        (text_of (all_lines options.now (rising_clocks world.old.scene) none_waits passages
-        ++ flat_map (act_lines options.now (rising_clocks world.old.scene)) acts))) }
+        (text_of (all_lines options.now (rising_clocks world.old.world_core) none_waits passages
+        ++ flat_map (act_lines options.now (rising_clocks world.old.world_core)) acts))) }
     ensures works { result ≢ Err Cut.Write → K.failures sink.new ≡ K.failures sink.old }
     ensures fails { result ≡ Err Cut.Write → K.failures sink.new ≢ K.failures sink.old }
 {
@@ -375,10 +375,10 @@ fn write_start<F: Fate + Drop, K: Sink>(
     sink: &mut K,
 ) -> Result<(), Cut>
     ensures some { AppendsSome (K.written sink.old) (K.written sink.new)
-        (text_of (lines_all (event_look 0) world.now.scene watch.old)) }
-    ensures sees { OnOk result (watch.new ≡ see_all (event_look 0) world.now.scene watch.old) }
+        (text_of (lines_all (event_look 0) world.now.world_core watch.old)) }
+    ensures sees { OnOk result (watch.new ≡ see_all (event_look 0) world.now.world_core watch.old) }
     ensures whole { OnOk result (Appends (K.written sink.old) (K.written sink.new)
-        (text_of (lines_all (event_look 0) world.now.scene watch.old))) }
+        (text_of (lines_all (event_look 0) world.now.world_core watch.old))) }
     ensures works { result ≢ Err Cut.Write → K.failures sink.new ≡ K.failures sink.old }
     ensures fails { result ≡ Err Cut.Write → K.failures sink.new ≢ K.failures sink.old }
 {

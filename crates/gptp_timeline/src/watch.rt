@@ -12,7 +12,7 @@ use crate::event_line::write_event;
 use crate::measures::{Greatest, Measures, NOTHING, better_if};
 use crate::receipts::{error_of, received_by, write_offset};
 use crate::shown::{Shown, shown_of, shows};
-use crate::watched::{Look, Watched, error_after, leaves_wait, measures_after, since_behind};
+use crate::watched::{ActView, Watched, error_after, leaves_wait, measures_after, since_behind};
 use gptp_links::Fate;
 use gptp_plan::Change;
 use gptp_report::sink::Sink;
@@ -58,7 +58,7 @@ impl Model for Watch {
 
 /// What the system with a clock shows, where it is live.
 fn shown_in<F: Fate + Drop>(world: &World<F>, clock: ClockId) -> Option<Shown>
-    ensures { result ≡ shown clock world.now.scene }
+    ensures { result ≡ shown clock world.now.world_core }
 {
     world.well_formed();
     match world.system(clock) {
@@ -69,7 +69,7 @@ fn shown_in<F: Fate + Drop>(world: &World<F>, clock: ClockId) -> Option<Shown>
 
 /// Whether the system with a clock shows this, or doesn't live as nothing is shown.
 fn shows_in<F: Fate + Drop>(world: &World<F>, clock: ClockId, last: &Option<Shown>) -> bool
-    ensures { result ≡ true → shown clock world.now.scene ≡ last.now }
+    ensures { result ≡ true → shown clock world.now.world_core ≡ last.now }
 {
     world.well_formed();
     match (world.system(clock), last) {
@@ -97,8 +97,8 @@ fn push_unseen<F: Fate + Drop>(
     world: &World<F>,
     place: usize,
 ) -> Result<(), AllocError>
-    requires { systems.old.items ≡ map unseen (take place (rising_clocks world.now.scene)) }
-    ensures { OnOk result (systems.new.items ≡ map unseen (take (place + 1) (rising_clocks world.now.scene))) }
+    requires { systems.old.items ≡ map unseen (take place (rising_clocks world.now.world_core)) }
+    ensures { OnOk result (systems.new.items ≡ map unseen (take (place + 1) (rising_clocks world.now.world_core))) }
 {
     if let Some(clock) = world.clock_at(place) {
         systems.push(unseen(clock))?;
@@ -108,7 +108,7 @@ fn push_unseen<F: Fate + Drop>(
 
 /// What is kept of all systems, by rising clock, before they start.
 fn all_unseen<F: Fate + Drop>(alloc: Global, world: &World<F>) -> Result<Vec<Watched>, AllocError>
-    ensures { IfOk result (λ v. v.items ≡ map unseen (rising_clocks world.now.scene)) }
+    ensures { IfOk result (λ v. v.items ≡ map unseen (rising_clocks world.now.world_core)) }
 {
     let mut systems = Vec::new(alloc);
     for place in 0..world.count() {
@@ -179,7 +179,7 @@ impl Watch {
           summary = summary;
           offsets = offsets;
           exact_from = None;
-          systems = map unseen (rising_clocks world.now.scene);
+          systems = map unseen (rising_clocks world.now.world_core);
           measures = nothing;
         }) }
     {
@@ -255,7 +255,7 @@ impl Watch {
     }
 
     /// The system at a place is left as `after` by an act.
-    fn take(&mut self, look: Look, place: usize, after: Option<Shown>)
+    fn take(&mut self, look: ActView, place: usize, after: Option<Shown>)
         requires { place < length self.old.systems }
         ensures { (x : Watched) → slice_get self.old.systems place ≡ Some x → self.new ≡ taken look place x after self.old }
     {
@@ -274,9 +274,9 @@ impl Watch {
     }
 
     /// Whether an act leaves all that is kept of the system at a place as it was.
-    fn stays_at<F: Fate + Drop>(&self, world: &World<F>, look: Look, place: usize) -> bool
+    fn stays_at<F: Fate + Drop>(&self, world: &World<F>, look: ActView, place: usize) -> bool
         requires { place < length self.now.systems }
-        ensures { result ≡ true → (x : Watched) → slice_get self.now.systems place ≡ Some x → StaysSo look world.now.scene x }
+        ensures { result ≡ true → (x : Watched) → slice_get self.now.systems place ≡ Some x → StaysSo look world.now.world_core x }
     {
         let system = &self.systems[place];
         leaves_wait(look, system) && shows_in(world, system.clock, &system.shown)
@@ -287,13 +287,13 @@ impl Watch {
         &mut self,
         text: &mut String,
         world: &World<F>,
-        look: Look,
+        look: ActView,
         place: usize,
     ) -> Result<(), AllocError>
         requires { place < length self.old.systems }
-        ensures sees { OnOk result (self.new ≡ see_at look world.now.scene place self.old) }
+        ensures sees { OnOk result (self.new ≡ see_at look world.now.world_core place self.old) }
         ensures tells { OnOk result (string_bytes text.new
-            ≡ string_bytes text.old ++ text_of (lines_at look world.now.scene place self.old)) }
+            ≡ string_bytes text.old ++ text_of (lines_at look world.now.world_core place self.old)) }
     {
         let after = shown_in(world, self.systems[place].clock);
         self.write_changes_at(text, look.at, place, &after)?;
@@ -306,13 +306,13 @@ impl Watch {
         &mut self,
         text: &mut String,
         world: &World<F>,
-        look: Look,
+        look: ActView,
         place: usize,
     ) -> Result<(), AllocError>
         requires { place < length self.old.systems }
-        ensures sees { OnOk result (self.new ≡ see_at look world.now.scene place self.old) }
+        ensures sees { OnOk result (self.new ≡ see_at look world.now.world_core place self.old) }
         ensures tells { OnOk result (string_bytes text.new
-            ≡ string_bytes text.old ++ text_of (lines_at look world.now.scene place self.old)) }
+            ≡ string_bytes text.old ++ text_of (lines_at look world.now.world_core place self.old)) }
     {
         match self.stays_at(world, look, place) {
             true => Ok(()),
@@ -325,11 +325,11 @@ impl Watch {
         &mut self,
         text: &mut String,
         world: &World<F>,
-        look: Look,
+        look: ActView,
     ) -> Result<(), AllocError>
-        ensures sees { OnOk result (self.new ≡ see_all look world.now.scene self.old) }
+        ensures sees { OnOk result (self.new ≡ see_all look world.now.world_core self.old) }
         ensures tells { OnOk result (string_bytes text.new
-            ≡ string_bytes text.old ++ text_of (lines_all look world.now.scene self.old)) }
+            ≡ string_bytes text.old ++ text_of (lines_all look world.now.world_core self.old)) }
     {
         for place in 0..self.count() {
             self.see_at(text, world, look, place)?;
@@ -343,11 +343,11 @@ impl Watch {
         text: &mut String,
         world: &World<F>,
     ) -> Result<(), AllocError>
-        ensures sees { OnOk result (self.new ≡ see_all (event_look 0) world.now.scene self.old) }
+        ensures sees { OnOk result (self.new ≡ see_all (event_look 0) world.now.world_core self.old) }
         ensures tells { OnOk result (string_bytes text.new
-            ≡ string_bytes text.old ++ text_of (lines_all (event_look 0) world.now.scene self.old)) }
+            ≡ string_bytes text.old ++ text_of (lines_all (event_look 0) world.now.world_core self.old)) }
     {
-        let look = Look {
+        let look = ActView {
             at: 0,
             by_event: true,
             received: false,
@@ -374,13 +374,13 @@ impl Watch {
         at: u64,
         change: &Change,
     ) -> Result<(), AllocError>
-        ensures sees { OnOk result (self.new ≡ see_all (event_look at) world.now.scene self.old) }
+        ensures sees { OnOk result (self.new ≡ see_all (event_look at) world.now.world_core self.old) }
         ensures tells { OnOk result (string_bytes text.new
             ≡ string_bytes text.old ++ text_of (unless self.old.summary (event_line at change.now ∷ [])
-            ++ lines_all (event_look at) world.now.scene self.old)) }
+            ++ lines_all (event_look at) world.now.world_core self.old)) }
     {
         self.write_event_if(text, at, change)?;
-        let look = Look {
+        let look = ActView {
             at,
             by_event: true,
             received: false,
@@ -410,7 +410,7 @@ impl Watch {
     ) -> Result<(), AllocError>
         requires { at ≤ 1000000000000000 }
         ensures { OnOk result (string_bytes text.new
-            ≡ string_bytes text.old ++ text_of (receipt_lines at world.now.scene clock self.now)) }
+            ≡ string_bytes text.old ++ text_of (receipt_lines at world.now.world_core clock self.now)) }
     {
         match self.offsets {
             true => write_receipt(text, world, at, clock),
@@ -428,7 +428,7 @@ impl Watch {
     )
         requires moment { at ≤ 1000000000000000 }
         requires place { place < length self.old.systems }
-        ensures { self.new ≡ see_receipt at world.now.scene clock place self.old }
+        ensures { self.new ≡ see_receipt at world.now.world_core clock place self.old }
     {
         world.well_formed();
         if let Some(system) = world.system(clock) {
@@ -448,9 +448,9 @@ impl Watch {
     ) -> Result<(), AllocError>
         requires moment { at ≤ 1000000000000000 }
         requires place { place < length self.old.systems }
-        ensures sees { OnOk result (self.new ≡ see_receipt at world.now.scene clock place self.old) }
+        ensures sees { OnOk result (self.new ≡ see_receipt at world.now.world_core clock place self.old) }
         ensures tells { OnOk result (string_bytes text.new
-            ≡ string_bytes text.old ++ text_of (receipt_lines at world.now.scene clock self.old)) }
+            ≡ string_bytes text.old ++ text_of (receipt_lines at world.now.world_core clock self.old)) }
     {
         self.write_offset_if(text, world, at, clock)?;
         self.measure_receipt(world, at, clock, place);
@@ -469,9 +469,9 @@ impl Watch {
     ) -> Result<(), AllocError>
         requires moment { at ≤ 1000000000000000 }
         requires place { place < length self.old.systems }
-        ensures sees { OnOk result (self.new ≡ see_receipt_if received at world.now.scene clock place self.old) }
+        ensures sees { OnOk result (self.new ≡ see_receipt_if received at world.now.world_core clock place self.old) }
         ensures tells { OnOk result (string_bytes text.new
-            ≡ string_bytes text.old ++ text_of (receipt_lines_if received at world.now.scene clock self.old)) }
+            ≡ string_bytes text.old ++ text_of (receipt_lines_if received at world.now.world_core clock self.old)) }
     {
         match received {
             true => self.see_receipt(text, world, at, clock, place),
@@ -491,11 +491,11 @@ impl Watch {
     ) -> Result<(), AllocError>
         requires moment { at ≤ 1000000000000000 }
         requires place { place < length self.old.systems }
-        ensures sees { OnOk result (self.new ≡ see_placed at world.now.scene clock received (Some place) self.old) }
+        ensures sees { OnOk result (self.new ≡ see_placed at world.now.world_core clock received (Some place) self.old) }
         ensures tells { OnOk result (string_bytes text.new
-            ≡ string_bytes text.old ++ text_of (placed_lines at world.now.scene clock received (Some place) self.old)) }
+            ≡ string_bytes text.old ++ text_of (placed_lines at world.now.world_core clock received (Some place) self.old)) }
     {
-        let look = Look {
+        let look = ActView {
             at,
             by_event: false,
             received,
@@ -514,9 +514,9 @@ impl Watch {
         received: bool,
     ) -> Result<(), AllocError>
         requires { at ≤ 1000000000000000 }
-        ensures sees { OnOk result (self.new ≡ see_system at world.now.scene clock received self.old) }
+        ensures sees { OnOk result (self.new ≡ see_system at world.now.world_core clock received self.old) }
         ensures tells { OnOk result (string_bytes text.new
-            ≡ string_bytes text.old ++ text_of (watched_lines at world.now.scene clock received self.old)) }
+            ≡ string_bytes text.old ++ text_of (watched_lines at world.now.world_core clock received self.old)) }
     {
         match self.place_of(clock) {
             Some(place) => self.see_placed(text, world, at, clock, received, place),
@@ -533,9 +533,9 @@ impl Watch {
         done: &Done,
     ) -> Result<(), AllocError>
         requires { at ≤ 1000000000000000 }
-        ensures sees { OnOk result (self.new ≡ see_delivery at world.now.scene done.now self.old) }
+        ensures sees { OnOk result (self.new ≡ see_delivery at world.now.world_core done.now self.old) }
         ensures tells { OnOk result (string_bytes text.new
-            ≡ string_bytes text.old ++ text_of (delivery_lines at world.now.scene done.now self.old)) }
+            ≡ string_bytes text.old ++ text_of (delivery_lines at world.now.world_core done.now self.old)) }
     {
         let received = received_by(done).is_some();
         match done {
@@ -553,9 +553,9 @@ impl Watch {
         done: &Done,
     ) -> Result<(), AllocError>
         requires { timed.now.at ≤ 1000000000000000 }
-        ensures sees { OnOk result (self.new ≡ see_act timed.now.at timed.now.act done.now world.now.scene self.old) }
+        ensures sees { OnOk result (self.new ≡ see_act timed.now.at timed.now.act done.now world.now.world_core self.old) }
         ensures tells { OnOk result (string_bytes text.new
-            ≡ string_bytes text.old ++ text_of (seen_lines timed.now.at timed.now.act done.now world.now.scene self.old)) }
+            ≡ string_bytes text.old ++ text_of (seen_lines timed.now.at timed.now.act done.now world.now.world_core self.old)) }
     {
         match &timed.act {
             Act::Change(change) => self.see_event(text, world, timed.at, change),
@@ -576,7 +576,7 @@ fn write_receipt<F: Fate + Drop>(
 ) -> Result<(), AllocError>
     requires { at ≤ 1000000000000000 }
     ensures { OnOk result (string_bytes text.new
-        ≡ string_bytes text.old ++ text_of (receipt_lines_of at world.now.scene clock (live_system clock world.now.scene))) }
+        ≡ string_bytes text.old ++ text_of (receipt_lines_of at world.now.world_core clock (live_system clock world.now.world_core))) }
 {
     world.well_formed();
     match world.system(clock) {

@@ -10,7 +10,7 @@ use gptp_vector::ClockId;
 
 /// What is known of an act where a system is looked at.
 #[derive(Clone, Copy, Debug)]
-pub(crate) struct Look {
+pub(crate) struct ActView {
     /// When it was done, in ns.
     pub at: u64,
     /// Whether it was an event.
@@ -34,14 +34,14 @@ pub(crate) struct Watched {
 }
 
 /// Whether an act that leaves a system as it is neither begins nor ends a wait of it.
-pub(crate) fn leaves_wait(look: Look, system: &Watched) -> bool
+pub(crate) fn leaves_wait(look: ActView, system: &Watched) -> bool
     ensures { result ≡ leaves_wait look system.now }
 {
     !look.received && (system.since.is_none() || is_expecting(&system.shown))
 }
 
 /// When the wait under way of a system began, behind an act that left it as `after`.
-pub(crate) fn since_behind(look: Look, system: &Watched, after: &Option<Shown>) -> Option<u64>
+pub(crate) fn since_behind(look: ActView, system: &Watched, after: &Option<Shown>) -> Option<u64>
     ensures { result ≡ since_behind look system.now after.now }
 {
     since_after(
@@ -54,7 +54,7 @@ pub(crate) fn since_behind(look: Look, system: &Watched, after: &Option<Shown>) 
 }
 
 /// The wait of a system that an act ended which left it as `after`, if it ended one that counts.
-fn wait_behind(look: Look, system: &Watched, after: &Option<Shown>) -> Option<Greatest>
+fn wait_behind(look: ActView, system: &Watched, after: &Option<Shown>) -> Option<Greatest>
     ensures { result ≡ wait_behind look system.now after.now }
 {
     match ended_by(
@@ -74,7 +74,7 @@ fn wait_behind(look: Look, system: &Watched, after: &Option<Shown>) -> Option<Gr
 
 /// What is measured so far, behind an act that left a system as `after`.
 pub(crate) fn measures_after(
-    look: Look,
+    look: ActView,
     system: &Watched,
     after: &Option<Shown>,
     measures: Measures,

@@ -6,7 +6,7 @@ use Rattle.std.proofs.lemmas.Bool.{and_from, and_parts, eq-eqb, eqb-true, false_
 use Rattle.std.proofs.lemmas.List.Elements.{filter_map-append}
 use Rattle.gptp_lists.specs.Members.{In}
 use Rattle.gptp_lists.proofs.MappedLemmas.{mapped_there}
-use Rattle.gptp_lists.proofs.MemberLemmas.{In-map, In-slice_get, from_map, slice_get-In}
+use Rattle.gptp_lists.proofs.SystemSpecLemmas.{In-map, In-slice_get, from_map, slice_get-In}
 use Rattle.gptp_roles.specs.Selection.{clock_of}
 use Rattle.gptp_vector.specs.declared.port.PortId.{PortId}
 use Rattle.gptp_plan.specs.Allowed.{AreAllowed}
@@ -18,8 +18,8 @@ use Rattle.gptp_plan.specs.Network.{IsNetwork, IsPort, NetworkState, pace_of}
 use Rattle.gptp_plan.specs.SettlingTime.{settling_span, settling_span_with}
 use Rattle.gptp_plan.specs.SyncWait.{sync_paths}
 use Rattle.gptp_plan.specs.declared.change.Timed.{Timed}
-use Rattle.gptp_plan.specs.declared.network.Member.{Member}
-use Rattle.gptp_plan.specs.declared.network.Wire.{Wire}
+use Rattle.gptp_plan.specs.declared.network.SystemSpec.{SystemSpec}
+use Rattle.gptp_plan.specs.declared.network.LinkSpec.{LinkSpec}
 use Rattle.gptp_plan.specs.declared.sync_wait.SyncPaths.{SyncPaths}
 use Rattle.gptp_plan.proofs.AfterLemmas.{after_keeps}
 use Rattle.gptp_plan.proofs.InUseLemmas.{short_delay}
@@ -93,7 +93,7 @@ module _ (marks : List Mark) where
 
 -- ---- systems that live
 
-lives_is : (members : List Member) (events : List Timed) (p : PortId) → IsPort members p
+lives_is : (members : List SystemSpec) (events : List Timed) (p : PortId) → IsPort members p
     → lives_after events p.clock true ≡ lives members events p.clock
 lives_is members events p port =
     same_tests (lives_after events p.clock true) (lives members events p.clock)
@@ -115,17 +115,17 @@ and_moves false b c = refl
 module _ (n : NetworkState) (network : IsNetwork n) (events : List Timed) (t : Tables) (stand : Stand n events t) where
   -- ---- links in use
 
-  marks_are : t.marks.items ≡ map (λ (w : Wire). mark_of n.params (after events (first w))) n.links
+  marks_are : t.marks.items ≡ map (λ (w : LinkSpec). mark_of n.params (after events (first w))) n.links
   marks_are =
       stand.marks ∙ ap₂ (λ p ss. map (mark_of p) ss) stand.params stand.standings
-      ∙ twice (mark_of n.params) (λ (w : Wire). after events (first w)) n.links
+      ∙ twice (mark_of n.params) (λ (w : LinkSpec). after events (first w)) n.links
     where
       twice : {X Y Z : Type 0} (f : Y → Z) (k : X → Y) (xs : List X) → map f (map k xs) ≡ map (λ x. f (k x)) xs
       twice f k [] = refl
       twice f k (x ∷ xs) = ap (λ zs. f (k x) ∷ zs) (twice f k xs)
 
   -- a link is in use where it stands so
-  used_is : (w : Wire) → In w n.links
+  used_is : (w : LinkSpec) → In w n.links
       → cable_is_used (after events (first w)) ≡ plans.is_used n.systems events (link_after events w)
   used_is w member =
       let (place, there) = slice_get-In w n.links member in
@@ -142,18 +142,18 @@ module _ (n : NetworkState) (network : IsNetwork n) (events : List Timed) (t : T
       ∙ ap (λ (p : PortId). lives n.systems events p.clock) (sym ends.b) in
       and_moves s.cable.up s.a_lives s.b_lives ∙ ap₂ (λ x y. x && y) (ap₂ (λ x y. x && y) up a) b
 
-  mark_there : (w : Wire) → In w n.links
+  mark_there : (w : LinkSpec) → In w n.links
       → used_at t.marks.items w.bounds.link ≡ plans.is_used n.systems events (link_after events w)
   mark_there w member =
       let (place, there) = slice_get-In w n.links member in
-      let mark : Wire → Mark = λ (v : Wire). mark_of n.params (after events (first v)) in
+      let mark : LinkSpec → Mark = λ (v : LinkSpec). mark_of n.params (after events (first v)) in
       ap (used_at t.marks.items) (network.links place w there).number
       ∙ ap is_marked (ap (λ ms. slice_get ms place) marks_are ∙ mapped_there mark n.links place w there)
       ∙ used_is w member
 
   -- the greatest delay of those in use
-  greatest_from : (ws : List Wire) → ((w : Wire) → In w ws → In w n.links)
-      → greatest_used (map (λ (w : Wire). mark_of n.params (after events (first w))) ws)
+  greatest_from : (ws : List LinkSpec) → ((w : LinkSpec) → In w ws → In w n.links)
+      → greatest_used (map (λ (w : LinkSpec). mark_of n.params (after events (first w))) ws)
       ≡ greatest_delay n.systems events ws
   greatest_from [] among = refl
   greatest_from (w ∷ ws) among =
@@ -161,28 +161,28 @@ module _ (n : NetworkState) (network : IsNetwork n) (events : List Timed) (t : T
       let v = link_after events w in
       let most : s.cable.bounds.max ≡ v.bounds.max = ap (λ c. c.bounds.max) (cable_after events (first w)) in
       ap₂ (λ used m. max (cond used m 0)
-      (greatest_used (map (λ (w : Wire). mark_of n.params (after events (first w))) ws)))
+      (greatest_used (map (λ (w : LinkSpec). mark_of n.params (after events (first w))) ws)))
       (used_is w (among w (inl refl))) most
       ∙ by (plans.is_used n.systems events v) (greatest_from ws (λ x member. among x (inr member)))
     where
       by : (used : Bool)
-          → greatest_used (map (λ (w : Wire). mark_of n.params (after events (first w))) ws)
+          → greatest_used (map (λ (w : LinkSpec). mark_of n.params (after events (first w))) ws)
           ≡ greatest_delay n.systems events ws
           → max (cond used (link_after events w).bounds.max 0)
-          (greatest_used (map (λ (w : Wire). mark_of n.params (after events (first w))) ws))
+          (greatest_used (map (λ (w : LinkSpec). mark_of n.params (after events (first w))) ws))
           ≡ cond used (max (link_after events w).bounds.max (greatest_delay n.systems events ws))
           (greatest_delay n.systems events ws)
       by true rest = ap (max (link_after events w).bounds.max) rest
       by false rest =
           let none : (k : ℕ) → max 0 k ≡ k = λ k. omega arith in
-          none (greatest_used (map (λ (w : Wire). mark_of n.params (after events (first w))) ws)) ∙ rest
+          none (greatest_used (map (λ (w : LinkSpec). mark_of n.params (after events (first w))) ws)) ∙ rest
 
   pub greatest_is : greatest_used t.marks.items ≡ greatest_delay n.systems events n.links
   greatest_is = ap greatest_used marks_are ∙ greatest_from n.links (λ w member. member)
 
   -- ---- the systems that links in use lead to
 
-  clocks_from : (clock : ℕ) (ws : List Wire) → ((w : Wire) → In w ws → In w n.links)
+  clocks_from : (clock : ℕ) (ws : List LinkSpec) → ((w : LinkSpec) → In w ws → In w n.links)
       → filter_map (used_clock t.marks.items) (neighbours_of clock (map cable_of ws))
       ≡ neighbours n.systems ws events clock
   clocks_from clock [] among = refl
@@ -221,28 +221,28 @@ module _ (n : NetworkState) (network : IsNetwork n) (events : List Timed) (t : T
   -- counted over the systems of the network
   over_members : (p : NodeState → Bool)
       → count_by (λ (o : Node). p (tables_seen o)) t.nodes.items
-      ≡ count_by (λ (m : Member). p (node_after events (cables_of n) (clock_of m.identity))) n.systems
+      ≡ count_by (λ (m : SystemSpec). p (node_after events (cables_of n) (clock_of m.identity))) n.systems
   over_members p =
       sym (count-map p tables_seen t.nodes.items)
       ∙ ap (count_by p) stand.nodes
       ∙ count-map p (node_after events (cables_of n)) (clocks_of n)
-      ∙ count-map (λ own. p (node_after events (cables_of n) own)) (λ (m : Member). clock_of m.identity) n.systems
+      ∙ count-map (λ own. p (node_after events (cables_of n) own)) (λ (m : SystemSpec). clock_of m.identity) n.systems
 
   systems_are : count_by (λ (o : Node). o.lives) t.nodes.items ≡ plans.count_live n.systems events
   systems_are =
       over_members (λ (s : NodeState). s.lives)
-      ∙ count_alike (λ (m : Member). lives_after events (clock_of m.identity) true)
-      (λ (m : Member). (system_after events m).live) n.systems (member_lives events)
+      ∙ count_alike (λ (m : SystemSpec). lives_after events (clock_of m.identity) true)
+      (λ (m : SystemSpec). (system_after events m).live) n.systems (member_lives events)
 
   between_are : count_by (marked_between t.marks.items) t.nodes.items
       ≡ count_by (plans.lives_between n.systems n.links events) n.systems
   between_are =
       over_members (λ (s : NodeState). s.lives && leads_to_two t.marks.items s.neighbours)
       ∙ count_alike
-      (λ (m : Member). lives_after events (clock_of m.identity) true
+      (λ (m : SystemSpec). lives_after events (clock_of m.identity) true
       && leads_to_two t.marks.items (neighbours_of (clock_of m.identity) (cables_of n)))
       (plans.lives_between n.systems n.links events) n.systems
-      (λ (m : Member). ap₂ (λ a b. a && b) (member_lives events m) (two_is (clock_of m.identity)))
+      (λ (m : SystemSpec). ap₂ (λ a b. a && b) (member_lives events m) (two_is (clock_of m.identity)))
 
   pub paths_is : marked_path_bound t.marks.items t.nodes.items ≡ path_systems n.systems n.links events
   unfolding path_systems
@@ -294,14 +294,14 @@ module _ (n : NetworkState) (network : IsNetwork n) (events : List Timed) (t : T
   -- ---- whether it is calm
 
   -- at each link
-  mark_rests : (w : Wire) → In w n.links → (mark_of n.params (after events (first w))).troubled ≡ false
+  mark_rests : (w : LinkSpec) → In w n.links → (mark_of n.params (after events (first w))).troubled ≡ false
       → Rests n.params n.systems events w
   mark_rests w member none =
       let s = after events (first w) in
       let (long, lossy) = or_parts (is_long n.params s) (not (loss_in_use s == 0)) none in
       rests_from n.params n.systems events w long (eqb-true (loss_in_use s) 0 (not-false (loss_in_use s == 0) lossy))
 
-  rests_mark : (w : Wire) → In w n.links → Rests n.params n.systems events w
+  rests_mark : (w : LinkSpec) → In w n.links → Rests n.params n.systems events w
       → (mark_of n.params (after events (first w))).troubled ≡ false
   rests_mark w member rests =
       let s = after events (first w) in
@@ -317,7 +317,7 @@ module _ (n : NetworkState) (network : IsNetwork n) (events : List Timed) (t : T
   all_rest : is_troubled ≡ false → AllRest n.params n.systems n.links events
   all_rest none = in_all (Rests n.params n.systems events) n.links (λ w member.
       let one = subst (In (mark_of n.params (after events (first w)))) (sym marks_are)
-      (In-map (λ (w : Wire). mark_of n.params (after events (first w))) w n.links member) in
+      (In-map (λ (w : LinkSpec). mark_of n.params (after events (first w))) w n.links member) in
       mark_rests w member (false_from_ne_true (mark_of n.params (after events (first w))).troubled (λ is.
       let some =
       passes_at (λ (m : Mark). m.troubled) t.marks.items (mark_of n.params (after events (first w))) one is in
@@ -326,7 +326,7 @@ module _ (n : NetworkState) (network : IsNetwork n) (events : List Timed) (t : T
   none_troubled : AllRest n.params n.systems n.links events → is_troubled ≡ false
   none_troubled rest = false_from_ne_true is_troubled (λ some.
       let (m, member, is) = passes (λ (m : Mark). m.troubled) t.marks.items some in
-      let (w, among, same) = from_map (λ (w : Wire). mark_of n.params (after events (first w))) m n.links
+      let (w, among, same) = from_map (λ (w : LinkSpec). mark_of n.params (after events (first w))) m n.links
       (subst (In m) marks_are member) in
       let none = rests_mark w among (all_in (Rests n.params n.systems events) w n.links rest among) in
       let no : true ≡ false = sym is ∙ ap (λ (m : Mark). m.troubled) (sym same) ∙ none in cc)

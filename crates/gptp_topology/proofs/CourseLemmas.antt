@@ -5,7 +5,7 @@ use Rattle.std.proofs.lemmas.Bool.Decides.{nat_tests}
 use Rattle.gptp_vector.specs.declared.port.PortId.{PortId}
 use Rattle.gptp_plan.specs.Change.{link_after}
 use Rattle.gptp_plan.specs.declared.change.Timed.{Timed}
-use Rattle.gptp_plan.specs.declared.network.Wire.{Wire}
+use Rattle.gptp_plan.specs.declared.network.LinkSpec.{LinkSpec}
 use Rattle.gptp_plan.proofs.AfterLemmas.{acted_keeps, after_keeps}
 use Rattle.gptp_network.specs.Events.{AreInOrder}
 use Rattle.gptp_network.specs.Snapshot.{events_by}
@@ -16,10 +16,10 @@ use Rattle.gptp_topology.proofs.LivesLemmas.{lives_after}
 
 -- ---- a link keeps its ends
 
-pub same_a : (events : List Timed) (w : Wire) → (link_after events w).a ≡ w.a
+pub same_a : (events : List Timed) (w : LinkSpec) → (link_after events w).a ≡ w.a
 same_a events w = (after_keeps events w).a
 
-pub same_b : (events : List Timed) (w : Wire) → (link_after events w).b ≡ w.b
+pub same_b : (events : List Timed) (w : LinkSpec) → (link_after events w).b ≡ w.b
 same_b events w = (after_keeps events w).b
 
 -- ---- what events make of a link and of the systems at its ends
@@ -166,6 +166,6 @@ all_from_0 [] = tt
 all_from_0 (t ∷ ts) = (omega arith, all_from_0 ts)
 
 -- it stands at each time as the events up to then leave it
-pub course_is : (events : List Timed) (w : Wire) → AreInOrder events
+pub course_is : (events : List Timed) (w : LinkSpec) → AreInOrder events
     → course_of events w ≡ map (stood events (first w)) (times_of events)
 course_is events w order = stands_so (first w) events [] 0 tt (all_from_0 events) order

@@ -1,4 +1,4 @@
-pub mod MemberLemmas
+pub mod SystemSpecLemmas
 pub mod PlaceLemmas
 mod LivesLemmas
 pub mod NamedLemmas

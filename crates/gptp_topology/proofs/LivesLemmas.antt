@@ -10,7 +10,7 @@ use Rattle.gptp_plan.specs.declared.change.Act.TheVariants as acts
 use Rattle.gptp_plan.specs.declared.change.Change.{Change}
 use Rattle.gptp_plan.specs.declared.change.Change.TheVariants as changes
 use Rattle.gptp_plan.specs.declared.change.Timed.{Timed}
-use Rattle.gptp_plan.specs.declared.network.Member.{Member}
+use Rattle.gptp_plan.specs.declared.network.SystemSpec.{SystemSpec}
 use Rattle.gptp_topology.specs.Course.{lives_acted}
 
 -- whether a system lives after a change stands by whether it lived before, whatever its identity
@@ -55,12 +55,12 @@ stands_lives [] own s = refl
 stands_lives (t ∷ ts) own s =
     stands_lives ts own (system_acted t.act own s) ∙ ap (lives_after ts own) (acted_alike t.act own s)
 
-pub member_lives : (events : List Timed) (m : Member)
+pub member_lives : (events : List Timed) (m : SystemSpec)
     → lives_after events (clock_of m.identity) true ≡ (system_after events m).live
 member_lives events m = sym (stands_lives events (clock_of m.identity) (standing m))
 
 -- the system at a port of the network lives exactly where it does by its clock
-pub live_from : (members : List Member) (events : List Timed) (p : PortId) → IsPort members p
+pub live_from : (members : List SystemSpec) (events : List Timed) (p : PortId) → IsPort members p
     → lives_after events p.clock true ≡ true → IsLive members events p.clock
 live_from members events p port lives = record {
   place = port.place;
@@ -70,7 +70,7 @@ live_from members events p port lives = record {
   live = sym (member_lives events port.system) ∙ ap (λ own. lives_after events own true) port.clock ∙ lives;
 }
 
-pub live_to : (members : List Member) (events : List Timed) (own : ℕ) → IsLive members events own
+pub live_to : (members : List SystemSpec) (events : List Timed) (own : ℕ) → IsLive members events own
     → lives_after events own true ≡ true
 live_to members events own live =
     ap (λ own. lives_after events own true) (sym live.clock) ∙ member_lives events live.system ∙ live.live

@@ -7,7 +7,7 @@ use Rattle.gptp_plan.specs.declared.change.Act.{Act}
 use Rattle.gptp_plan.specs.declared.change.Act.TheVariants as acts
 use Rattle.gptp_plan.specs.declared.change.Change.{Change}
 use Rattle.gptp_plan.specs.declared.change.Change.TheVariants as changes
-use Rattle.gptp_plan.specs.declared.network.Wire.{Wire}
+use Rattle.gptp_plan.specs.declared.network.LinkSpec.{LinkSpec}
 use Rattle.gptp_topology.specs.Course.{acted, cable_of, lives_acted, named, named_by, cable_wire}
 use Rattle.gptp_topology.specs.declared.course.Standing.{Standing}
 
@@ -30,14 +30,14 @@ lives_same (acts.Change change) own lives other = lives_changed change own lives
 
 -- ---- whether it is up, and its bounds
 
-not_at : (clock port : ℕ) (w : Wire) → clock ≢ w.a.clock → clock ≢ w.b.clock → is_at clock port w ≡ false
+not_at : (clock port : ℕ) (w : LinkSpec) → clock ≢ w.a.clock → clock ≢ w.b.clock → is_at clock port w ≡ false
 not_at clock port w a b =
     or_from (same_port w.a (record { clock = clock; port = port }))
     (same_port w.b (record { clock = clock; port = port }))
     (and_left (w.a.clock == clock) (w.a.port == port) (ne_eqb w.a.clock clock (λ same. a (sym same))))
     (and_left (w.b.clock == clock) (w.b.port == port) (ne_eqb w.b.clock clock (λ same. b (sym same))))
 
-wire_changed : (change : Change) (w : Wire) → named_by change ≢ w.a.clock → named_by change ≢ w.b.clock
+wire_changed : (change : Change) (w : LinkSpec) → named_by change ≢ w.a.clock → named_by change ≢ w.b.clock
     → link_changed change w ≡ w
 wire_changed (changes.LinkDown clock port) w a b = ap (λ test. cond test (with_up false w) w) (not_at clock port w a b)
 wire_changed (changes.LinkUp clock port) w a b = ap (λ test. cond test (with_up true w) w) (not_at clock port w a b)
@@ -48,7 +48,7 @@ wire_changed (changes.Recover clock) w a b = refl
 wire_changed (changes.Priority1 clock value) w a b = refl
 wire_changed (changes.Inject clock port octets) w a b = refl
 
-wire_same : (act : Act) (w : Wire) → named act ≢ w.a.clock → named act ≢ w.b.clock → link_acted act w ≡ w
+wire_same : (act : Act) (w : LinkSpec) → named act ≢ w.a.clock → named act ≢ w.b.clock → link_acted act w ≡ w
 wire_same (acts.Deliver link direction) w a b = refl
 wire_same (acts.Expire clock timer) w a b = refl
 wire_same (acts.Change change) w a b = wire_changed change w a b

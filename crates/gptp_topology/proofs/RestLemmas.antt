@@ -5,17 +5,17 @@ use Rattle.std.proofs.lemmas.Bool.{eq-eqb, eqb-true, not-false}
 use Rattle.std.proofs.lemmas.Bool.Decides.{nat_tests}
 use Rattle.std.proofs.lemmas.Option.{same_Some, slice_get-get_or, slice_get_within}
 use Rattle.gptp_lists.specs.Members.{In}
-use Rattle.gptp_lists.proofs.MemberLemmas.{In-slice_get, slice_get-In}
+use Rattle.gptp_lists.proofs.SystemSpecLemmas.{In-slice_get, slice_get-In}
 use Rattle.gptp_vector.specs.declared.port.PortId.{PortId}
-use Rattle.gptp_setup.specs.Pace.{lapse_span}
+use Rattle.gptp_setup.specs.SettlingParams.{lapse_span}
 use Rattle.gptp_setup.specs.declared.setup.Params.{Params}
 use Rattle.gptp_plan.specs.Calm.{IsLive, IsUsed, Rests, SyncsComeInTime}
 use Rattle.gptp_plan.specs.Change.{link_after}
 use Rattle.gptp_plan.specs.Network.{IsPort}
 use Rattle.gptp_plan.specs.SyncWait.{sync_wait}
 use Rattle.gptp_plan.specs.declared.change.Timed.{Timed}
-use Rattle.gptp_plan.specs.declared.network.Member.{Member}
-use Rattle.gptp_plan.specs.declared.network.Wire.{Wire}
+use Rattle.gptp_plan.specs.declared.network.SystemSpec.{SystemSpec}
+use Rattle.gptp_plan.specs.declared.network.LinkSpec.{LinkSpec}
 use Rattle.gptp_plan.specs.declared.sync_wait.SyncPaths.{SyncPaths}
 use Rattle.gptp_topology.specs.Course.{first, cable_is_used}
 use Rattle.gptp_topology.specs.Tables.{late_of, may_lapse}
@@ -48,7 +48,7 @@ and_from : (a b c : Bool) → a ≡ true → b ≡ true → c ≡ true → (a &&
 and_from a b c ea eb ec = rw (ea, eb, ec) refl
 
 -- it is in use where it stands so exactly where it is used after the events
-pub used_to : (members : List Member) (events : List Timed) (w : Wire) → IsPort members w.a → IsPort members w.b
+pub used_to : (members : List SystemSpec) (events : List Timed) (w : LinkSpec) → IsPort members w.a → IsPort members w.b
     → cable_is_used (after events (first w)) ≡ true → IsUsed members events (link_after events w)
 used_to members events w a b used =
     let s = after events (first w) in
@@ -61,7 +61,7 @@ used_to members events w a b used =
           (live_from members events w.b b (sym (b_after events (first w)) ∙ right));
     }
 
-pub used_from : (members : List Member) (events : List Timed) (w : Wire) → IsUsed members events (link_after events w)
+pub used_from : (members : List SystemSpec) (events : List Timed) (w : LinkSpec) → IsUsed members events (link_after events w)
     → cable_is_used (after events (first w)) ≡ true
 used_from members events w used =
     let s = after events (first w) in
@@ -86,7 +86,7 @@ quiet_by : (p : Params) (s : Standing) (used : Bool) → cable_is_used s ≡ use
 quiet_by p s true is quiet = let (none, short) = quiet refl in (grind (arith, nat_tests), none)
 quiet_by p s false is quiet = (refl, refl)
 
-pub rests_from : (p : Params) (members : List Member) (events : List Timed) (w : Wire)
+pub rests_from : (p : Params) (members : List SystemSpec) (events : List Timed) (w : LinkSpec)
     → is_long p (after events (first w)) ≡ false → loss_in_use (after events (first w)) ≡ 0
     → Rests p members events w
 rests_from p members events w long lossy = λ used.
@@ -98,7 +98,7 @@ rests_from p members events w long lossy = λ used.
       good = subst (λ most. needed p most ≤ p.threshold) (ap (λ c. c.bounds.max) same) short;
     }
 
-pub rests_to : (p : Params) (members : List Member) (events : List Timed) (w : Wire) → IsPort members w.a
+pub rests_to : (p : Params) (members : List SystemSpec) (events : List Timed) (w : LinkSpec) → IsPort members w.a
     → IsPort members w.b → Rests p members events w
     → (is_long p (after events (first w)) ≡ false) × (loss_in_use (after events (first w)) ≡ 0)
 rests_to p members events w a b rests =

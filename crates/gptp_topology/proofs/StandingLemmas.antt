@@ -5,14 +5,14 @@ use Rattle.std.proofs.lemmas.Bool.{eqb-true, eqb-false, ne_eqb}
 use Rattle.std.proofs.lemmas.List.{length-map}
 use Rattle.std.proofs.lemmas.Option.{same_Some}
 use Rattle.gptp_lists.specs.Members.{In}
-use Rattle.gptp_lists.proofs.MemberLemmas.{In-map, In-slice_get, slice_get-In}
+use Rattle.gptp_lists.proofs.SystemSpecLemmas.{In-map, In-slice_get, slice_get-In}
 use Rattle.gptp_vector.specs.declared.port.PortId.{PortId}
 use Rattle.gptp_roles.specs.Selection.{clock_of}
 use Rattle.gptp_plan.specs.Network.{IsNetwork, IsPort, NetworkState}
 use Rattle.gptp_plan.specs.declared.change.Act.{Act}
 use Rattle.gptp_plan.specs.declared.change.Timed.{Timed}
-use Rattle.gptp_plan.specs.declared.network.Member.{Member}
-use Rattle.gptp_plan.specs.declared.network.Wire.{Wire}
+use Rattle.gptp_plan.specs.declared.network.SystemSpec.{SystemSpec}
+use Rattle.gptp_plan.specs.declared.network.LinkSpec.{LinkSpec}
 use Rattle.gptp_topology.specs.Course.{acted, cable_of, first, lives_acted, named, cable_wire}
 use Rattle.gptp_topology.specs.Tables.{TablesActed, AreFirstTables, AreMarked, NodeState, acted_along, acted_at, cables_of, clocks_of, led, neighbours_at, neighbours_of, node_acted, tables_seen}
 use Rattle.gptp_topology.specs.declared.course.Cable.{Cable}
@@ -26,11 +26,11 @@ use Rattle.gptp_topology.proofs.NamedLemmas.{untouched}
 -- ---- an act meets the links at a system
 
 -- the links stand at their places from here on
-abbrev AreNumbered : ℕ → List Wire → Type 0
+abbrev AreNumbered : ℕ → List LinkSpec → Type 0
 AreNumbered k [] = Unit {0}
 AreNumbered k (w ∷ ws) = (w.bounds.link ≡ k) × AreNumbered (suc k) ws
 
-numbered_from : (ws : List Wire) (k : ℕ) → ((i : ℕ) (w : Wire) → slice_get ws i ≡ Some w → w.bounds.link ≡ k + i)
+numbered_from : (ws : List LinkSpec) (k : ℕ) → ((i : ℕ) (w : LinkSpec) → slice_get ws i ≡ Some w → w.bounds.link ≡ k + i)
     → AreNumbered k ws
 numbered_from [] k at = tt
 numbered_from (w ∷ ws) k at = (
@@ -49,15 +49,15 @@ one_longer : (front : List Standing) (s : Standing) → length (front ++ s ∷ [
 one_longer [] s = refl
 one_longer (r ∷ front) s = let rest = one_longer front s in omega (arith, rest)
 
-module _ (act : Act) (f : Wire → Standing)
-    (a : (w : Wire) → (f w).cable.a ≡ w.a) (b : (w : Wire) → (f w).cable.b ≡ w.b) where
+module _ (act : Act) (f : LinkSpec → Standing)
+    (a : (w : LinkSpec) → (f w).cable.a ≡ w.a) (b : (w : LinkSpec) → (f w).cable.b ≡ w.b) where
   -- so those that it meets and those that it doesn't stand as it leaves them
-  abbrev All : List Wire → Type 0
+  abbrev All : List LinkSpec → Type 0
   All ws = (front : List Standing) (k : ℕ) → length front ≡ k → AreNumbered k ws
       → acted_along act (neighbours_of (named act) (map cable_of ws)) (front ++ map f ws)
       ≡ front ++ map (λ w. acted act (f w)) ws
 
-  met : (w : Wire) (ws : List Wire) → All ws → (front : List Standing) (k : ℕ) → length front ≡ k
+  met : (w : LinkSpec) (ws : List LinkSpec) → All ws → (front : List Standing) (k : ℕ) → length front ≡ k
       → (w.bounds.link ≡ k) → AreNumbered (suc k) ws
       → acted_along act (neighbours_of (named act) (map cable_of ws))
       (acted_at act w.bounds.link (front ++ f w ∷ map f ws))
@@ -71,7 +71,7 @@ module _ (act : Act) (f : Wire → Standing)
       ∙ rest (front ++ acted act (f w) ∷ []) (suc k) longer numbered
       ∙ append_assoc front (acted act (f w) ∷ []) (map (λ w. acted act (f w)) ws)
 
-  passed : (w : Wire) (ws : List Wire) → All ws → (front : List Standing) (k : ℕ) → length front ≡ k
+  passed : (w : LinkSpec) (ws : List LinkSpec) → All ws → (front : List Standing) (k : ℕ) → length front ≡ k
       → AreNumbered (suc k) ws → (named act ≢ w.a.clock) → (named act ≢ w.b.clock)
       → acted_along act (neighbours_of (named act) (map cable_of ws)) (front ++ f w ∷ map f ws)
       ≡ front ++ acted act (f w) ∷ map (λ w. acted act (f w)) ws
@@ -86,7 +86,7 @@ module _ (act : Act) (f : Wire → Standing)
       ∙ append_assoc front (f w ∷ []) (map (λ w. acted act (f w)) ws)
       ∙ ap (λ s. front ++ s ∷ map (λ w. acted act (f w)) ws) (sym same)
 
-  all : (ws : List Wire) → All ws
+  all : (ws : List LinkSpec) → All ws
   all [] front k is numbered = refl
   all (w ∷ ws) front k is (here, numbered) =
       by (all ws) (w.a.clock == named act) refl (w.b.clock == named act) refl
@@ -132,7 +132,7 @@ pub record Stand (n : NetworkState) (events : List Timed) (t : Tables) : Type 0 
   pub standings : t.standings.items ≡ map (λ w. after events (first w)) n.links
   pub marks : AreMarked t
 
-pub starts : (ws : List Wire) → map (λ c. first (cable_wire c)) (map cable_of ws) ≡ map first ws
+pub starts : (ws : List LinkSpec) → map (λ c. first (cable_wire c)) (map cable_of ws) ≡ map first ws
 starts [] = refl
 starts (w ∷ ws) = ap (λ ss. first w ∷ ss) (starts ws)
 
@@ -188,8 +188,8 @@ module _ (events : List Timed) (cables : List Cable) (clock : ℕ) where
       )
 
 -- where no system has the clock no link is at it
-no_link : (clock : ℕ) (owns : List ℕ) (ws : List Wire) → (In clock owns → ⊥)
-    → ((w : Wire) → In w ws → In w.a.clock owns × In w.b.clock owns) → neighbours_of clock (map cable_of ws) ≡ []
+no_link : (clock : ℕ) (owns : List ℕ) (ws : List LinkSpec) → (In clock owns → ⊥)
+    → ((w : LinkSpec) → In w ws → In w.a.clock owns × In w.b.clock owns) → neighbours_of clock (map cable_of ws) ≡ []
 no_link clock owns [] nowhere ends = refl
 no_link clock owns (w ∷ ws) nowhere ends =
     let (a, b) = ends w (inl refl) in
@@ -203,10 +203,10 @@ module _ (n : NetworkState) (network : IsNetwork n) where
   end_known : (p : PortId) → IsPort n.systems p → In p.clock (clocks_of n)
   end_known p port =
       subst (λ c. In c (clocks_of n)) port.clock
-      (In-map (λ (m : Member). clock_of m.identity) port.system n.systems
+      (In-map (λ (m : SystemSpec). clock_of m.identity) port.system n.systems
       (In-slice_get port.system n.systems port.place port.there))
 
-  ends_known : (w : Wire) → In w n.links → In w.a.clock (clocks_of n) × In w.b.clock (clocks_of n)
+  ends_known : (w : LinkSpec) → In w n.links → In w.a.clock (clocks_of n) × In w.b.clock (clocks_of n)
   ends_known w member =
       let (place, there) = slice_get-In w n.links member in
       let wire = network.links place w there in
@@ -248,10 +248,10 @@ nodes_more done t cables (o ∷ os) (own ∷ owns) are =
     (lives_more done t own true))
     (nodes_more done t cables os owns tail)
 
-ends_a : (events : List Timed) (w : Wire) → (after events (first w)).cable.a ≡ w.a
+ends_a : (events : List Timed) (w : LinkSpec) → (after events (first w)).cable.a ≡ w.a
 ends_a events w = ap (λ (c : Cable). c.a) (cable_after events (first w)) ∙ same_a events w
 
-ends_b : (events : List Timed) (w : Wire) → (after events (first w)).cable.b ≡ w.b
+ends_b : (events : List Timed) (w : LinkSpec) → (after events (first w)).cable.b ≡ w.b
 ends_b events w = ap (λ (c : Cable). c.b) (cable_after events (first w)) ∙ same_b events w
 
 pub stand_more : (n : NetworkState) → IsNetwork n → (done : List Timed) (t : Timed) (old new : Tables)
@@ -276,7 +276,7 @@ pub few_nodes : (n : NetworkState) → IsNetwork n → (events : List Timed) (t 
 few_nodes n network events t stand =
     let limit = network.few_systems in
     let nodes = length-map t.nodes.items tables_seen in
-    let clocks = length-map n.systems (λ (m : Member). clock_of m.identity) in
+    let clocks = length-map n.systems (λ (m : SystemSpec). clock_of m.identity) in
     let both = length-map (clocks_of n) (node_after events (cables_of n)) in
     let same = ap length stand.nodes in
     omega (arith, limit, nodes, clocks, both, same)

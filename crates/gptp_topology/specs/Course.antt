@@ -6,15 +6,15 @@ use Rattle.gptp_plan.specs.declared.change.Act.TheVariants as acts
 use Rattle.gptp_plan.specs.declared.change.Change.{Change}
 use Rattle.gptp_plan.specs.declared.change.Change.TheVariants as changes
 use Rattle.gptp_plan.specs.declared.change.Timed.{Timed}
-use Rattle.gptp_plan.specs.declared.network.Wire.{Wire}
+use Rattle.gptp_plan.specs.declared.network.LinkSpec.{LinkSpec}
 use Rattle.gptp_topology.specs.declared.course.Cable.{Cable}
 use Rattle.gptp_topology.specs.declared.course.Standing.{Standing}
 
 -- a link as gptp_plan has it
-abbrev pub cable_wire : Cable → Wire
+abbrev pub cable_wire : Cable → LinkSpec
 cable_wire c = record { a = c.a; b = c.b; bounds = c.bounds; up = c.up }
 
-abbrev pub cable_of : Wire → Cable
+abbrev pub cable_of : LinkSpec → Cable
 cable_of w = record { a = w.a; b = w.b; bounds = w.bounds; up = w.up }
 
 -- whether the system with a clock lives after an act, and whether it did before
@@ -43,10 +43,10 @@ course_from s [] = s ∷ []
 course_from s (t ∷ ts) = past t.at s [] ++ course_from (acted t.act (course_at_time t.at s)) ts
 
 -- a link at first
-abbrev pub first : Wire → Standing
+abbrev pub first : LinkSpec → Standing
 first w = record { at = 0; cable = cable_of w; a_lives = true; b_lives = true }
 
-abbrev pub course_of : List Timed → Wire → List Standing
+abbrev pub course_of : List Timed → LinkSpec → List Standing
 course_of events w = course_from (first w) events
 
 -- it is up between two live systems

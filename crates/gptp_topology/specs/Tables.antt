@@ -3,13 +3,13 @@ use Rattle.std.specs.Prelude.{◌≡◌, ℕ, zero, suc, ◌+◌, ◌==◌, ◌&
 use Rattle.std.specs.List.{count_by, flat_map, list_any}
 use Rattle.std.specs.Option.{is_some}
 use Rattle.gptp_roles.specs.Selection.{clock_of}
-use Rattle.gptp_setup.specs.Pace.{lapse_span}
+use Rattle.gptp_setup.specs.SettlingParams.{lapse_span}
 use Rattle.gptp_setup.specs.declared.setup.Params.{Params}
 use Rattle.gptp_plan.specs.Network.{NetworkState, pace_of}
 use Rattle.gptp_plan.specs.SettlingTime.{settling_span_with}
 use Rattle.gptp_plan.specs.SyncWait.{sync_wait}
 use Rattle.gptp_plan.specs.declared.change.Act.{Act}
-use Rattle.gptp_plan.specs.declared.network.Member.{Member}
+use Rattle.gptp_plan.specs.declared.network.SystemSpec.{SystemSpec}
 use Rattle.gptp_plan.specs.declared.sync_wait.SyncPaths.{SyncPaths}
 use Rattle.gptp_topology.specs.Course.{acted, cable_of, first, cable_is_used, lives_acted, named}
 use Rattle.gptp_topology.specs.Trouble.{is_long, loss_in_use}
@@ -47,7 +47,7 @@ abbrev pub node_of : List Cable → ℕ → NodeState
 node_of cables clock = record { clock = clock; lives = true; neighbours = neighbours_of clock cables }
 
 abbrev pub clocks_of : NetworkState → List ℕ
-clocks_of n = map (λ (m : Member). clock_of m.identity) n.systems
+clocks_of n = map (λ (m : SystemSpec). clock_of m.identity) n.systems
 
 -- what an act makes of a system
 abbrev pub node_acted : Act → Node → Node

@@ -3,7 +3,7 @@
 ghost use Rattle.std.specs.Prelude.{◌≡◌, ◌++◌, ◌∷◌, [], ◌<◌, ◌≤◌, ◌+◌, length, map, take, IfOk, OnOk};
 ghost use Rattle.std.specs.List.{count_by};
 ghost use Rattle.gptp_roles.specs.Selection.{clock_of};
-ghost use Rattle.gptp_plan.specs.declared.network.Member.{Member};
+ghost use Rattle.gptp_plan.specs.declared.network.SystemSpec.{SystemSpec};
 ghost use Rattle.gptp_topology.specs.Tables.{clocks_of, led, neighbours_at, neighbours_of, node_acted, node_of, tables_seen};
 
 use crate::course::{Cable, lives_acted};
@@ -96,9 +96,9 @@ fn push_clock_at(
     place: usize,
 ) -> Result<(), AllocError>
     requires place { place < length network.now.systems }
-    requires before { clocks.old.items ≡ map (λ (m : Member). clock_of m.identity) (take place network.now.systems) }
+    requires before { clocks.old.items ≡ map (λ (m : SystemSpec). clock_of m.identity) (take place network.now.systems) }
     ensures { OnOk result (clocks.new.items
-        ≡ map (λ (m : Member). clock_of m.identity) (take (place + 1) network.now.systems)) }
+        ≡ map (λ (m : SystemSpec). clock_of m.identity) (take (place + 1) network.now.systems)) }
 {
     match network.system_at(place) {
         Some(system) => push_clock(clocks, system.0.clock()),

@@ -3,12 +3,12 @@ use Rattle.std.proofs.Common.{◌≡◌, ℕ, List, ◌∷◌, map, Some, slice_
 use Rattle.gptp_links.specs.Queue.{Frame, frame, IsTaken}
 use Rattle.gptp_links.specs.State as links
 use Rattle.gptp_vector.specs.declared.port.PortId.{PortId}
-use Rattle.gptp_world.specs.declared.cable.Cable.{Cable}
-use Rattle.gptp_world.specs.declared.cable.Lane.{Lane}
+use Rattle.gptp_world.specs.declared.joined_link.JoinedLink.{JoinedLink}
+use Rattle.gptp_world.specs.declared.joined_link.Lane.{Lane}
 use Rattle.gptp_world.specs.Directory.{Join}
 use Rattle.gptp_acts.specs.declared.item.Item.TheVariants.{Arrival}
 use Rattle.gptp_acts.specs.Act.{TakesFrame}
-use Rattle.gptp_world.specs.Cable.{join_of, channel_of, net_of}
+use Rattle.gptp_world.specs.JoinedLink.{join_of, channel_of, net_of}
 use Rattle.gptp_world.specs.Pending.{PendingView}
 use Rattle.gptp_acts.specs.Pending.{without_first_entry}
 use Rattle.gptp_acts.specs.World.{with_queue}
@@ -20,7 +20,7 @@ abbrev made : PortId → PortId → Join
 made a b = record { a = a; b = b }
 
 -- the links join the same ports
-pub joins_kept : (cables : List Cable) (place : ℕ) (old new : Cable) → slice_get cables place ≡ Some old
+pub joins_kept : (cables : List JoinedLink) (place : ℕ) (old new : JoinedLink) → slice_get cables place ≡ Some old
     → new.a ≡ old.a → new.b ≡ old.b
     → map join_of (slice_set cables place new) ≡ map join_of cables
 joins_kept cables place old new here a b = map-set_same join_of cables place old new here (ap₂ made a b)
@@ -29,7 +29,7 @@ head_is : (f g : Frame) (fs gs : List Frame) → f ∷ fs ≡ g ∷ gs → f ≡
 head_is f g fs gs same = cc
 
 -- the frame that was the oldest has left, and is no longer pending
-pub taken : (lane : Lane) (now : ℕ) (octets : List ℕ) (cables : List Cable) (old new : Cable)
+pub taken : (lane : Lane) (now : ℕ) (octets : List ℕ) (cables : List JoinedLink) (old new : JoinedLink)
     (pending after : PendingView)
     (oldest : Frame) (rest : List Frame) → slice_get cables lane.link ≡ Some old → new.a ≡ old.a → new.b ≡ old.b
     → links.ChangesOnly lane.direction old.link new.link

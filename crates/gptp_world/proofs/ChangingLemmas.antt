@@ -1,9 +1,9 @@
 -- A link that becomes another between the same ports.
 use Rattle.std.proofs.Common.{◌≡◌, ℕ, List, map, Some, slice_get, slice_set, refl, ap, ◌∙◌}
 use Rattle.std.proofs.lemmas.List.{length-set}
-use Rattle.gptp_world.specs.declared.cable.Cable.{Cable}
+use Rattle.gptp_world.specs.declared.joined_link.JoinedLink.{JoinedLink}
 use Rattle.gptp_world.specs.declared.net.Net.{Net as Between}
-use Rattle.gptp_world.specs.Cable.{join_of, channel_of, net_of}
+use Rattle.gptp_world.specs.JoinedLink.{join_of, channel_of, net_of}
 use Rattle.gptp_world.specs.Net.{IsNet}
 use Rattle.gptp_world.specs.Pending.{PendingView}
 use Rattle.gptp_acts.specs.Pending.{Entry}
@@ -14,7 +14,7 @@ use Rattle.gptp_world.proofs.ArrivingLemmas.{joins_kept}
 abbrev made : List Channel → List Entry → Net
 made channels pending = record { channels = channels; pending = pending }
 
-pub net_changed : (cables : List Cable) (place : ℕ) (new : Cable) (channel : Channel) (after : PendingView)
+pub net_changed : (cables : List JoinedLink) (place : ℕ) (new : JoinedLink) (channel : Channel) (after : PendingView)
     (entries : List Entry)
     → channel_of new ≡ channel → after.entries ≡ entries
     → net_of (slice_set cables place new) after ≡ made (slice_set (map channel_of cables) place channel) entries
@@ -23,7 +23,7 @@ net_changed cables place new channel after entries is pending =
     map-set channel_of cables place new ∙ ap (slice_set (map channel_of cables) place) is in
     rw (channels, pending) refl
 
-pub still_net : (net net' : Between) (place : ℕ) (old new : Cable) → IsNet net
+pub still_net : (net net' : Between) (place : ℕ) (old new : JoinedLink) → IsNet net
     → slice_get net.cables.items place ≡ Some old
     → new.a ≡ old.a → new.b ≡ old.b → net'.directory ≡ net.directory
     → net'.cables.items ≡ slice_set net.cables.items place new

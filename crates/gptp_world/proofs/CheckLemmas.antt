@@ -2,9 +2,9 @@
 use Rattle.std.proofs.Common.{◌≡◌, ◌↔◌, ℕ, ◌<◌, Bool, List, [], ◌∷◌, ◌++◌, Some, slice_get, IsTrue, refl, ap, sym, subst, ◌∙◌, inl, inr}
 use Rattle.gptp_lists.specs.Members.{In}
 use Rattle.gptp_setup.specs.declared.timer.Timer.{Timer}
-use Rattle.gptp_world.specs.declared.aim.Aim.{Aim}
-use Rattle.gptp_world.specs.declared.aim.Aim.TheVariants as aims
-use Rattle.gptp_world.specs.declared.cable.Lane.{Lane}
+use Rattle.gptp_world.specs.declared.target.ActTarget.{ActTarget}
+use Rattle.gptp_world.specs.declared.target.ActTarget.TheVariants as aims
+use Rattle.gptp_world.specs.declared.joined_link.Lane.{Lane}
 use Rattle.gptp_plan.specs.declared.change.Act.{Act}
 use Rattle.gptp_plan.specs.declared.change.Act.TheVariants.{Deliver, Expire, Change as Changing}
 use Rattle.gptp_plan.specs.declared.change.Change.{Change}
@@ -13,12 +13,12 @@ use Rattle.gptp_acts.specs.declared.item.Item.{Item}
 use Rattle.gptp_world.specs.declared.stage.Stage.{Stage}
 use Rattle.gptp_acts.specs.declared.station.Station.{Station}
 use Rattle.gptp_acts.specs.Acts.{IsDueThen, IsEarlier, IsOldestDue, IsThere}
-use Rattle.gptp_world.specs.Aim.{IsAimOf, IsAimOfChange}
+use Rattle.gptp_world.specs.ActTarget.{IsTargetOf, IsAimOfChange}
 use Rattle.gptp_world.specs.Directory.{IsDirectory}
 use Rattle.gptp_acts.specs.Pending.{Entry, pending_entry, IsNext}
 use Rattle.gptp_world.specs.Stage.{world_of, IsStage}
 use Rattle.gptp_acts.specs.World.{Channel, WorldState, port_id, station_due}
-use Rattle.gptp_world.proofs.AimLemmas.{lane_joins, system_clock}
+use Rattle.gptp_world.proofs.ActTargetLemmas.{lane_joins, system_clock}
 
 -- ---- something is due earlier
 
@@ -35,7 +35,7 @@ next_earlier es due time item next less = (
 
 -- ---- what is found is there
 
-change_there : (c : Change) (w : WorldState) (aim : Aim) → IsAimOfChange c w aim → IsThere (Changing c) w
+change_there : (c : Change) (w : WorldState) (target : ActTarget) → IsAimOfChange c w target → IsThere (Changing c) w
 change_there (changes.LinkDown number port) w (aims.Arrival lane) is = absurd is
 change_there (changes.LinkDown number port) w (aims.Timer place set) is = absurd is
 change_there (changes.LinkDown number port) w (aims.LinkDown at) is =
@@ -107,7 +107,7 @@ change_there (changes.Inject number port octets) w (aims.Priority1 at set) is = 
 change_there (changes.Inject number port octets) w (aims.Inject lane) is =
     record { place = lane.link; channel = is.channel; is = lane_joins (port_id number port) w lane is; so = tt }
 
-pub aim_there : (act : Act) (w : WorldState) (aim : Aim) → IsAimOf act w aim → IsThere act w
+pub aim_there : (act : Act) (w : WorldState) (target : ActTarget) → IsTargetOf act w target → IsThere act w
 aim_there (Deliver link direction) w (aims.Arrival lane) is = is.1.1
 aim_there (Deliver link direction) w (aims.Timer place set) is = absurd is
 aim_there (Deliver link direction) w (aims.LinkDown at) is = absurd is
@@ -127,7 +127,7 @@ aim_there (Expire number timer) w (aims.Fail at) is = absurd is
 aim_there (Expire number timer) w (aims.Recover at) is = absurd is
 aim_there (Expire number timer) w (aims.Priority1 at set) is = absurd is
 aim_there (Expire number timer) w (aims.Inject lane) is = absurd is
-aim_there (Changing c) w aim is = change_there c w aim is
+aim_there (Changing c) w target is = change_there c w target is
 
 -- ---- whether it is due
 
@@ -150,7 +150,7 @@ no_timer_of (changes.Priority1 number value) w place timer is = is
 no_timer_of (changes.Inject number port octets) w place timer is = is
 
 pub arrival_due : (act : Act) (time : ℕ) (w : WorldState) (lane : Lane) (test : Bool)
-    → IsAimOf act w (aims.Arrival lane)
+    → IsTargetOf act w (aims.Arrival lane)
     → ((channel : Channel) → slice_get w.net.channels lane.link ≡ Some channel → IsTrue test
     ↔ IsOldestDue lane.direction time channel)
     → IsTrue test ↔ IsDueThen act time w
@@ -172,7 +172,7 @@ arrival_due (Expire number timer) time w lane test is told = absurd is
 arrival_due (Changing c) time w lane test is told = absurd (no_arrival_of c w lane is)
 
 pub timer_due : (act : Act) (time : ℕ) (stage : Stage) (place : ℕ) (timer : Timer) (test : Bool) → IsStage stage
-    → IsDirectory stage.net.directory → IsAimOf act (world_of stage) (aims.Timer place timer)
+    → IsDirectory stage.net.directory → IsTargetOf act (world_of stage) (aims.Timer place timer)
     → ((station : Station) → slice_get stage.stations.items place ≡ Some station → IsTrue test
     ↔ (station_due timer station ≡ Some time))
     → IsTrue test ↔ IsDueThen act time (world_of stage)

@@ -10,7 +10,7 @@ use Rattle.gptp_links.proofs.DrawLemmas.{draws-append}
 use Rattle.gptp_system.specs.declared.answer.Answer.{Answer}
 use Rattle.gptp_system.specs.Input.{Input, PortUp}
 use Rattle.gptp_system.specs.State.{SystemState, clock}
-use Rattle.gptp_world.specs.declared.cable.Lane.{Lane}
+use Rattle.gptp_world.specs.declared.joined_link.Lane.{Lane}
 use Rattle.gptp_world.specs.declared.net.Net.{Net as Between}
 use Rattle.gptp_world.specs.declared.stage.Stage.{Stage}
 use Rattle.gptp_acts.specs.declared.station.Station.{Station}

@@ -3,12 +3,12 @@ use Rattle.std.proofs.Common.{◌≡◌, ◌<◌, ℕ, List, length, map, Some, 
 use Rattle.gptp_system.specs.declared.reach.Reach.{Reach}
 use Rattle.gptp_system.specs.Reach.{frame_reach}
 use Rattle.gptp_links.specs.Queue.{frame}
-use Rattle.gptp_world.specs.declared.cable.Lane.{Lane}
+use Rattle.gptp_world.specs.declared.joined_link.Lane.{Lane}
 use Rattle.gptp_world.specs.declared.net.Net.{Net as Between}
 use Rattle.gptp_world.specs.declared.stage.Stage.{Stage}
 use Rattle.gptp_acts.specs.Act.{TakesFrame}
 use Rattle.gptp_acts.specs.World.{WorldState, world_queue}
-use Rattle.gptp_world.specs.Cable.{channel_of, join_of}
+use Rattle.gptp_world.specs.JoinedLink.{channel_of, join_of}
 use Rattle.gptp_world.specs.Directory.{direction_end, DirectoryState, IsDirectory, Join}
 use Rattle.gptp_world.specs.Net.{between, IsFrameDue, IsOldest}
 use Rattle.gptp_world.specs.Stage.{world_of, IsStage}
@@ -28,20 +28,20 @@ pub receiver_within : (stage : Stage) (lane : Lane) (place : ℕ) → IsStage st
     → lane.link < length stage.net.cables.items
     → IsReceiver lane place stage.net.directory → place < length stage.stations.items
 receiver_within stage lane place is known hears =
-    let cable = member_there stage.net.cables.items lane.link known in let join = join_of cable.0 in
+    let joined_link = member_there stage.net.cables.items lane.link known in let join = join_of joined_link.0 in
     place_within stage place (direction_end lane.direction join).clock is
-    (hears join (known_join stage.net lane.link cable.0 is.net cable.1))
+    (hears join (known_join stage.net lane.link joined_link.0 is.net joined_link.1))
 
 -- the oldest frame of a lane is the one that is taken
 pub oldest_taken : (net net' : Between) (lane : Lane) (now : ℕ) (octets : List ℕ) (due : IsFrameDue lane now net)
-    → TakesFrame lane.link lane.direction now octets (channel_of due.cable) (between net) (between net')
+    → TakesFrame lane.link lane.direction now octets (channel_of due.joined_link) (between net) (between net')
     → IsOldest lane octets net
 oldest_taken net net' lane now octets due takes = record {
-  cable = due.cable;
+  joined_link = due.joined_link;
   here = due.here;
   oldest = frame now octets;
   rest = takes.rest;
-  front = sym (queue_same lane.direction due.cable) ∙ takes.front;
+  front = sym (queue_same lane.direction due.joined_link) ∙ takes.front;
   these = refl;
 }
 
@@ -51,17 +51,17 @@ oldest_before : (stage stage' : Stage) (lane : Lane) (octets : List ℕ) → wor
 oldest_before stage stage' lane octets world oldest =
     let channels : map channel_of stage'.net.cables.items ≡ map channel_of stage.net.cables.items =
     ap (λ (w : WorldState). w.net.channels) world in
-    let there : slice_get (map channel_of stage.net.cables.items) lane.link ≡ Some (channel_of oldest.cable) =
+    let there : slice_get (map channel_of stage.net.cables.items) lane.link ≡ Some (channel_of oldest.joined_link) =
     ap (λ cs. slice_get cs lane.link) (sym channels)
-    ∙ mapped_there channel_of stage'.net.cables.items lane.link oldest.cable oldest.here in
-    let made = from_map channel_of stage.net.cables.items lane.link (channel_of oldest.cable) there in
+    ∙ mapped_there channel_of stage'.net.cables.items lane.link oldest.joined_link oldest.here in
+    let made = from_map channel_of stage.net.cables.items lane.link (channel_of oldest.joined_link) there in
     record {
-      cable = made.one;
+      joined_link = made.one;
       here = made.there;
       oldest = oldest.oldest;
       rest = oldest.rest;
       front = sym (queue_same lane.direction made.one)
-          ∙ (ap (world_queue lane.direction) (sym made.is) ∙ (queue_same lane.direction oldest.cable ∙ oldest.front));
+          ∙ (ap (world_queue lane.direction) (sym made.is) ∙ (queue_same lane.direction oldest.joined_link ∙ oldest.front));
       these = oldest.these;
     }
 

@@ -8,23 +8,23 @@ use Rattle.gptp_vector.specs.declared.port.PortId.{PortId}
 use Rattle.gptp_links.specs.declared.link.Direction.{Direction}
 use Rattle.gptp_links.specs.declared.link.Direction.TheVariants.{FromA, FromB}
 use Rattle.gptp_roles.specs.Selection.{clock_of}
-use Rattle.gptp_world.specs.declared.cable.Lane.{Lane}
+use Rattle.gptp_world.specs.declared.joined_link.Lane.{Lane}
 use Rattle.gptp_world.specs.declared.directory.Ends.{Ends}
-use Rattle.gptp_plan.specs.declared.network.Member.{Member}
-use Rattle.gptp_plan.specs.declared.network.Wire.{Wire}
+use Rattle.gptp_plan.specs.declared.network.SystemSpec.{SystemSpec}
+use Rattle.gptp_plan.specs.declared.network.LinkSpec.{LinkSpec}
 use Rattle.gptp_plan.specs.Network.{NetworkState, IsNetwork, IsPort, IsEnd}
 use Rattle.gptp_world.specs.Directory.{Join, directory_clocks, joins_of, direction_start, BeginsAt, PortIsPlaced, IsPlan, AreRising, ArePlacesOfClocks, AreEndPlaces, AreOuts, AreDirectoryTables, AreNamed}
 use Rattle.gptp_lists.proofs.MappedLemmas.{same_there, mapped, mapped_there, contains_there, there_contains}
 
 -- ---- a network
 
-abbrev join_of : Wire → Join
+abbrev join_of : LinkSpec → Join
 join_of w = record { a = w.a; b = w.b }
 
 placed : (n : NetworkState) (p : PortId) → IsNetwork n → IsPort n.systems p → PortIsPlaced (directory_clocks n.systems) p
 placed n p h k = record {
   place = k.place;
-  there = mapped_there (λ (m : Member). clock_of m.identity) n.systems k.place k.system k.there ∙ ap Some k.clock;
+  there = mapped_there (λ (m : SystemSpec). clock_of m.identity) n.systems k.place k.system k.there ∙ ap Some k.clock;
   first = k.first;
   last = let few = (h.systems k.place k.system k.there).ports in let most = k.last in omega arith;
 }
@@ -32,30 +32,30 @@ placed n p h k = record {
 differ : (n : NetworkState) → IsNetwork n → (i j clock : ℕ) → slice_get (directory_clocks n.systems) i ≡ Some clock
     → slice_get (directory_clocks n.systems) j ≡ Some clock → i ≡ j
 differ n h i j clock e f =
-    let x = mapped (λ (m : Member). clock_of m.identity) n.systems i clock e in
-    let y = mapped (λ (m : Member). clock_of m.identity) n.systems j clock f in
+    let x = mapped (λ (m : SystemSpec). clock_of m.identity) n.systems i clock e in
+    let y = mapped (λ (m : SystemSpec). clock_of m.identity) n.systems j clock f in
     h.clocks i j x.0 y.0 x.1 y.1 (x.2 ∙ sym y.2)
 
 abbrev lane : ℕ → Direction → Lane
 lane link direction = record { link = link; direction = direction }
 
 -- the two lanes of a link begin at different ports
-same_direction : (d e : Direction) (w : Wire) (p : PortId) → w.a.clock ≢ w.b.clock
+same_direction : (d e : Direction) (w : LinkSpec) (p : PortId) → w.a.clock ≢ w.b.clock
     → direction_start d (record { a = w.a; b = w.b }) ≡ p → direction_start e (record { a = w.a; b = w.b }) ≡ p → d ≡ e
 same_direction FromA FromA w p h e f = refl
 same_direction FromB FromB w p h e f = refl
 same_direction FromA FromB w p h e f = absurd (h (ap (λ (q : PortId). q.clock) (e ∙ sym f)))
 same_direction FromB FromA w p h e f = absurd (h (ap (λ (q : PortId). q.clock) (f ∙ sym e)))
 
-is_end : (d : Direction) (w : Wire) (p : PortId) → direction_start d (record { a = w.a; b = w.b }) ≡ p → IsEnd p w
+is_end : (d : Direction) (w : LinkSpec) (p : PortId) → direction_start d (record { a = w.a; b = w.b }) ≡ p → IsEnd p w
 is_end FromA w p e = inl e
 is_end FromB w p e = inr e
 
 one_lane : (n : NetworkState) → IsNetwork n → (p : PortId) (k l : Lane) → BeginsAt (joins_of n.links) p k
     → BeginsAt (joins_of n.links) p l → k ≡ l
 one_lane n h p k l bk bl =
-    let x = mapped (λ (w : Wire). let j : Join = record { a = w.a; b = w.b } in j) n.links k.link bk.join bk.there in
-    let y = mapped (λ (w : Wire). let j : Join = record { a = w.a; b = w.b } in j) n.links l.link bl.join bl.there in
+    let x = mapped (λ (w : LinkSpec). let j : Join = record { a = w.a; b = w.b } in j) n.links k.link bk.join bk.there in
+    let y = mapped (λ (w : LinkSpec). let j : Join = record { a = w.a; b = w.b } in j) n.links l.link bl.join bl.there in
     let begins_k : direction_start k.direction (record { a = x.0.a; b = x.0.b }) ≡ p = ap (direction_start k.direction) x.2
     ∙ bk.begins in
     let begins_l : direction_start l.direction (record { a = y.0.a; b = y.0.b }) ≡ p = ap (direction_start l.direction) y.2
@@ -64,7 +64,7 @@ one_lane n h p k l bk bl =
     h.one_link k.link l.link x.0 y.0 p x.1 y.1 (is_end k.direction x.0 p begins_k)
     (is_end l.direction y.0 p begins_l) in
     let wire : y.0 ≡ x.0 = same_there n.links k.link y.0 x.0 (ap (slice_get n.links) link ∙ y.1) x.1 in
-    let there = subst (λ (w : Wire). direction_start l.direction (record { a = w.a; b = w.b }) ≡ p) wire begins_l in
+    let there = subst (λ (w : LinkSpec). direction_start l.direction (record { a = w.a; b = w.b }) ≡ p) wire begins_l in
     let direction : k.direction ≡ l.direction =
     same_direction k.direction l.direction x.0 p (h.links k.link x.0 x.1).apart begins_k there in
     ap (λ v. lane v k.direction) link ∙ ap (λ v. lane l.link v) direction
@@ -72,18 +72,18 @@ one_lane n h p k l bk bl =
 pub plan_of : (n : NetworkState) → IsNetwork n → IsPlan (directory_clocks n.systems) (joins_of n.links)
 plan_of n h = record {
   few_systems =
-      let e = length-map n.systems (λ (m : Member). clock_of m.identity) in
+      let e = length-map n.systems (λ (m : SystemSpec). clock_of m.identity) in
       let few = h.few_systems in omega arith;
-  few_links = let e = length-map n.links (λ (w : Wire). join_of w) in let few = h.few_links in omega arith;
+  few_links = let e = length-map n.links (λ (w : LinkSpec). join_of w) in let few = h.few_links in omega arith;
   differ = differ n h;
   placed_a = λ i join e.
-      let x = mapped (λ (w : Wire). join_of w) n.links i join e in
+      let x = mapped (λ (w : LinkSpec). join_of w) n.links i join e in
       subst (λ (j : Join). PortIsPlaced (directory_clocks n.systems) j.a) x.2 (placed n x.0.a h (h.links i x.0 x.1).a);
   placed_b = λ i join e.
-      let x = mapped (λ (w : Wire). join_of w) n.links i join e in
+      let x = mapped (λ (w : LinkSpec). join_of w) n.links i join e in
       subst (λ (j : Join). PortIsPlaced (directory_clocks n.systems) j.b) x.2 (placed n x.0.b h (h.links i x.0 x.1).b);
   apart = λ i join e.
-      let x = mapped (λ (w : Wire). join_of w) n.links i join e in
+      let x = mapped (λ (w : LinkSpec). join_of w) n.links i join e in
       subst (λ (j : Join). j.a.clock ≢ j.b.clock) x.2 (h.links i x.0 x.1).apart;
   one_lane = one_lane n h;
 }

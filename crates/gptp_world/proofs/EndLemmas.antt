@@ -3,11 +3,11 @@ use Rattle.std.proofs.Common.{◌≡◌, ℕ, ◌<◌, length, Some, slice_get, 
 use Rattle.std.proofs.lemmas.Option.{slice_get_within}
 use Rattle.gptp_links.specs.declared.link.Direction.{Direction}
 use Rattle.gptp_links.specs.declared.link.Direction.TheVariants.{FromA, FromB}
-use Rattle.gptp_world.specs.declared.cable.Cable.{Cable}
+use Rattle.gptp_world.specs.declared.joined_link.JoinedLink.{JoinedLink}
 use Rattle.gptp_world.specs.declared.net.Net.{Net as Between}
 use Rattle.gptp_world.specs.declared.stage.Stage.{Stage}
 use Rattle.gptp_acts.specs.declared.station.Station.{Station}
-use Rattle.gptp_world.specs.Cable.{channel_of, join_of}
+use Rattle.gptp_world.specs.JoinedLink.{channel_of, join_of}
 use Rattle.gptp_world.specs.Directory.{direction_end, DirectoryState, IsDirectory, PortIsPlaced, Join}
 use Rattle.gptp_world.specs.Net.{IsNet}
 use Rattle.gptp_world.specs.Stage.{clock_at_place, IsStage}
@@ -16,14 +16,14 @@ use Rattle.gptp_world.proofs.NetLemmas.{from_map}
 use Rattle.gptp_lists.proofs.MappedLemmas.{mapped_there}
 
 -- the directory knows the ports that a link joins
-pub known_join : (net : Between) (link : ℕ) (cable : Cable) → IsNet net → slice_get net.cables.items link ≡ Some cable
-    → slice_get net.directory.joins link ≡ Some (join_of cable)
-known_join net link cable is here =
-    ap (λ js. slice_get js link) (sym is.joins) ∙ mapped_there join_of net.cables.items link cable here
+pub known_join : (net : Between) (link : ℕ) (joined_link : JoinedLink) → IsNet net → slice_get net.cables.items link ≡ Some joined_link
+    → slice_get net.directory.joins link ≡ Some (join_of joined_link)
+known_join net link joined_link is here =
+    ap (λ js. slice_get js link) (sym is.joins) ∙ mapped_there join_of net.cables.items link joined_link here
 
-pub end_same : (d : Direction) (cable : Cable) → direction_end d (join_of cable) ≡ receiver d (channel_of cable)
-end_same FromA cable = refl
-end_same FromB cable = refl
+pub end_same : (d : Direction) (joined_link : JoinedLink) → direction_end d (join_of joined_link) ≡ receiver d (channel_of joined_link)
+end_same FromA joined_link = refl
+end_same FromB joined_link = refl
 
 pub end_placed : (d : DirectoryState) (direction : Direction) (link : ℕ) (join : Join) → IsDirectory d
     → slice_get d.joins link ≡ Some join → PortIsPlaced d.clocks (direction_end direction join)

@@ -12,7 +12,7 @@ use Rattle.gptp_acts.specs.declared.item.Item.TheVariants.{Expiry}
 use Rattle.gptp_world.specs.declared.net.Net.{Net as Between}
 use Rattle.gptp_world.specs.declared.stage.Stage.{Stage}
 use Rattle.gptp_acts.specs.Act.{Calls}
-use Rattle.gptp_world.specs.Aim.{IsTimerDue}
+use Rattle.gptp_world.specs.ActTarget.{IsTimerDue}
 use Rattle.gptp_acts.specs.Item.{timer_port}
 use Rattle.gptp_world.specs.Net.{between}
 use Rattle.gptp_acts.specs.Pending.{without_first_entry, IsKnownItem}

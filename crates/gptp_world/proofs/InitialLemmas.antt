@@ -16,16 +16,16 @@ use Rattle.gptp_roles.specs.Selection.{clock_of}
 use Rattle.gptp_system.proofs.StartLemmas.{length-new_ports}
 use Rattle.gptp_system.specs.State.{clock}
 use Rattle.gptp_vector.specs.declared.port.PortId.{PortId}
-use Rattle.gptp_world.specs.declared.cable.Cable.{Cable}
-use Rattle.gptp_world.specs.declared.cable.Lane.{Lane}
+use Rattle.gptp_world.specs.declared.joined_link.JoinedLink.{JoinedLink}
+use Rattle.gptp_world.specs.declared.joined_link.Lane.{Lane}
 use Rattle.gptp_world.specs.declared.net.Net.{Net as Between}
-use Rattle.gptp_plan.specs.declared.network.Member.{Member}
-use Rattle.gptp_plan.specs.declared.network.Wire.{Wire}
+use Rattle.gptp_plan.specs.declared.network.SystemSpec.{SystemSpec}
+use Rattle.gptp_plan.specs.declared.network.LinkSpec.{LinkSpec}
 use Rattle.gptp_world.specs.declared.stage.Stage.{Stage}
 use Rattle.gptp_acts.specs.declared.station.Station.{Station}
 use Rattle.gptp_acts.specs.Agrees.{Agrees}
 use Rattle.gptp_acts.specs.Ahead.{IsOnTime, IsWorldOnTime}
-use Rattle.gptp_world.specs.Cable.{channel_of, join_of}
+use Rattle.gptp_world.specs.JoinedLink.{channel_of, join_of}
 use Rattle.gptp_world.specs.Directory.{Join, directory_clocks, joins_of, direction_start, BeginsAt}
 use Rattle.gptp_acts.specs.Initial.{channel_from, channels_of, initial, setup_of, station_of, stations_of}
 use Rattle.gptp_world.specs.Net.{IsNet}
@@ -43,14 +43,14 @@ use Rattle.gptp_acts.proofs.SteadyLemmas.{started_none_late, started_steady}
 
 -- what is true of each system of the network as it is before it starts is true of each of the world
 each_station : (n : NetworkState) (P : Station → Type 0)
-    → ((place : ℕ) (m : Member) → slice_get n.systems place ≡ Some m → P (station_of (pace_of n) m))
+    → ((place : ℕ) (m : SystemSpec) → slice_get n.systems place ≡ Some m → P (station_of (pace_of n) m))
     → (place : ℕ) (station : Station) → slice_get (stations_of n) place ≡ Some station → P station
 each_station n P so place station there =
     let x = mapped (station_of (pace_of n)) n.systems place station there in subst P x.2 (so place x.0 x.1)
 
 -- and so it is with links
 each_channel : (n : NetworkState) (P : Channel → Type 0)
-    → ((place : ℕ) (w : Wire) → slice_get n.links place ≡ Some w → P (channel_from w))
+    → ((place : ℕ) (w : LinkSpec) → slice_get n.links place ≡ Some w → P (channel_from w))
     → (place : ℕ) (channel : Channel) → slice_get (channels_of n) place ≡ Some channel → P channel
 each_channel n P so place channel there =
     let x = mapped channel_from n.links place channel there in subst P x.2 (so place x.0 x.1)
@@ -65,11 +65,11 @@ told_of f (Some x) told e = (x, refl, same_Some (f x) told e)
 -- the system that is told of
 pub member_told : (n : NetworkState) (place : ℕ) (found : Option (ℕ × ℕ × ℕ × ℤ × ArrayVec ℤ))
     (told : ℕ × ℕ × ℕ × ℤ × ArrayVec ℤ)
-    → found ≡ option_map (λ (m : Member). (m.identity, m.ports, m.phase, m.drift, m.intervals))
+    → found ≡ option_map (λ (m : SystemSpec). (m.identity, m.ports, m.phase, m.drift, m.intervals))
     (slice_get n.systems place)
     → found ≡ Some told → slice_get n.systems place ≡ Some (member told.0 told.1 told.2 told.3 told.4)
 member_told n place found told is some =
-    let tells : Member → ℕ × ℕ × ℕ × ℤ × ArrayVec ℤ = λ m. (m.identity, m.ports, m.phase, m.drift, m.intervals) in
+    let tells : SystemSpec → ℕ × ℕ × ℕ × ℤ × ArrayVec ℤ = λ m. (m.identity, m.ports, m.phase, m.drift, m.intervals) in
     let x = told_of tells (slice_get n.systems place) told (sym is ∙ some) in
     x.1 ∙ ap (λ (v : ℕ × ℕ × ℕ × ℤ × ArrayVec ℤ). Some (member v.0 v.1 v.2 v.3 v.4)) x.2
 
@@ -82,7 +82,7 @@ log_back : (log : ℤ) → IsLog log → to_z w8 (of_z w8 log) ≡ log
 log_back log is = let low = is.low in let high = is.high in to_z-of_z w8 log (omega (arith, ints))
 
 -- what is made of a member told of, of the largest interval and the parameters is what it starts with
-pub set_up : (n : NetworkState) (m : Member) (made : Setup) (largest : ℤ) (params : Params) → IsDrift m.drift
+pub set_up : (n : NetworkState) (m : SystemSpec) (made : Setup) (largest : ℤ) (params : Params) → IsDrift m.drift
     → IsLog largest → largest ≡ largest_of n → params ≡ n.params
     → made ≡ record {
       identity = m.identity;
@@ -98,28 +98,28 @@ set_up n m made largest params drift log is same so =
     rw (drift_back m.drift drift, log_back largest log, is, same) at so
 
 -- a link with these ends and bounds
-abbrev pub joining : PortId → PortId → Bounds → Bool → Wire
+abbrev pub joining : PortId → PortId → Bounds → Bool → LinkSpec
 joining a b bounds up = record { a = a; b = b; bounds = bounds; up = up }
 
 -- the link that is told of
 pub wire_told : (n : NetworkState) (place : ℕ) (found : Option (PortId × PortId × Bounds × Bool))
     (told : PortId × PortId × Bounds × Bool)
-    → found ≡ option_map (λ (w : Wire). (w.a, w.b, w.bounds, w.up)) (slice_get n.links place)
+    → found ≡ option_map (λ (w : LinkSpec). (w.a, w.b, w.bounds, w.up)) (slice_get n.links place)
     → found ≡ Some told → slice_get n.links place ≡ Some (joining told.0 told.1 told.2 told.3)
 wire_told n place found told is some =
-    let tells : Wire → PortId × PortId × Bounds × Bool = λ w. (w.a, w.b, w.bounds, w.up) in
+    let tells : LinkSpec → PortId × PortId × Bounds × Bool = λ w. (w.a, w.b, w.bounds, w.up) in
     let x = told_of tells (slice_get n.links place) told (sym is ∙ some) in
     x.1 ∙ ap (λ (v : PortId × PortId × Bounds × Bool). Some (joining v.0 v.1 v.2 v.3)) x.2
 
 -- ---- the world is sound
 
-ports_counted : (n : NetworkState) → IsNetwork n → (place : ℕ) (m : Member) → slice_get n.systems place ≡ Some m
+ports_counted : (n : NetworkState) → IsNetwork n → (place : ℕ) (m : SystemSpec) → slice_get n.systems place ≡ Some m
     → length (station_of (pace_of n) m).system.ports ≡ m.ports
 ports_counted n is place m there =
     length-new_ports (clock_of m.identity) n.params 1 m.intervals.items ∙ (is.systems place m there).many
 
 -- a system's ports announce at its intervals, none of which is above the largest of the network
-pub intervals_within : (n : NetworkState) → IsNetwork n → (place : ℕ) (m : Member)
+pub intervals_within : (n : NetworkState) → IsNetwork n → (place : ℕ) (m : SystemSpec)
     → slice_get n.systems place ≡ Some m → AreIntervals (setup_of (pace_of n) m)
 intervals_within n is place m there = record {
   many = (is.systems place m there).many;
@@ -138,7 +138,7 @@ initial_setups n is = each_station n IsItsSetup (λ place m there.
       named = refl;
     })
 
-sends_from_end : (direction : Direction) (w : Wire) → IsEnd (sender direction (channel_from w)) w
+sends_from_end : (direction : Direction) (w : LinkSpec) → IsEnd (sender direction (channel_from w)) w
 sends_from_end FromA w = inl refl
 sends_from_end FromB w = inr refl
 
@@ -151,7 +151,7 @@ initial_apart n is link other direction way channel at here there same =
     is.one_link link other x.0 y.0 (sender direction (channel_from x.0)) x.1 y.1 (sends_from_end direction x.0)
     (subst (λ (p : PortId). IsEnd p y.0) one (sends_from_end way y.0))
 
-idle_flows : (direction : Direction) (w : Wire) → Flows direction (channel_from w)
+idle_flows : (direction : Direction) (w : LinkSpec) → Flows direction (channel_from w)
 idle_flows FromA w = record { order = tt; still = λ down. refl }
 idle_flows FromB w = record { order = tt; still = λ down. refl }
 
@@ -183,7 +183,7 @@ initial_on_time n is = record {
   pending = λ k d l. omega arith;
 }
 
-idle_queue : (direction : Direction) (w : Wire) → world_queue direction (channel_from w) ≡ []
+idle_queue : (direction : Direction) (w : LinkSpec) → world_queue direction (channel_from w) ≡ []
 idle_queue FromA w = refl
 idle_queue FromB w = refl
 
@@ -201,7 +201,7 @@ initial_clocks n is place other station at here there same =
     ap (λ (s : Station). clock s.system) x.2 ∙ same ∙ sym (ap (λ (s : Station). clock s.system) y.2) in
     is.clocks place other x.0 y.0 x.1 y.1 one
 
-end_port : (n : NetworkState) (direction : Direction) (w : Wire) (i : ℕ) → IsWire n i w
+end_port : (n : NetworkState) (direction : Direction) (w : LinkSpec) (i : ℕ) → IsWire n i w
     → IsPort n.systems (sender direction (channel_from w))
 end_port n FromA w i is = is.a
 end_port n FromB w i is = is.b
@@ -220,7 +220,7 @@ initial_ports n is link place direction channel station here there named =
     same_Some y.0 port.system (sym y.1 ∙ (ap (slice_get n.systems) same ∙ port.there)) in
     let count : length station.system.ports ≡ port.system.ports =
     ap (λ (s : Station). length s.system.ports) (sym y.2)
-    ∙ (ports_counted n is place y.0 y.1 ∙ ap (λ (m : Member). m.ports) members) in
+    ∙ (ports_counted n is place y.0 y.1 ∙ ap (λ (m : SystemSpec). m.ports) members) in
     let last = port.last in
     record { least = port.first; most = rw count last }
 
@@ -242,19 +242,19 @@ initial_sound n is = record {
 -- ---- the code's tables
 
 -- the joins follow from the links
-joined : (cables : List Cable) (wires : List Wire) → map channel_of cables ≡ map channel_from wires
+joined : (cables : List JoinedLink) (wires : List LinkSpec) → map channel_of cables ≡ map channel_from wires
     → map join_of cables ≡ joins_of wires
 joined [] [] e = refl
 joined [] (w ∷ wires) e = absurd cc
-joined (cable ∷ cables) [] e = absurd cc
-joined (cable ∷ cables) (w ∷ wires) e =
-    let head : channel_of cable ≡ channel_from w = cc in
+joined (joined_link ∷ cables) [] e = absurd cc
+joined (joined_link ∷ cables) (w ∷ wires) e =
+    let head : channel_of joined_link ≡ channel_from w = cc in
     let tail : map channel_of cables ≡ map channel_from wires = cc in
     let join : Channel → Join = λ channel. record { a = channel.a; b = channel.b } in
     ap (λ (one : Join). one ∷ map join_of cables) (ap join head)
     ∙ ap (λ rest. join (channel_from w) ∷ rest) (joined cables wires tail)
 
-cables_counted : (cables : List Cable) (wires : List Wire) → map channel_of cables ≡ map channel_from wires
+cables_counted : (cables : List JoinedLink) (wires : List LinkSpec) → map channel_of cables ≡ map channel_from wires
     → length cables ≡ length wires
 cables_counted cables wires e =
     sym (length-map cables channel_of) ∙ ap length e ∙ length-map wires channel_from
@@ -266,22 +266,22 @@ idle_net n net cables joins links = record {
   links = let count = cables_counted net.cables.items n.links cables in omega (arith, count, links);
 }
 
-clocks_kept : (n : NetworkState) (systems : List Member)
+clocks_kept : (n : NetworkState) (systems : List SystemSpec)
     → map clock_at_place (map (station_of (pace_of n)) systems) ≡ directory_clocks systems
 clocks_kept n [] = refl
 clocks_kept n (m ∷ systems) = ap (λ rest. clock_of m.identity ∷ rest) (clocks_kept n systems)
 
 -- a link begins at a port of a system of the network
-begins_at_port : (n : NetworkState) (place : ℕ) (direction : Direction) (w : Wire) → IsWire n place w
+begins_at_port : (n : NetworkState) (place : ℕ) (direction : Direction) (w : LinkSpec) → IsWire n place w
     → IsPort n.systems (direction_start direction (record { a = w.a; b = w.b }))
 begins_at_port n place FromA w is = is.a
 begins_at_port n place FromB w is = is.b
 
-port_counted : (n : NetworkState) → IsNetwork n → (place : ℕ) (m : Member) (p : ℕ) (lane : Lane)
+port_counted : (n : NetworkState) → IsNetwork n → (place : ℕ) (m : SystemSpec) (p : ℕ) (lane : Lane)
     → slice_get n.systems place ≡ Some m → BeginsAt (joins_of n.links) (port_id (clock_of m.identity) p) lane
     → (1 ≤ p) × (p ≤ m.ports)
 port_counted n is place m p lane here begins =
-    let join_from : Wire → Join = λ w. record { a = w.a; b = w.b } in
+    let join_from : LinkSpec → Join = λ w. record { a = w.a; b = w.b } in
     let x = mapped join_from n.links lane.link begins.join begins.there in
     let port : IsPort n.systems (port_id (clock_of m.identity) p) =
     subst (IsPort n.systems) (ap (direction_start lane.direction) x.2 ∙ begins.begins)
@@ -289,7 +289,7 @@ port_counted n is place m p lane here begins =
     let same : port.place ≡ place = is.clocks port.place place port.system m port.there here port.clock in
     let one : port.system ≡ m =
     same_there n.systems place port.system m (ap (slice_get n.systems) (sym same) ∙ port.there) here in
-    (port.first, subst (λ (x : Member). p ≤ x.ports) one port.last)
+    (port.first, subst (λ (x : SystemSpec). p ≤ x.ports) one port.last)
 
 abbrev HasItsLanes : NetworkState → Station → Type 0
 HasItsLanes n station = (p : ℕ) (lane : Lane) → BeginsAt (joins_of n.links) (port_id (clock station.system) p) lane

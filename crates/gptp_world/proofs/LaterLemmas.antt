@@ -1,14 +1,14 @@
 -- What an act is about is the same at a later time.
 use Rattle.std.proofs.Common.{ℕ, ◌≤◌}
-use Rattle.gptp_world.specs.declared.aim.Aim.{Aim}
-use Rattle.gptp_world.specs.declared.aim.Aim.TheVariants as aims
+use Rattle.gptp_world.specs.declared.target.ActTarget.{ActTarget}
+use Rattle.gptp_world.specs.declared.target.ActTarget.TheVariants as aims
 use Rattle.gptp_plan.specs.declared.change.Act.{Act}
 use Rattle.gptp_plan.specs.declared.change.Act.TheVariants.{Deliver, Expire, Change as Changing}
 use Rattle.gptp_plan.specs.declared.change.Change.{Change}
 use Rattle.gptp_plan.specs.declared.change.Change.TheVariants as changes
 use Rattle.gptp_world.specs.declared.stage.Stage.{Stage}
 use Rattle.gptp_acts.specs.Acts.{at}
-use Rattle.gptp_world.specs.Aim.{IsAimOf, IsAimOfChange}
+use Rattle.gptp_world.specs.ActTarget.{IsTargetOf, IsAimOfChange}
 use Rattle.gptp_system.specs.declared.reach.Reach.{Reach}
 use Rattle.gptp_system.specs.declared.reach.Reach.TheVariants as reaches
 use Rattle.gptp_system.specs.Reach.{frame_reach, timer_reach}
@@ -18,8 +18,8 @@ use Rattle.gptp_world.specs.Starting.{HasRoomToStart}
 use Rattle.gptp_world.specs.Telling.{HasRoomAtEnds}
 use Rattle.gptp_acts.specs.World.{WorldState}
 
-change_later : (c : Change) (w : WorldState) (time : ℕ) (aim : Aim) → IsAimOfChange c w aim
-    → IsAimOfChange c (at time w) aim
+change_later : (c : Change) (w : WorldState) (time : ℕ) (target : ActTarget) → IsAimOfChange c w target
+    → IsAimOfChange c (at time w) target
 change_later (changes.LinkDown number port) w time (aims.Arrival lane) is = is
 change_later (changes.LinkDown number port) w time (aims.Timer place set) is = is
 change_later (changes.LinkDown number port) w time (aims.LinkDown link) is =
@@ -91,7 +91,7 @@ change_later (changes.Inject number port octets) w time (aims.Priority1 place se
 change_later (changes.Inject number port octets) w time (aims.Inject lane) is =
     record { channel = is.channel; here = is.here; begins = is.begins }
 
-pub aim_later : (act : Act) (w : WorldState) (time : ℕ) (aim : Aim) → IsAimOf act w aim → IsAimOf act (at time w) aim
+pub aim_later : (act : Act) (w : WorldState) (time : ℕ) (target : ActTarget) → IsTargetOf act w target → IsTargetOf act (at time w) target
 aim_later (Deliver on direction) w time (aims.Arrival lane) is = is
 aim_later (Deliver on direction) w time (aims.Timer place set) is = is
 aim_later (Deliver on direction) w time (aims.LinkDown link) is = is
@@ -117,7 +117,7 @@ aim_later (Expire number timer) w time (aims.Fail place) is = is
 aim_later (Expire number timer) w time (aims.Recover place) is = is
 aim_later (Expire number timer) w time (aims.Priority1 place set) is = is
 aim_later (Expire number timer) w time (aims.Inject lane) is = is
-aim_later (Changing c) w time aim is = change_later c w time aim is
+aim_later (Changing c) w time target is = change_later c w time target is
 
 -- time that passes takes no room
 abbrev pub at_time : ℕ → Stage → Stage
@@ -145,8 +145,8 @@ start_at : (place : ℕ) (stage : Stage) (time : ℕ) → HasRoomToStart place s
     → HasRoomToStart place (at_time time stage)
 start_at place stage time has = record { station = has.station; here = has.here; room = has.room }
 
-pub room_later : (aim : Aim) (stage : Stage) (time : ℕ) → HasRoomForAim aim stage
-    → HasRoomForAim aim (at_time time stage)
+pub room_later : (target : ActTarget) (stage : Stage) (time : ℕ) → HasRoomForAim target stage
+    → HasRoomForAim target (at_time time stage)
 room_later (aims.Arrival lane) stage time has =
     λ join place octets there named oldest. room_at (frame_reach octets) place stage time
     (has join place octets there named oldest)

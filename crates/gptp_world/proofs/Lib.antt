@@ -3,13 +3,13 @@ pub mod SendingLemmas
 pub mod NetLemmas
 pub mod NeedLemmas
 pub mod EndLemmas
-pub mod AimLemmas
+pub mod ActTargetLemmas
 pub mod CheckLemmas
-pub mod ClaimedLemmas
+pub mod SettlingInvariantLemmas
 pub mod InitialLemmas
 pub mod SendsLemmas
 pub mod RoomLemmas
-pub mod CreditLemmas
+pub mod FrameBudgetLemmas
 pub mod StageLemmas
 pub mod TellingLemmas
 pub mod StartingLemmas
@@ -17,7 +17,7 @@ pub mod ExpiringLemmas
 pub mod DeliveringLemmas
 pub mod PerformingLemmas
 pub mod ComingUpLemmas
-pub mod FiledLemmas
+pub mod PendingIndexLemmas
 pub mod FollowLemmas
 pub mod SlotLemmas
 pub mod QueueLemmas
@@ -28,7 +28,7 @@ pub mod ArrivingLemmas
 pub mod ChangingLemmas
 pub mod DirectoryLemmas
 pub mod LaneLemmas
-pub mod SceneLemmas
+pub mod WorldCoreLemmas
 pub mod LaterLemmas
 pub mod ViewLemmas
 pub mod TakenLemmas

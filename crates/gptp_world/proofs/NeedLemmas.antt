@@ -8,10 +8,10 @@ use Rattle.gptp_system.specs.declared.sending.Sending.{Sending}
 use Rattle.gptp_system.specs.Reach.{count_sends_at}
 use Rattle.gptp_system.specs.State.{clock}
 use Rattle.gptp_vector.specs.declared.port.PortId.{PortId}
-use Rattle.gptp_world.specs.declared.cable.Cable.{Cable}
-use Rattle.gptp_world.specs.declared.cable.Lane.{Lane}
+use Rattle.gptp_world.specs.declared.joined_link.JoinedLink.{JoinedLink}
+use Rattle.gptp_world.specs.declared.joined_link.Lane.{Lane}
 use Rattle.gptp_world.specs.declared.net.Net.{Net as Between}
-use Rattle.gptp_world.specs.Cable.{HasRoomOn}
+use Rattle.gptp_world.specs.JoinedLink.{HasRoomOn}
 use Rattle.gptp_world.specs.Directory.{direction_start, BeginsAt}
 use Rattle.gptp_world.specs.Net.{IsUpLane, OnlyEntries}
 use Rattle.gptp_acts.specs.World.{port_id}
@@ -20,11 +20,11 @@ use Rattle.gptp_world.proofs.SendingLemmas.{same_lane}
 
 -- ---- more and less
 
-pub fewer : (less more : ℕ) (lane : Lane) (cables : List Cable) → less ≤ more
+pub fewer : (less more : ℕ) (lane : Lane) (cables : List JoinedLink) → less ≤ more
     → HasRoomOn more lane cables
     → HasRoomOn less lane cables
 fewer less more lane cables at_most has =
-    let room = has.room in record { cable = has.cable; here = has.here; room = omega arith }
+    let room = has.room in record { joined_link = has.joined_link; here = has.here; room = omega arith }
 
 -- one needs no more than the other
 pub record Covers (large small : Need) : Type 0 where
@@ -110,7 +110,7 @@ uses_timers used net net' only =
             let had = has.lanes port lane (rw (← directory) begins) in
             let frames = had.room in
             record {
-              cable = had.cable;
+              joined_link = had.joined_link;
               here = rw cables had.here;
               room = omega arith;
             };

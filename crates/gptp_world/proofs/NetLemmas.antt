@@ -4,10 +4,10 @@ use Rattle.std.proofs.lemmas.Option.{none-some, same_Some}
 use Rattle.gptp_links.specs.declared.link.Direction.{Direction}
 use Rattle.gptp_links.specs.declared.link.Direction.TheVariants.{FromA, FromB}
 use Rattle.gptp_vector.specs.declared.port.PortId.{PortId}
-use Rattle.gptp_world.specs.declared.cable.Cable.{Cable}
-use Rattle.gptp_world.specs.declared.cable.Lane.{Lane}
+use Rattle.gptp_world.specs.declared.joined_link.JoinedLink.{JoinedLink}
+use Rattle.gptp_world.specs.declared.joined_link.Lane.{Lane}
 use Rattle.gptp_world.specs.declared.net.Net.{Net as Between}
-use Rattle.gptp_world.specs.Cable.{join_of, channel_of}
+use Rattle.gptp_world.specs.JoinedLink.{join_of, channel_of}
 use Rattle.gptp_world.specs.Directory.{direction_start, BeginsAt}
 use Rattle.gptp_world.specs.Net.{between, IsNet}
 use Rattle.gptp_acts.specs.Sends.{IsUnlinkedPort}
@@ -30,17 +30,17 @@ from_map f (x ∷ xs) zero y is = record { one = x; there = refl; is = sym (same
 from_map f (x ∷ xs) (suc i) y is =
     let rest = from_map f xs i y is in record { one = rest.one; there = rest.there; is = rest.is }
 
-start_same : (d : Direction) (cable : Cable) → direction_start d (join_of cable) ≡ sender d (channel_of cable)
-start_same FromA cable = refl
-start_same FromB cable = refl
+start_same : (d : Direction) (joined_link : JoinedLink) → direction_start d (join_of joined_link) ≡ sender d (channel_of joined_link)
+start_same FromA joined_link = refl
+start_same FromB joined_link = refl
 
 abbrev pub lane_of : ℕ → Direction → Lane
 lane_of link direction = record { link = link; direction = direction }
 
 -- the link of a lane that the directory knows stands among the links
 pub known_cable : (net : Between) (port : PortId) (lane : Lane) → IsNet net → BeginsAt net.directory.joins port lane
-    → (cable : Cable) × (slice_get net.cables.items lane.link ≡ Some cable)
-    × (sender lane.direction (channel_of cable) ≡ port)
+    → (joined_link : JoinedLink) × (slice_get net.cables.items lane.link ≡ Some joined_link)
+    × (sender lane.direction (channel_of joined_link) ≡ port)
 known_cable net port lane is begins =
     let there : slice_get (map join_of net.cables.items) lane.link ≡ Some begins.join =
     ap (λ js. slice_get js lane.link) is.joins ∙ begins.there in
@@ -69,21 +69,21 @@ unlinked_none net port is none = λ place direction channel there begins.
     absurd (none (lane_of place direction) (known_lane net port place direction channel is there begins))
 
 -- the one that does is of a link that is down
-pub unlinked_down : (net : Between) (port : PortId) (lane : Lane) (cable : Cable) → IsNet net
+pub unlinked_down : (net : Between) (port : PortId) (lane : Lane) (joined_link : JoinedLink) → IsNet net
     → ((other : Lane) → BeginsAt net.directory.joins port other → lane ≡ other)
-    → slice_get net.cables.items lane.link ≡ Some cable → cable.link.up ≡ false → IsUnlinkedPort (between net) port
-unlinked_down net port lane cable is only here down = λ place direction channel there begins.
+    → slice_get net.cables.items lane.link ≡ Some joined_link → joined_link.link.up ≡ false → IsUnlinkedPort (between net) port
+unlinked_down net port lane joined_link is only here down = λ place direction channel there begins.
     let one : lane
     ≡ lane_of place direction =
     only (lane_of place direction) (known_lane net port place direction channel is there begins) in
     let made = from_map channel_of net.cables.items place channel there in
     let places : lane.link ≡ place = ap (λ (l : Lane). l.link) one in
     let same : made.one
-    ≡ cable = same_Some made.one cable (sym made.there ∙ (ap (slice_get net.cables.items) (sym places) ∙ here)) in
-    ap (λ (w : Channel). w.up) made.is ∙ (ap (λ (c : Cable). c.link.up) same ∙ down)
+    ≡ joined_link = same_Some made.one joined_link (sym made.there ∙ (ap (slice_get net.cables.items) (sym places) ∙ here)) in
+    ap (λ (w : Channel). w.up) made.is ∙ (ap (λ (c : JoinedLink). c.link.up) same ∙ down)
 
 -- links that were written through a slice
-pub written_back : {Z : Type 0} (cables : Vec Cable Z) (slice written : List Cable) → slice ≡ cables.items
+pub written_back : {Z : Type 0} (cables : Vec JoinedLink Z) (slice written : List JoinedLink) → slice ≡ cables.items
     → map join_of written ≡ map join_of slice
     → (with_items cables written).items ≡ written
 written_back cables slice written is joins =

@@ -16,10 +16,10 @@ use Rattle.gptp_system.specs.Reach.{frame_reach, timer_reach}
 use Rattle.gptp_system.specs.State.{clock}
 use Rattle.gptp_system.specs.Steps.{IsUp}
 use Rattle.gptp_vector.specs.declared.port.PortId.{PortId}
-use Rattle.gptp_world.specs.declared.aim.Aim.{Aim}
-use Rattle.gptp_world.specs.declared.aim.Aim.TheVariants as aims
-use Rattle.gptp_world.specs.declared.cable.Cable.{Cable}
-use Rattle.gptp_world.specs.declared.cable.Lane.{Lane}
+use Rattle.gptp_world.specs.declared.target.ActTarget.{ActTarget}
+use Rattle.gptp_world.specs.declared.target.ActTarget.TheVariants as aims
+use Rattle.gptp_world.specs.declared.joined_link.JoinedLink.{JoinedLink}
+use Rattle.gptp_world.specs.declared.joined_link.Lane.{Lane}
 use Rattle.gptp_plan.specs.declared.change.Act.{Act}
 use Rattle.gptp_plan.specs.declared.change.Act.TheVariants.{Deliver, Expire, Change as Changing}
 use Rattle.gptp_plan.specs.declared.change.Change.{Change}
@@ -31,8 +31,8 @@ use Rattle.gptp_world.specs.declared.stage.Stage.{Stage}
 use Rattle.gptp_acts.specs.declared.station.Station.{Station}
 use Rattle.gptp_acts.specs.Acts.{Acts, AtPlace, Changes, IsOldestDue, TellsHearing}
 use Rattle.gptp_plan.specs.Allowed.{IsFitAct}
-use Rattle.gptp_world.specs.Aim.{IsAimOf, IsAimOfChange}
-use Rattle.gptp_world.specs.Cable.{channel_of, join_of, SentOne}
+use Rattle.gptp_world.specs.ActTarget.{IsTargetOf, IsAimOfChange}
+use Rattle.gptp_world.specs.JoinedLink.{channel_of, join_of, SentOne}
 use Rattle.gptp_acts.specs.Changing.{with_bounds, with_setup, with_station, CallsIfLive, InjectsIf}
 use Rattle.gptp_world.specs.Delivering.{Delivered, MayHear}
 use Rattle.gptp_world.specs.Directory.{direction_end, Join}
@@ -43,7 +43,7 @@ use Rattle.gptp_acts.specs.Sound.{AreLinked, Flows, IsSound, IsWired}
 use Rattle.gptp_world.specs.Stage.{clock_at_place, world_of, HasRoomWithin, HasTimerAt, IsStage, SystemIs}
 use Rattle.gptp_world.specs.Telling.{HasRoomAtEnds}
 use Rattle.gptp_acts.specs.World.{Channel, WorldState, port_id, world_queue, receiver, sender}
-use Rattle.gptp_world.proofs.AimLemmas.{lane_joins}
+use Rattle.gptp_world.proofs.ActTargetLemmas.{lane_joins}
 use Rattle.gptp_world.proofs.EndLemmas.{end_same, known_join}
 use Rattle.gptp_world.proofs.NetLemmas.{from_map}
 use Rattle.gptp_lists.proofs.MappedLemmas.{mapped_there}
@@ -53,7 +53,7 @@ use Rattle.gptp_world.proofs.SendingLemmas.{queue_same}
 -- ---- where it is
 
 -- what an act is about is among the links, or the systems
-abbrev pub IsWithin : Aim → Stage → Type 0
+abbrev pub IsWithin : ActTarget → Stage → Type 0
 IsWithin (aims.Arrival lane) stage = lane.link < length stage.net.cables.items
 IsWithin (aims.Timer place timer) stage = place < length stage.stations.items
 IsWithin (aims.LinkDown link) stage = link < length stage.net.cables.items
@@ -71,8 +71,8 @@ link_within stage link channel here =
     subst (λ n. link < n) (length-map stage.net.cables.items channel_of)
     (slice_get_within (map channel_of stage.net.cables.items) link channel here)
 
-change_within : (change : Change) (aim : Aim) (stage : Stage) → IsAimOfChange change (world_of stage) aim
-    → IsWithin aim stage
+change_within : (change : Change) (target : ActTarget) (stage : Stage) → IsAimOfChange change (world_of stage) target
+    → IsWithin target stage
 change_within (changes.LinkDown number port) (aims.LinkDown link) stage at =
     link_within stage link at.channel at.is.here
 change_within (changes.LinkUp number port) (aims.LinkUp link) stage at = link_within stage link at.channel at.is.here
@@ -86,45 +86,45 @@ change_within (changes.Priority1 number value) (aims.Priority1 place set) stage 
     slice_get_within stage.stations.items place at.station at.is.here
 change_within (changes.Inject number port octets) (aims.Inject lane) stage at =
     link_within stage lane.link at.channel at.here
-change_within change aim stage at = absurd at
+change_within change target stage at = absurd at
 
-pub aim_within : (act : Act) (aim : Aim) (stage : Stage) → IsAimOf act (world_of stage) aim → IsWithin aim stage
+pub aim_within : (act : Act) (target : ActTarget) (stage : Stage) → IsTargetOf act (world_of stage) target → IsWithin target stage
 aim_within (Deliver link direction) (aims.Arrival lane) stage (same, (way, at)) =
     subst (λ i. i < length stage.net.cables.items) (sym same) (link_within stage link at.channel at.here)
 aim_within (Expire number timer) (aims.Timer place set) stage (at, same) =
     slice_get_within stage.stations.items place at.station at.is.here
-aim_within (Changing change) aim stage at = change_within change aim stage at
-aim_within act aim stage at = absurd at
+aim_within (Changing change) target stage at = change_within change target stage at
+aim_within act target stage at = absurd at
 
 -- ---- what asks for no room
 
 -- a link is up or down, and not both
 pub never_both : (net : Between) (link : ℕ) (up : Bool) → link < length net.cables.items
-    → ((cable : Cable) → slice_get net.cables.items link ≡ Some cable → up ≡ cable.link.up)
+    → ((joined_link : JoinedLink) → slice_get net.cables.items link ≡ Some joined_link → up ≡ joined_link.link.up)
     → LinkIs (not up) link net → ⊥
 never_both net link up within found is =
-    let (cable, here) = member_there net.cables.items link within in by up (found cable here ∙ is cable here)
+    let (joined_link, here) = member_there net.cables.items link within in by up (found joined_link here ∙ is joined_link here)
   where
     by : (up : Bool) → up ≡ not up → ⊥
     by true same = absurd cc
     by false same = absurd cc
 
 -- an act about this asks for none
-abbrev pub AsksForNone : Aim → Stage → Type 0
+abbrev pub AsksForNone : ActTarget → Stage → Type 0
 AsksForNone (aims.LinkDown link) stage = LinkIs false link stage.net
 AsksForNone (aims.LinkUp link) stage = LinkIs true link stage.net
 AsksForNone (aims.LinkSet link bounds) stage = ⊤
 AsksForNone (aims.Fail place) stage = ⊤
 AsksForNone (aims.Recover place) stage = SystemIs true place stage
 AsksForNone (aims.Inject lane) stage = LinkIs false lane.link stage.net
-AsksForNone aim stage = ⊥
+AsksForNone target stage = ⊥
 
 link_is : (stage : Stage) (link : ℕ) (up : Bool) (channel : Channel)
     → slice_get (world_of stage).net.channels link ≡ Some channel → channel.up ≡ up → LinkIs up link stage.net
-link_is stage link up channel here is = λ cable there.
-    let same : channel_of cable ≡ channel =
-    same_Some (channel_of cable) channel
-    (sym (mapped_there channel_of stage.net.cables.items link cable there) ∙ here) in
+link_is stage link up channel here is = λ joined_link there.
+    let same : channel_of joined_link ≡ channel =
+    same_Some (channel_of joined_link) channel
+    (sym (mapped_there channel_of stage.net.cables.items link joined_link there) ∙ here) in
     ap (λ (x : Channel). x.up) same ∙ is
 
 system_is : (stage : Stage) (place : ℕ) (live : Bool) (station : Station)
@@ -132,8 +132,8 @@ system_is : (stage : Stage) (place : ℕ) (live : Bool) (station : Station)
 system_is stage place live station here is = λ other there.
     let same : other ≡ station = same_Some other station (sym there ∙ here) in ap (λ (x : Station). x.live) same ∙ is
 
-free_change : (change : Change) (aim : Aim) (stage : Stage) → IsAimOfChange change (world_of stage) aim
-    → ChangesWithoutMemory change (world_of stage) → AsksForNone aim stage
+free_change : (change : Change) (target : ActTarget) (stage : Stage) → IsAimOfChange change (world_of stage) target
+    → ChangesWithoutMemory change (world_of stage) → AsksForNone target stage
 free_change (changes.LinkDown number port) (aims.LinkDown link) stage at asks =
     link_is stage link false at.channel at.is.here (asks link at.channel at.is)
 free_change (changes.LinkUp number port) (aims.LinkUp link) stage at asks =
@@ -146,17 +146,17 @@ free_change (changes.Priority1 number value) (aims.Priority1 place set) stage at
 free_change (changes.Inject number port octets) (aims.Inject lane) stage at asks =
     link_is stage lane.link false at.channel at.here
     (asks lane.link at.channel (lane_joins (port_id number port) (world_of stage) lane at))
-free_change change aim stage at asks = absurd at
+free_change change target stage at asks = absurd at
 
 -- what an act that asks for no memory is about asks for none
-pub free_aim : (act : Act) (aim : Aim) (stage : Stage) → IsAimOf act (world_of stage) aim
-    → AsksForNoMemory act (world_of stage) → AsksForNone aim stage
-free_aim (Changing change) aim stage at asks = free_change change aim stage at asks
-free_aim act aim stage at asks = absurd asks
+pub free_aim : (act : Act) (target : ActTarget) (stage : Stage) → IsTargetOf act (world_of stage) target
+    → AsksForNoMemory act (world_of stage) → AsksForNone target stage
+free_aim (Changing change) target stage at asks = free_change change target stage at asks
+free_aim act target stage at asks = absurd asks
 
 -- a timer that an act is about is one of the system
 pub timer_there : (act : Act) (place : ℕ) (timer : Timer) (stage : Stage)
-    → IsAimOf act (world_of stage) (aims.Timer place timer) → HasTimerAt place timer stage
+    → IsTargetOf act (world_of stage) (aims.Timer place timer) → HasTimerAt place timer stage
 timer_there (Expire number own) place timer stage (at, same) =
     record { station = at.station; here = at.is.here; timer_of = rw same at.timer_of }
 timer_there (Changing (changes.LinkDown number port)) place timer stage at = absurd at
@@ -169,7 +169,7 @@ pub frame_due : (stage : Stage) (lane : Lane) (time : ℕ)
 frame_due stage lane time at =
     let made = from_map channel_of stage.net.cables.items lane.link at.channel at.here in
     record {
-      cable = made.one;
+      joined_link = made.one;
       here = made.there;
       oldest = at.so.oldest;
       rest = at.so.rest;
@@ -250,7 +250,7 @@ arrived answers lane reached answer octets done fate fate_after stage stage' is 
 
 -- what is so of a link with the state in which it was found
 pub of_link : (stage : Stage) (link : ℕ) (up : Bool) (So : Bool → Channel → Type 0)
-    → ((cable : Cable) → slice_get stage.net.cables.items link ≡ Some cable → up ≡ cable.link.up)
+    → ((joined_link : JoinedLink) → slice_get stage.net.cables.items link ≡ Some joined_link → up ≡ joined_link.link.up)
     → OfLink link (world_of stage) (So up) → OfLink link (world_of stage) (λ channel. So channel.up channel)
 of_link stage link up So found so = λ channel here.
     let made = from_map channel_of stage.net.cables.items link channel here in
@@ -280,27 +280,27 @@ of_that w place one So there so = λ station here. subst So (same_Some one stati
 
 -- a frame went onto a lane whose link is up
 pub injected : {F : Type 0} (answers : Bounds → ℕ → F → Option ℕ → F → Type 0) (lane : Lane) (octets : List ℕ)
-    (fate fate_after : F) (stage : Stage) (net : Between) (cable : Cable)
-    → slice_get stage.net.cables.items lane.link ≡ Some cable → cable.link.up ≡ true
-    → SentOne answers stage.now (sender lane.direction (channel_of cable)) octets fate fate_after (between stage.net)
+    (fate fate_after : F) (stage : Stage) (net : Between) (joined_link : JoinedLink)
+    → slice_get stage.net.cables.items lane.link ≡ Some joined_link → joined_link.link.up ≡ true
+    → SentOne answers stage.now (sender lane.direction (channel_of joined_link)) octets fate fate_after (between stage.net)
     (between net)
     → Injected answers lane octets fate fate_after stage (record stage { net = net })
-injected answers lane octets fate fate_after stage net cable here up sent =
+injected answers lane octets fate fate_after stage net joined_link here up sent =
     let w = world_of stage in let w' = world_of (record stage { net = net }) in let draws = sent.draw ∷ [] in
     record {
       draws = draws;
       drawn = (fate_after, sent.drawn, refl);
-      injects = of_this w lane.link (channel_of cable)
+      injects = of_this w lane.link (channel_of joined_link)
           (λ channel. InjectsIf channel.up (sender lane.direction channel) octets w draws w')
-          (mapped_there channel_of stage.net.cables.items lane.link cable here)
-          (subst (λ b. InjectsIf b (sender lane.direction (channel_of cable)) octets w draws w') (sym up)
+          (mapped_there channel_of stage.net.cables.items lane.link joined_link here)
+          (subst (λ b. InjectsIf b (sender lane.direction (channel_of joined_link)) octets w draws w') (sym up)
           (record { draw = sent.draw; net = between net; drawn_once = refl; sent = sent.sends; is = refl }));
     }
 
 -- none went onto one whose link is down
 pub not_injected : {F : Type 0} (answers : Bounds → ℕ → F → Option ℕ → F → Type 0) (lane : Lane) (octets : List ℕ)
     (fate : F) (stage : Stage)
-    → ((cable : Cable) → slice_get stage.net.cables.items lane.link ≡ Some cable → false ≡ cable.link.up)
+    → ((joined_link : JoinedLink) → slice_get stage.net.cables.items lane.link ≡ Some joined_link → false ≡ joined_link.link.up)
     → Injected answers lane octets fate fate stage stage
 not_injected answers lane octets fate stage down =
     let w = world_of stage in
@@ -317,8 +317,8 @@ not_injected answers lane octets fate stage down =
 abbrev pub changed_now : Stage → Stage
 changed_now stage = record stage { last_change = stage.now }
 
-pub changes_so : (change : Change) (aim : Aim) (stage : Stage) (draws : List Draw) (w' : WorldState)
-    → IsAimOfChange change (world_of stage) aim → TurnsOver aim (world_of (changed_now stage)) draws w'
+pub changes_so : (change : Change) (target : ActTarget) (stage : Stage) (draws : List Draw) (w' : WorldState)
+    → IsAimOfChange change (world_of stage) target → TurnsOver target (world_of (changed_now stage)) draws w'
     → Changes change (world_of (changed_now stage)) draws w'
 changes_so (changes.LinkDown number port) (aims.LinkDown link) stage draws w' at turns =
     record { place = link; channel = at.channel; is = at.is; so = turns at.channel at.is.here }
@@ -355,12 +355,12 @@ changes_so (changes.Priority1 number value) (aims.Priority1 place set) stage dra
           (turns at.station at.is.here);
     }
 changes_so (changes.Inject number port octets) (aims.Inject lane) stage draws w' at turns = absurd turns
-changes_so change aim stage draws w' at turns = absurd at
+changes_so change target stage draws w' at turns = absurd at
 
 -- what is changed can be changed
-pub can_change : (change : Change) (aim : Aim) (stage : Stage) → IsSound (world_of stage) → IsFitAct (Changing change)
-    → ((lane : Lane) → aim ≢ aims.Inject lane) → IsAimOfChange change (world_of stage) aim
-    → CanChange aim (changed_now stage)
+pub can_change : (change : Change) (target : ActTarget) (stage : Stage) → IsSound (world_of stage) → IsFitAct (Changing change)
+    → ((lane : Lane) → target ≢ aims.Inject lane) → IsAimOfChange change (world_of stage) target
+    → CanChange target (changed_now stage)
 can_change (changes.LinkDown number port) (aims.LinkDown link) stage sound fit other at =
     link_within stage link at.channel at.is.here
 can_change (changes.LinkUp number port) (aims.LinkUp link) stage sound fit other at =
@@ -381,7 +381,7 @@ can_change (changes.Priority1 number value) (aims.Priority1 place set) stage sou
     slice_get_within stage.stations.items place at.station at.is.here
 can_change (changes.Inject number port octets) (aims.Inject lane) stage sound fit other at =
     absurd (other lane refl)
-can_change change aim stage sound fit other at = absurd at
+can_change change target stage sound fit other at = absurd at
 
 -- the time of the last change takes no room
 pub same_stage : (stage : Stage) → IsStage stage → IsStage (changed_now stage)
@@ -415,7 +415,7 @@ same_room_within : (r : Reach) (place : ℕ) (stage : Stage) → HasRoomWithin r
     → HasRoomWithin r place (changed_now stage)
 same_room_within r place stage has = record { station = has.station; here = has.here; room = has.room }
 
-pub same_room : (aim : Aim) (stage : Stage) → HasRoomForAim aim stage → HasRoomForAim aim (changed_now stage)
+pub same_room : (target : ActTarget) (stage : Stage) → HasRoomForAim target stage → HasRoomForAim target (changed_now stage)
 same_room (aims.Arrival lane) stage has = λ join place octets there placed oldest.
     same_room_within (frame_reach octets) place stage (has join place octets there placed oldest)
 same_room (aims.Timer place timer) stage has = λ station here.
@@ -430,33 +430,33 @@ same_room (aims.Priority1 place value) stage has = same_room_within reaches.All 
 same_room (aims.Inject lane) stage has = has
 
 -- an act that is neither a delivery nor an expiry is a change
-pub record IsSomeChange (act : Act) (aim : Aim) (w : WorldState) : Type 0 where
+pub record IsSomeChange (act : Act) (target : ActTarget) (w : WorldState) : Type 0 where
   pub change : Change
   pub act_is : act ≡ Changing change
-  pub at : IsAimOfChange change w aim
+  pub at : IsAimOfChange change w target
 
-pub is_change : (act : Act) (aim : Aim) (w : WorldState) → ((lane : Lane) → aim ≢ aims.Arrival lane)
-    → ((place : ℕ) (timer : Timer) → aim ≢ aims.Timer place timer) → IsAimOf act w aim → IsSomeChange act aim w
+pub is_change : (act : Act) (target : ActTarget) (w : WorldState) → ((lane : Lane) → target ≢ aims.Arrival lane)
+    → ((place : ℕ) (timer : Timer) → target ≢ aims.Timer place timer) → IsTargetOf act w target → IsSomeChange act target w
 is_change (Deliver link direction) (aims.Arrival lane) w no_arrival no_timer at = absurd (no_arrival lane refl)
 is_change (Expire number timer) (aims.Timer place set) w no_arrival no_timer at = absurd (no_timer place set refl)
-is_change (Changing change) aim w no_arrival no_timer at = record { change = change; act_is = refl; at = at }
-is_change act aim w no_arrival no_timer at = absurd at
+is_change (Changing change) target w no_arrival no_timer at = record { change = change; act_is = refl; at = at }
+is_change act target w no_arrival no_timer at = absurd at
 
 pub change_told : {F : Type 0} (answers : Bounds → ℕ → F → Option ℕ → F → Type 0)
-    (act : Act) (aim : Aim) (fate fate_after : F)
-    (stage stage' : Stage) → IsSomeChange act aim (world_of stage)
-    → Turned answers aim fate fate_after (changed_now stage) stage'
+    (act : Act) (target : ActTarget) (fate fate_after : F)
+    (stage stage' : Stage) → IsSomeChange act target (world_of stage)
+    → Turned answers target fate fate_after (changed_now stage) stage'
     → ActIsDone answers act Quiet fate fate_after stage stage'
-change_told answers act aim fate fate_after stage stage' is turned = record {
+change_told answers act target fate fate_after stage stage' is turned = record {
   draws = turned.draws;
   drawn = turned.drawn;
   acts = subst (λ x. Acts x (world_of stage) turned.draws Quiet (world_of stage')) (sym is.act_is)
-      (refl, changes_so is.change aim stage turned.draws (world_of stage') is.at turned.turns);
+      (refl, changes_so is.change target stage turned.draws (world_of stage') is.at turned.turns);
 }
 
 -- an injection on a lane is that of a change
 pub injection_told : {F : Type 0} (answers : Bounds → ℕ → F → Option ℕ → F → Type 0) (act : Act) (lane : Lane)
-    (fate fate_after : F) (stage stage' : Stage) → IsAimOf act (world_of stage) (aims.Inject lane)
+    (fate fate_after : F) (stage stage' : Stage) → IsTargetOf act (world_of stage) (aims.Inject lane)
     → Injected answers lane (octets_of act) fate fate_after (changed_now stage) stage'
     → ActIsDone answers act Quiet fate fate_after stage stage'
 injection_told answers (Changing (changes.Inject number port octets)) lane fate fate_after stage stage' at was =

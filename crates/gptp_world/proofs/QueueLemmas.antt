@@ -10,18 +10,18 @@ use Rattle.gptp_acts.specs.Pending.{plain}
 use Rattle.slab.specs.Slab.{Slab, get, slab_len}
 use Rattle.gptp_world.specs.declared.chain.Chain.{Chain}
 use Rattle.gptp_world.specs.declared.chain.Node.{Node}
-use Rattle.gptp_world.specs.declared.filed.Running.{Running}
+use Rattle.gptp_world.specs.declared.pending_index.ArmedTimer.{ArmedTimer}
 use Rattle.gptp_world.specs.Chain.{chain_at, chain_head, no_chain, chain_numbers, AreChained, ChangesOne}
-use Rattle.gptp_world.specs.Filed.{FiledState, queue_at, filed_with_queue}
+use Rattle.gptp_world.specs.PendingIndex.{FiledState, queue_at, filed_with_queue}
 use Rattle.gptp_world.proofs.ChainLemmas.{numbers-changed, numbers_there}
 
-pub queue-same : (filed : FiledState) (place : ℕ) (queue : List ℕ) (room : ℕ) → place < length filed.queues
-    → queue_at place (filed_with_queue place queue room filed) ≡ queue
-queue-same filed place queue room within = get_or-set_same filed.queues place queue [] within
+pub queue-same : (pending_index : FiledState) (place : ℕ) (queue : List ℕ) (room : ℕ) → place < length pending_index.queues
+    → queue_at place (filed_with_queue place queue room pending_index) ≡ queue
+queue-same pending_index place queue room within = get_or-set_same pending_index.queues place queue [] within
 
-pub queue-other : (filed : FiledState) (place other : ℕ) (queue : List ℕ) (room : ℕ) → (other ≡ place → ⊥)
-    → queue_at other (filed_with_queue place queue room filed) ≡ queue_at other filed
-queue-other filed place other queue room differ = get_or-set_other filed.queues place other queue [] differ
+pub queue-other : (pending_index : FiledState) (place other : ℕ) (queue : List ℕ) (room : ℕ) → (other ≡ place → ⊥)
+    → queue_at other (filed_with_queue place queue room pending_index) ≡ queue_at other pending_index
+queue-other pending_index place other queue room differ = get_or-set_other pending_index.queues place other queue [] differ
 
 -- the first number of a queue, and that there is none
 pub front_is : (ns : List ℕ) (n : ℕ) → Some n ≡ chain_head ns → (rest : List ℕ) × (ns ≡ n ∷ rest)
@@ -42,18 +42,18 @@ length-plain (e ∷ es) = let ih = length-plain es in omega arith
 
 -- ---- the table as it is kept
 
-abbrev table : List (Option Running) → Slab Node → List Chain → FiledState
+abbrev table : List (Option ArmedTimer) → Slab Node → List Chain → FiledState
 table timers nodes chains = record {
   timers = timers;
   queues = map (chain_numbers (get nodes)) chains;
   room = nodes.capacity - slab_len nodes;
 }
 
-abbrev made : List (Option Running) → List (List ℕ) → ℕ → FiledState
+abbrev made : List (Option ArmedTimer) → List (List ℕ) → ℕ → FiledState
 made timers queues room = record { timers = timers; queues = queues; room = room }
 
 -- the chain at a place changed, so the queue there did
-pub queue_changed : (timers : List (Option Running)) (s t : Slab Node) (chains : List Chain) (place : ℕ)
+pub queue_changed : (timers : List (Option ArmedTimer)) (s t : Slab Node) (chains : List Chain) (place : ℕ)
     (after : Chain) (change : List ℕ → List ℕ) (room : ℕ) → AreChained s chains → place < length chains
     → ChangesOne (get s) (get t) (chain_at place chains) after
     → chain_numbers (get t) after ≡ change (chain_numbers (get s) (chain_at place chains)) → t.capacity - slab_len t ≡ room

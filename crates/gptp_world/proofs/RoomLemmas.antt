@@ -9,12 +9,12 @@ use Rattle.gptp_links.specs.declared.link.Direction.TheVariants.{FromA, FromB}
 use Rattle.gptp_links.specs.State as links
 use Rattle.gptp_system.specs.State.{clock}
 use Rattle.gptp_vector.specs.declared.port.PortId.{PortId}
-use Rattle.gptp_world.specs.declared.cable.Cable.{Cable}
-use Rattle.gptp_world.specs.declared.cable.Lane.{Lane}
+use Rattle.gptp_world.specs.declared.joined_link.JoinedLink.{JoinedLink}
+use Rattle.gptp_world.specs.declared.joined_link.Lane.{Lane}
 use Rattle.gptp_world.specs.declared.net.Net.{Net as Between}
 use Rattle.gptp_world.specs.declared.stage.Stage.{Stage}
 use Rattle.gptp_acts.specs.declared.station.Station.{Station}
-use Rattle.gptp_world.specs.Cable.{channel_of, join_of, HasRoomOn}
+use Rattle.gptp_world.specs.JoinedLink.{channel_of, join_of, HasRoomOn}
 use Rattle.gptp_world.specs.Directory.{BeginsAt, IsDirectory, Join}
 use Rattle.gptp_world.specs.Net.{IsNet}
 use Rattle.gptp_acts.specs.World.{port_id}
@@ -30,9 +30,9 @@ use Rattle.gptp_lists.proofs.PlaceLemmas.{get-set_same, get-set_other, same_plac
 -- ---- one link
 
 -- a link that only got room
-pub channel_kept : (cable : Cable) (link : links.LinkState) → links.SameFrames cable.link link
-    → channel_of (record cable { link = link }) ≡ channel_of cable
-channel_kept cable link same =
+pub channel_kept : (joined_link : JoinedLink) (link : links.LinkState) → links.SameFrames joined_link.link link
+    → channel_of (record joined_link { link = link }) ≡ channel_of joined_link
+channel_kept joined_link link same =
     let from_a = same.from_a in let from_b = same.from_b in let bounds = same.bounds in let up = same.up in
     rw (from_a, from_b, bounds, up) refl
 
@@ -41,7 +41,7 @@ queue_roomier : (d : Direction) (old new : links.LinkState) → links.KeepsRoom 
 queue_roomier FromA old new kept = kept.from_a
 queue_roomier FromB old new kept = kept.from_b
 
-pub kept_on : (cables : List Cable) (link : ℕ) (old new : Cable) → slice_get cables link ≡ Some old
+pub kept_on : (cables : List JoinedLink) (link : ℕ) (old new : JoinedLink) → slice_get cables link ≡ Some old
     → links.KeepsRoom old.link new.link
     → KeepsRoomOn cables (slice_set cables link new)
 kept_on cables link old new here roomier =
@@ -50,25 +50,25 @@ kept_on cables link old new here roomier =
     by : (more : ℕ) (lane : Lane) → HasRoomOn more lane cables → (lane.link ≡ link) ⊎ (lane.link ≢ link)
         → HasRoomOn more lane (slice_set cables link new)
     by more lane has (inl places) =
-        let same : has.cable ≡ old = same_Some has.cable old (sym has.here ∙ (ap (slice_get cables) places ∙ here)) in
+        let same : has.joined_link ≡ old = same_Some has.joined_link old (sym has.here ∙ (ap (slice_get cables) places ∙ here)) in
         let room : more ≤ (links.queue lane.direction old.link).room = rw (← same) has.room in
         let more_room = queue_roomier lane.direction old.link new.link roomier in
         record {
-          cable = new;
+          joined_link = new;
           here = ap (slice_get (slice_set cables link new)) places ∙ get-set_same cables link old new here;
           room = omega arith;
         }
     by more lane has (inr apart) = record {
-      cable = has.cable;
+      joined_link = has.joined_link;
       here = get-set_other cables link lane.link new apart ∙ has.here;
       room = has.room;
     }
 
-pub both_ways : (more link : ℕ) (cables : List Cable) (old new : Cable) → slice_get cables link ≡ Some old
+pub both_ways : (more link : ℕ) (cables : List JoinedLink) (old new : JoinedLink) → slice_get cables link ≡ Some old
     → links.HasRoom more new.link
     → HasRoomBothWays more link (slice_set cables link new)
 both_ways more link cables old new here room = λ direction. record {
-  cable = new;
+  joined_link = new;
   here = get-set_same cables link old new here;
   room = queue_room direction;
 }
@@ -96,12 +96,12 @@ one_after_another first second third a b =
 abbrev ends_of : Channel → Join
 ends_of channel = record { a = channel.a; b = channel.b }
 
-joins_by : (cables : List Cable) → map ends_of (map channel_of cables) ≡ map join_of cables
+joins_by : (cables : List JoinedLink) → map ends_of (map channel_of cables) ≡ map join_of cables
 joins_by [] = refl
 joins_by (c ∷ cs) = ap (λ js. join_of c ∷ js) (joins_by cs)
 
 -- links that only got room join the same ports
-pub joins_kept : (cables cables' : List Cable) → map channel_of cables' ≡ map channel_of cables
+pub joins_kept : (cables cables' : List JoinedLink) → map channel_of cables' ≡ map channel_of cables
     → map join_of cables' ≡ map join_of cables
 joins_kept cables cables' same = sym (joins_by cables') ∙ (ap (map ends_of) same ∙ joins_by cables)
 
@@ -168,7 +168,7 @@ pub no_frames : (net : Between) (port : PortId) (lane : Lane) → IsNet net → 
     → HasRoomOn 0 lane net.cables.items
 no_frames net port lane is begins =
     let known = known_cable net port lane is begins in
-    record { cable = known.0; here = known.1; room = omega arith }
+    record { joined_link = known.0; here = known.1; room = omega arith }
 
 -- the number of frames that a port may send, where it is one of the system with this clock
 abbrev most_from : ℕ → ℕ → PortId → ℕ

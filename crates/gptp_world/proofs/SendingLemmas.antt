@@ -7,19 +7,19 @@ use Rattle.gptp_links.specs.declared.link.Direction.{Direction}
 use Rattle.gptp_links.specs.declared.link.Direction.TheVariants.{FromA, FromB}
 use Rattle.gptp_links.specs.Queue.{Frame, Queue, frame, due_after, with_sent, IsSent}
 use Rattle.gptp_links.specs.State as links
-use Rattle.gptp_world.specs.declared.cable.Cable.{Cable}
-use Rattle.gptp_world.specs.declared.cable.Lane.{Lane}
+use Rattle.gptp_world.specs.declared.joined_link.JoinedLink.{JoinedLink}
+use Rattle.gptp_world.specs.declared.joined_link.Lane.{Lane}
 use Rattle.gptp_acts.specs.declared.item.Item.TheVariants.{Arrival}
 use Rattle.gptp_acts.specs.Pending.{put_if}
 use Rattle.gptp_acts.specs.World.{Channel, sender, world_queue, with_queue}
 use Rattle.gptp_acts.specs.Sends.{entered}
-use Rattle.gptp_world.specs.Cable.{net_of, channel_of, HasRoomOn, SentOne}
+use Rattle.gptp_world.specs.JoinedLink.{net_of, channel_of, HasRoomOn, SentOne}
 use Rattle.gptp_world.specs.Pending.{PendingView}
 use Rattle.gptp_lists.proofs.MappedLemmas.{mapped_there}
 use Rattle.gptp_lists.proofs.PlaceLemmas.{get-set_same, get-set_other, map-set, map-set_same, same_place}
 
 -- a link whose world_queue in one direction became another, and nothing else of it
-pub channel_sent : (d : Direction) (old new : Cable) (frames : List Frame) → new.a ≡ old.a → new.b ≡ old.b
+pub channel_sent : (d : Direction) (old new : JoinedLink) (frames : List Frame) → new.a ≡ old.a → new.b ≡ old.b
     → links.ChangesOnly d old.link new.link
     → (links.queue d new.link).frames ≡ frames → channel_of new ≡ with_queue d frames (channel_of old)
 channel_sent FromA old new frames a b only is =
@@ -31,16 +31,16 @@ channel_sent FromB old new frames a b only is =
     let bounds = only.bounds in let up = only.up in
     rw (a, b, bounds, up, is, other) refl
 
-pub queue_same : (d : Direction) (cable : Cable) → world_queue d (channel_of cable) ≡ (links.queue d cable.link).frames
-queue_same FromA cable = refl
-queue_same FromB cable = refl
+pub queue_same : (d : Direction) (joined_link : JoinedLink) → world_queue d (channel_of joined_link) ≡ (links.queue d joined_link.link).frames
+queue_same FromA joined_link = refl
+queue_same FromB joined_link = refl
 
 queue_kept : (d : Direction) (channel : Channel) → with_queue d (world_queue d channel) channel ≡ channel
 queue_kept FromA channel = refl
 queue_kept FromB channel = refl
 
 -- the net after a frame went out with this fate
-net_sent : (d : Direction) (place now : ℕ) (cables : List Cable) (old new : Cable) (octets : List ℕ)
+net_sent : (d : Direction) (place now : ℕ) (cables : List JoinedLink) (old new : JoinedLink) (octets : List ℕ)
     (answer : Option ℕ) (due : Option ℕ)
     (pending after : PendingView) → slice_get cables place ≡ Some old → new.a ≡ old.a → new.b ≡ old.b
     → links.ChangesOnly d old.link new.link → due ≡ option_map (due_after (links.queue d old.link).frames now) answer
@@ -76,7 +76,7 @@ net_sent d place now cables old new octets (Some delay) due pending after here a
 
 pub sent : {F : Type 0} (answers : Bounds → ℕ → F → Option ℕ → F → Type 0) (now : ℕ) (lane : Lane) (octets : List ℕ)
     (fate fate_after : F)
-    (cables : List Cable) (old new : Cable) (due : Option ℕ) (pending after : PendingView)
+    (cables : List JoinedLink) (old new : JoinedLink) (due : Option ℕ) (pending after : PendingView)
     → slice_get cables lane.link ≡ Some old
     → old.link.up ≡ true → new.a ≡ old.a → new.b ≡ old.b → links.ChangesOnly lane.direction old.link new.link
     → IsSent answers old.link.bounds now fate fate_after (links.queue lane.direction old.link).frames octets
@@ -116,7 +116,7 @@ queue_other FromB FromA old new only = inr only.other_way
 queue_other FromB FromB old new only = inl refl
 
 -- a send takes room for one frame on its lane, and none on any other
-pub room_elsewhere : (more : ℕ) (lane other : Lane) (cables : List Cable) (old new : Cable)
+pub room_elsewhere : (more : ℕ) (lane other : Lane) (cables : List JoinedLink) (old new : JoinedLink)
     → slice_get cables lane.link ≡ Some old → links.ChangesOnly lane.direction old.link new.link → other ≢ lane
     → HasRoomOn more other cables → HasRoomOn more other (slice_set cables lane.link new)
 room_elsewhere more lane other cables old new here only apart has = by (same_place other.link lane.link)
@@ -126,10 +126,10 @@ room_elsewhere more lane other cables old new here only apart has = by (same_pla
         → HasRoomOn more other (slice_set cables lane.link new)
     on_same places (inl directions) = absurd (apart (ap₂ lane_of places (sym directions)))
     on_same places (inr queues) =
-        let cable_is : has.cable
-        ≡ old = same_Some has.cable old (sym has.here ∙ (ap (slice_get cables) places ∙ here)) in
+        let cable_is : has.joined_link
+        ≡ old = same_Some has.joined_link old (sym has.here ∙ (ap (slice_get cables) places ∙ here)) in
         record {
-          cable = new;
+          joined_link = new;
           here = ap (slice_get (slice_set cables lane.link new)) places ∙ get-set_same cables lane.link old new here;
           room = rw (queues, ← cable_is) has.room;
         }
@@ -138,28 +138,28 @@ room_elsewhere more lane other cables old new here only apart has = by (same_pla
         → HasRoomOn more other (slice_set cables lane.link new)
     by (inl places) = on_same places (queue_other lane.direction other.direction old.link new.link only)
     by (inr places) = record {
-      cable = has.cable;
+      joined_link = has.joined_link;
       here = get-set_other cables lane.link other.link new places ∙ has.here;
       room = has.room;
     }
 
-room_here : (more : ℕ) (lane : Lane) (cables : List Cable) (old new : Cable)
+room_here : (more : ℕ) (lane : Lane) (cables : List JoinedLink) (old new : JoinedLink)
     → slice_get cables lane.link ≡ Some old → links.ChangesOnly lane.direction old.link new.link
     → (links.queue lane.direction old.link).room ≤ (links.queue lane.direction new.link).room + 1
     → HasRoomOn (more + 1) lane cables → HasRoomOn more lane (slice_set cables lane.link new)
 room_here more lane cables old new here only room has =
-    let cable_is : has.cable ≡ old = same_Some has.cable old (sym has.here ∙ here) in
+    let cable_is : has.joined_link ≡ old = same_Some has.joined_link old (sym has.here ∙ here) in
     let had : more + 1 ≤ (links.queue lane.direction old.link).room = rw (← cable_is) has.room in
     record {
-      cable = new;
+      joined_link = new;
       here = get-set_same cables lane.link old new here;
       room = omega arith;
     }
 
-pub less_room : (more : ℕ) (lane : Lane) (cables : List Cable) → HasRoomOn (more + 1) lane cables
+pub less_room : (more : ℕ) (lane : Lane) (cables : List JoinedLink) → HasRoomOn (more + 1) lane cables
     → HasRoomOn more lane cables
 less_room more lane cables has =
-    let room = has.room in record { cable = has.cable; here = has.here; room = omega arith }
+    let room = has.room in record { joined_link = has.joined_link; here = has.here; room = omega arith }
 
 pub same_lane : (lane other : Lane) → (other ≡ lane) ⊎ (other ≢ lane)
 same_lane lane other = by other.direction lane.direction (same_place other.link lane.link) refl refl
@@ -178,7 +178,7 @@ same_lane lane other = by other.direction lane.direction (same_place other.link 
     by FromB FromA (inl places) is-e is-d =
         inr (λ same. turned (sym is-d ∙ (sym (ap (λ (l : Lane). l.direction) same) ∙ is-e)))
 
-pub room_left : (more : ℕ) (lane other : Lane) (cables : List Cable) (old new : Cable)
+pub room_left : (more : ℕ) (lane other : Lane) (cables : List JoinedLink) (old new : JoinedLink)
     → slice_get cables lane.link ≡ Some old → links.ChangesOnly lane.direction old.link new.link
     → (links.queue lane.direction old.link).room ≤ (links.queue lane.direction new.link).room + 1
     → HasRoomOn (more + 1) other cables → HasRoomOn more other (slice_set cables lane.link new)

@@ -9,7 +9,7 @@ use Rattle.gptp_acts.specs.declared.item.Item.{Item}
 use Rattle.gptp_acts.specs.declared.item.Item.TheVariants.{Expiry, Arrival}
 use Rattle.gptp_acts.specs.Item.{timer_kind, timer_port, same_item}
 use Rattle.gptp_acts.specs.Pending.{plain, times_of_item, without_first_entry, IsKnownItem}
-use Rattle.gptp_world.specs.Filed.{slot_of, filed_in_slot}
+use Rattle.gptp_world.specs.PendingIndex.{slot_of, filed_in_slot}
 use Rattle.gptp_acts.proofs.TimerLemmas.{kind_below}
 
 -- ---- slots

@@ -14,11 +14,11 @@ use Rattle.gptp_system.specs.Input.{Input, IsTimely, Steps, PortUp, PortDown, Fr
 use Rattle.gptp_system.specs.Reach.{count_sends_at, SendsWithin}
 use Rattle.gptp_system.specs.State.{SystemState, clock}
 use Rattle.gptp_vector.specs.declared.port.PortId.{PortId}
-use Rattle.gptp_world.specs.declared.cable.Lane.{Lane}
+use Rattle.gptp_world.specs.declared.joined_link.Lane.{Lane}
 use Rattle.gptp_world.specs.declared.net.Net.{Net as Between}
 use Rattle.gptp_acts.specs.declared.station.Station.{Station}
 use Rattle.gptp_acts.specs.Act.{set_timers, all_timers, in_state}
-use Rattle.gptp_world.specs.Cable.{SentAll}
+use Rattle.gptp_world.specs.JoinedLink.{SentAll}
 use Rattle.gptp_world.specs.Directory.{BeginsAt}
 use Rattle.gptp_world.specs.Net.{between, IsNet, OnlyEntries}
 use Rattle.gptp_acts.specs.World.{port_id}

@@ -11,13 +11,13 @@ use Rattle.gptp_system.specs.Input.{Input, IsTimely}
 use Rattle.gptp_system.specs.Steps.{HasPortNumber}
 use Rattle.gptp_system.specs.State.{clock}
 use Rattle.gptp_vector.specs.declared.port.PortId.{PortId}
-use Rattle.gptp_world.specs.declared.cable.Cable.{Cable}
+use Rattle.gptp_world.specs.declared.joined_link.JoinedLink.{JoinedLink}
 use Rattle.gptp_world.specs.declared.net.Net.{Net as Between}
 use Rattle.gptp_world.specs.declared.stage.Stage.{Stage}
 use Rattle.gptp_acts.specs.declared.station.Station.{Station}
 use Rattle.gptp_world.specs.declared.telling.End.{End}
 use Rattle.gptp_acts.specs.Act.{in_state}
-use Rattle.gptp_world.specs.Cable.{channel_of, join_of}
+use Rattle.gptp_world.specs.JoinedLink.{channel_of, join_of}
 use Rattle.gptp_acts.specs.Changing.{CallsIfLive, TellsEnds}
 use Rattle.gptp_world.specs.Directory.{direction_end, direction_start, DirectoryState, IsDirectory, IsPlan, Join}
 use Rattle.gptp_world.specs.Net.{IsNet}
@@ -291,15 +291,15 @@ pub both_told : {F : Type 0} (answers : Bounds → ℕ → F → Option ℕ → 
     (changed : Channel → Net) (link : ℕ) (a b : End) (first second third : F) (stage : Stage) (net : Between)
     (between after : Stage) → IsStage stage
     → AreEndsOf link a b stage.net.directory → CanTell a b (record stage { net = net })
-    → ((cable : Cable) → slice_get stage.net.cables.items link ≡ Some cable
-    → (world_of (record stage { net = net })).net ≡ changed (channel_of cable))
+    → ((joined_link : JoinedLink) → slice_get stage.net.cables.items link ≡ Some joined_link
+    → (world_of (record stage { net = net })).net ≡ changed (channel_of joined_link))
     → WasTold answers a.place (input a.port) first second (record stage { net = net }) between
     → WasTold answers b.place (input b.port) second third between after
     → BothTold answers input changed link first third stage after
 both_told answers input changed link a b first second third stage net between after is ends can changes told_a told_b =
     let made = known_link stage.net link ends.join is.net ends.here in
-    let cable = made.one in
-    let channel = channel_of cable in
+    let joined_link = made.one in
+    let channel = channel_of joined_link in
     let at_a : IsEndAt channel.a a stage.net.directory =
     subst (λ (j : Join). IsEndAt j.a a stage.net.directory) made.is ends.at_a in
     let at_b : IsEndAt channel.b b stage.net.directory =
@@ -324,9 +324,9 @@ both_told answers input changed link a b first second third stage net between af
     } in
     record {
       channel = channel;
-      here = mapped_there channel_of stage.net.cables.items link cable made.there;
+      here = mapped_there channel_of stage.net.cables.items link joined_link made.there;
       draws = all;
       drawn = draws.draws-append answers first second third told_a.draws told_b.draws told_a.drawn told_b.drawn;
       tells = subst (λ n. TellsEnds input channel (record (world_of stage) { net = n }) all (world_of after))
-          (changes cable made.there) tells;
+          (changes joined_link made.there) tells;
     }

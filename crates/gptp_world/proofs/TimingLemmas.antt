@@ -12,14 +12,14 @@ use Rattle.gptp_system.specs.Input.{Input}
 use Rattle.gptp_system.specs.Reach.{is_of_time, is_selected, same_timer}
 use Rattle.gptp_system.specs.State.{SystemState, due}
 use Rattle.gptp_system.specs.Steps.{IsTimerOf}
-use Rattle.gptp_system.specs.Touched.{IsTouchedOf, Touches}
-use Rattle.gptp_world.specs.declared.cable.Lane.{Lane}
+use Rattle.gptp_system.specs.TimersChanged.{IsTouchedOf, Touches}
+use Rattle.gptp_world.specs.declared.joined_link.Lane.{Lane}
 use Rattle.gptp_acts.specs.declared.item.Item.TheVariants.{Expiry, Arrival}
 use Rattle.gptp_world.specs.declared.net.Net.{Net as Between}
 use Rattle.gptp_world.specs.declared.stage.Stage.{Stage}
 use Rattle.gptp_acts.specs.declared.station.Station.{Station}
-use Rattle.gptp_system.specs.declared.touched.Touched.{Touched}
-use Rattle.gptp_system.specs.declared.touched.Touched.TheVariants as touches
+use Rattle.gptp_system.specs.declared.touched.TimersChanged.{TimersChanged}
+use Rattle.gptp_system.specs.declared.touched.TimersChanged.TheVariants as touches
 use Rattle.gptp_acts.specs.Act.{in_state, set_timers, TakesFrame}
 use Rattle.gptp_acts.specs.Agrees.{Agrees}
 use Rattle.gptp_acts.specs.Item.{same_item}
@@ -214,7 +214,7 @@ same_timers_of s s' timers.Sync ports is = tt
 same_timers_of s s' timers.Relay ports is = tt
 same_timers_of s s' timers.Lapse ports is = tt
 
-same_touched_of : (s s' : SystemState) (touched : Touched) → length s'.ports ≡ length s.ports → IsTouchedOf s touched
+same_touched_of : (s s' : SystemState) (touched : TimersChanged) → length s'.ports ≡ length s.ports → IsTouchedOf s touched
     → IsTouchedOf s' touched
 same_touched_of s s' touches.Nothing ports is = tt
 same_touched_of s s' (touches.One timer) ports is = same_timers_of s s' timer ports is
@@ -225,7 +225,7 @@ same_touched_of s s' touches.All ports is = tt
 -- ---- after a step
 
 -- A live system took a step, which left all its timers but these. They were pending when they were due, and still are.
-pub has_touched : (stage left : Stage) (place : ℕ) (input : Input) (answer : Answer) (touched : Touched)
+pub has_touched : (stage left : Stage) (place : ℕ) (input : Input) (answer : Answer) (touched : TimersChanged)
     (step : HasStepped place input answer stage left) → AreSetFor input place stage
     → Touches input touched step.station.system step.after → HasTouched touched place left
 has_touched stage left place input answer touched step set touches =

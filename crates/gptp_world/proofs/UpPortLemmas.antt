@@ -12,10 +12,10 @@ use Rattle.gptp_system.specs.declared.sending.Sending.{Sending}
 use Rattle.gptp_system.specs.Input.{Input}
 use Rattle.gptp_system.specs.State.{SystemState}
 use Rattle.gptp_vector.specs.declared.port.PortId.{PortId}
-use Rattle.gptp_world.specs.declared.cable.Lane.{Lane}
+use Rattle.gptp_world.specs.declared.joined_link.Lane.{Lane}
 use Rattle.gptp_world.specs.declared.net.Net.{Net as Between}
 use Rattle.gptp_acts.specs.Act.{all_timers, in_state, Calls}
-use Rattle.gptp_world.specs.Cable.{channel_of}
+use Rattle.gptp_world.specs.JoinedLink.{channel_of}
 use Rattle.gptp_acts.specs.Changing.{is_link_end, is_up_at, CallsAll}
 use Rattle.gptp_world.specs.Net.{between, IsNet, IsUpLane}
 use Rattle.gptp_acts.specs.World.{port_id}
@@ -119,7 +119,7 @@ pub up_tells : (net : Between) (number port : ℕ) (lane : Option Lane) → IsNe
 up_tells net number port None is up none = down_where (between net).channels number port none
 up_tells net number port (Some lane) is up none =
     let known = known_cable net (port_id number port) lane is up.begins in
-    let same : known.0 ≡ up.cable = same_Some known.0 up.cable (sym known.1 ∙ up.here) in
+    let same : known.0 ≡ up.joined_link = same_Some known.0 up.joined_link (sym known.1 ∙ up.here) in
     up_where (map channel_of net.cables.items) lane.link lane.direction (channel_of known.0) number port
     (mapped_there channel_of net.cables.items lane.link known.0 known.1) known.2 (rw same up.up)
 

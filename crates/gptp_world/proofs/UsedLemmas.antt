@@ -5,18 +5,18 @@ use Rattle.gptp_graph.specs.Snapshot.{Link, System}
 use Rattle.gptp_vector.specs.declared.port.PortId.{PortId}
 use Rattle.std.proofs.lemmas.List.{length-map, take_all}
 use Rattle.gptp_lists.proofs.MappedLemmas.{mapped_there, taken}
-use Rattle.gptp_lists.proofs.MemberLemmas.{In-map}
+use Rattle.gptp_lists.proofs.SystemSpecLemmas.{In-map}
 use Rattle.gptp_acts.specs.World.{Channel, receiver}
 use Rattle.gptp_acts.specs.declared.station.Station.{Station}
 use Rattle.gptp_system.specs.State.{clock}
 use Rattle.gptp_kept.specs.Standing.{stations_have_clock, channel_is_used, standing_link, live_stations, standing_system, used_channels}
 use Rattle.gptp_kept.proofs.SystemLemmas.{OwnClocks, clock_in, clock_lives, clock_there, live_from, live_there}
-use Rattle.gptp_world.specs.declared.cable.Cable.{Cable}
-use Rattle.gptp_world.specs.declared.cable.Lane.{Lane}
+use Rattle.gptp_world.specs.declared.joined_link.JoinedLink.{JoinedLink}
+use Rattle.gptp_world.specs.declared.joined_link.Lane.{Lane}
 use Rattle.gptp_world.specs.declared.stage.Stage.{Stage}
-use Rattle.gptp_world.specs.Cable.{channel_of, join_of}
+use Rattle.gptp_world.specs.JoinedLink.{channel_of, join_of}
 use Rattle.gptp_world.specs.Directory.{direction_end}
-use Rattle.gptp_world.specs.Scene.{IsFounded}
+use Rattle.gptp_world.specs.WorldCore.{IsFounded}
 use Rattle.gptp_world.specs.Used.{snapshot_link, used, used_if, used_in}
 use Rattle.gptp_world.proofs.DeliveringLemmas.{IsReceiver}
 use Rattle.gptp_world.proofs.EndLemmas.{end_same, known_join, station_at}
@@ -45,18 +45,18 @@ lives_by stations place number station false true own here named lives known =
 lives_by stations place number station false false own here named lives known = refl
 
 -- so it is of the system at the end of a lane
-pub lives_there : (stage : Stage) (lane : Lane) (place : ℕ) (cable : Cable) → IsFounded stage
-    → slice_get stage.net.cables.items lane.link ≡ Some cable → IsReceiver lane place stage.net.directory
+pub lives_there : (stage : Stage) (lane : Lane) (place : ℕ) (joined_link : JoinedLink) → IsFounded stage
+    → slice_get stage.net.cables.items lane.link ≡ Some joined_link → IsReceiver lane place stage.net.directory
     → (station : Station) → slice_get stage.stations.items place ≡ Some station
-    → station.live ≡ stations_have_clock (live_stations stage.stations.items) (receiver lane.direction (channel_of cable)).clock
-lives_there stage lane place cable is here receives station there =
-    let known = receives (join_of cable) (known_join stage.net lane.link cable is.stage_kept.net here) in
-    let at = station_at stage place (direction_end lane.direction (join_of cable)).clock is.stage_kept known in
+    → station.live ≡ stations_have_clock (live_stations stage.stations.items) (receiver lane.direction (channel_of joined_link)).clock
+lives_there stage lane place joined_link is here receives station there =
+    let known = receives (join_of joined_link) (known_join stage.net lane.link joined_link is.stage_kept.net here) in
+    let at = station_at stage place (direction_end lane.direction (join_of joined_link)).clock is.stage_kept known in
     let one : at.station ≡ station = same_Some at.station station (sym at.here ∙ there) in
-    let named : clock station.system ≡ (receiver lane.direction (channel_of cable)).clock =
+    let named : clock station.system ≡ (receiver lane.direction (channel_of joined_link)).clock =
     ap (λ (x : Station). clock x.system) (sym one) ∙ (at.named
-    ∙ ap (λ port. port.clock) (end_same lane.direction cable)) in
-    lives_by stage.stations.items place (receiver lane.direction (channel_of cable)).clock station station.live _
+    ∙ ap (λ port. port.clock) (end_same lane.direction joined_link)) in
+    lives_by stage.stations.items place (receiver lane.direction (channel_of joined_link)).clock station station.live _
     is.sound.wired.clocks there named refl refl
 
 -- ---- one link more
@@ -137,36 +137,36 @@ abbrev pub used_before : Stage → ℕ → List Link
 used_before stage link =
     used_channels (live_stations stage.stations.items) (take link (map channel_of stage.net.cables.items))
 
-module _ (stage : Stage) (link : ℕ) (cable : Cable) (here : slice_get stage.net.cables.items link ≡ Some cable) where
+module _ (stage : Stage) (link : ℕ) (joined_link : JoinedLink) (here : slice_get stage.net.cables.items link ≡ Some joined_link) where
   abbrev systems : List System
   systems = live_stations stage.stations.items
 
-  there : slice_get (map channel_of stage.net.cables.items) link ≡ Some (channel_of cable)
-  there = mapped_there channel_of stage.net.cables.items link cable here
+  there : slice_get (map channel_of stage.net.cables.items) link ≡ Some (channel_of joined_link)
+  there = mapped_there channel_of stage.net.cables.items link joined_link here
 
-  pub one_more : used_before stage (link + 1) ≡ used_before stage link ++ used_if systems (channel_of cable)
-  one_more = used_more systems (map channel_of stage.net.cables.items) link (channel_of cable) there
+  pub one_more : used_before stage (link + 1) ≡ used_before stage link ++ used_if systems (channel_of joined_link)
+  one_more = used_more systems (map channel_of stage.net.cables.items) link (channel_of joined_link) there
 
-  pub counted_more : channel_is_used systems (channel_of cable) ≡ true
+  pub counted_more : channel_is_used systems (channel_of joined_link) ≡ true
       → length (used_before stage (link + 1)) ≡ length (used_before stage link) + 1
   counted_more is =
-      let if_used : used_if systems (channel_of cable) ≡ standing_link (channel_of cable) ∷ [] = rw is refl in
+      let if_used : used_if systems (channel_of joined_link) ≡ standing_link (channel_of joined_link) ∷ [] = rw is refl in
       let more = ap (λ (ls : List Link). length ls)
       (one_more ∙ ap (λ (ls : List Link). used_before stage link ++ ls) if_used) in
-      omega (arith, more, length-append (used_before stage link) (standing_link (channel_of cable) ∷ []))
+      omega (arith, more, length-append (used_before stage link) (standing_link (channel_of joined_link) ∷ []))
 
-  pub counted_same : channel_is_used systems (channel_of cable) ≡ false
+  pub counted_same : channel_is_used systems (channel_of joined_link) ≡ false
       → length (used_before stage (link + 1)) ≡ length (used_before stage link)
   counted_same is =
-      let if_used : used_if systems (channel_of cable) ≡ [] = rw is refl in
+      let if_used : used_if systems (channel_of joined_link) ≡ [] = rw is refl in
       ap (λ (ls : List Link). length ls) (one_more
       ∙ (ap (λ (ls : List Link). used_before stage link ++ ls) if_used ∙ append-nil (used_before stage link)))
 
-  pub stands_here : channel_is_used systems (channel_of cable) ≡ true
-      → slice_get (used_in stage) (length (used_before stage link)) ≡ used systems (channel_of cable)
+  pub stands_here : channel_is_used systems (channel_of joined_link) ≡ true
+      → slice_get (used_in stage) (length (used_before stage link)) ≡ used systems (channel_of joined_link)
   stands_here is =
-      used_here systems (map channel_of stage.net.cables.items) link (channel_of cable) there is
-      ∙ sym (used_yes systems (channel_of cable) is)
+      used_here systems (map channel_of stage.net.cables.items) link (channel_of joined_link) there is
+      ∙ sym (used_yes systems (channel_of joined_link) is)
 
 -- before the end all stand
 pub used_all : (stage : Stage) (link : ℕ) → length stage.net.cables.items ≤ link

@@ -5,11 +5,11 @@ use Rattle.gptp_vector.specs.declared.port.PortId.{PortId}
 use Rattle.gptp_links.specs.declared.link.Direction.{Direction}
 use Rattle.gptp_links.specs.declared.link.Direction.TheVariants.{FromA, FromB}
 use Rattle.gptp_roles.specs.Selection.{clock_of}
-use Rattle.gptp_world.specs.declared.cable.Lane.{Lane}
+use Rattle.gptp_world.specs.declared.joined_link.Lane.{Lane}
 use Rattle.gptp_world.specs.declared.directory.Ends.{Ends}
 pub use Rattle.gptp_world.specs.declared.directory.Join.{Join}
-use Rattle.gptp_plan.specs.declared.network.Member.{Member}
-use Rattle.gptp_plan.specs.declared.network.Wire.{Wire}
+use Rattle.gptp_plan.specs.declared.network.SystemSpec.{SystemSpec}
+use Rattle.gptp_plan.specs.declared.network.LinkSpec.{LinkSpec}
 
 -- the clock of each system and the ports of each link, by place
 pub record DirectoryState : Type 0 where
@@ -17,11 +17,11 @@ pub record DirectoryState : Type 0 where
   pub joins : List Join
 
 -- the systems and links of a network
-abbrev pub directory_clocks : List Member → List ℕ
-directory_clocks = map (λ (m : Member). clock_of m.identity)
+abbrev pub directory_clocks : List SystemSpec → List ℕ
+directory_clocks = map (λ (m : SystemSpec). clock_of m.identity)
 
-abbrev pub joins_of : List Wire → List Join
-joins_of = map (λ (w : Wire). record { a = w.a; b = w.b })
+abbrev pub joins_of : List LinkSpec → List Join
+joins_of = map (λ (w : LinkSpec). record { a = w.a; b = w.b })
 
 -- where a direction of a link begins, and where it ends
 abbrev pub direction_start : Direction → Join → PortId

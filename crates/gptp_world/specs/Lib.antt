@@ -1,11 +1,11 @@
-pub mod Aim
+pub mod ActTarget
 pub mod Buffers
-pub mod Cable
+pub mod JoinedLink
 pub mod Chain
-pub mod Credit
+pub mod FrameBudget
 pub mod Delivering
 pub mod Directory
-pub mod Filed
+pub mod PendingIndex
 pub mod Following
 pub mod Memory
 pub mod Net
@@ -13,7 +13,7 @@ pub mod Observing
 pub mod Pending
 pub mod Performing
 pub mod Room
-pub mod Scene
+pub mod WorldCore
 pub mod Stage
 pub mod Starting
 pub mod Telling

@@ -4,10 +4,10 @@ use Rattle.gptp_links.specs.declared.bounds.Bounds.{Bounds}
 use Rattle.gptp_links.specs.Queue.{Frame}
 use Rattle.gptp_links.specs.State as links
 use Rattle.gptp_vector.specs.declared.port.PortId.{PortId}
-use Rattle.gptp_world.specs.declared.cable.Cable.{Cable}
-use Rattle.gptp_world.specs.declared.cable.Lane.{Lane}
+use Rattle.gptp_world.specs.declared.joined_link.JoinedLink.{JoinedLink}
+use Rattle.gptp_world.specs.declared.joined_link.Lane.{Lane}
 use Rattle.gptp_world.specs.declared.net.Net.{Net as Between}
-use Rattle.gptp_world.specs.Cable.{join_of, net_of, SentOne}
+use Rattle.gptp_world.specs.JoinedLink.{join_of, net_of, SentOne}
 use Rattle.gptp_world.specs.Directory.{BeginsAt}
 use Rattle.gptp_acts.specs.Sends.{IsUnlinkedPort}
 use Rattle.gptp_acts.specs.World.{Net}
@@ -32,31 +32,31 @@ pub record OnlyEntries (used : ℕ) (net net' : Between) : Type 0 where
 
 -- the link at a place is up, or down
 abbrev pub LinkIs : Bool → ℕ → Between → Type 0
-LinkIs up link net = (cable : Cable) → slice_get net.cables.items link ≡ Some cable → cable.link.up ≡ up
+LinkIs up link net = (joined_link : JoinedLink) → slice_get net.cables.items link ≡ Some joined_link → joined_link.link.up ≡ up
 
 -- a lane of a link that is up begins at this port
 pub record IsUpLane (net : Between) (port : PortId) (lane : Lane) : Type 0 where
   pub begins : BeginsAt net.directory.joins port lane
-  pub cable : Cable
-  pub here : slice_get net.cables.items lane.link ≡ Some cable
-  pub up : cable.link.up ≡ true
+  pub joined_link : JoinedLink
+  pub here : slice_get net.cables.items lane.link ≡ Some joined_link
+  pub up : joined_link.link.up ≡ true
 
 -- the oldest frame of a lane is due at this very time
 pub record IsFrameDue (lane : Lane) (now : ℕ) (net : Between) : Type 0 where
-  pub cable : Cable
-  pub here : slice_get net.cables.items lane.link ≡ Some cable
+  pub joined_link : JoinedLink
+  pub here : slice_get net.cables.items lane.link ≡ Some joined_link
   pub oldest : Frame
   pub rest : List Frame
-  pub front : (links.queue lane.direction cable.link).frames ≡ oldest ∷ rest
+  pub front : (links.queue lane.direction joined_link.link).frames ≡ oldest ∷ rest
   pub due_now : oldest.due ≡ now
 
 -- the oldest frame of a lane has these octets
 pub record IsOldest (lane : Lane) (octets : List ℕ) (net : Between) : Type 0 where
-  pub cable : Cable
-  pub here : slice_get net.cables.items lane.link ≡ Some cable
+  pub joined_link : JoinedLink
+  pub here : slice_get net.cables.items lane.link ≡ Some joined_link
   pub oldest : Frame
   pub rest : List Frame
-  pub front : (links.queue lane.direction cable.link).frames ≡ oldest ∷ rest
+  pub front : (links.queue lane.direction joined_link.link).frames ≡ oldest ∷ rest
   pub these : oldest.octets ≡ octets
 
 -- One send: it went onto a link that is up, or there is none.

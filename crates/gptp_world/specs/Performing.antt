@@ -5,9 +5,9 @@ use Rattle.gptp_links.specs.Bounds.{Fit}
 use Rattle.gptp_links.specs.Fate.{Draw, Draws}
 use Rattle.gptp_setup.specs.declared.timer.Timer.{Timer}
 use Rattle.gptp_system.specs.Input.{TimerRunsOut as TimerExpires, Priority}
-use Rattle.gptp_world.specs.declared.aim.Aim.{Aim}
-use Rattle.gptp_world.specs.declared.aim.Aim.TheVariants as aims
-use Rattle.gptp_world.specs.declared.cable.Lane.{Lane}
+use Rattle.gptp_world.specs.declared.target.ActTarget.{ActTarget}
+use Rattle.gptp_world.specs.declared.target.ActTarget.TheVariants as aims
+use Rattle.gptp_world.specs.declared.joined_link.Lane.{Lane}
 use Rattle.gptp_plan.specs.declared.change.Act.{Act}
 use Rattle.gptp_plan.specs.declared.change.Act.TheVariants.{Change as Changing}
 use Rattle.gptp_plan.specs.declared.change.Change.TheVariants as changes
@@ -28,7 +28,7 @@ use Rattle.gptp_acts.specs.World.{Channel, WorldState, sender}
 -- ---- room for what an act can leave
 
 -- a failure leaves nothing, nor does what changes nothing
-abbrev pub HasRoomForAim : Aim → Stage → Type 0
+abbrev pub HasRoomForAim : ActTarget → Stage → Type 0
 HasRoomForAim (aims.Arrival lane) stage = HasRoomToHear lane stage
 HasRoomForAim (aims.Timer place timer) stage = HasRoomToGive (TimerExpires timer) place stage
 HasRoomForAim (aims.LinkDown link) stage = LinkIs true link stage.net → HasRoomAtEnds link stage
@@ -42,14 +42,14 @@ HasRoomForAim (aims.Inject lane) stage = LinkIs true lane.link stage.net → Has
 -- ---- what is done, by place
 
 -- what is changed is there, and the bounds of a link that is set are such as a link can have
-abbrev pub CanChange : Aim → Stage → Type 0
+abbrev pub CanChange : ActTarget → Stage → Type 0
 CanChange (aims.LinkDown link) stage = link < length stage.net.cables.items
 CanChange (aims.LinkUp link) stage = link < length stage.net.cables.items
 CanChange (aims.LinkSet link bounds) stage = (link < length stage.net.cables.items) × Fit bounds
 CanChange (aims.Fail place) stage = place < length stage.stations.items
 CanChange (aims.Recover place) stage = CanStart place stage
 CanChange (aims.Priority1 place value) stage = place < length stage.stations.items
-CanChange aim stage = ⊥
+CanChange target stage = ⊥
 
 -- what a change makes of the link, or the system, at a place
 abbrev pub OfLink : ℕ → WorldState → (Channel → Type 0) → Type 0
@@ -58,7 +58,7 @@ OfLink link w So = (channel : Channel) → slice_get w.net.channels link ≡ Som
 abbrev pub OfSystem : ℕ → WorldState → (Station → Type 0) → Type 0
 OfSystem place w So = (station : Station) → slice_get w.stations place ≡ Some station → So station
 
-abbrev pub TurnsOver : Aim → WorldState → List Draw → WorldState → Type 0
+abbrev pub TurnsOver : ActTarget → WorldState → List Draw → WorldState → Type 0
 TurnsOver (aims.LinkDown link) w draws w' = OfLink link w (λ channel. GoesDownIf channel.up link channel w draws w')
 TurnsOver (aims.LinkUp link) w draws w' = OfLink link w (λ channel. ComesUpIf channel.up link channel w draws w')
 TurnsOver (aims.LinkSet link bounds) w draws w' = OfLink link w
@@ -67,14 +67,14 @@ TurnsOver (aims.Fail place) w draws w' = OfSystem place w (λ station. FailsIf s
 TurnsOver (aims.Recover place) w draws w' = OfSystem place w (λ station. RecoversIf station.live place w draws w')
 TurnsOver (aims.Priority1 place value) w draws w' = OfSystem place w
     (λ station. CallsIfLive place (Priority value) (with_station place (with_setup value station) w) draws w')
-TurnsOver aim w draws w' = ⊥
+TurnsOver target w draws w' = ⊥
 
 -- it was changed so: the fate drew once for each send that a link carries
-pub record Turned {F : Type 0} (answers : Bounds → ℕ → F → Option ℕ → F → Type 0) (aim : Aim) (fate fate_after : F)
+pub record Turned {F : Type 0} (answers : Bounds → ℕ → F → Option ℕ → F → Type 0) (target : ActTarget) (fate fate_after : F)
     (stage stage_after : Stage) : Type 0 where
   pub draws : List Draw
   pub drawn : Draws answers fate draws fate_after
-  pub turns : TurnsOver aim (world_of stage) draws (world_of stage_after)
+  pub turns : TurnsOver target (world_of stage) draws (world_of stage_after)
 
 -- these octets were injected on a lane: where its link is up the fate drew once for them
 pub record Injected {F : Type 0} (answers : Bounds → ℕ → F → Option ℕ → F → Type 0) (lane : Lane) (octets : List ℕ)

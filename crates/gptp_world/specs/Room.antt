@@ -7,10 +7,10 @@ use Rattle.gptp_system.specs.declared.sending.Sending.{Sending}
 use Rattle.gptp_system.specs.Reach.{count_sends_at}
 use Rattle.gptp_system.specs.State.{SystemState, clock}
 use Rattle.gptp_vector.specs.declared.port.PortId.{PortId}
-use Rattle.gptp_world.specs.declared.cable.Cable.{Cable}
-use Rattle.gptp_world.specs.declared.cable.Lane.{Lane}
+use Rattle.gptp_world.specs.declared.joined_link.JoinedLink.{JoinedLink}
+use Rattle.gptp_world.specs.declared.joined_link.Lane.{Lane}
 use Rattle.gptp_world.specs.declared.net.Net.{Net as Between}
-use Rattle.gptp_world.specs.Cable.{HasRoomOn}
+use Rattle.gptp_world.specs.JoinedLink.{HasRoomOn}
 use Rattle.gptp_world.specs.Directory.{BeginsAt}
 use Rattle.gptp_world.specs.Net.{between}
 use Rattle.gptp_acts.specs.World.{port_id}
@@ -94,7 +94,7 @@ pub record Uses (need : Need) (net net' : Between) : Type 0 where
   pub left : (more : Need) → WorldHasRoom (both need more) net → WorldHasRoom more net'
 
 -- where there was room on a link for so many more frames, there still is
-abbrev pub KeepsRoomOn : List Cable → List Cable → Type 0
+abbrev pub KeepsRoomOn : List JoinedLink → List JoinedLink → Type 0
 KeepsRoomOn cables cables' = (more : ℕ) (lane : Lane) → HasRoomOn more lane cables → HasRoomOn more lane cables'
 
 -- there is room for a frame that is injected on a lane
@@ -114,7 +114,7 @@ pub record OnlyRoom (net net' : Between) : Type 0 where
   pub lanes : KeepsRoomOn net.cables.items net'.cables.items
 
 -- a link has room for so many more frames in each direction
-abbrev pub HasRoomBothWays : ℕ → ℕ → List Cable → Type 0
+abbrev pub HasRoomBothWays : ℕ → ℕ → List JoinedLink → Type 0
 HasRoomBothWays more link cables =
     (direction : Direction) → HasRoomOn more (record { link = link; direction = direction }) cables
 

@@ -3,9 +3,9 @@ use Rattle.std.specs.Prelude.{◌≡◌, ℕ, ◌+◌, Bool, false, List, [], �
 use Rattle.gptp_system.specs.declared.port.Port.{Port}
 use Rattle.gptp_setup.specs.declared.timer.Timer.{Timer}
 use Rattle.gptp_setup.specs.declared.timer.Timer.TheVariants as timers
-use Rattle.gptp_system.specs.declared.touched.Touched.{Touched}
+use Rattle.gptp_system.specs.declared.touched.TimersChanged.{TimersChanged}
 use Rattle.gptp_system.specs.Input.{Input}
-use Rattle.gptp_system.specs.Touched.{holds, is_always_touched, IsTouchedOf}
+use Rattle.gptp_system.specs.TimersChanged.{holds, is_always_touched, IsTouchedOf}
 use Rattle.gptp_acts.specs.declared.item.Item.TheVariants.{Expiry}
 use Rattle.gptp_world.specs.declared.stage.Stage.{Stage}
 use Rattle.gptp_acts.specs.declared.station.Station.{Station}
@@ -34,7 +34,7 @@ abbrev pub AreSetFor : Input → ℕ → Stage → Type 0
 AreSetFor input place stage = AreSetAt (is_always_touched input) place stage
 
 -- A step of the system at a place touched these, which are its own; all its other timers are pending when they are due.
-pub record HasTouched (touched : Touched) (place : ℕ) (stage : Stage) : Type 0 where
+pub record HasTouched (touched : TimersChanged) (place : ℕ) (stage : Stage) : Type 0 where
   pub station : Station
   pub here : slice_get stage.stations.items place ≡ Some station
   pub own : IsTouchedOf station.system touched

@@ -6,7 +6,7 @@ use Rattle.gptp_acts.specs.World.{Channel}
 use Rattle.gptp_kept.specs.Standing.{channel_is_used, standing_link, live_stations, used_channels}
 use Rattle.gptp_kept.specs.View.{port_identity_number}
 use Rattle.gptp_world.specs.declared.stage.Stage.{Stage}
-use Rattle.gptp_world.specs.Cable.{channel_of}
+use Rattle.gptp_world.specs.JoinedLink.{channel_of}
 
 -- a link as a snapshot has it, by its two ports, that of its end a first
 abbrev pub snapshot_link : PortId × PortId → Link

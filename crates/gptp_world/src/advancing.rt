@@ -1,12 +1,12 @@
 //! Worlds that go on by themselves.
 
 ghost use Rattle.std.specs.Prelude.{◌≡◌};
-ghost use Rattle.gptp_world.specs.Aim.{aim_of};
+ghost use Rattle.gptp_world.specs.ActTarget.{aim_of};
 
-use crate::aim::Aim;
-use crate::cable::Lane;
+use crate::target::ActTarget;
+use crate::joined_link::Lane;
 use crate::observer::Observer;
-use crate::scene::Scene;
+use crate::world_core::WorldCore;
 use crate::views::act_of;
 use crate::world::World;
 use gptp_acts::{Done, Item, Timed};
@@ -16,22 +16,22 @@ use gptp_sink::sink::Sink;
 use std::alloc::Global;
 
 /// What an item is about.
-fn aim_of(item: Item) -> Aim
+fn aim_of(item: Item) -> ActTarget
     ensures { result ≡ aim_of item }
 {
     match item {
-        Item::Expiry { place, timer } => Aim::Timer {
+        Item::Expiry { place, timer } => ActTarget::Timer {
             place: usize::from(place),
             timer,
         },
-        Item::Arrival { link, direction } => Aim::Arrival(Lane {
+        Item::Arrival { link, direction } => ActTarget::Arrival(Lane {
             link: usize::from(link),
             direction,
         }),
     }
 }
 
-impl Scene {
+impl WorldCore {
     ghost use Rattle.std.specs.Prelude.{◌≡◌, ◌+◌, ◌≤◌, IfNone, IfSome};
     ghost use Rattle.gptp_acts.specs.Acts.{at};
     ghost use Rattle.gptp_acts.specs.Pending.{IsNext, NothingBefore};
@@ -118,23 +118,23 @@ impl<F: Fate + Drop> World<F> {
         observer: &mut O,
         sink: &mut K,
     ) -> Result<(), Cut>
-        requires next { IsNext self.old.scene.net.pending time item }
+        requires next { IsNext self.old.world_core.net.pending time item }
         requires moment { time ≤ 1000000000000000 }
-        ensures went { (o_after : O) × Follows F.answers O.tells time self.old.fate self.new.fate self.old.scene
-            self.new.scene observer.old o_after (AppendsSome (K.written sink.old) (K.written sink.new)) }
-        ensures followed { OnOk result (Follows F.answers O.tells time self.old.fate self.new.fate self.old.scene
-            self.new.scene observer.old observer.new (Appends (K.written sink.old) (K.written sink.new))) }
+        ensures went { (o_after : O) × Follows F.answers O.tells time self.old.fate self.new.fate self.old.world_core
+            self.new.world_core observer.old o_after (AppendsSome (K.written sink.old) (K.written sink.new)) }
+        ensures followed { OnOk result (Follows F.answers O.tells time self.old.fate self.new.fate self.old.world_core
+            self.new.world_core observer.old observer.new (Appends (K.written sink.old) (K.written sink.new))) }
         ensures less { OnOk result
-            (due_by time self.new.scene.net.pending < due_by time self.old.scene.net.pending) }
-        ensures first { OnOk result (NothingBefore time self.new.scene.net.pending) }
+            (due_by time self.new.world_core.net.pending < due_by time self.old.world_core.net.pending) }
+        ensures first { OnOk result (NothingBefore time self.new.world_core.net.pending) }
         ensures works { result ≢ Err Cut.Write → K.failures sink.new ≡ K.failures sink.old }
         ensures fails { result ≡ Err Cut.Write → K.failures sink.new ≢ K.failures sink.old }
     {
         self.well_formed();
-        let timed = self.scene.next_act(time, item);
-        let done = self.scene.perform(&timed, aim_of(item), &mut self.fate)?;
+        let timed = self.world_core.next_act(time, item);
+        let done = self.world_core.perform(&timed, aim_of(item), &mut self.fate)?;
         let seen = observer.observe(alloc, self, &timed, &done, sink);
-        self.scene.recycle(done);
+        self.world_core.recycle(done);
         seen
     }
 
@@ -148,22 +148,22 @@ impl<F: Fate + Drop> World<F> {
         observer: &mut O,
         sink: &mut K,
     ) -> Result<Option<(u64, Item)>, Cut>
-        requires next { IsUpcoming next self.old.scene.net.pending }
-        requires first { NothingBefore time self.old.scene.net.pending }
+        requires next { IsUpcoming next self.old.world_core.net.pending }
+        requires first { NothingBefore time self.old.world_core.net.pending }
         requires moment { time ≤ 1000000000000000 }
-        ensures went { (o_after : O) × Follows F.answers O.tells time self.old.fate self.new.fate self.old.scene
-            self.new.scene observer.old o_after (AppendsSome (K.written sink.old) (K.written sink.new)) }
-        ensures followed { OnOk result (Follows F.answers O.tells time self.old.fate self.new.fate self.old.scene
-            self.new.scene observer.old observer.new (Appends (K.written sink.old) (K.written sink.new))) }
-        ensures next { IfOk result (λ next. IsUpcoming next self.new.scene.net.pending) }
-        ensures done { OnOk result (NothingBefore (time + 1) self.new.scene.net.pending) }
+        ensures went { (o_after : O) × Follows F.answers O.tells time self.old.fate self.new.fate self.old.world_core
+            self.new.world_core observer.old o_after (AppendsSome (K.written sink.old) (K.written sink.new)) }
+        ensures followed { OnOk result (Follows F.answers O.tells time self.old.fate self.new.fate self.old.world_core
+            self.new.world_core observer.old observer.new (Appends (K.written sink.old) (K.written sink.new))) }
+        ensures next { IfOk result (λ next. IsUpcoming next self.new.world_core.net.pending) }
+        ensures done { OnOk result (NothingBefore (time + 1) self.new.world_core.net.pending) }
         ensures works { result ≢ Err Cut.Write → K.failures sink.new ≡ K.failures sink.old }
         ensures fails { result ≡ Err Cut.Write → K.failures sink.new ≢ K.failures sink.old }
     {
         let mut next = next;
-        while let Some((due, item)) = self.scene.next_by(next, time) {
+        while let Some((due, item)) = self.world_core.next_by(next, time) {
             self.do_next(alloc, due, item, observer, sink)?;
-            next = self.scene.upcoming();
+            next = self.world_core.upcoming();
         }
         Ok(next)
     }
@@ -179,21 +179,21 @@ impl<F: Fate + Drop> World<F> {
         observer: &mut O,
         sink: &mut K,
     ) -> Result<(u64, Option<(u64, Item)>), Cut>
-        requires next { IsUpcoming next self.old.scene.net.pending }
-        requires first { NothingBefore from self.old.scene.net.pending }
+        requires next { IsUpcoming next self.old.world_core.net.pending }
+        requires first { NothingBefore from self.old.world_core.net.pending }
         requires ahead { from ≤ until }
         requires moment { until ≤ 1000000000000000 }
-        ensures went { (o_after : O) × Follows F.answers O.tells until self.old.fate self.new.fate self.old.scene
-            self.new.scene observer.old o_after (AppendsSome (K.written sink.old) (K.written sink.new)) }
-        ensures followed { OnOk result (Follows F.answers O.tells until self.old.fate self.new.fate self.old.scene
-            self.new.scene observer.old observer.new (Appends (K.written sink.old) (K.written sink.new))) }
-        ensures next { IfOk result (λ left. IsUpcoming left.1 self.new.scene.net.pending) }
-        ensures done { IfOk result (λ left. NothingBefore left.0 self.new.scene.net.pending) }
+        ensures went { (o_after : O) × Follows F.answers O.tells until self.old.fate self.new.fate self.old.world_core
+            self.new.world_core observer.old o_after (AppendsSome (K.written sink.old) (K.written sink.new)) }
+        ensures followed { OnOk result (Follows F.answers O.tells until self.old.fate self.new.fate self.old.world_core
+            self.new.world_core observer.old observer.new (Appends (K.written sink.old) (K.written sink.new))) }
+        ensures next { IfOk result (λ left. IsUpcoming left.1 self.new.world_core.net.pending) }
+        ensures done { IfOk result (λ left. NothingBefore left.0 self.new.world_core.net.pending) }
         ensures later { IfOk result (λ left. from < left.0) }
         ensures works { result ≢ Err Cut.Write → K.failures sink.new ≡ K.failures sink.old }
         ensures fails { result ≡ Err Cut.Write → K.failures sink.new ≢ K.failures sink.old }
     {
-        match self.scene.next_by(next, until) {
+        match self.world_core.next_by(next, until) {
             Some((time, _)) => {
                 let further = self.finish(alloc, time, next, observer, sink)?;
                 Ok((time + 1, further))
@@ -211,16 +211,16 @@ impl<F: Fate + Drop> World<F> {
         sink: &mut K,
     ) -> Result<(), Cut>
         requires moment { until ≤ 1000000000000000 }
-        ensures went { (o_after : O) × Follows F.answers O.tells until self.old.fate self.new.fate self.old.scene
-            self.new.scene observer.old o_after (AppendsSome (K.written sink.old) (K.written sink.new)) }
-        ensures followed { OnOk result (Follows F.answers O.tells until self.old.fate self.new.fate self.old.scene
-            self.new.scene observer.old observer.new (Appends (K.written sink.old) (K.written sink.new))) }
-        ensures done { OnOk result (NothingBefore (until + 1) self.new.scene.net.pending) }
+        ensures went { (o_after : O) × Follows F.answers O.tells until self.old.fate self.new.fate self.old.world_core
+            self.new.world_core observer.old o_after (AppendsSome (K.written sink.old) (K.written sink.new)) }
+        ensures followed { OnOk result (Follows F.answers O.tells until self.old.fate self.new.fate self.old.world_core
+            self.new.world_core observer.old observer.new (Appends (K.written sink.old) (K.written sink.new))) }
+        ensures done { OnOk result (NothingBefore (until + 1) self.new.world_core.net.pending) }
         ensures works { result ≢ Err Cut.Write → K.failures sink.new ≡ K.failures sink.old }
         ensures fails { result ≡ Err Cut.Write → K.failures sink.new ≢ K.failures sink.old }
     {
         let mut from = 0;
-        let mut next = self.scene.upcoming();
+        let mut next = self.world_core.upcoming();
         while from <= until {
             let (later, further) = self.finish_next(alloc, from, next, until, observer, sink)?;
             from = later;
@@ -245,17 +245,17 @@ impl<F: Fate + Drop> World<F> {
         sink: &mut K,
     ) -> Result<(), Cut>
         requires moment { until ≤ 1000000000000000 }
-        requires ahead { self.old.scene.time ≤ until }
-        ensures gone { OnOk result (PassesSeen F.answers O.tells until self.old.fate self.new.fate self.old.scene
-            self.new.scene observer.old observer.new (Appends (K.written sink.old) (K.written sink.new))) }
+        requires ahead { self.old.world_core.time ≤ until }
+        ensures gone { OnOk result (PassesSeen F.answers O.tells until self.old.fate self.new.fate self.old.world_core
+            self.new.world_core observer.old observer.new (Appends (K.written sink.old) (K.written sink.new))) }
         ensures broken { OnErr result ((o_after : O) × Follows F.answers O.tells until self.old.fate self.new.fate
-            self.old.scene self.new.scene observer.old o_after (AppendsSome (K.written sink.old) (K.written sink.new))) }
+            self.old.world_core self.new.world_core observer.old o_after (AppendsSome (K.written sink.old) (K.written sink.new))) }
         ensures works { result ≢ Err Cut.Write → K.failures sink.new ≡ K.failures sink.old }
         ensures fails { result ≡ Err Cut.Write → K.failures sink.new ≢ K.failures sink.old }
     {
         self.well_formed();
         self.finish_by(alloc, until, observer, sink)?;
-        self.scene.wait(until);
+        self.world_core.wait(until);
         Ok(())
     }
 }

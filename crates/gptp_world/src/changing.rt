@@ -6,8 +6,8 @@ use gptp_links::Bounds;
 impl Net {
     ghost use Rattle.std.specs.Prelude.{◌≡◌, ◌≤◌, ◌<◌, ℕ, length, Some, slice_get};
     ghost use Rattle.gptp_links.specs.Bounds.{Fit};
-    ghost use Rattle.gptp_world.specs.declared.cable.Cable.{Cable};
-    ghost use Rattle.gptp_world.specs.Cable.{channel_of};
+    ghost use Rattle.gptp_world.specs.declared.joined_link.JoinedLink.{JoinedLink};
+    ghost use Rattle.gptp_world.specs.JoinedLink.{channel_of};
     ghost use Rattle.gptp_acts.specs.Changing.{taken_down, brought_up, with_bounds};
     ghost use Rattle.gptp_world.specs.Net.{between, IsNet};
     ghost use Rattle.gptp_world.specs.Room.{no_room, Uses};
@@ -18,7 +18,7 @@ impl Net {
         requires link { link < length self.old.cables.items }
         ensures net { IsNet self.new }
         ensures uses { Uses no_room self.old self.new }
-        ensures down { (cable : Cable) → slice_get self.old.cables.items link ≡ Some cable → between self.new ≡ taken_down link (channel_of cable) (between self.old) }
+        ensures down { (joined_link : JoinedLink) → slice_get self.old.cables.items link ≡ Some joined_link → between self.new ≡ taken_down link (channel_of joined_link) (between self.old) }
     {
         self.cables[link].link.down();
         self.pending.cancel_arrivals(link);
@@ -30,7 +30,7 @@ impl Net {
         requires link { link < length self.old.cables.items }
         ensures net { IsNet self.new }
         ensures uses { Uses no_room self.old self.new }
-        ensures up { (cable : Cable) → slice_get self.old.cables.items link ≡ Some cable → between self.new ≡ brought_up link (channel_of cable) (between self.old) }
+        ensures up { (joined_link : JoinedLink) → slice_get self.old.cables.items link ≡ Some joined_link → between self.new ≡ brought_up link (channel_of joined_link) (between self.old) }
     {
         self.cables[link].link.up();
     }
@@ -42,7 +42,7 @@ impl Net {
         requires fit { Fit bounds }
         ensures net { IsNet self.new }
         ensures uses { Uses no_room self.old self.new }
-        ensures bounds { (cable : Cable) → slice_get self.old.cables.items link ≡ Some cable → between self.new ≡ with_bounds bounds link (channel_of cable) (between self.old) }
+        ensures bounds { (joined_link : JoinedLink) → slice_get self.old.cables.items link ≡ Some joined_link → between self.new ≡ with_bounds bounds link (channel_of joined_link) (between self.old) }
     {
         self.cables[link].link.set(bounds);
     }

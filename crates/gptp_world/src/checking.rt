@@ -1,8 +1,8 @@
 //! Whether an act can be done.
 
-ghost use Rattle.gptp_kept.specs.LegibleLaws.{SetsAnOctet};
+ghost use Rattle.gptp_kept.specs.EncodableLaws.{SetsAnOctet};
 
-use crate::aim::Aim;
+use crate::target::ActTarget;
 use crate::stage::Stage;
 use gptp_acts::{Act, Change, Refused, Timed};
 
@@ -36,7 +36,7 @@ impl Stage {
     ghost use Rattle.std.specs.Prelude.{◌≡◌, ◌≢◌, ◌↔◌, IsTrue, IfOk, IfErr, true, false};
     ghost use Rattle.gptp_acts.specs.declared.done.Refused.TheVariants.{OutOfMemory};
     ghost use Rattle.gptp_acts.specs.Acts.{IsDueThen, IsEarlier, IsReadyAct, Refuses};
-    ghost use Rattle.gptp_world.specs.Aim.{IsAimOf};
+    ghost use Rattle.gptp_world.specs.ActTarget.{IsTargetOf};
     ghost use Rattle.gptp_acts.specs.Pending.{NothingBefore};
     ghost use Rattle.gptp_world.specs.Stage.{world_of, IsStage};
 
@@ -52,30 +52,30 @@ impl Stage {
     }
 
     /// Whether an act is due at a time.
-    fn is_due(&self, act: &Act, aim: Aim, time: u64) -> bool
+    fn is_due(&self, act: &Act, target: ActTarget, time: u64) -> bool
         requires stage { IsStage self.now }
-        requires aim { IsAimOf act.now (world_of self.now) aim }
+        requires target { IsTargetOf act.now (world_of self.now) target }
         ensures { IsTrue result ↔ IsDueThen act.now time (world_of self.entry.now) }
     {
         self.net.directory.well_formed();
-        match aim {
-            Aim::Arrival(lane) => self.is_frame_due(lane, time),
-            Aim::Timer { place, timer } => self.is_timer_due(place, timer, time),
-            Aim::LinkDown(_) => true,
-            Aim::LinkUp(_) => true,
-            Aim::LinkSet { link: _, bounds: _ } => true,
-            Aim::Fail(_) => true,
-            Aim::Recover(_) => true,
-            Aim::Priority1 { place: _, value: _ } => true,
-            Aim::Inject(_) => true,
+        match target {
+            ActTarget::Arrival(lane) => self.is_frame_due(lane, time),
+            ActTarget::Timer { place, timer } => self.is_timer_due(place, timer, time),
+            ActTarget::LinkDown(_) => true,
+            ActTarget::LinkUp(_) => true,
+            ActTarget::LinkSet { link: _, bounds: _ } => true,
+            ActTarget::Fail(_) => true,
+            ActTarget::Recover(_) => true,
+            ActTarget::Priority1 { place: _, value: _ } => true,
+            ActTarget::Inject(_) => true,
         }
     }
 
     /// What an act is about, where it can be done; otherwise the first test that it fails.
-    pub(crate) fn check(&self, timed: &Timed) -> Result<Aim, Refused>
+    pub(crate) fn check(&self, timed: &Timed) -> Result<ActTarget, Refused>
         requires { IsStage self.now }
-        ensures aim { IfOk result (IsAimOf timed.now.act (world_of self.entry.now)) }
-        ensures ready { IfOk result (λ aim. IsReadyAct timed.now.act timed.now.at (world_of self.entry.now)) }
+        ensures target { IfOk result (IsTargetOf timed.now.act (world_of self.entry.now)) }
+        ensures ready { IfOk result (λ target. IsReadyAct timed.now.act timed.now.at (world_of self.entry.now)) }
         ensures refused { IfErr result (Refuses timed.now.act timed.now.at (world_of self.entry.now)) }
         ensures memory { IfErr result (λ refused. refused ≢ OutOfMemory) }
     {
@@ -85,9 +85,9 @@ impl Stage {
         if !self.is_first(timed.at) {
             return Err(Refused::Untimely);
         }
-        match self.aim(&timed.act) {
-            Some(aim) => match self.is_due(&timed.act, aim, timed.at) {
-                true => Ok(aim),
+        match self.target(&timed.act) {
+            Some(target) => match self.is_due(&timed.act, target, timed.at) {
+                true => Ok(target),
                 false => Err(Refused::NotDue),
             },
             None => Err(Refused::NoSuch),

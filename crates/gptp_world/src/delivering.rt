@@ -2,8 +2,8 @@
 
 ghost use Rattle.std.specs.Prelude.{◌≡◌, ◌≤◌};
 
-use crate::cable::Lane;
-use crate::credit::Credit;
+use crate::joined_link::Lane;
+use crate::frame_budget::FrameBudget;
 use crate::stage::Stage;
 use gptp_links::Fate;
 use gptp_system::{Answer, Input, Reach};
@@ -33,7 +33,7 @@ impl Stage {
     ghost use Rattle.gptp_system.specs.Reach.{frame_reach};
     ghost use Rattle.gptp_world.specs.Net.{IsFrameDue, IsOldest};
     ghost use Rattle.gptp_world.specs.Stage.{world_of, GiveUses, HasRoomToGive, IsStage};
-    ghost use Rattle.gptp_world.specs.Credit.{HearsBeyond, HearUses, IsCovered};
+    ghost use Rattle.gptp_world.specs.FrameBudget.{HearsBeyond, HearUses, IsCovered};
     ghost use Rattle.gptp_world.specs.Delivering.{Delivered, HasRoomToHear, HeardAt, IsHeardAt, MayHear};
     ghost use Rattle.gptp_world.specs.Timing.{AreSetFor};
 
@@ -103,19 +103,19 @@ impl Stage {
     pub(crate) fn make_room_to_hear(
         &mut self,
         lane: Lane,
-        credit: &mut Credit,
+        frame_budget: &mut FrameBudget,
     ) -> Result<(), AllocError>
         requires stage { IsStage self.old }
         requires link { lane.link < length self.old.net.cables.items }
-        requires covered { IsCovered credit.old self.old.net }
+        requires covered { IsCovered frame_budget.old self.old.net }
         ensures stage { IsStage self.new }
         ensures world { world_of self.new ≡ world_of self.old }
-        ensures covered { IsCovered credit.new self.new.net }
-        ensures room { OnOk result (HearsBeyond lane credit.new self.new) }
+        ensures covered { IsCovered frame_budget.new self.new.net }
+        ensures room { OnOk result (HearsBeyond lane frame_budget.new self.new) }
     {
         self.net.directory.well_formed();
         let place = self.net.directory.receiver(lane);
         let reach = self.reach_of_oldest(place, lane);
-        self.make_room_beyond(credit, place, reach)
+        self.make_room_beyond(frame_budget, place, reach)
     }
 }

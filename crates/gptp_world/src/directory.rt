@@ -6,7 +6,7 @@ ghost use Rattle.std.specs.List.Sorted.{IsNonDecreasing};
 ghost use Rattle.gptp_world.specs.Directory.{directory_clocks, joins_of, direction_end, lanes_entered, BeginsAt, IsPlan, IsDirectory, AreRising, ArePlacesOfClocks, AreEndPlaces, AreOuts, AreNamed};
 ghost use Rattle.gptp_acts.specs.Views.{rising};
 
-use crate::cable::Lane;
+use crate::joined_link::Lane;
 use gptp_acts::Network;
 use gptp_links::Direction;
 use gptp_vector::{ClockId, PortId};

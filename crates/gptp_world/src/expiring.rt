@@ -1,6 +1,6 @@
 //! Timers that expire.
 
-use crate::credit::Credit;
+use crate::frame_budget::FrameBudget;
 use crate::net::Net;
 use crate::stage::Stage;
 use gptp_links::Fate;
@@ -30,8 +30,8 @@ impl Stage {
     ghost use Rattle.std.specs.Prelude.{◌≡◌, OnOk};
     ghost use Rattle.gptp_acts.specs.Agrees.{Agrees};
     ghost use Rattle.gptp_system.specs.Input.{Expires};
-    ghost use Rattle.gptp_world.specs.Aim.{IsTimerDue};
-    ghost use Rattle.gptp_world.specs.Credit.{ExpiresBeyond, ExpiryUses, IsCovered};
+    ghost use Rattle.gptp_world.specs.ActTarget.{IsTimerDue};
+    ghost use Rattle.gptp_world.specs.FrameBudget.{ExpiresBeyond, ExpiryUses, IsCovered};
     ghost use Rattle.gptp_world.specs.Performing.{Expired};
     ghost use Rattle.gptp_world.specs.Stage.{world_of, HasRoomToGive, HasTimerAt, IsStage};
 
@@ -55,17 +55,17 @@ impl Stage {
         &mut self,
         place: usize,
         timer: Timer,
-        credit: &mut Credit,
+        frame_budget: &mut FrameBudget,
     ) -> Result<(), AllocError>
         requires stage { IsStage self.old }
         requires timer { HasTimerAt place timer self.old }
-        requires covered { IsCovered credit.old self.old.net }
+        requires covered { IsCovered frame_budget.old self.old.net }
         ensures stage { IsStage self.new }
         ensures world { world_of self.new ≡ world_of self.old }
-        ensures covered { IsCovered credit.new self.new.net }
-        ensures room { OnOk result (ExpiresBeyond place timer credit.new self.new) }
+        ensures covered { IsCovered frame_budget.new self.new.net }
+        ensures room { OnOk result (ExpiresBeyond place timer frame_budget.new self.new) }
     {
         let reach = self.stations[place].system.timer_reach(timer);
-        self.make_room_beyond(credit, place, reach)
+        self.make_room_beyond(frame_budget, place, reach)
     }
 }

@@ -2,11 +2,11 @@
 
 ghost use Rattle.std.specs.Prelude.{◌≡◌, ◌≤◌, ◌<◌, [], length, map, IfOk, Some, slice_get};
 ghost use Rattle.gptp_links.specs.Bounds.{Fit};
-ghost use Rattle.gptp_world.specs.Cable.{channel_of};
+ghost use Rattle.gptp_world.specs.JoinedLink.{channel_of};
 ghost use Rattle.gptp_acts.specs.Initial.{channels_of, stations_of};
 
 use crate::buffers::Buffers;
-use crate::cable::Cable;
+use crate::joined_link::JoinedLink;
 use crate::directory::Directory;
 use crate::net::Net;
 use crate::pending::Pending;
@@ -103,7 +103,7 @@ fn station_in(network: &Network, place: usize) -> Station
 }
 
 /// The links of a network, with nothing in flight.
-fn list_cables(alloc: Global, network: &Network) -> Result<Vec<Cable>, AllocError>
+fn list_cables(alloc: Global, network: &Network) -> Result<Vec<JoinedLink>, AllocError>
     ensures { IfOk result (λ v. map channel_of v.items ≡ channels_of network.now) }
 {
     let mut cables = Vec::with_capacity(alloc, network.links())?;
@@ -114,13 +114,13 @@ fn list_cables(alloc: Global, network: &Network) -> Result<Vec<Cable>, AllocErro
 }
 
 /// The link at a place of a network, with nothing in flight.
-fn cable_in(alloc: Global, network: &Network, place: usize) -> Cable
+fn cable_in(alloc: Global, network: &Network, place: usize) -> JoinedLink
     requires { place < length network.now.links }
     ensures { slice_get (channels_of network.now) place ≡ Some (channel_of result) }
 {
     network.well_formed();
     let (a, b, bounds, up) = network.link_at(place).unwrap();
-    Cable {
+    JoinedLink {
         a,
         b,
         link: new_link(alloc, bounds, up),

@@ -7,18 +7,18 @@
 #![tactic(auto)]
 
 mod advancing;
-mod aim;
+mod target;
 mod arriving;
 mod buffers;
-mod cable;
+mod joined_link;
 mod chain;
 mod changing;
 mod checking;
-mod credit;
+mod frame_budget;
 mod delivering;
 mod directory;
 mod expiring;
-mod filed;
+mod pending_index;
 mod founding;
 mod net;
 mod observer;
@@ -27,7 +27,7 @@ mod pending;
 mod performing;
 mod pool;
 mod room;
-mod scene;
+mod world_core;
 mod sending;
 mod stage;
 mod starting;

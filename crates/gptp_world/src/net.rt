@@ -1,7 +1,7 @@
 //! What is between the systems: the links, and what is pending.
 
 use crate::buffers::Buffers;
-use crate::cable::{Cable, Lane};
+use crate::joined_link::{JoinedLink, Lane};
 use crate::directory::Directory;
 use crate::octets::{write_octets, write_send};
 use crate::pending::Pending;
@@ -13,7 +13,7 @@ use gptp_system::{Sending, System};
 #[derive(Drop)]
 pub(crate) struct Net {
     pub directory: Directory,
-    pub cables: Vec<Cable>,
+    pub cables: Vec<JoinedLink>,
     pub pending: Pending,
     pub buffers: Buffers,
 }
@@ -21,10 +21,10 @@ pub(crate) struct Net {
 impl Net {
     ghost use Rattle.std.specs.Prelude.{◌≡◌, ℕ, ◌+◌, ◌*◌, ◌^◌, ◌<◌, ◌≤◌, List, [], ◌∷◌, length, Some, slice_get, IfSome, IfNone, true};
     ghost use Rattle.gptp_system.specs.State.{clock, own};
-    ghost use Rattle.gptp_world.specs.declared.cable.Cable.{Cable};
+    ghost use Rattle.gptp_world.specs.declared.joined_link.JoinedLink.{JoinedLink};
     ghost use Rattle.gptp_acts.specs.Sends.{written, IsUnlinkedPort};
     ghost use Rattle.gptp_acts.specs.World.{sender};
-    ghost use Rattle.gptp_world.specs.Cable.{channel_of, SentAll, SentOne};
+    ghost use Rattle.gptp_world.specs.JoinedLink.{channel_of, SentAll, SentOne};
     ghost use Rattle.gptp_world.specs.Net.{between, IsNet, IsUpLane, SentNext};
     ghost use Rattle.gptp_acts.specs.World.{port_id};
     ghost use Rattle.gptp_world.specs.Room.{for_sends, WorldHasRoom, HasRoomToInject, Uses};
@@ -46,7 +46,7 @@ impl Net {
     /// Whether a link is up.
     pub(crate) fn is_up(&self, link: usize) -> bool
         requires { link < length self.now.cables.items }
-        ensures { (cable : Cable) → slice_get self.now.cables.items link ≡ Some cable → result ≡ cable.link.up }
+        ensures { (joined_link : JoinedLink) → slice_get self.now.cables.items link ≡ Some joined_link → result ≡ joined_link.link.up }
     {
         self.cables[link].link.is_up()
     }
@@ -57,11 +57,11 @@ impl Net {
         requires early { now ≤ 10 ^ 15 }
         requires few { length octets.now ≤ 2116 }
         requires room { HasRoomToInject lane self.old }
-        requires up { (cable : Cable) → slice_get self.old.cables.items lane.link ≡ Some cable → cable.link.up ≡ true }
+        requires up { (joined_link : JoinedLink) → slice_get self.old.cables.items lane.link ≡ Some joined_link → joined_link.link.up ≡ true }
         ensures net { IsNet self.new }
         ensures directory { self.new.directory ≡ self.old.directory }
         ensures systems { self.new.pending.systems ≡ self.old.pending.systems }
-        ensures sent { (cable : Cable) → slice_get self.old.cables.items lane.link ≡ Some cable → SentOne F.answers now (sender lane.direction (channel_of cable)) octets.now fate.old fate.new (between self.old) (between self.new) }
+        ensures sent { (joined_link : JoinedLink) → slice_get self.old.cables.items lane.link ≡ Some joined_link → SentOne F.answers now (sender lane.direction (channel_of joined_link)) octets.now fate.old fate.new (between self.old) (between self.new) }
     {
         let mut frame = self.buffers.take_long();
         write_octets(octets, &mut frame);

@@ -31,9 +31,9 @@ pub trait Observer {
         sink: &mut K,
     ) -> Result<(), Cut>
         requires moment { timed.now.at ≤ 1000000000000000 }
-        ensures some { (o_after : Self) × TellsAct tells (told_of timed.now done.now) world.now.scene self.old o_after
+        ensures some { (o_after : Self) × TellsAct tells (told_of timed.now done.now) world.now.world_core self.old o_after
             (AppendsSome (K.written sink.old) (K.written sink.new)) }
-        ensures whole { OnOk result (TellsAct tells (told_of timed.now done.now) world.now.scene self.old self.new
+        ensures whole { OnOk result (TellsAct tells (told_of timed.now done.now) world.now.world_core self.old self.new
             (Appends (K.written sink.old) (K.written sink.new))) }
         ensures works { result ≢ Err Cut.Write → K.failures sink.new ≡ K.failures sink.old }
         ensures fails { result ≡ Err Cut.Write → K.failures sink.new ≢ K.failures sink.old };

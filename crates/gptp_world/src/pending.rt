@@ -8,7 +8,7 @@ ghost use Rattle.gptp_acts.specs.declared.item.Item.TheVariants.{Expiry, Arrival
 ghost use Rattle.gptp_links.specs.declared.link.Direction.TheVariants.{FromA, FromB};
 ghost use Rattle.gptp_scheduler.specs.Pending.{without_number};
 
-use crate::filed::{Filed, Running, arrival_place, timer_place};
+use crate::pending_index::{PendingIndex, ArmedTimer, arrival_place, timer_place};
 use gptp_acts::Item;
 use gptp_links::Direction;
 use gptp_scheduler::Agenda;
@@ -42,7 +42,7 @@ pub struct Pending {
     systems: usize,
     links: usize,
     agenda: Agenda<Item>,
-    filed: Filed,
+    pending_index: PendingIndex,
 }
 
 impl Model for Pending {
@@ -52,16 +52,16 @@ impl Model for Pending {
 
     ghost use Rattle.std.specs.Prelude.{min};
     ghost use Rattle.gptp_acts.specs.Pending.{plain};
-    ghost use Rattle.gptp_world.specs.Filed.{PendingIsFiled};
+    ghost use Rattle.gptp_world.specs.PendingIndex.{PendingIsFiled};
 
     ghost view = { λ p. record {
       systems = p.systems;
       links = p.links;
       entries = plain p.agenda.entries;
-      room = min p.agenda.room p.filed.room;
+      room = min p.agenda.room p.pending_index.room;
     } };
 
-    ghost invariant = { λ p. PendingIsFiled p.systems p.links p.filed p.agenda.entries };
+    ghost invariant = { λ p. PendingIsFiled p.systems p.links p.pending_index p.agenda.entries };
 }
 
 impl Pending {
@@ -74,12 +74,12 @@ impl Pending {
         ensures links { IfOk result (λ pending. pending.links ≡ links) }
         ensures entries { IfOk result (λ pending. pending.entries ≡ []) }
     {
-        let filed = Filed::new(alloc, systems * 119, links * 2)?;
+        let pending_index = PendingIndex::new(alloc, systems * 119, links * 2)?;
         Ok(Pending {
             systems,
             links,
             agenda: Agenda::new(alloc),
-            filed,
+            pending_index,
         })
     }
 
@@ -92,7 +92,7 @@ impl Pending {
         ensures succeeds { additional ≤ self.old.room → IsOk result }
     {
         self.agenda.reserve(additional)?;
-        self.filed.reserve(additional)
+        self.pending_index.reserve(additional)
     }
 
     /// When a timer of a system is due, in ns, where it runs.
@@ -100,7 +100,7 @@ impl Pending {
         requires { IsKnownItem self.now.systems self.now.links (Expiry place timer) }
         ensures { times_of_item (Expiry place timer) self.now.entries ≡ timer_time result }
     {
-        let running = self.filed.timer(timer_place(place, timer))?;
+        let running = self.pending_index.timer(timer_place(place, timer))?;
         Some(running.due)
     }
 
@@ -140,9 +140,9 @@ impl Pending {
                 },
             )
             .unwrap();
-        self.filed.set_timer(
+        self.pending_index.set_timer(
             timer_place(place, timer),
-            Some(Running { due: time, number }),
+            Some(ArmedTimer { due: time, number }),
         );
     }
 
@@ -154,11 +154,11 @@ impl Pending {
         ensures once { length (times_of_item (Expiry place timer) self.old.entries) ≤ 1 }
     {
         self.agenda.numbers_rise();
-        let filed = timer_place(place, timer);
-        match self.filed.timer(filed) {
+        let pending_index = timer_place(place, timer);
+        match self.pending_index.timer(pending_index) {
             Some(running) => {
                 take_out(&mut self.agenda, running.number);
-                self.filed.set_timer(filed, None);
+                self.pending_index.set_timer(pending_index, None);
             }
             None => {}
         }
@@ -181,7 +181,7 @@ impl Pending {
                 },
             )
             .unwrap();
-        self.filed.push(arrival_place(link, direction), number);
+        self.pending_index.push(arrival_place(link, direction), number);
     }
 
     /// Takes the first arrival over a link in a direction out, and answers whether there was one.
@@ -193,7 +193,7 @@ impl Pending {
         ensures one { result ≡ true → length self.new.entries < length self.old.entries }
     {
         self.agenda.numbers_rise();
-        match self.filed.pop(arrival_place(link, direction)) {
+        match self.pending_index.pop(arrival_place(link, direction)) {
             Some(number) => {
                 take_out(&mut self.agenda, number);
                 true
@@ -237,13 +237,13 @@ impl Pending {
     pub fn timers_run_once(&self)
         ensures { (place : ℕ) (timer : Timer) → IsKnownItem self.now.systems self.now.links (Expiry place timer) → length (times_of_item (Expiry place timer) self.now.entries) ≤ 1 }
     {
-        let _ = &self.filed;
+        let _ = &self.pending_index;
     }
 
     /// All that is pending is of the systems and links that there are.
     pub fn items_are_known(&self)
         ensures { AllByRecursion (λ e. IsKnownItem self.now.systems self.now.links e.item) self.now.entries }
     {
-        let _ = &self.filed;
+        let _ = &self.pending_index;
     }
 }

@@ -3,9 +3,9 @@
 ghost use Rattle.std.specs.Prelude.{◌≡◌, ◌≤◌, length};
 ghost use Rattle.gptp_world.specs.Performing.{octets_of};
 
-use crate::aim::Aim;
-use crate::cable::Lane;
-use crate::credit::Credit;
+use crate::target::ActTarget;
+use crate::joined_link::Lane;
+use crate::frame_budget::FrameBudget;
 use crate::delivering::Reached;
 use crate::stage::Stage;
 use gptp_acts::{Act, Change, Done};
@@ -32,11 +32,11 @@ fn octets_of(act: &Act) -> &[u8]
 impl Stage {
     ghost use Rattle.std.specs.Prelude.{◌≡◌, ◌<◌, ◌≤◌, [], length, true, false};
     ghost use Rattle.gptp_links.specs.Bounds.{Fit};
-    ghost use Rattle.gptp_world.specs.declared.aim.Aim.TheVariants.{LinkDown, LinkUp, LinkSet, Fail, Recover};
+    ghost use Rattle.gptp_world.specs.declared.target.ActTarget.TheVariants.{LinkDown, LinkUp, LinkSet, Fail, Recover};
     ghost use Rattle.gptp_plan.specs.declared.change.Act.TheVariants.{Deliver};
     ghost use Rattle.gptp_acts.specs.Acts.{AtPlace, IsOldestDue};
     ghost use Rattle.gptp_acts.specs.Agrees.{Agrees};
-    ghost use Rattle.gptp_world.specs.Credit.{HearUses};
+    ghost use Rattle.gptp_world.specs.FrameBudget.{HearUses};
     ghost use Rattle.gptp_world.specs.Delivering.{HasRoomToHear};
     ghost use Rattle.gptp_world.specs.Net.{LinkIs};
     ghost use Rattle.gptp_world.specs.Performing.{ActIsDone, CanChange, HasRoomForAim, Injected, Turned, TurnsOver};
@@ -143,23 +143,23 @@ impl Stage {
     }
 
     /// What a change is about is changed.
-    fn change<F: Fate>(&mut self, aim: Aim, fate: &mut F)
+    fn change<F: Fate>(&mut self, target: ActTarget, fate: &mut F)
         requires stage { IsStage self.old }
-        requires can { CanChange aim self.old }
-        requires room { HasRoomForAim aim self.old }
+        requires can { CanChange target self.old }
+        requires room { HasRoomForAim target self.old }
         ensures stage { IsStage self.new }
-        ensures changed { Turned F.answers aim fate.old fate.new self.old self.new }
+        ensures changed { Turned F.answers target fate.old fate.new self.old self.new }
     {
-        match aim {
-            Aim::LinkDown(link) => self.take_link_down(link, fate),
-            Aim::LinkUp(link) => self.bring_link_up(link, fate),
-            Aim::LinkSet { link, bounds } => self.set_link(link, bounds),
-            Aim::Fail(place) => self.fail_if_live(place),
-            Aim::Recover(place) => self.recover(place, fate),
-            Aim::Priority1 { place, value } => self.set_priority1(place, value, fate),
-            Aim::Arrival(_) => {}
-            Aim::Timer { place: _, timer: _ } => {}
-            Aim::Inject(_) => {}
+        match target {
+            ActTarget::LinkDown(link) => self.take_link_down(link, fate),
+            ActTarget::LinkUp(link) => self.bring_link_up(link, fate),
+            ActTarget::LinkSet { link, bounds } => self.set_link(link, bounds),
+            ActTarget::Fail(place) => self.fail_if_live(place),
+            ActTarget::Recover(place) => self.recover(place, fate),
+            ActTarget::Priority1 { place, value } => self.set_priority1(place, value, fate),
+            ActTarget::Arrival(_) => {}
+            ActTarget::Timer { place: _, timer: _ } => {}
+            ActTarget::Inject(_) => {}
         }
     }
 }
@@ -168,8 +168,8 @@ impl Stage {
     ghost use Rattle.std.specs.Prelude.{◌≡◌, IsOk, OnOk};
     ghost use Rattle.gptp_acts.specs.Acts.{IsDueThen};
     ghost use Rattle.gptp_plan.specs.Allowed.{IsFitAct};
-    ghost use Rattle.gptp_world.specs.Aim.{IsAimOf};
-    ghost use Rattle.gptp_world.specs.Credit.{IsChange, IsCovered, LeavesCredit, UsesForAim};
+    ghost use Rattle.gptp_world.specs.ActTarget.{IsTargetOf};
+    ghost use Rattle.gptp_world.specs.FrameBudget.{IsChange, IsCovered, LeavesCredit, UsesForAim};
     ghost use Rattle.gptp_world.specs.Memory.{AsksForNoMemory};
     ghost use Rattle.gptp_world.specs.Performing.{ActIsDone, HasRoomForAim};
     ghost use Rattle.gptp_acts.specs.Sound.{IsSound};
@@ -177,25 +177,25 @@ impl Stage {
 
     /// Makes room for whatever a change can leave: none for a failure, or where nothing will change. Refused where there is no
     /// memory for it. The state of the world doesn't change.
-    fn make_room_to_change(&mut self, act: &Act, aim: Aim) -> Result<(), AllocError>
+    fn make_room_to_change(&mut self, act: &Act, target: ActTarget) -> Result<(), AllocError>
         requires stage { IsStage self.old }
-        requires aim { IsAimOf act.now (world_of self.old) aim }
-        requires change { IsChange aim }
+        requires target { IsTargetOf act.now (world_of self.old) target }
+        requires change { IsChange target }
         ensures stage { IsStage self.new }
         ensures world { world_of self.new ≡ world_of self.old }
-        ensures room { OnOk result (HasRoomForAim aim self.new) }
+        ensures room { OnOk result (HasRoomForAim target self.new) }
         ensures free { AsksForNoMemory act.now (world_of self.old) → IsOk result }
     {
-        match aim {
-            Aim::LinkDown(link) => self.make_room_to_take_down(link),
-            Aim::LinkUp(link) => self.make_room_to_bring_up(link),
-            Aim::LinkSet { link: _, bounds: _ } => Ok(()),
-            Aim::Fail(_) => Ok(()),
-            Aim::Recover(place) => self.make_room_to_recover(place),
-            Aim::Priority1 { place, value: _ } => self.make_room(place),
-            Aim::Inject(lane) => self.make_room_to_inject(lane),
-            Aim::Arrival(_) => Ok(()),
-            Aim::Timer { place: _, timer: _ } => Ok(()),
+        match target {
+            ActTarget::LinkDown(link) => self.make_room_to_take_down(link),
+            ActTarget::LinkUp(link) => self.make_room_to_bring_up(link),
+            ActTarget::LinkSet { link: _, bounds: _ } => Ok(()),
+            ActTarget::Fail(_) => Ok(()),
+            ActTarget::Recover(place) => self.make_room_to_recover(place),
+            ActTarget::Priority1 { place, value: _ } => self.make_room(place),
+            ActTarget::Inject(lane) => self.make_room_to_inject(lane),
+            ActTarget::Arrival(_) => Ok(()),
+            ActTarget::Timer { place: _, timer: _ } => Ok(()),
         }
     }
 
@@ -204,55 +204,55 @@ impl Stage {
     pub(crate) fn make_room_for(
         &mut self,
         act: &Act,
-        aim: Aim,
-        credit: &mut Credit,
+        target: ActTarget,
+        frame_budget: &mut FrameBudget,
     ) -> Result<(), AllocError>
         requires stage { IsStage self.old }
-        requires aim { IsAimOf act.now (world_of self.old) aim }
-        requires covered { IsCovered credit.old self.old.net }
+        requires target { IsTargetOf act.now (world_of self.old) target }
+        requires covered { IsCovered frame_budget.old self.old.net }
         ensures stage { IsStage self.new }
         ensures world { world_of self.new ≡ world_of self.old }
-        ensures covered { IsCovered credit.new self.new.net }
-        ensures room { OnOk result (HasRoomForAim aim self.new) }
-        ensures left { OnOk result (LeavesCredit aim credit.new self.new) }
+        ensures covered { IsCovered frame_budget.new self.new.net }
+        ensures room { OnOk result (HasRoomForAim target self.new) }
+        ensures left { OnOk result (LeavesCredit target frame_budget.new self.new) }
         ensures free { AsksForNoMemory act.now (world_of self.old) → IsOk result }
     {
-        match aim {
-            Aim::Arrival(lane) => self.make_room_to_hear(lane, credit),
-            Aim::Timer { place, timer } => self.make_room_to_expire(place, timer, credit),
+        match target {
+            ActTarget::Arrival(lane) => self.make_room_to_hear(lane, frame_budget),
+            ActTarget::Timer { place, timer } => self.make_room_to_expire(place, timer, frame_budget),
             _ => {
-                credit.give_up();
-                self.make_room_to_change(act, aim)
+                frame_budget.give_up();
+                self.make_room_to_change(act, target)
             }
         }
     }
 
     /// An act that is there, and due now, is carried out.
-    pub(crate) fn perform<F: Fate>(&mut self, act: &Act, aim: Aim, fate: &mut F) -> Done
+    pub(crate) fn perform<F: Fate>(&mut self, act: &Act, target: ActTarget, fate: &mut F) -> Done
         requires stage { IsStage self.old }
         requires sound { IsSound (world_of self.old) }
-        requires aim { IsAimOf act.now (world_of self.old) aim }
+        requires target { IsTargetOf act.now (world_of self.old) target }
         requires due { IsDueThen act.now self.old.now (world_of self.old) }
         requires fit { IsFitAct act.now }
-        requires room { HasRoomForAim aim self.old }
+        requires room { HasRoomForAim target self.old }
         ensures stage { IsStage self.new }
         ensures acted { ActIsDone F.answers act.now result fate.old fate.new self.old self.new }
-        ensures uses { UsesForAim aim self.old self.new.net }
+        ensures uses { UsesForAim target self.old self.new.net }
     {
-        match aim {
-            Aim::Arrival(lane) => self.arrive(lane, fate),
-            Aim::Timer { place, timer } => {
+        match target {
+            ActTarget::Arrival(lane) => self.arrive(lane, fate),
+            ActTarget::Timer { place, timer } => {
                 self.run_out(place, timer, fate);
                 Done::Quiet
             }
-            Aim::Inject(lane) => {
+            ActTarget::Inject(lane) => {
                 self.last_change = self.now;
                 self.inject(lane, octets_of(act), fate);
                 Done::Quiet
             }
             _ => {
                 self.last_change = self.now;
-                self.change(aim, fate);
+                self.change(target, fate);
                 Done::Quiet
             }
         }

@@ -1,17 +1,17 @@
 //! Room is made before calls of systems, for all that they can leave.
 
 ghost use Rattle.std.specs.Prelude.{◌≡◌, ◌≤◌, ◌<◌, length, map, OnOk};
-ghost use Rattle.gptp_world.specs.Cable.{channel_of, join_of};
+ghost use Rattle.gptp_world.specs.JoinedLink.{channel_of, join_of};
 ghost use Rattle.gptp_world.specs.Room.{HasRoomBothWays, KeepsRoomOn};
 
-use crate::cable::{Cable, Lane};
+use crate::joined_link::{JoinedLink, Lane};
 use crate::net::Net;
 use crate::stage::Stage;
 use std::alloc::AllocError;
 
 /// Makes room for so many more frames in each direction of a link. Refused where there is no memory for them. No frame
 /// changes.
-fn make_room_on(cables: &mut [Cable], link: usize, frames: usize) -> Result<(), AllocError>
+fn make_room_on(cables: &mut [JoinedLink], link: usize, frames: usize) -> Result<(), AllocError>
     requires { link < length cables.old }
     ensures joins { map join_of cables.new ≡ map join_of cables.old }
     ensures channels { map channel_of cables.new ≡ map channel_of cables.old }

@@ -4,32 +4,32 @@ ghost use Rattle.std.specs.Prelude.{◌≡◌, ◌≢◌, ℕ, ◌<◌, ◌≤�
 ghost use Rattle.gptp_links.specs.Queue.{IsSent};
 ghost use Rattle.gptp_links.specs.State.{queue, ChangesOnly};
 ghost use Rattle.gptp_acts.specs.Pending.{put_if};
-ghost use Rattle.gptp_world.specs.Cable.{join_of, net_of, channel_of, HasRoomOn, SentOne};
+ghost use Rattle.gptp_world.specs.JoinedLink.{join_of, net_of, channel_of, HasRoomOn, SentOne};
 ghost use Rattle.gptp_acts.specs.World.{sender};
 
-use crate::cable::{Cable, Lane};
+use crate::joined_link::{JoinedLink, Lane};
 use crate::pending::Pending;
 use gptp_acts::Item;
 use gptp_links::{Direction, Fate};
 
 /// Sends one frame on a link that is up, for which it has room, and answers when the frame is due; `None` where it is lost.
 fn send_on<F: Fate>(
-    cable: &mut Cable,
+    joined_link: &mut JoinedLink,
     direction: Direction,
     octets: Vec<u8>,
     now: u64,
     fate: &mut F,
 ) -> Option<u64>
-    requires up { cable.old.link.up ≡ true }
-    requires room { 0 < (queue direction cable.old.link).room }
+    requires up { joined_link.old.link.up ≡ true }
+    requires room { 0 < (queue direction joined_link.old.link).room }
     requires early { now ≤ 10 ^ 15 }
-    ensures a { cable.new.a ≡ cable.old.a }
-    ensures b { cable.new.b ≡ cable.old.b }
-    ensures sent { IsSent F.answers cable.old.link.bounds now fate.old fate.new (queue direction cable.old.link).frames octets.items (queue direction cable.new.link).frames result }
-    ensures others { ChangesOnly direction cable.old.link cable.new.link }
-    ensures room { (queue direction cable.old.link).room ≤ (queue direction cable.new.link).room + 1 }
+    ensures a { joined_link.new.a ≡ joined_link.old.a }
+    ensures b { joined_link.new.b ≡ joined_link.old.b }
+    ensures sent { IsSent F.answers joined_link.old.link.bounds now fate.old fate.new (queue direction joined_link.old.link).frames octets.items (queue direction joined_link.new.link).frames result }
+    ensures others { ChangesOnly direction joined_link.old.link joined_link.new.link }
+    ensures room { (queue direction joined_link.old.link).room ≤ (queue direction joined_link.new.link).room + 1 }
 {
-    cable.link.send(direction, octets, now, fate).unwrap()
+    joined_link.link.send(direction, octets, now, fate).unwrap()
 }
 
 /// A frame that is due then is pending; one that is lost isn't.
@@ -49,7 +49,7 @@ fn await_arrival(pending: &mut Pending, lane: Lane, due: Option<u64>)
 
 /// Sends one frame on a link that is up. There is room for it.
 pub(crate) fn send_one<F: Fate>(
-    cables: &mut [Cable],
+    cables: &mut [JoinedLink],
     pending: &mut Pending,
     fate: &mut F,
     lane: Lane,
@@ -60,8 +60,8 @@ pub(crate) fn send_one<F: Fate>(
     requires links { length cables.old ≤ pending.old.links }
     requires entry { 0 < pending.old.room }
     requires room { HasRoomOn 1 lane cables.old }
-    requires up { (c : Cable) → slice_get cables.old lane.link ≡ Some c → c.link.up ≡ true }
-    ensures sent { (c : Cable) → slice_get cables.old lane.link ≡ Some c → SentOne F.answers now (sender lane.direction (channel_of c)) octets.items fate.old fate.new (net_of cables.old pending.old) (net_of cables.new pending.new) }
+    requires up { (c : JoinedLink) → slice_get cables.old lane.link ≡ Some c → c.link.up ≡ true }
+    ensures sent { (c : JoinedLink) → slice_get cables.old lane.link ≡ Some c → SentOne F.answers now (sender lane.direction (channel_of c)) octets.items fate.old fate.new (net_of cables.old pending.old) (net_of cables.new pending.new) }
     ensures systems { pending.new.systems ≡ pending.old.systems }
     ensures links { pending.new.links ≡ pending.old.links }
     ensures entries { pending.old.room ≤ pending.new.room + 1 }

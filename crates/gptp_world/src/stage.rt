@@ -3,7 +3,7 @@
 use crate::net::Net;
 use gptp_acts::Station;
 use gptp_links::Fate;
-use gptp_system::{Answer, Input, Outbox, Stepped, Touched};
+use gptp_system::{Answer, Input, Outbox, Stepped, TimersChanged};
 
 /// All that acts change, but the fate: the time and that of the last change, in ns, the systems, what is between them, and
 /// the outbox of the system that is called, which is empty between calls.
@@ -25,7 +25,7 @@ impl Stage {
 
     /// What a step of the system at a place left is carried out: its timers follow, of which it touched no others than
     /// these, and then its sends go.
-    fn carry_out<F: Fate>(&mut self, place: usize, touched: Touched, fate: &mut F)
+    fn carry_out<F: Fate>(&mut self, place: usize, touched: TimersChanged, fate: &mut F)
         requires carries { CarriesOut place self.old }
         requires touched { HasTouched touched place self.old }
         ensures stage { (before : Stage) (input : Given) (answer : Answer) → IsStage before

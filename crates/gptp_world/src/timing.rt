@@ -6,7 +6,7 @@ ghost use Rattle.gptp_acts.specs.World.{station_due};
 
 use crate::net::Net;
 use gptp_acts::Station;
-use gptp_system::{Timer, Touched};
+use gptp_system::{Timer, TimersChanged};
 
 /// When a timer runs out, in ns, where it runs. None does where the system has failed.
 fn due_of(station: &Station, timer: Timer) -> Option<u64>
@@ -26,7 +26,7 @@ impl Net {
     ghost use Rattle.gptp_acts.specs.Item.{timer_port};
     ghost use Rattle.gptp_acts.specs.Act.{set_timers};
     ghost use Rattle.gptp_world.specs.Net.{OnlyEntries};
-    ghost use Rattle.gptp_system.specs.Touched.{holds, IsTouchedOf};
+    ghost use Rattle.gptp_system.specs.TimersChanged.{holds, IsTouchedOf};
     ghost use Rattle.gptp_world.specs.Timing.{selected_from, AreSetBut};
     ghost use Rattle.gptp_acts.specs.World.{timers_from};
 
@@ -116,7 +116,7 @@ impl Net {
     }
 
     /// So are all timers of the system, of which all but these are pending when they are due already.
-    pub(crate) fn set_touched(&mut self, place: usize, station: &Station, touched: Touched)
+    pub(crate) fn set_touched(&mut self, place: usize, station: &Station, touched: TimersChanged)
         requires place { place < self.old.pending.systems }
         requires few { length station.now.system.ports ≤ 16 }
         requires room { 4 * length station.now.system.ports + 3 ≤ self.old.pending.room }
@@ -126,11 +126,11 @@ impl Net {
         ensures only { OnlyEntries (4 * length station.now.system.ports + 3) self.old self.new }
     {
         match touched {
-            Touched::Nothing => {}
-            Touched::One(timer) => self.set_timer(place, station, timer),
-            Touched::Time => self.set_of_time(place, station),
-            Touched::Selected => self.set_selected(place, station),
-            Touched::All => self.set_timers(place, station),
+            TimersChanged::Nothing => {}
+            TimersChanged::One(timer) => self.set_timer(place, station, timer),
+            TimersChanged::Time => self.set_of_time(place, station),
+            TimersChanged::Selected => self.set_selected(place, station),
+            TimersChanged::All => self.set_timers(place, station),
         }
     }
 }

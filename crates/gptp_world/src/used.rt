@@ -3,8 +3,8 @@
 ghost use Rattle.std.specs.Prelude.{◌≡◌, ◌<◌, ◌++◌, length, map, option_map, slice_get, IfOk, OnOk, Some};
 ghost use Rattle.gptp_kept.specs.Standing.{snapshot_of};
 
-use crate::cable::Lane;
-use crate::scene::Scene;
+use crate::joined_link::Lane;
+use crate::world_core::WorldCore;
 use crate::stage::Stage;
 use gptp_links::Direction;
 use gptp_vector::PortId;
@@ -14,17 +14,17 @@ impl Stage {
     ghost use Rattle.std.specs.Prelude.{◌≡◌, ◌<◌, ◌++◌, ◌&&◌, length, map, option_map, slice_get, IfOk, OnOk, Some};
     ghost use Rattle.gptp_acts.specs.World.{receiver};
     ghost use Rattle.gptp_kept.specs.Standing.{stations_have_clock, channel_is_used, live_stations};
-    ghost use Rattle.gptp_world.specs.declared.cable.Cable.{Cable};
-    ghost use Rattle.gptp_world.specs.Cable.{channel_of};
-    ghost use Rattle.gptp_world.specs.Scene.{IsFounded};
+    ghost use Rattle.gptp_world.specs.declared.joined_link.JoinedLink.{JoinedLink};
+    ghost use Rattle.gptp_world.specs.JoinedLink.{channel_of};
+    ghost use Rattle.gptp_world.specs.WorldCore.{IsFounded};
     ghost use Rattle.gptp_world.specs.Used.{snapshot_link, used, used_if, used_in};
 
     /// Whether the system lives at which a lane ends.
     fn lives_behind(&self, lane: Lane) -> bool
         requires founded { IsFounded self.now }
         requires lane { lane.link < length self.now.net.cables.items }
-        ensures { (cable : Cable) → slice_get self.entry.now.net.cables.items lane.link ≡ Some cable
-            → result ≡ stations_have_clock (live_stations self.entry.now.stations.items) (receiver lane.direction (channel_of cable)).clock }
+        ensures { (joined_link : JoinedLink) → slice_get self.entry.now.net.cables.items lane.link ≡ Some joined_link
+            → result ≡ stations_have_clock (live_stations self.entry.now.stations.items) (receiver lane.direction (channel_of joined_link)).clock }
     {
         self.stations[self.net.directory.receiver(lane)].live
     }
@@ -33,9 +33,9 @@ impl Stage {
     fn joins_live(&self, link: usize) -> bool
         requires founded { IsFounded self.now }
         requires link { link < length self.now.net.cables.items }
-        ensures { (cable : Cable) → slice_get self.entry.now.net.cables.items link ≡ Some cable
-            → result ≡ (stations_have_clock (live_stations self.entry.now.stations.items) cable.a.clock
-            && stations_have_clock (live_stations self.entry.now.stations.items) cable.b.clock) }
+        ensures { (joined_link : JoinedLink) → slice_get self.entry.now.net.cables.items link ≡ Some joined_link
+            → result ≡ (stations_have_clock (live_stations self.entry.now.stations.items) joined_link.a.clock
+            && stations_have_clock (live_stations self.entry.now.stations.items) joined_link.b.clock) }
     {
         let direction = Direction::FromB;
         if !self.lives_behind(Lane { link, direction }) {
@@ -49,8 +49,8 @@ impl Stage {
     fn is_in_use(&self, link: usize) -> bool
         requires founded { IsFounded self.now }
         requires link { link < length self.now.net.cables.items }
-        ensures { (cable : Cable) → slice_get self.entry.now.net.cables.items link ≡ Some cable
-            → result ≡ channel_is_used (live_stations self.entry.now.stations.items) (channel_of cable) }
+        ensures { (joined_link : JoinedLink) → slice_get self.entry.now.net.cables.items link ≡ Some joined_link
+            → result ≡ channel_is_used (live_stations self.entry.now.stations.items) (channel_of joined_link) }
     {
         if !self.net.is_up(link) {
             return false;
@@ -62,14 +62,14 @@ impl Stage {
     fn used_link(&self, link: usize) -> Option<(PortId, PortId)>
         requires founded { IsFounded self.now }
         requires link { link < length self.now.net.cables.items }
-        ensures { (cable : Cable) → slice_get self.entry.now.net.cables.items link ≡ Some cable
-            → option_map snapshot_link result ≡ used (live_stations self.entry.now.stations.items) (channel_of cable) }
+        ensures { (joined_link : JoinedLink) → slice_get self.entry.now.net.cables.items link ≡ Some joined_link
+            → option_map snapshot_link result ≡ used (live_stations self.entry.now.stations.items) (channel_of joined_link) }
     {
         if !self.is_in_use(link) {
             return None;
         }
-        let cable = &self.net.cables[link];
-        Some((cable.a, cable.b))
+        let joined_link = &self.net.cables[link];
+        Some((joined_link.a, joined_link.b))
     }
 
     /// How many such links there are.
@@ -107,9 +107,9 @@ impl Stage {
     fn push_used(&self, link: usize, links: &mut Vec<(PortId, PortId)>) -> Result<(), AllocError>
         requires founded { IsFounded self.now }
         requires link { link < length self.now.net.cables.items }
-        ensures { (cable : Cable) → slice_get self.entry.now.net.cables.items link ≡ Some cable
+        ensures { (joined_link : JoinedLink) → slice_get self.entry.now.net.cables.items link ≡ Some joined_link
             → OnOk result (map snapshot_link links.new.items ≡ map snapshot_link links.old.items
-            ++ used_if (live_stations self.entry.now.stations.items) (channel_of cable)) }
+            ++ used_if (live_stations self.entry.now.stations.items) (channel_of joined_link)) }
     {
         match self.used_link(link) {
             Some(ports) => Ok(links.push(ports)?),
@@ -130,7 +130,7 @@ impl Stage {
     }
 }
 
-impl Scene {
+impl WorldCore {
     ghost use Rattle.std.specs.Prelude.{◌≡◌, length, map, option_map, slice_get, IfOk};
     ghost use Rattle.gptp_kept.specs.Standing.{snapshot_of};
     ghost use Rattle.gptp_world.specs.Used.{snapshot_link};

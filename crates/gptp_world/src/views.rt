@@ -8,7 +8,7 @@ ghost use Rattle.gptp_world.specs.Stage.{world_of, IsStage};
 ghost use Rattle.gptp_world.specs.Stage.{IsPlacedItem};
 ghost use Rattle.gptp_acts.specs.Views.{IsActOf};
 
-use crate::scene::Scene;
+use crate::world_core::WorldCore;
 use crate::stage::Stage;
 use gptp_acts::{Act, Item, Timed};
 use gptp_roles::Role;
@@ -16,18 +16,18 @@ use gptp_system::System;
 use gptp_vector::{ClockId, Identity};
 use std::alloc::Global;
 
-impl Scene {
+impl WorldCore {
     ghost use Rattle.std.specs.Prelude.{◌≡◌, ◌≤◌, ◌↔◌, [], IfNone, IfSome, IsTrue, length, slice_get, true};
     ghost use Rattle.gptp_acts.specs.Acts.{AtSystem};
     ghost use Rattle.gptp_plan.specs.Allowed.{IsFitAct};
-    ghost use Rattle.gptp_acts.specs.Prompt.{IsPromptIn};
+    ghost use Rattle.gptp_acts.specs.Prompt.{DelaysFitIntervals};
     ghost use Rattle.gptp_acts.specs.Sound.{IsSound};
     ghost use Rattle.gptp_acts.specs.Views.{FollowsRoot, HasPort, HasRole, IsLiveSystem, IsNextAct, ShowsLive, rising_clocks};
-    ghost use Rattle.gptp_kept.specs.Claimed.{Claimed};
+    ghost use Rattle.gptp_kept.specs.SettlingInvariant.{SettlingInvariant};
     ghost use Rattle.gptp_kept.specs.Shown.{FollowsAtOnce, FollowsByDistance, FollowsByPaths, FollowsInTime};
     ghost use Rattle.gptp_kept.specs.Shown.{IsCapableInTime, IsEnabledInTime};
     ghost use Rattle.gptp_kept.specs.Shown.{PlaysAtOnce, PlaysByDistance, PlaysByPaths, PlaysInTime};
-    ghost use Rattle.gptp_kept.specs.TimedClaim.{AllClaimed};
+    ghost use Rattle.gptp_kept.specs.TimedClaim.{WorldInvariant};
     ghost use Rattle.gptp_kept.specs.Traces.{AreHeldCleanInTime, AreHeldWholeInTime, AreHeldWholeSooner, IsCleanInTime};
 
     /// The time, in ns.
@@ -69,7 +69,7 @@ impl Scene {
     pub(crate) fn next(&self) -> Option<Timed>
         ensures next { IfSome result (IsNextAct self.now) }
         ensures fit { IfSome result (λ timed. IsFitAct timed.act) }
-        ensures prompt { IfSome result (λ timed. IsPromptIn self.now timed.act) }
+        ensures prompt { IfSome result (λ timed. DelaysFitIntervals self.now timed.act) }
         ensures none { IfNone result (self.now.net.pending ≡ []) }
     {
         match self.stage.net.pending.next() {
@@ -143,8 +143,8 @@ impl Scene {
     /// which it follows that it settles and how exact its offsets are.
     pub(crate) fn well_formed(&self)
         ensures sound { IsSound self.now }
-        ensures claimed { Claimed self.now }
-        ensures timed { AllClaimed self.now }
+        ensures claimed { SettlingInvariant self.now }
+        ensures timed { WorldInvariant self.now }
     {
         let _ = &self.stage;
     }

@@ -1,6 +1,6 @@
 //! Simulated worlds.
 
-use crate::scene::Scene;
+use crate::world_core::WorldCore;
 use crate::unseen::{Nowhere, Unseen};
 use gptp_acts::{Done, Network, Refused, Timed};
 use gptp_links::Fate;
@@ -10,10 +10,10 @@ use gptp_vector::{ClockId, Identity, PortId};
 use std::alloc::{AllocError, Global};
 
 /// A simulated world: the systems of a network, what is between them, and the fate that draws for each frame that is sent.
-/// Contracts see the two apart: `scene` is the state of the world, and `fate` that of the fate.
+/// Contracts see the two apart: `world_core` is the state of the world, and `fate` that of the fate.
 #[derive(Drop)]
 pub struct World<F> {
-    pub(crate) scene: Scene,
+    pub(crate) world_core: WorldCore,
     pub(crate) fate: F,
 }
 
@@ -24,17 +24,17 @@ impl<F: Fate + Drop> World<F> {
     ghost use Rattle.gptp_plan.specs.Allowed.{IsFitAct};
     ghost use Rattle.gptp_plan.specs.Allowed.{AreAllowed, IsAllowed};
     ghost use Rattle.gptp_acts.specs.Playing.{IsPlayed, Plays, StopsAt};
-    ghost use Rattle.gptp_acts.specs.Prompt.{ArePromptIn, IsPromptIn};
+    ghost use Rattle.gptp_acts.specs.Prompt.{AllDelaysFitIntervals, DelaysFitIntervals};
     ghost use Rattle.gptp_acts.specs.Advancing.{Advanced, StopsShort, Told};
     ghost use Rattle.gptp_acts.specs.Course.{Begun, WasDone};
     ghost use Rattle.gptp_acts.specs.Sound.{IsSound};
-    ghost use Rattle.gptp_kept.specs.Claimed.{Claimed};
+    ghost use Rattle.gptp_kept.specs.SettlingInvariant.{SettlingInvariant};
     ghost use Rattle.gptp_kept.specs.Standing.{snapshot_of};
     ghost use Rattle.gptp_kept.specs.Shown.{FollowsAtOnce, FollowsByDistance, FollowsByPaths, FollowsInTime};
     ghost use Rattle.gptp_kept.specs.Shown.{IsCapableInTime, IsEnabledInTime};
     ghost use Rattle.gptp_kept.specs.Shown.{PlaysAtOnce, PlaysByDistance, PlaysByPaths, PlaysInTime};
     ghost use Rattle.gptp_kept.specs.Exact.{IsHeardExact};
-    ghost use Rattle.gptp_kept.specs.TimedClaim.{AllClaimed};
+    ghost use Rattle.gptp_kept.specs.TimedClaim.{WorldInvariant};
     ghost use Rattle.gptp_kept.specs.Traces.{AreHeldCleanInTime, AreHeldWholeInTime, AreHeldWholeSooner, IsCleanInTime, IsHeardClean};
     ghost use Rattle.gptp_acts.specs.Views.{FollowsRoot, HasPort, HasRole, IsLiveSystem, IsNextAct, ShowsLive, rising_clocks};
     ghost use Rattle.gptp_world.specs.Memory.{AsksForNoMemory};
@@ -43,11 +43,11 @@ impl<F: Fate + Drop> World<F> {
     /// The world of a network at time 0: all its systems have started, in their order, and their first frames are in flight.
     /// Refused for want of memory alone; then the fate is dropped.
     pub fn new(alloc: Global, network: &Network, fate: F) -> Result<Self, AllocError>
-        ensures { IfOk result (λ world. Begun F.answers network.now fate world.fate world.scene) }
+        ensures { IfOk result (λ world. Begun F.answers network.now fate world.fate world.world_core) }
     {
         let mut fate = fate;
-        let scene = Scene::new(alloc, network, &mut fate)?;
-        Ok(World { scene, fate })
+        let world_core = WorldCore::new(alloc, network, &mut fate)?;
+        Ok(World { world_core, fate })
     }
 
     /// An act is done at its time: a frame that is due is delivered, a timer that is due expires, or the network is changed.
@@ -67,12 +67,12 @@ impl<F: Fate + Drop> World<F> {
     pub fn act(&mut self, timed: Timed) -> Result<Done, Refused>
         requires moment { timed.at ≤ 1000000000000000 }
         requires fit { IsFitAct timed.act }
-        requires prompt { IsPromptIn self.old.scene timed.act }
-        ensures done { IfOk result (WasDone F.answers timed self.old.fate self.new.fate self.old.scene self.new.scene) }
-        ensures clean { IfOk result (IsHeardClean self.old.scene timed.at) }
-        ensures exact { IfOk result (IsHeardExact self.old.scene timed.at self.new.scene) }
-        ensures refused { IfErr result (Refuses timed.act timed.at self.old.scene) }
-        ensures free { AsksForNoMemory timed.act self.old.scene → IfErr result (λ refused. refused ≢ OutOfMemory) }
+        requires prompt { DelaysFitIntervals self.old.world_core timed.act }
+        ensures done { IfOk result (WasDone F.answers timed self.old.fate self.new.fate self.old.world_core self.new.world_core) }
+        ensures clean { IfOk result (IsHeardClean self.old.world_core timed.at) }
+        ensures exact { IfOk result (IsHeardExact self.old.world_core timed.at self.new.world_core) }
+        ensures refused { IfErr result (Refuses timed.act timed.at self.old.world_core) }
+        ensures free { AsksForNoMemory timed.act self.old.world_core → IfErr result (λ refused. refused ≢ OutOfMemory) }
         ensures kept { OnErr result (self.new ≡ self.old) }
     {
         self.carry_out(&timed)
@@ -82,15 +82,15 @@ impl<F: Fate + Drop> World<F> {
     pub fn carry_out(&mut self, timed: &Timed) -> Result<Done, Refused>
         requires moment { timed.now.at ≤ 1000000000000000 }
         requires fit { IsFitAct timed.now.act }
-        requires prompt { IsPromptIn self.old.scene timed.now.act }
-        ensures done { IfOk result (WasDone F.answers timed.now self.old.fate self.new.fate self.old.scene self.new.scene) }
-        ensures clean { IfOk result (IsHeardClean self.old.scene timed.now.at) }
-        ensures exact { IfOk result (IsHeardExact self.old.scene timed.now.at self.new.scene) }
-        ensures refused { IfErr result (Refuses timed.now.act timed.now.at self.old.scene) }
-        ensures free { AsksForNoMemory timed.now.act self.old.scene → IfErr result (λ refused. refused ≢ OutOfMemory) }
+        requires prompt { DelaysFitIntervals self.old.world_core timed.now.act }
+        ensures done { IfOk result (WasDone F.answers timed.now self.old.fate self.new.fate self.old.world_core self.new.world_core) }
+        ensures clean { IfOk result (IsHeardClean self.old.world_core timed.now.at) }
+        ensures exact { IfOk result (IsHeardExact self.old.world_core timed.now.at self.new.world_core) }
+        ensures refused { IfErr result (Refuses timed.now.act timed.now.at self.old.world_core) }
+        ensures free { AsksForNoMemory timed.now.act self.old.world_core → IfErr result (λ refused. refused ≢ OutOfMemory) }
         ensures kept { OnErr result (self.new ≡ self.old) }
     {
-        self.scene.act(timed, &mut self.fate)
+        self.world_core.act(timed, &mut self.fate)
     }
 
     /// The acts of a list are done, one after another, up to the first that is refused: answered with its place, from 0, and
@@ -98,9 +98,9 @@ impl<F: Fate + Drop> World<F> {
     /// bounds that a link is set to keep their ranges, and its greatest delay is at most the announce interval.
     pub fn play(&mut self, acts: &[Timed]) -> Result<(), (usize, Refused)>
         requires allowed { AreAllowed acts.now }
-        requires prompt { ArePromptIn self.old.scene acts.now }
-        ensures ok { OnOk result (Plays F.answers acts.now self.old.fate self.new.fate self.old.scene self.new.scene) }
-        ensures err { IfErr result (λ e. StopsAt F.answers acts.now e.0 e.1 self.old.fate self.new.fate self.old.scene self.new.scene) }
+        requires prompt { AllDelaysFitIntervals self.old.world_core acts.now }
+        ensures ok { OnOk result (Plays F.answers acts.now self.old.fate self.new.fate self.old.world_core self.new.world_core) }
+        ensures err { IfErr result (λ e. StopsAt F.answers acts.now e.0 e.1 self.old.fate self.new.fate self.old.world_core self.new.world_core) }
     {
         for place in 0..acts.len() {
             self.well_formed();
@@ -112,10 +112,10 @@ impl<F: Fate + Drop> World<F> {
     /// The act at a place of a list is done, or refused with its place.
     fn play_next(&mut self, place: usize, timed: &Timed) -> Result<(), (usize, Refused)>
         requires allowed { IsAllowed timed.now }
-        requires prompt { IsPromptIn self.old.scene timed.now.act }
-        ensures played { OnOk result (IsPlayed F.answers timed.now self.old.fate self.new.fate self.old.scene self.new.scene) }
+        requires prompt { DelaysFitIntervals self.old.world_core timed.now.act }
+        ensures played { OnOk result (IsPlayed F.answers timed.now self.old.fate self.new.fate self.old.world_core self.new.world_core) }
         ensures place { IfErr result (λ e. e.0 ≡ place) }
-        ensures refused { IfErr result (λ e. Refuses timed.now.act timed.now.at self.old.scene e.1) }
+        ensures refused { IfErr result (λ e. Refuses timed.now.act timed.now.at self.old.world_core e.1) }
         ensures kept { OnErr result (self.new ≡ self.old) }
     {
         match self.carry_out(timed) {
@@ -131,13 +131,13 @@ impl<F: Fate + Drop> World<F> {
     /// is no memory for the next act, and then it has gone on up to there, by whole acts.
     pub fn advance(&mut self, until: u64) -> Result<(), Refused>
         requires moment { until ≤ 1000000000000000 }
-        ensures advanced { OnOk result ((told : List Told) × Advanced F.answers until told self.old.fate self.new.fate self.old.scene self.new.scene) }
-        ensures refused { IfErr result (StopsShort F.answers until self.old.fate self.new.fate self.old.scene self.new.scene) }
+        ensures advanced { OnOk result ((told : List Told) × Advanced F.answers until told self.old.fate self.new.fate self.old.world_core self.new.world_core) }
+        ensures refused { IfErr result (StopsShort F.answers until self.old.fate self.new.fate self.old.world_core self.new.world_core) }
     {
-        if until < self.scene.now() {
+        if until < self.world_core.now() {
             return Err(Refused::InThePast);
         }
-        let alloc = self.scene.alloc();
+        let alloc = self.world_core.alloc();
         match self.go_on(alloc, until, &mut Unseen, &mut Nowhere) {
             Ok(()) => Ok(()),
             Err(_) => Err(Refused::OutOfMemory),
@@ -146,65 +146,65 @@ impl<F: Fate + Drop> World<F> {
 
     /// The time, in ns.
     pub fn now(&self) -> u64
-        ensures { result ≡ self.now.scene.time }
+        ensures { result ≡ self.now.world_core.time }
     {
-        self.scene.now()
+        self.world_core.now()
     }
 
     /// The time of the last change, in ns; 0 before the first.
     pub fn last_change(&self) -> u64
-        ensures { result ≡ self.now.scene.last_change }
+        ensures { result ≡ self.now.world_core.last_change }
     {
-        self.scene.last_change()
+        self.world_core.last_change()
     }
 
     /// How many systems there are, live or not: at most 512.
     pub fn count(&self) -> usize
-        ensures count { result ≡ length self.now.scene.stations }
+        ensures count { result ≡ length self.now.world_core.stations }
         ensures few { result ≤ 512 }
     {
-        self.scene.count()
+        self.world_core.count()
     }
 
     /// The clock of a system, live or not, by its rank: the least clock has place 0. `None` past the last. Takes no memory.
     pub fn clock_at(&self, place: usize) -> Option<ClockId>
-        ensures { result ≡ slice_get (rising_clocks self.now.scene) place }
+        ensures { result ≡ slice_get (rising_clocks self.now.world_core) place }
     {
-        self.scene.clock_at(place)
+        self.world_core.clock_at(place)
     }
 
     /// How many links are up between two live systems. Takes no memory.
     pub fn links(&self) -> usize
-        ensures { result ≡ length (snapshot_of self.now.scene).links }
+        ensures { result ≡ length (snapshot_of self.now.world_core).links }
     {
-        self.scene.links()
+        self.world_core.links()
     }
 
     /// The two ports of the link at a place, from 0, among those that are up between two live systems, in the order in which
     /// the network took them: that of its end a first. `None` past the last. Takes no memory, and counts from the first of
     /// all links on; [`list_links`](Self::list_links) gives all of them in one pass.
     pub fn link_at(&self, place: usize) -> Option<(PortId, PortId)>
-        ensures { option_map snapshot_link result ≡ slice_get (snapshot_of self.now.scene).links place }
+        ensures { option_map snapshot_link result ≡ slice_get (snapshot_of self.now.world_core).links place }
     {
-        self.scene.link_at(place)
+        self.world_core.link_at(place)
     }
 
     /// The two ports of each of these links, in that order. Refused for want of memory alone.
     pub fn list_links(&self, alloc: Global) -> Result<Vec<(PortId, PortId)>, AllocError>
-        ensures { IfOk result (λ links. map snapshot_link links.items ≡ (snapshot_of self.now.scene).links) }
+        ensures { IfOk result (λ links. map snapshot_link links.items ≡ (snapshot_of self.now.world_core).links) }
     {
-        self.scene.list_links(alloc)
+        self.world_core.list_links(alloc)
     }
 
     /// The next act that is due: of all that is pending one of least time, and of those the first that was put. `None` where
     /// nothing is pending. It is never a change, so [`act`](Self::act) asks nothing of it but its time.
     pub fn next(&self) -> Option<Timed>
-        ensures next { IfSome result (IsNextAct self.now.scene) }
+        ensures next { IfSome result (IsNextAct self.now.world_core) }
         ensures fit { IfSome result (λ timed. IsFitAct timed.act) }
-        ensures prompt { IfSome result (λ timed. IsPromptIn self.now.scene timed.act) }
-        ensures none { IfNone result (self.now.scene.net.pending ≡ []) }
+        ensures prompt { IfSome result (λ timed. DelaysFitIntervals self.now.world_core timed.act) }
+        ensures none { IfNone result (self.now.world_core.net.pending ≡ []) }
     {
-        self.scene.next()
+        self.world_core.next()
     }
 
     /// The live system with a clock; `None` where there is none.
@@ -220,33 +220,33 @@ impl<F: Fate + Drop> World<F> {
     /// That is so already once two announce intervals have passed, and k of them and the greatest delay of such a link for
     /// each of m systems.
     pub fn system(&self, clock: ClockId) -> Option<&System>
-        ensures some { IfSome result (λ system. ShowsLive clock self.now.scene system.now) }
-        ensures none { IfNone result (AtSystem clock self.now.scene IsLiveSystem → ⊥) }
-        ensures capable { IfSome result (λ system. IsCapableInTime self.now.scene system.now) }
-        ensures clean { IfSome result (λ system. IsCleanInTime self.now.scene system.now) }
-        ensures held { IfSome result (λ system. AreHeldCleanInTime self.now.scene system.now) }
-        ensures whole { IfSome result (λ system. AreHeldWholeInTime self.now.scene system.now) }
-        ensures sooner { IfSome result (λ system. AreHeldWholeSooner self.now.scene system.now) }
+        ensures some { IfSome result (λ system. ShowsLive clock self.now.world_core system.now) }
+        ensures none { IfNone result (AtSystem clock self.now.world_core IsLiveSystem → ⊥) }
+        ensures capable { IfSome result (λ system. IsCapableInTime self.now.world_core system.now) }
+        ensures clean { IfSome result (λ system. IsCleanInTime self.now.world_core system.now) }
+        ensures held { IfSome result (λ system. AreHeldCleanInTime self.now.world_core system.now) }
+        ensures whole { IfSome result (λ system. AreHeldWholeInTime self.now.world_core system.now) }
+        ensures sooner { IfSome result (λ system. AreHeldWholeSooner self.now.world_core system.now) }
     {
-        self.scene.system(clock)
+        self.world_core.system(clock)
     }
 
     /// What is true of every world: what is pending agrees with the state, nothing is due before now, each system is at rest and
     /// keeps its setup, and each port of a live system at a link that is up measures that link. From what more every world
     /// keeps, whatever happened in it, it follows that it settles, and how exact its offsets are then.
     pub fn well_formed(&self)
-        ensures sound { IsSound self.now.scene }
-        ensures claimed { Claimed self.now.scene }
-        ensures timed { AllClaimed self.now.scene }
+        ensures sound { IsSound self.now.world_core }
+        ensures claimed { SettlingInvariant self.now.world_core }
+        ensures timed { WorldInvariant self.now.world_core }
     {
-        self.scene.well_formed();
+        self.world_core.well_formed();
     }
 
     /// Whether there is a live system with a clock.
     pub fn live(&self, clock: ClockId) -> bool
-        ensures { IsTrue result ↔ AtSystem clock self.now.scene IsLiveSystem }
+        ensures { IsTrue result ↔ AtSystem clock self.now.world_core IsLiveSystem }
     {
-        self.scene.live(clock)
+        self.world_core.live(clock)
     }
 
     /// The root that the live system with a clock follows, how many steps away that is, and the number of its Slave port,
@@ -260,14 +260,14 @@ impl<F: Fate + Drop> World<F> {
     /// delay of these links they are so after the longer of L + 5 intervals and of 2 and k and M for each of m systems, one
     /// interval more, and M for each of m but one.
     pub fn follows(&self, clock: ClockId) -> Option<(Identity, u16, Option<u8>)>
-        ensures some { IfSome result (λ f. AtSystem clock self.now.scene (FollowsRoot f.0 f.1 f.2)) }
-        ensures none { IfNone result (AtSystem clock self.now.scene IsLiveSystem → ⊥) }
-        ensures settled { IfSome result (λ f. FollowsInTime clock self.now.scene f.0 f.1 f.2) }
-        ensures by_paths { IfSome result (λ f. FollowsByPaths clock self.now.scene f.0 f.1 f.2) }
-        ensures at_once { IfSome result (λ f. FollowsAtOnce clock self.now.scene f.0 f.1 f.2) }
-        ensures by_distance { IfSome result (λ f. FollowsByDistance clock self.now.scene f.0 f.1 f.2) }
+        ensures some { IfSome result (λ f. AtSystem clock self.now.world_core (FollowsRoot f.0 f.1 f.2)) }
+        ensures none { IfNone result (AtSystem clock self.now.world_core IsLiveSystem → ⊥) }
+        ensures settled { IfSome result (λ f. FollowsInTime clock self.now.world_core f.0 f.1 f.2) }
+        ensures by_paths { IfSome result (λ f. FollowsByPaths clock self.now.world_core f.0 f.1 f.2) }
+        ensures at_once { IfSome result (λ f. FollowsAtOnce clock self.now.world_core f.0 f.1 f.2) }
+        ensures by_distance { IfSome result (λ f. FollowsByDistance clock self.now.world_core f.0 f.1 f.2) }
     {
-        self.scene.follows(clock)
+        self.world_core.follows(clock)
     }
 
     /// The role of a port, from 1, of the live system with a clock (IEEE 802.1AS-2020, 10.3.6); `None` where there is no such
@@ -279,14 +279,14 @@ impl<F: Fate + Drop> World<F> {
     /// path has more than m systems; and at a distance of d steps after (k+1)m + 2(d+1) + L + 5. Where the network has no
     /// syncReceiptTimeout, so it has as soon as the system follows.
     pub fn role(&self, clock: ClockId, port: u16) -> Option<Role>
-        ensures some { IfSome result (λ role. AtSystem clock self.now.scene (HasRole port role)) }
-        ensures none { IfNone result (AtSystem clock self.now.scene (HasPort port) → ⊥) }
-        ensures enabled { IfSome result (λ role. IsEnabledInTime clock port self.now.scene role) }
-        ensures settled { IfSome result (λ role. PlaysInTime clock port self.now.scene role) }
-        ensures by_paths { IfSome result (λ role. PlaysByPaths clock port self.now.scene role) }
-        ensures at_once { IfSome result (λ role. PlaysAtOnce clock port self.now.scene role) }
-        ensures by_distance { IfSome result (λ role. PlaysByDistance clock port self.now.scene role) }
+        ensures some { IfSome result (λ role. AtSystem clock self.now.world_core (HasRole port role)) }
+        ensures none { IfNone result (AtSystem clock self.now.world_core (HasPort port) → ⊥) }
+        ensures enabled { IfSome result (λ role. IsEnabledInTime clock port self.now.world_core role) }
+        ensures settled { IfSome result (λ role. PlaysInTime clock port self.now.world_core role) }
+        ensures by_paths { IfSome result (λ role. PlaysByPaths clock port self.now.world_core role) }
+        ensures at_once { IfSome result (λ role. PlaysAtOnce clock port self.now.world_core role) }
+        ensures by_distance { IfSome result (λ role. PlaysByDistance clock port self.now.world_core role) }
     {
-        self.scene.role(clock, port)
+        self.world_core.role(clock, port)
     }
 }

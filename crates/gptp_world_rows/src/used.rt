@@ -1,7 +1,7 @@
 //! The links of a world that are up between two live systems. Times are in ns.
 
 ghost use Rattle.std.specs.Prelude.{◌≡◌, ◌≤◌};
-ghost use Rattle.gptp_acts.specs.Prompt.{IsPromptIn};
+ghost use Rattle.gptp_acts.specs.Prompt.{DelaysFitIntervals};
 ghost use Rattle.gptp_plan.specs.Allowed.{IsFitAct};
 
 use crate::intervals::intervals;
@@ -114,7 +114,7 @@ fn follow(
 ) -> Result<(), Fail>
     requires moment { timed.at ≤ 1000000000000000 }
     requires fit { IsFitAct timed.act }
-    requires prompt { IsPromptIn world.old.scene timed.act }
+    requires prompt { DelaysFitIntervals world.old.world_core timed.act }
 {
     world.act(timed)?;
     expect(rt, alloc, world, step, wanted)

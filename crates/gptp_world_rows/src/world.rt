@@ -1,7 +1,7 @@
 //! A world that goes on by itself, or by one act after another. Times are in ns.
 
 ghost use Rattle.std.specs.Prelude.{◌≡◌, ◌≤◌};
-ghost use Rattle.gptp_acts.specs.Prompt.{IsPromptIn};
+ghost use Rattle.gptp_acts.specs.Prompt.{DelaysFitIntervals};
 ghost use Rattle.gptp_plan.specs.Allowed.{IsFitAct};
 
 use crate::same::same;
@@ -67,7 +67,7 @@ pub(crate) fn begun(alloc: Global, document: &str) -> Result<World<PcgFate>, Fai
 pub(crate) fn act<F: Fate + Drop>(world: &mut World<F>, at: u64, act: Act) -> Result<Done, Refused>
     requires moment { at ≤ 1000000000000000 }
     requires fit { IsFitAct act }
-    requires prompt { IsPromptIn world.old.scene act }
+    requires prompt { DelaysFitIntervals world.old.world_core act }
 {
     world.act(Timed { at, act })
 }

@@ -1,7 +1,7 @@
 //! What a world is where memory is refused. Times are in ns.
 
 ghost use Rattle.std.specs.Prelude.{◌≤◌};
-ghost use Rattle.gptp_acts.specs.Prompt.{IsPromptIn};
+ghost use Rattle.gptp_acts.specs.Prompt.{DelaysFitIntervals};
 ghost use Rattle.gptp_plan.specs.Allowed.{IsFitAct};
 
 use crate::intervals::intervals;
@@ -141,7 +141,7 @@ fn inject_again(
 ) -> Result<bool, Fail>
     requires moment { injection.now.at ≤ 1000000000000000 }
     requires fit { IsFitAct injection.now.act }
-    requires prompt { IsPromptIn world.old.scene injection.now.act }
+    requires prompt { DelaysFitIntervals world.old.world_core injection.now.act }
 {
     tell(rt, "carry_out")?;
     let kept = look_at(world) == *before;
@@ -172,7 +172,7 @@ fn inject_all(rt: &HostRuntime, world: &mut World<PcgFate>, octets: Octets) -> R
 /// Whether a change is done, once the world has settled.
 fn change(world: &mut World<PcgFate>, change: Change) -> bool
     requires fit { IsFitAct (Act.Change change) }
-    requires prompt { IsPromptIn world.old.scene (Act.Change change) }
+    requires prompt { DelaysFitIntervals world.old.world_core (Act.Change change) }
 {
     let timed = Timed {
         at: SETTLED,

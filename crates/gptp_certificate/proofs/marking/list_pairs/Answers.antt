@@ -11,14 +11,14 @@ pairs_of-requires-clause-rising g c = rises c.args.clocks.now c.requires.rising
 
 pub pairs_of-requires-clause-among : goal.pairs_of-requires-clause-among
 pairs_of-requires-clause-among g c =
-    let w = c.args.world.now.scene in let world = c.well_formed-2.ensures.claimed.is.world in
+    let w = c.args.world.now.world_core in let world = c.well_formed-2.ensures.claimed.is.world in
     subst (All (AreAmong c.args.clocks.now)) (sym c.deref.ensures.value)
     (ends_among (snapshot_of w) (stands_well w world.sound world.between world.legible) c.in_ok-links.links.items
     c.in_ok-links.ensures c.args.clocks.now c.requires.all)
 
 pub returns : goal.returns
 returns g c =
-    let w = c.args.world.now.scene in let world = c.well_formed-2.ensures.claimed.is.world in
+    let w = c.args.world.now.world_core in let world = c.well_formed-2.ensures.claimed.is.world in
     let wf = stands_well w world.sound world.between world.legible in
     subst (λ ends. IfOk c.pairs_of.result (λ pairs. map (clocks_in c.args.clocks.now) pairs.items ≡ ends))
     (ends_are (snapshot_of w) wf c.in_ok-links.links.items c.in_ok-links.ensures)

@@ -34,11 +34,11 @@ list_pairs-requires-clause-all g c = λ v member.
     let known : c.deref-2.result.now ≡ line_clocks own =
     c.deref-2.ensures.value
     ∙ (c.in_ok-clocks.ensures ∙ ap (λ (ls : List Line). line_clocks (lines_of ls)) c.deref.ensures.value) in
-    subst (In v) (sym known) (said_all c.args.world.now.scene own c.requires v member)
+    subst (In v) (sym known) (said_all c.args.world.now.world_core own c.requires v member)
 
 pub lowest_roots-requires : goal.lowest_roots-requires
 lowest_roots-requires g c =
-    let w = c.args.world.now.scene in let lines = c.args.lines.now.items in let own = lines_of lines in
+    let w = c.args.world.now.world_core in let lines = c.args.lines.now.items in let own = lines_of lines in
     let pairs = c.in_ok-pairs.pairs.items in
     let known : c.deref-2.result.now ≡ line_clocks own =
     c.deref-2.ensures.value
@@ -56,7 +56,7 @@ list_starts-requires g c =
 
 pub settle_numbers-requires : goal.settle_numbers-requires
 settle_numbers-requires g c =
-    let w = c.args.world.now.scene in let lines = c.args.lines.now.items in let own = lines_of lines in
+    let w = c.args.world.now.world_core in let lines = c.args.lines.now.items in let own = lines_of lines in
     let pairs = c.in_ok-pairs.pairs.items in
     let known : c.deref-2.result.now ≡ line_clocks own =
     c.deref-2.ensures.value
@@ -88,7 +88,7 @@ mark_each-requires-clause-few g c = λ i.
 
 pub returns : goal.returns
 returns g c =
-    let w = c.args.world.now.scene in let lines = c.args.lines.now.items in let own = lines_of lines in
+    let w = c.args.world.now.world_core in let lines = c.args.lines.now.items in let own = lines_of lines in
     let pairs = c.in_ok-pairs.pairs.items in
     let known : c.deref-2.result.now ≡ line_clocks own =
     c.deref-2.ensures.value

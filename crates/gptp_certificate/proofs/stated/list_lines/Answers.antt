@@ -8,13 +8,13 @@ use Rattle.gptp_certificate.proofs.stated.list_lines.Goals as goal
 
 pub loop-place-preserved : goal.loop-place-preserved
 loop-place-preserved g c =
-    stated_next c.args.world.now.scene c.loop-place.place (lines_of c.loop-place.lines.items)
+    stated_next c.args.world.now.world_core c.loop-place.place (lines_of c.loop-place.lines.items)
     (lines_of c.state_at.new.lines.items) (rw c.count-place-end.ensures.count at c.loop-place-test.true)
     c.loop-place.invariant c.in_ok-state_at.ensures
 
 pub returns : goal.returns
 returns g c =
-    let w = c.args.world.now.scene in let lines = lines_of c.loop-place.lines.items in
+    let w = c.args.world.now.world_core in let lines = lines_of c.loop-place.lines.items in
     let count = rising_clocks-count w in let test = c.loop-place-test.false in
     let total = c.count-place-end.ensures.count in
     let none = drop_all c.loop-place.place (rising_clocks w) (omega (arith, count, test, total)) in

@@ -7,5 +7,5 @@ use Rattle.gptp_certificate.proofs.stated.list_lines.Given as goal
 -- the lines of the systems before the place are there
 abbrev pub invariant-loop-place : goal.invariant-loop-place
 invariant-loop-place g l =
-    StatedSoFar (rising_clocks l.world.scene) (drop l.place (rising_clocks l.world.scene)) l.world.scene
+    StatedSoFar (rising_clocks l.world.world_core) (drop l.place (rising_clocks l.world.world_core)) l.world.world_core
     (lines_of l.lines.items)

@@ -1,5 +1,5 @@
 use Rattle.std.proofs.Common.{refl, arith}
-use Rattle.gptp_lists.proofs.MemberLemmas.{In-slice_get}
+use Rattle.gptp_lists.proofs.SystemSpecLemmas.{In-slice_get}
 use Rattle.gptp_checker.proofs.EachLemmas.{one_more, all_hold}
 use Rattle.gptp_checker.proofs.LineTestLemmas.{link_by_link}
 use Rattle.gptp_checker.proofs.links.passes_link.Goals as goal

@@ -1,6 +1,6 @@
 use Rattle.std.proofs.Common.{refl, arith}
 use Rattle.gptp_certificate_text.specs.Certificate.{line_of}
-use Rattle.gptp_lists.proofs.MemberLemmas.{In-slice_get}
+use Rattle.gptp_lists.proofs.SystemSpecLemmas.{In-slice_get}
 use Rattle.gptp_checker.proofs.EachLemmas.{one_more, all_hold}
 use Rattle.gptp_checker.proofs.LineTestLemmas.{nearer_by_link}
 use Rattle.gptp_checker.proofs.nearer.has_nearer.Goals as goal

@@ -1,6 +1,6 @@
 use Rattle.std.proofs.Common.{◌≡◌, Some, slice_get, option_map, ap, ◌∙◌}
 use Rattle.gptp_graph.specs.Snapshot.{System}
-use Rattle.gptp_lists.proofs.MemberLemmas.{In-slice_get, slice_get-In}
+use Rattle.gptp_lists.proofs.SystemSpecLemmas.{In-slice_get, slice_get-In}
 use Rattle.gptp_network.specs.Snapshot.{system_of}
 use Rattle.gptp_checker.proofs.stated.identity_of.Goals as goal
 

@@ -1,7 +1,7 @@
 use Rattle.std.proofs.Common.{refl, subst, arith}
 use Rattle.gptp_graph.specs.Labelling.{SystemLine, line_clocks}
 use Rattle.gptp_lists.specs.Members.{In}
-use Rattle.gptp_lists.proofs.MemberLemmas.{In-map, In-slice_get, from_map}
+use Rattle.gptp_lists.proofs.SystemSpecLemmas.{In-map, In-slice_get, from_map}
 use Rattle.gptp_checker.proofs.EachLemmas.{one_more, all_hold}
 use Rattle.gptp_checker.proofs.systems.is_stated.Goals as goal
 

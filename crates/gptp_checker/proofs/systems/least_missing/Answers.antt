@@ -2,7 +2,7 @@ use Rattle.std.proofs.Common.{subst, arith}
 use Rattle.gptp_graph.specs.Labelling.{line_clocks}
 use Rattle.gptp_graph.specs.Snapshot.{System}
 use Rattle.gptp_lists.specs.Members.{In}
-use Rattle.gptp_lists.proofs.MemberLemmas.{from_map}
+use Rattle.gptp_lists.proofs.SystemSpecLemmas.{from_map}
 use Rattle.gptp_checker.proofs.EachLemmas.{one_more, all_hold}
 use Rattle.gptp_checker.proofs.LocatedLemmas.{first_missing}
 use Rattle.gptp_checker.proofs.systems.least_missing.Goals as goal

@@ -1,6 +1,6 @@
 use Rattle.std.proofs.Common.{◌≡◌, ◌∙◌, ap, length, refl, subst, sym, arith, ◌<◌}
 use Rattle.std.proofs.lemmas.Option.{slice_get_read}
-use Rattle.gptp_lists.proofs.MemberLemmas.{In-slice_get}
+use Rattle.gptp_lists.proofs.SystemSpecLemmas.{In-slice_get}
 use Rattle.gptp_certificate_text.specs.Certificate.{line_of}
 use Rattle.gptp_components.specs.Distances.{IsDistanceOf}
 use Rattle.gptp_components.proofs.RankedLemmas.{no_gap}

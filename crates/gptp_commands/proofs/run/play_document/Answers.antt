@@ -12,7 +12,7 @@ returns-in_err-world-clause-some g c = after_error c.from_residual.result
 pub returns-clause-some : goal.returns-clause-some
 returns-clause-some g c =
     let until = c.until_of-until.ensures.is in let led = c.in_ok-world.ensures.led in
-    on_err_weaker c.tell.result (plays_some c.args.document.now c.args.options.now c.in_ok-world.world.scene led.0
+    on_err_weaker c.tell.result (plays_some c.args.document.now c.args.options.now c.in_ok-world.world.world_core led.0
     (rw (until, c.new-fate.ensures) at led.1) (g.K.Sink.written c.args.sink.now)
     (g.K.Sink.written c.run_document.new.sink) (g.K.Sink.written c.tell.new.sink) led.2)
     (rw until at c.tell.ensures.some)
@@ -20,7 +20,7 @@ returns-clause-some g c =
 pub returns-clause-whole : goal.returns-clause-whole
 returns-clause-whole g c =
     let until = c.until_of-until.ensures.is in let led = c.in_ok-world.ensures.led in
-    on_ok_weaker c.tell.result (plays_all c.args.document.now c.args.options.now c.in_ok-world.world.scene led.0
+    on_ok_weaker c.tell.result (plays_all c.args.document.now c.args.options.now c.in_ok-world.world.world_core led.0
     (rw (until, c.new-fate.ensures) at led.1) (g.K.Sink.written c.args.sink.now)
     (g.K.Sink.written c.run_document.new.sink) (g.K.Sink.written c.tell.new.sink) led.2)
     (rw until at c.tell.ensures.whole)

@@ -1,7 +1,7 @@
 use Rattle.std.proofs.Common.{◌≡◌, ◌∙◌, ◌++◌, ◌∷◌, [], length, refl, subst, sym, take}
 use Rattle.std.proofs.lemmas.Option.{slice_get_read}
 use Rattle.gptp_lists.proofs.MappedLemmas.{taken}
-use Rattle.gptp_lists.proofs.MemberLemmas.{In-slice_get}
+use Rattle.gptp_lists.proofs.SystemSpecLemmas.{In-slice_get}
 use Rattle.gptp_components.specs.Search.{IsSpread}
 use Rattle.gptp_components.proofs.SpreadLemmas.{spread_none}
 use Rattle.gptp_components.proofs.search.reach_next.Goals as goal

@@ -2,7 +2,7 @@ use Rattle.std.proofs.Common.{◌∙◌, subst, sym}
 use Rattle.gptp_graph.specs.Snapshot.{System, clocks}
 use Rattle.gptp_graph.proofs.SystemLemmas.{In-clocks}
 use Rattle.gptp_lists.specs.Members.{In}
-use Rattle.gptp_lists.proofs.MemberLemmas.{In-slice_get, from_map, slice_get-In}
+use Rattle.gptp_lists.proofs.SystemSpecLemmas.{In-slice_get, from_map, slice_get-In}
 use Rattle.std.proofs.lemmas.Option.{same_Some}
 use Rattle.gptp_explain.specs.Explained.{ExplainsSystem}
 use Rattle.gptp_explain.proofs.SettledLemmas.{line_there}

@@ -2,7 +2,7 @@ use Rattle.std.proofs.Common.{◌≡◌, ◌+◌, ◌∷◌, [], ℕ, List, arit
 use Rattle.std.proofs.lemmas.List.{drop_more, drop_all}
 use Rattle.std.proofs.lemmas.Option.{slice_get-get_or}
 use Rattle.gptp_lists.specs.Members.{In}
-use Rattle.gptp_lists.proofs.MemberLemmas.{In-map, In-slice_get}
+use Rattle.gptp_lists.proofs.SystemSpecLemmas.{In-map, In-slice_get}
 use Rattle.gptp_certificate_text.specs.Certificate.{port_line_of}
 use Rattle.gptp_roles.specs.declared.role.Role.TheVariants.{Disabled}
 use Rattle.gptp_roles.specs.declared.role.Role.{Role}

@@ -1,5 +1,5 @@
 use Rattle.std.proofs.Common.{◌≡◌, ◌∙◌, Some, eq-eqb, eqb-true, refl, subst, sym}
-use Rattle.gptp_lists.proofs.MemberLemmas.{In-slice_get}
+use Rattle.gptp_lists.proofs.SystemSpecLemmas.{In-slice_get}
 use Rattle.gptp_certificate_text.specs.Certificate.{line_of}
 use Rattle.gptp_graph.specs.SettledChoice.{IsBestIdentity}
 use Rattle.gptp_graph.specs.Snapshot.{System}

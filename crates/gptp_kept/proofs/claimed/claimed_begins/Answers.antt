@@ -1,4 +1,4 @@
-use Rattle.gptp_kept.proofs.ClaimedLemmas.{claimed_begins}
+use Rattle.gptp_kept.proofs.SettlingInvariantLemmas.{claimed_begins}
 use Rattle.gptp_kept.proofs.claimed.claimed_begins.Goals as goal
 
 pub returns : goal.returns

@@ -1,4 +1,4 @@
-use Rattle.gptp_kept.proofs.ClaimedLemmas.{claimed_kept, claimed_later}
+use Rattle.gptp_kept.proofs.SettlingInvariantLemmas.{claimed_kept, claimed_later}
 use Rattle.gptp_kept.proofs.claimed.claimed_is_kept.Goals as goal
 
 pub returns-clause-done : goal.returns-clause-done

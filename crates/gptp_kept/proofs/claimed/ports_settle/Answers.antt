@@ -1,4 +1,4 @@
-use Rattle.gptp_kept.proofs.ClaimedLemmas.{claimed_capable, over_capable, settled_capable}
+use Rattle.gptp_kept.proofs.SettlingInvariantLemmas.{claimed_capable, over_capable, settled_capable}
 use Rattle.gptp_kept.proofs.claimed.ports_settle.Goals as goal
 
 pub returns-clause-ports : goal.returns-clause-ports

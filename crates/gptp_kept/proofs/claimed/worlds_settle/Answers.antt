@@ -1,4 +1,4 @@
-use Rattle.gptp_kept.proofs.ClaimedLemmas.{calm_without, claimed_settled, settled_at_once, settled_by_neighbours, settled_by_paths}
+use Rattle.gptp_kept.proofs.SettlingInvariantLemmas.{calm_without, claimed_settled, settled_at_once, settled_by_neighbours, settled_by_paths}
 use Rattle.gptp_kept.proofs.claimed.worlds_settle.Goals as goal
 
 pub returns-clause-systems : goal.returns-clause-systems

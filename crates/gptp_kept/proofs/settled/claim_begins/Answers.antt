@@ -1,4 +1,4 @@
-use Rattle.gptp_kept.proofs.HoldsLemmas.{begins, changes_begin, first_begins}
+use Rattle.gptp_kept.proofs.SettlesAsMachineLemmas.{begins, changes_begin, first_begins}
 use Rattle.gptp_kept.proofs.settled.claim_begins.Goals as goal
 
 pub returns-clause-early : goal.returns-clause-early

@@ -1,4 +1,4 @@
-use Rattle.gptp_kept.proofs.HoldsLemmas.{acts_hold, done_holds, later_holds}
+use Rattle.gptp_kept.proofs.SettlesAsMachineLemmas.{acts_hold, done_holds, later_holds}
 use Rattle.gptp_kept.proofs.settled.claim_is_kept.Goals as goal
 
 pub returns-clause-acts : goal.returns-clause-acts

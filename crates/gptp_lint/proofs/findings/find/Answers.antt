@@ -2,9 +2,9 @@
 use Rattle.std.proofs.Common.{◌≡◌, ◌++◌, ◌∷◌, ◌+◌, drop, map, ap, sym, subst, ◌∙◌}
 use Rattle.std.specs.Option.{option_to_list}
 use Rattle.std.proofs.lemmas.List.{append-nil, drop_all, drop_more}
-use Rattle.gptp_setup.specs.Pace.{lapse_span}
+use Rattle.gptp_setup.specs.SettlingParams.{lapse_span}
 use Rattle.gptp_plan.specs.Network.{IsNetwork, NetworkState}
-use Rattle.gptp_plan.specs.declared.network.Wire.{Wire}
+use Rattle.gptp_plan.specs.declared.network.LinkSpec.{LinkSpec}
 use Rattle.gptp_topology.specs.Course.{cable_of, course_of, cable_wire}
 use Rattle.gptp_lint.specs.Trouble.{long_of, longs_of, lossies_of, stretches}
 use Rattle.gptp_lint.specs.Unlinked.{AreUnlinked}
@@ -20,10 +20,10 @@ loop-cable-preserved c =
     let here : drop i cables ≡ cable ∷ drop (i + 1) cables =
     drop_more cables i cable c.loop-cable-test.true ∙ ap (λ u. u ∷ drop (i + 1) cables) (sym c.cable-item.is) in
     record {
-      long = told_more (λ (w : Wire). option_to_list (long_of d.network.params (course_of d.events w)))
+      long = told_more (λ (w : LinkSpec). option_to_list (long_of d.network.params (course_of d.events w)))
           c.loop-cable.long.items c.push_troubles.new.long.items (longs_of d (map cable_wire cables)) cable cables i here
           c.loop-cable.invariant.long c.in_ok-push_troubles.ensures.long;
-      lossy = told_more (λ (w : Wire). stretches w.bounds.link 0 (course_of d.events w)) c.loop-cable.lossy.items
+      lossy = told_more (λ (w : LinkSpec). stretches w.bounds.link 0 (course_of d.events w)) c.loop-cable.lossy.items
           c.push_troubles.new.lossy.items (lossies_of d (map cable_wire cables)) cable cables i here
           c.loop-cable.invariant.lossy c.in_ok-push_troubles.ensures.lossy;
     }

@@ -1,7 +1,7 @@
 -- It is done to one more.
 use Rattle.std.proofs.Common.{get_or, slice_set, ap, ◌∙◌}
 use Rattle.gptp_lint.specs.Graph.{edge_acted}
-use Rattle.gptp_topology.proofs.MemberLemmas.{mapped_set}
+use Rattle.gptp_topology.proofs.SystemSpecLemmas.{mapped_set}
 use Rattle.gptp_lint.proofs.graph.act_on_edges.Goals as goal
 
 pub loop-edge-preserved : goal.loop-edge-preserved

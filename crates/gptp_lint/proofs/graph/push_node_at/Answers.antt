@@ -1,9 +1,9 @@
 -- The system at the place is put behind those before it; there is one.
 use Rattle.std.proofs.Common.{◌++◌, ◌∷◌, [], ap, ◌∙◌, refl}
 use Rattle.std.proofs.lemmas.Result.{on_ok_weaker}
-use Rattle.gptp_plan.specs.declared.network.Member.{Member}
+use Rattle.gptp_plan.specs.declared.network.SystemSpec.{SystemSpec}
 use Rattle.gptp_lint.specs.Graph.{first_node}
-use Rattle.gptp_topology.proofs.MemberLemmas.{mapped_more}
+use Rattle.gptp_topology.proofs.SystemSpecLemmas.{mapped_more}
 use Rattle.gptp_topology.proofs.PlaceLemmas.{none_there, system_there}
 use Rattle.gptp_lint.proofs.graph.push_node_at.Goals as goal
 
@@ -11,15 +11,15 @@ pub returns-in-Some : goal.returns-in-Some
 returns-in-Some c =
     let ms = c.args.network.now.systems in
     let here =
-    system_there (λ (m : Member). (m.identity, m.ports, m.phase, m.drift, m.intervals)) (λ told. told.0) ms c.args.place
+    system_there (λ (m : SystemSpec). (m.identity, m.ports, m.phase, m.drift, m.intervals)) (λ told. told.0) ms c.args.place
     c.in-Some.system (λ m. refl) c.in-Some.ensures in
     on_ok_weaker c.push_node.result
     (λ h. h ∙ ap (λ id. c.args.nodes.now.items ++ first_node id ∷ []) here.is
     ∙ ap (λ os. os ++ first_node here.system.identity ∷ []) c.requires.before
-    ∙ mapped_more (λ (m : Member). first_node m.identity) ms c.args.place here.system here.there)
+    ∙ mapped_more (λ (m : SystemSpec). first_node m.identity) ms c.args.place here.system here.there)
     c.push_node.ensures
 
 pub returns-in-None : goal.returns-in-None
 returns-in-None c =
-    absurd (none_there (λ (m : Member). (m.identity, m.ports, m.phase, m.drift, m.intervals)) c.args.network.now.systems
+    absurd (none_there (λ (m : SystemSpec). (m.identity, m.ports, m.phase, m.drift, m.intervals)) c.args.network.now.systems
     c.args.place c.requires.place c.in-None.ensures)

@@ -5,7 +5,7 @@ use Rattle.std.proofs.lemmas.Option.{slice_get-get_or}
 use Rattle.gptp_lint.specs.Graph.{NodesHaveOctets}
 use Rattle.gptp_lint.specs.Labels.{lone_label}
 use Rattle.gptp_lint.specs.declared.labels.Label.{Label}
-use Rattle.gptp_topology.proofs.MemberLemmas.{mapped_more}
+use Rattle.gptp_topology.proofs.SystemSpecLemmas.{mapped_more}
 use Rattle.gptp_lint.proofs.GraphLemmas.{octets_more}
 use Rattle.gptp_lint.proofs.labels.all_alone.Goals as goal
 

@@ -2,7 +2,7 @@
 use Rattle.std.proofs.Common.{◌++◌, ◌∷◌, [], ap, ◌∙◌, refl}
 use Rattle.std.proofs.lemmas.Result.{on_ok_weaker}
 use Rattle.gptp_roles.specs.Selection.{clock_of}
-use Rattle.gptp_plan.specs.declared.network.Member.{Member}
+use Rattle.gptp_plan.specs.declared.network.SystemSpec.{SystemSpec}
 use Rattle.gptp_lint.specs.Unlinked.{unlinked_in}
 use Rattle.gptp_topology.proofs.PlaceLemmas.{none_there, system_there}
 use Rattle.gptp_lint.proofs.UnlinkedLemmas.{unlinked_more}
@@ -13,7 +13,7 @@ returns-in-Some c =
     let ms = c.args.network.now.systems in
     let cables = c.args.cables.now in
     let here =
-    system_there (λ (m : Member). (m.identity, m.ports, m.phase, m.drift, m.intervals)) (λ told. told.0) ms c.args.place
+    system_there (λ (m : SystemSpec). (m.identity, m.ports, m.phase, m.drift, m.intervals)) (λ told. told.0) ms c.args.place
     c.in-Some.system (λ m. refl) c.in-Some.ensures in
     on_ok_weaker c.push_unlinked.result
     (λ h. h
@@ -25,5 +25,5 @@ returns-in-Some c =
 
 pub returns-in-None : goal.returns-in-None
 returns-in-None c =
-    absurd (none_there (λ (m : Member). (m.identity, m.ports, m.phase, m.drift, m.intervals)) c.args.network.now.systems
+    absurd (none_there (λ (m : SystemSpec). (m.identity, m.ports, m.phase, m.drift, m.intervals)) c.args.network.now.systems
     c.args.place c.requires.place c.in-None.ensures)

@@ -2,7 +2,7 @@
 use Rattle.std.proofs.Common.{◌≡◌, map, take, ap, ◌∙◌, arith}
 use Rattle.std.proofs.lemmas.List.{take_all}
 use Rattle.gptp_roles.specs.Selection.{clock_of}
-use Rattle.gptp_plan.specs.declared.network.Member.{Member}
+use Rattle.gptp_plan.specs.declared.network.SystemSpec.{SystemSpec}
 use Rattle.gptp_lint.specs.Unlinked.{unlinked_in}
 use Rattle.gptp_lint.proofs.UnlinkedLemmas.{are_unlinked, few_unlinked}
 use Rattle.gptp_lint.proofs.unlinked.unlinked_clocks.Goals as goal
@@ -24,5 +24,5 @@ returns c =
     (let many = c.if-systems-lt2.false in let is = c.systems.ensures in omega (arith, many, is))
     c.args.cables.now c.requires c.loop-place.unlinked.items c.sort_unstable.new.self.items
     (c.loop-place.invariant
-    ∙ ap (λ ms. unlinked_in c.args.cables.now (map (λ (m : Member). clock_of m.identity) ms)) all)
+    ∙ ap (λ ms. unlinked_in c.args.cables.now (map (λ (m : SystemSpec). clock_of m.identity) ms)) all)
     c.sort_unstable.ensures.permutation c.sort_unstable.ensures.sorted

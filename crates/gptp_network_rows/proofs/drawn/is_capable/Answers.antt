@@ -4,9 +4,9 @@ use Rattle.gptp_network_rows.proofs.drawn.is_capable.Goals as goal
 
 pub capable-requires : goal.capable-requires
 capable-requires g c =
-    second_has_port 14000000000 c.args.world.now.scene c.args.system.now c.requires.at c.requires.second
+    second_has_port 14000000000 c.args.world.now.world_core c.args.system.now c.requires.at c.requires.second
 
 pub returns : goal.returns
 returns g c =
     c.capable.ensures
-    ∙ second_is_capable c.args.world.now.scene c.args.system.now c.requires.at c.requires.second c.requires.capable
+    ∙ second_is_capable c.args.world.now.world_core c.args.system.now c.requires.at c.requires.second c.requires.capable

@@ -8,11 +8,11 @@ use Rattle.gptp_network_rows.proofs.drawn.second_announces.Goals as goal
 pub returns-in_err-_followed : goal.returns-in_err-_followed
 returns-in_err-_followed g c =
     let none = c.in_err-_followed.ensures.none in
-    absurd (none (lives 26000000000 c.args.world.now.scene c.from.result c.from.ensures c.requires))
+    absurd (none (lives 26000000000 c.args.world.now.world_core c.from.result c.from.ensures c.requires))
 
 pub returns : goal.returns
 returns g c =
-    let w = c.args.world.now.scene in let s = c.in_ok-system.system.now in
+    let w = c.args.world.now.world_core in let s = c.in_ok-system.system.now in
     let followed = c.in_ok-_followed._followed in let shown = c.in_ok-_followed.ensures in
     let found =
     subst (λ clock. AtSystem clock w (FollowsRoot followed.0 followed.1 followed.2)) c.from.ensures shown.some in

@@ -7,7 +7,7 @@ use Rattle.gptp_network_rows.proofs.drawn.second_then.Goals as goal
 
 pub returns-clause-alone : goal.returns-clause-alone
 returns-clause-alone g c =
-    let w = c.args.world.now.scene in
+    let w = c.args.world.now.world_core in
     for_some_both (λ s. ShowsLive c.from.result w s.now) (λ s. AreHeldWholeInTime w s.now) (λ s. HoldsFirstAlone s.now)
     c.system.result
     (λ s shows whole. second_holds w s.now c.requires (subst (λ n. ShowsLive n w s.now) c.from.ensures shows) whole)
@@ -15,7 +15,7 @@ returns-clause-alone g c =
 
 pub returns-clause-from : goal.returns-clause-from
 returns-clause-from g c =
-    let w = c.args.world.now.scene in
+    let w = c.args.world.now.world_core in
     let formed = c.well_formed-2.ensures in
     let since = pair_since 22000000000 15000000000 w c.requires (omega arith) in
     for_some_both (λ s. ShowsLive c.from.result w s.now) (λ s. AreHeldCleanInTime w s.now) (λ s. HoldsFromFirst s.now)

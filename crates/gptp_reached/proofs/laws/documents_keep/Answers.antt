@@ -1,4 +1,4 @@
-use Rattle.gptp_reached.proofs.ClaimedLemmas.{played_claimed}
+use Rattle.gptp_reached.proofs.SettlingInvariantLemmas.{played_claimed}
 use Rattle.gptp_reached.proofs.laws.documents_keep.Goals as goal
 
 pub returns : goal.returns

@@ -1,4 +1,4 @@
-use Rattle.gptp_reached.proofs.ClaimedLemmas.{events_made}
+use Rattle.gptp_reached.proofs.SettlingInvariantLemmas.{events_made}
 use Rattle.gptp_reached.proofs.laws.events_are_made.Goals as goal
 
 pub returns : goal.returns

@@ -4,4 +4,4 @@ use Rattle.gptp_report.proofs.report.write_system_at.Goals as goal
 
 pub write_system_of-requires : goal.write_system_of-requires
 write_system_of-requires g c =
-    rising_clocks-at c.args.world.now.scene c.args.place c.in-Some.clock (sym c.in-Some.ensures)
+    rising_clocks-at c.args.world.now.world_core c.args.place c.in-Some.clock (sym c.in-Some.ensures)

@@ -6,5 +6,5 @@ use Rattle.gptp_report.proofs.report.write_systems.Given as goal
 -- the lines of the systems before the place are written
 abbrev pub invariant-loop-place : goal.invariant-loop-place
 invariant-loop-place g l =
-    ShownSoFar (rising_clocks l.world.scene) (drop l.place (rising_clocks l.world.scene)) l.world.scene
+    ShownSoFar (rising_clocks l.world.world_core) (drop l.place (rising_clocks l.world.world_core)) l.world.world_core
     (string_bytes l.initial.text) (string_bytes l.text)

@@ -10,6 +10,6 @@ returns-clause-prompt g c = IfOk-weaker c.new.result _ _ (λ world made.
     let n = c.args.document.now.network in
     let begun = rw c.network-network.ensures at made in
     let sound = initial_sound n (rw c.network-network.ensures at c.well_formed-3.ensures) in
-    all_prompt (interval_of (smallest_of n)) c.args.document.now.events world.scene
-    (begun_none_faster g.F.Fate.answers n c.args.fate world.fate world.scene sound.wired.setups begun)
+    all_prompt (interval_of (smallest_of n)) c.args.document.now.events world.world_core
+    (begun_none_faster g.F.Fate.answers n c.args.fate world.fate world.world_core sound.wired.setups begun)
     c.well_formed-2.ensures.prompt) c.new.ensures

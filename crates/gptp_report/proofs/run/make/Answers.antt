@@ -11,9 +11,9 @@ use Rattle.gptp_report.proofs.run.make.Goals as goal
 pub done_of-requires-clause-prompt : goal.done_of-requires-clause-prompt
 done_of-requires-clause-prompt g c =
     let went = c.in_ok-go_on.ensures.gone in
-    stays_prompt c.args.event.now.act c.args.world.now.scene c.go_on.new.world.scene
+    stays_prompt c.args.event.now.act c.args.world.now.world_core c.go_on.new.world.world_core
     (passed_stays g.F.Fate.answers c.args.event.now.at went.ts c.args.world.now.fate c.go_on.new.world.fate
-    c.args.world.now.scene c.go_on.new.world.scene c.well_formed-2.ensures.sound.wired.setups went.passes)
+    c.args.world.now.world_core c.go_on.new.world.world_core c.well_formed-2.ensures.sound.wired.setups went.passes)
     c.requires.prompt
 
 -- it broke off before the event
@@ -46,18 +46,18 @@ returns-clause-broken g c =
     let old = g.K.Sink.written c.args.sink.now in let between = g.K.Sink.written c.go_on.new.sink in
     let new = g.K.Sink.written c.observe.new.sink in
     let seen = makes_seen g.F.Fate.answers g.O.Observer.tells c.args.event.now c.in_ok-done.done c.args.world.now.fate
-    c.go_on.new.world.fate c.done_of.new.world.fate c.args.world.now.scene c.go_on.new.world.scene
-    c.done_of.new.world.scene c.args.observer.now c.go_on.new.observer some.0 (Appends old between)
+    c.go_on.new.world.fate c.done_of.new.world.fate c.args.world.now.world_core c.go_on.new.world.world_core
+    c.done_of.new.world.world_core c.args.observer.now c.go_on.new.observer some.0 (Appends old between)
     (AppendsSome between new) (AppendsSome old new) (some_behind old between new) went c.in_ok-done.ensures.done some.1
     in after_error c.observe.result
-    (seen.0, some.0, inr (c.done_of.new.world.fate, c.done_of.new.world.scene, seen.1), seen.2)
+    (seen.0, some.0, inr (c.done_of.new.world.fate, c.done_of.new.world.world_core, seen.1), seen.2)
 
 pub returns-clause-made : goal.returns-clause-made
 returns-clause-made g c = on_ok_weaker c.observe.result (λ whole.
     let old = g.K.Sink.written c.args.sink.now in let between = g.K.Sink.written c.go_on.new.sink in
     let new = g.K.Sink.written c.observe.new.sink in
     makes_seen g.F.Fate.answers g.O.Observer.tells c.args.event.now c.in_ok-done.done c.args.world.now.fate
-    c.go_on.new.world.fate c.done_of.new.world.fate c.args.world.now.scene c.go_on.new.world.scene
-    c.done_of.new.world.scene c.args.observer.now c.go_on.new.observer c.observe.new.self (Appends old between)
+    c.go_on.new.world.fate c.done_of.new.world.fate c.args.world.now.world_core c.go_on.new.world.world_core
+    c.done_of.new.world.world_core c.args.observer.now c.go_on.new.observer c.observe.new.self (Appends old between)
     (Appends between new) (Appends old new) (appends_both old between new) c.in_ok-go_on.ensures.gone
     c.in_ok-done.ensures.done whole) c.observe.ensures.whole

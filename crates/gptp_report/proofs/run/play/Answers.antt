@@ -12,7 +12,7 @@ use Rattle.gptp_report.proofs.run.play.Goals as goal
 pub loop-place-init : goal.loop-place-init
 loop-place-init g c = record {
   so_far = went_none g.F.Fate.answers g.O.Observer.tells c.args.until c.args.events.now c.args.world.now.fate
-      c.args.world.now.scene c.args.observer.now
+      c.args.world.now.world_core c.args.observer.now
       (Appends (g.K.Sink.written c.args.sink.now) (g.K.Sink.written c.args.sink.now))
       (appends_none (g.K.Sink.written c.args.sink.now));
   prompt = c.requires.prompt;
@@ -35,17 +35,17 @@ loop-place-preserved g c =
     let new = g.K.Sink.written c.make_if_due.new.sink in
     let so_far = subst
     (λ left. WentSoFar g.F.Fate.answers g.O.Observer.tells c.args.until events left c.args.world.now.fate
-    c.loop-place.world.fate c.args.world.now.scene c.loop-place.world.scene c.args.observer.now c.loop-place.observer
+    c.loop-place.world.fate c.args.world.now.world_core c.loop-place.world.world_core c.args.observer.now c.loop-place.observer
     (Appends old between)) here c.loop-place.invariant.so_far in
     record {
       so_far = went_more g.F.Fate.answers g.O.Observer.tells c.args.until events event (drop (i + 1) events)
-          c.args.world.now.fate c.loop-place.world.fate c.make_if_due.new.world.fate c.args.world.now.scene
-          c.loop-place.world.scene c.make_if_due.new.world.scene c.args.observer.now c.loop-place.observer
+          c.args.world.now.fate c.loop-place.world.fate c.make_if_due.new.world.fate c.args.world.now.world_core
+          c.loop-place.world.world_core c.make_if_due.new.world.world_core c.args.observer.now c.loop-place.observer
           c.make_if_due.new.observer (Appends old between) (Appends between new)
           (Appends old new) made.0 (appends_both old between new) so_far made.1 made.2;
-      prompt = stay_prompt events c.loop-place.world.scene c.make_if_due.new.world.scene
+      prompt = stay_prompt events c.loop-place.world.world_core c.make_if_due.new.world.world_core
           (made_if_stays g.F.Fate.answers (nat_le event.at c.args.until) event made.0 c.loop-place.world.fate
-          c.make_if_due.new.world.fate c.loop-place.world.scene c.make_if_due.new.world.scene
+          c.make_if_due.new.world.fate c.loop-place.world.world_core c.make_if_due.new.world.world_core
           c.well_formed-in-loop-place.ensures.sound.wired.setups made.1) c.loop-place.invariant.prompt;
       works = c.in_ok-make_if_due.ensures.works (λ no. absurd cc) ∙ c.loop-place.invariant.works;
     }
@@ -60,11 +60,11 @@ returns-in_err-make_if_due-clause-broken g c =
     let new = g.K.Sink.written c.make_if_due.new.sink in
     let so_far = subst
     (λ left. WentSoFar g.F.Fate.answers g.O.Observer.tells c.args.until events left c.args.world.now.fate
-    c.loop-place.world.fate c.args.world.now.scene c.loop-place.world.scene c.args.observer.now c.loop-place.observer
+    c.loop-place.world.fate c.args.world.now.world_core c.loop-place.world.world_core c.args.observer.now c.loop-place.observer
     (Appends old between)) here c.loop-place.invariant.so_far in
     after_error c.from_residual.result
     (went_to_event g.F.Fate.answers g.O.Observer.tells c.args.until events event (drop (i + 1) events)
-    c.args.world.now.fate c.loop-place.world.fate c.args.world.now.scene c.loop-place.world.scene
+    c.args.world.now.fate c.loop-place.world.fate c.args.world.now.world_core c.loop-place.world.world_core
     c.args.observer.now c.loop-place.observer broken.1
     (Appends old between) (AppendsSome between new) (AppendsSome old new) broken.0 (some_behind old between new)
     so_far c.in_err-make_if_due.ensures.due broken.2 broken.3)
@@ -76,11 +76,11 @@ returns-clause-played g c = on_ok_weaker c.go_on.result (λ went.
     let new = g.K.Sink.written c.go_on.new.sink in
     let all = subst
     (λ left. WentSoFar g.F.Fate.answers g.O.Observer.tells c.args.until events left c.args.world.now.fate
-    c.loop-place.world.fate c.args.world.now.scene c.loop-place.world.scene c.args.observer.now c.loop-place.observer
+    c.loop-place.world.fate c.args.world.now.world_core c.loop-place.world.world_core c.args.observer.now c.loop-place.observer
     (Appends old between))
     (drop_all c.loop-place.place events c.loop-place-test.false) c.loop-place.invariant.so_far in
     went_all g.F.Fate.answers g.O.Observer.tells c.args.until events c.args.world.now.fate c.loop-place.world.fate
-    c.go_on.new.world.fate c.args.world.now.scene c.loop-place.world.scene c.go_on.new.world.scene
+    c.go_on.new.world.fate c.args.world.now.world_core c.loop-place.world.world_core c.go_on.new.world.world_core
     c.args.observer.now c.loop-place.observer c.go_on.new.observer
     (Appends old between) (Appends between new) (Appends old new) (appends_both old between new) all went)
     c.go_on.ensures.gone
@@ -92,10 +92,10 @@ returns-clause-broken g c = on_err_weaker c.go_on.result (λ broken.
     let new = g.K.Sink.written c.go_on.new.sink in
     let all = subst
     (λ left. WentSoFar g.F.Fate.answers g.O.Observer.tells c.args.until events left c.args.world.now.fate
-    c.loop-place.world.fate c.args.world.now.scene c.loop-place.world.scene c.args.observer.now c.loop-place.observer
+    c.loop-place.world.fate c.args.world.now.world_core c.loop-place.world.world_core c.args.observer.now c.loop-place.observer
     (Appends old between))
     (drop_all c.loop-place.place events c.loop-place-test.false) c.loop-place.invariant.so_far in
     went_to_end g.F.Fate.answers g.O.Observer.tells c.args.until events c.args.world.now.fate c.loop-place.world.fate
-    c.args.world.now.scene c.loop-place.world.scene c.args.observer.now c.loop-place.observer broken.o_after
+    c.args.world.now.world_core c.loop-place.world.world_core c.args.observer.now c.loop-place.observer broken.o_after
     (Appends old between) (AppendsSome between new) (AppendsSome old new) broken.ts (some_behind old between new) all
     broken.breaks broken.observed) c.go_on.ensures.broken

@@ -1,6 +1,6 @@
 use Rattle.std.specs.Prelude.{◌≡◌, drop}
 use Rattle.std.specs.Io.KnownBytes.{Appends}
-use Rattle.gptp_acts.specs.Prompt.{ArePromptIn}
+use Rattle.gptp_acts.specs.Prompt.{AllDelaysFitIntervals}
 use Rattle.gptp_report.proofs.RunLemmas.{WentSoFar}
 use Rattle.gptp_report.proofs.run.play.Given as goal
 
@@ -8,8 +8,8 @@ use Rattle.gptp_report.proofs.run.play.Given as goal
 abbrev pub invariant-loop-place : goal.invariant-loop-place
 invariant-loop-place g l = record {
   so_far : WentSoFar g.F.Fate.answers g.O.Observer.tells l.until l.events (drop l.place l.events) l.initial.world.fate
-      l.world.fate l.initial.world.scene l.world.scene l.initial.observer l.observer
+      l.world.fate l.initial.world.world_core l.world.world_core l.initial.observer l.observer
       (Appends (g.K.Sink.written l.initial.sink) (g.K.Sink.written l.sink));
-  prompt : ArePromptIn l.world.scene l.events;
+  prompt : AllDelaysFitIntervals l.world.world_core l.events;
   works : g.K.Sink.failures l.sink ≡ g.K.Sink.failures l.initial.sink;
 }

@@ -1,10 +1,10 @@
 use Rattle.std.proofs.Common.{◌≡◌, ◌∙◌, ℕ, ℤ, slice_get, sym, ap, subst, arith}
 use Rattle.std.proofs.lemmas.Bool.Decides.{nat_tests}
 use Rattle.arrayvec.specs.ArrayVec.{ArrayVec}
-use Rattle.gptp_lists.proofs.MemberLemmas.{In-slice_get}
+use Rattle.gptp_lists.proofs.SystemSpecLemmas.{In-slice_get}
 use Rattle.gptp_pdelay.specs.Clock.{IsDrift}
 use Rattle.gptp_roles.specs.Selection.{clock_of}
-use Rattle.gptp_plan.specs.declared.network.Member.{Member}
+use Rattle.gptp_plan.specs.declared.network.SystemSpec.{SystemSpec}
 use Rattle.gptp_time_error.proofs.MachineLemmas.{drift_back}
 use Rattle.gptp_time_error.proofs.OptionLemmas.{mapped_from}
 use Rattle.gptp_time_error.proofs.drifts.drift_if_of.Goals as goal
@@ -13,7 +13,7 @@ pub returns-then-eq-clause-some : goal.returns-then-eq-clause-some
 returns-then-eq-clause-some c =
     let systems = c.args.network.now.systems in
     let (m, there, is) =
-    mapped_from (λ (m : Member). (m.identity, m.ports, m.phase, m.drift, m.intervals))
+    mapped_from (λ (m : SystemSpec). (m.identity, m.ports, m.phase, m.drift, m.intervals))
     (slice_get systems c.args.place) _
     c.in_ok-identity.ensures in
     let same : c.clock.result ≡ c.args.clock = grind (arith, nat_tests) in

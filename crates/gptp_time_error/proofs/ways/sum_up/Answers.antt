@@ -1,5 +1,5 @@
 use Rattle.std.proofs.Common.{sym}
-use Rattle.gptp_lists.proofs.MemberLemmas.{In-slice_get}
+use Rattle.gptp_lists.proofs.SystemSpecLemmas.{In-slice_get}
 use Rattle.gptp_certificate_text.specs.Certificate.{line_of}
 use Rattle.gptp_time_error.proofs.ways.sum_up.Goals as goal
 

@@ -22,7 +22,7 @@ by_leader at s w offset leader live known named is =
 
 pub returns-in-Some-system : goal.returns-in-Some-system
 returns-in-Some-system g c =
-    let w = c.args.world.now.scene in let leader = c.in-Some-system.leader.now in
+    let w = c.args.world.now.world_core in let leader = c.in-Some-system.leader.now in
     ap Some (to_z-of_z w128 c.error_against.result (record { sfits = c.error_against.type_inv })
     ∙ c.error_against.ensures)
     ∙ sym (by_leader c.args.at c.args.system.now w c.in-Some.offset c.clock.result (Some leader) c.in-Some.ensures
@@ -31,7 +31,7 @@ returns-in-Some-system g c =
 
 pub returns-in-None-system : goal.returns-in-None-system
 returns-in-None-system g c =
-    let w = c.args.world.now.scene in
+    let w = c.args.world.now.world_core in
     sym (by_leader c.args.at c.args.system.now w c.in-Some.offset c.clock.result None c.in-Some.ensures
     (c.clock.ensures ∙ ap clock_of c.follows-root.ensures.root)
     (none_shown c.clock.result w c.in-None-system.ensures.none))

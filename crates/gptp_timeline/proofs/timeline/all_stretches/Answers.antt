@@ -1,7 +1,7 @@
 use Rattle.std.proofs.Common.{◌≡◌, ◌<◌, ◌≤◌, Some, length, nat_le, ap, ◌∙◌, refl, subst, sym, arith}
 use Rattle.std.specs.Io.KnownBytes.{Appends}
 use Rattle.std.proofs.lemmas.Result.{IfOk-weaker, on_err_weaker}
-use Rattle.gptp_acts.specs.Prompt.{ArePromptIn, IsPromptIn}
+use Rattle.gptp_acts.specs.Prompt.{AllDelaysFitIntervals, DelaysFitIntervals}
 use Rattle.gptp_acts.specs.Views.{rising_clocks}
 use Rattle.gptp_network.specs.Snapshot.{events_by}
 use Rattle.gptp_plan.specs.Allowed.{AreAllowed, IsAllowed}
@@ -17,7 +17,7 @@ use Rattle.gptp_timeline.proofs.timeline.all_stretches.Goals as goal
 
 pub loop-to-init : goal.loop-to-init
 loop-to-init g c =
-    let d = c.args.document.now in let w = c.args.world.now.scene in let options = c.args.options.now in
+    let d = c.args.document.now in let w = c.args.world.now.world_core in let options = c.args.options.now in
     let exact = c.args.exact in
     let old = g.K.Sink.written c.args.sink.now in let names = rising_clocks w in
     let rests = subst (Rests options names none_waits w) (sym c.requires.starts)
@@ -41,9 +41,9 @@ next_stretch-requires-clause-allowed g c =
 
 pub next_stretch-requires-clause-prompt : goal.next_stretch-requires-clause-prompt
 next_stretch-requires-clause-prompt g c =
-    let w = c.loop-to.world.scene in
-    subst (ArePromptIn w) (sym c.events_by-now.ensures)
-    (filter_each (λ (e : Timed). IsPromptIn w e.act) (λ (e : Timed). nat_le e.at c.loop-to.from) c.loop-to.left.now
+    let w = c.loop-to.world.world_core in
+    subst (AllDelaysFitIntervals w) (sym c.events_by-now.ensures)
+    (filter_each (λ (e : Timed). DelaysFitIntervals w e.act) (λ (e : Timed). nat_le e.at c.loop-to.from) c.loop-to.left.now
     c.loop-to.invariant.may.prompt)
 
 pub next_stretch-requires-clause-due : goal.next_stretch-requires-clause-due
@@ -57,7 +57,7 @@ pub next_stretch-requires-clause-moment : goal.next_stretch-requires-clause-mome
 next_stretch-requires-clause-moment g c =
     let from = c.loop-to.from in let left = c.loop-to.left.now in let to = c.in-Some.to in
     let is : first_time (later_than from left) ≡ Some to = sym c.next_time.ensures ∙ c.in-Some.is in
-    let early : to ≤ c.args.until = ends_in_time c.args.until from to left c.loop-to.world.scene
+    let early : to ≤ c.args.until = ends_in_time c.args.until from to left c.loop-to.world.world_core
     c.loop-to.invariant.may is
     in
     let moment = c.requires.moment in omega (arith, early, moment)
@@ -66,11 +66,11 @@ pub loop-to-preserved : goal.loop-to-preserved
 loop-to-preserved g c =
     let answers = g.F.Fate.answers in let exact = c.args.exact in let d = c.args.document.now in
     let until = c.args.until in
-    let options = c.args.options.now in let names = rising_clocks c.args.world.now.scene in
-    let events = events_by until d.events in let fate = c.args.world.now.fate in let w = c.args.world.now.scene in
+    let options = c.args.options.now in let names = rising_clocks c.args.world.now.world_core in
+    let events = events_by until d.events in let fate = c.args.world.now.fate in let w = c.args.world.now.world_core in
     let from = c.loop-to.from in let to = c.in-Some.to in let left = c.loop-to.left.now in
-    let drawn = c.loop-to.world.fate in let between = c.loop-to.world.scene in
-    let next = c.next_stretch.new.world.fate in let after = c.next_stretch.new.world.scene in
+    let drawn = c.loop-to.world.fate in let between = c.loop-to.world.world_core in
+    let next = c.next_stretch.new.world.fate in let after = c.next_stretch.new.world.world_core in
     let o = c.loop-to.watch in let o_after = c.next_stretch.new.watch in
     let old = g.K.Sink.written c.args.sink.now in let mid = g.K.Sink.written c.loop-to.sink in
     let new = g.K.Sink.written c.next_stretch.new.sink in
@@ -100,8 +100,8 @@ pub returns-in_err-kept-clause-broken : goal.returns-in_err-kept-clause-broken
 returns-in_err-kept-clause-broken g c =
     let answers = g.F.Fate.answers in let exact = c.args.exact in let d = c.args.document.now in
     let until = c.args.until in
-    let names = rising_clocks c.args.world.now.scene in let from = c.loop-to.from in let to = c.in-Some.to in
-    let left = c.loop-to.left.now in let drawn = c.loop-to.world.fate in let between = c.loop-to.world.scene in
+    let names = rising_clocks c.args.world.now.world_core in let from = c.loop-to.from in let to = c.in-Some.to in
+    let left = c.loop-to.left.now in let drawn = c.loop-to.world.fate in let between = c.loop-to.world.world_core in
     let o = c.loop-to.watch in let old = g.K.Sink.written c.args.sink.now in
     let mid = g.K.Sink.written c.loop-to.sink in let new = g.K.Sink.written c.next_stretch.new.sink in
     let broken = c.in_err-kept.ensures.broken in
@@ -110,7 +110,7 @@ returns-in_err-kept-clause-broken g c =
     broken.1 in
     after_error c.from_residual.result
     (seen_some answers exact d until c.args.options.now names (events_by until d.events) c.args.world.now.fate
-    c.args.world.now.scene from to left drawn between c.loop-to.kept o (Appends old mid) (AppendsSome mid new)
+    c.args.world.now.world_core from to left drawn between c.loop-to.kept o (Appends old mid) (AppendsSome mid new)
     (AppendsSome old new) (some_behind old mid new) c.loop-to.invariant.gone broken.0
     (sym (ends_before until (later_than from left) to is)) stops broken.2)
 
@@ -128,9 +128,9 @@ pub returns-clause-passed : goal.returns-clause-passed
 returns-clause-passed g c =
     let answers = g.F.Fate.answers in let exact = c.args.exact in let d = c.args.document.now in
     let until = c.args.until in
-    let names = rising_clocks c.args.world.now.scene in let from = c.loop-to.from in
-    let left = c.loop-to.left.now in let drawn = c.loop-to.world.fate in let between = c.loop-to.world.scene in
-    let next = c.next_stretch-2.new.world.fate in let after = c.next_stretch-2.new.world.scene in
+    let names = rising_clocks c.args.world.now.world_core in let from = c.loop-to.from in
+    let left = c.loop-to.left.now in let drawn = c.loop-to.world.fate in let between = c.loop-to.world.world_core in
+    let next = c.next_stretch-2.new.world.fate in let after = c.next_stretch-2.new.world.world_core in
     let o = c.loop-to.watch in let o_after = c.next_stretch-2.new.watch in
     let old = g.K.Sink.written c.args.sink.now in let mid = g.K.Sink.written c.loop-to.sink in
     let new = g.K.Sink.written c.next_stretch-2.new.sink in
@@ -139,7 +139,7 @@ returns-clause-passed g c =
     let all = sym (all_now from left none) in
     IfOk-weaker c.next_stretch-2.result _ _ (λ kept passed.
     seen_all answers exact d until c.args.options.now names (events_by until d.events) c.args.world.now.fate
-    c.args.world.now.scene from until left drawn between c.loop-to.kept o (Appends old mid) (Appends mid new)
+    c.args.world.now.world_core from until left drawn between c.loop-to.kept o (Appends old mid) (Appends mid new)
     (Appends old new) (appends_both old mid new) c.loop-to.invariant.gone passed.0 next after o_after passed.1 kept
     (subst (λ es. IsTimelinePlan exact d from until (is_begun es) passed.0) all passed.2)
     (subst (λ es. StretchIsSeen answers passed.0 es drawn next between after o o_after passed.1) all passed.3) passed.4
@@ -150,15 +150,15 @@ pub returns-clause-broken : goal.returns-clause-broken
 returns-clause-broken g c =
     let answers = g.F.Fate.answers in let exact = c.args.exact in let d = c.args.document.now in
     let until = c.args.until in
-    let names = rising_clocks c.args.world.now.scene in let from = c.loop-to.from in
-    let left = c.loop-to.left.now in let drawn = c.loop-to.world.fate in let between = c.loop-to.world.scene in
+    let names = rising_clocks c.args.world.now.world_core in let from = c.loop-to.from in
+    let left = c.loop-to.left.now in let drawn = c.loop-to.world.fate in let between = c.loop-to.world.world_core in
     let o = c.loop-to.watch in let old = g.K.Sink.written c.args.sink.now in
     let mid = g.K.Sink.written c.loop-to.sink in let new = g.K.Sink.written c.next_stretch-2.new.sink in
     let none = none_left (later_than from left)
     (sym c.next_time.ensures ∙ none_there c.next_time.result c.in_default.not-Some) in
     on_err_weaker c.next_stretch-2.result (λ broken.
     seen_some answers exact d until c.args.options.now names (events_by until d.events) c.args.world.now.fate
-    c.args.world.now.scene from until left drawn between c.loop-to.kept o (Appends old mid) (AppendsSome mid new)
+    c.args.world.now.world_core from until left drawn between c.loop-to.kept o (Appends old mid) (AppendsSome mid new)
     (AppendsSome old new) (some_behind old mid new) c.loop-to.invariant.gone broken.0
     (sym (ap (end_before until) none))
     (subst (λ es. StopsSeen answers exact d from until es drawn between o broken.0) (sym (all_now from left none))

@@ -10,10 +10,10 @@ use Rattle.gptp_timeline.proofs.timeline.all_stretches.Given as goal
 -- the stretches before passed, the events that are left can be made, and no write has failed
 abbrev pub invariant-loop-to : goal.invariant-loop-to
 invariant-loop-to g l = record {
-  gone : GoneSeen g.F.Fate.answers l.exact l.document l.until l.options (rising_clocks l.initial.world.scene)
-      (events_by l.until l.document.events) l.initial.world.fate l.initial.world.scene l.from l.left l.world.fate
-      l.world.scene l.kept l.watch (Appends (g.K.Sink.written l.initial.sink) (g.K.Sink.written l.sink));
-  may : MayPass l.until l.from l.left l.world.scene;
+  gone : GoneSeen g.F.Fate.answers l.exact l.document l.until l.options (rising_clocks l.initial.world.world_core)
+      (events_by l.until l.document.events) l.initial.world.fate l.initial.world.world_core l.from l.left l.world.fate
+      l.world.world_core l.kept l.watch (Appends (g.K.Sink.written l.initial.sink) (g.K.Sink.written l.sink));
+  may : MayPass l.until l.from l.left l.world.world_core;
   works : g.K.Sink.failures l.sink ≡ g.K.Sink.failures l.initial.sink;
 }
 

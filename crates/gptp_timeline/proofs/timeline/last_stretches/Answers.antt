@@ -9,19 +9,19 @@ all_stretches-requires-clause-begun g c = (c.args.fate, c.in_ok-world.ensures.be
 
 pub all_stretches-requires-clause-starts : goal.all_stretches-requires-clause-starts
 all_stretches-requires-clause-starts g c =
-    c.in_ok-write_start.ensures.sees ∙ ap (see_all (event_look 0) c.in_ok-world.world.scene) c.in_ok-watch.ensures
+    c.in_ok-write_start.ensures.sees ∙ ap (see_all (event_look 0) c.in_ok-world.world.world_core) c.in_ok-watch.ensures
 
 pub returns-clause-ends : goal.returns-clause-ends
 returns-clause-ends g c =
     let passed = c.in_ok-kept.ensures.passed in
     record {
       started = c.in_ok-world.world.fate;
-      start = c.in_ok-world.world.scene;
+      start = c.in_ok-world.world.world_core;
       begun = c.in_ok-world.ensures.begun;
       passages = passed.0;
       fate_after = c.all_stretches.new.world.fate;
-      after = c.all_stretches.new.world.scene;
+      after = c.all_stretches.new.world.world_core;
       pass = passed.1;
       are = c.both_of.ensures
-          ∙ last_two_are no_limits (rising_clocks c.in_ok-world.world.scene) passed.0 c.in_ok-kept.kept passed.2;
+          ∙ last_two_are no_limits (rising_clocks c.in_ok-world.world.world_core) passed.0 c.in_ok-kept.kept passed.2;
     }

@@ -17,7 +17,7 @@ returns-in_err-play-clause-broken g c =
     let began = c.begin.ensures ∙ ap (λ from. watch_begun from c.args.watch.now) c.exact_from.ensures in
     after_error c.from_residual.result (
       broken.3.lines,
-      inl (sees_some g.F.Fate.answers c.args.plan.now c.args.events.now c.args.world.now.fate c.args.world.now.scene
+      inl (sees_some g.F.Fate.answers c.args.plan.now c.args.events.now c.args.world.now.fate c.args.world.now.world_core
           c.args.watch.now c.begin.new.self began c.requires.due broken.0 broken.1 (AppendsSome old new) broken.3
           broken.2),
       broken.3.so,
@@ -35,12 +35,12 @@ returns-clause-broken g c =
       told ++ ends,
       inr (record {
         fate_after = c.play.new.world.fate;
-        after = c.play.new.world.scene;
+        after = c.play.new.world.world_core;
         o_after = c.play.new.observer;
         told = told;
         seen = sees_all g.F.Fate.answers c.args.plan.now c.args.events.now c.args.world.now.fate
-            c.args.world.now.scene c.args.watch.now c.begin.new.self began c.requires.due played.0 c.play.new.observer
-            (Appends old between) played.2 c.play.new.world.fate c.play.new.world.scene played.1;
+            c.args.world.now.world_core c.args.watch.now c.begin.new.self began c.requires.due played.0 c.play.new.observer
+            (Appends old between) played.2 c.play.new.world.fate c.play.new.world.world_core played.1;
         are = refl;
       }),
       subst (AppendsSome old new) (sym (text_append told ends))
@@ -56,9 +56,9 @@ returns-clause-passed g c =
     let began = c.begin.ensures ∙ ap (λ from. watch_begun from c.args.watch.now) c.exact_from.ensures in
     let told = played.2.lines in let ends = end_lines c.args.plan.now c.play.new.observer in (
       told,
-      sees_all g.F.Fate.answers c.args.plan.now c.args.events.now c.args.world.now.fate c.args.world.now.scene
+      sees_all g.F.Fate.answers c.args.plan.now c.args.events.now c.args.world.now.fate c.args.world.now.world_core
           c.args.watch.now c.begin.new.self began c.requires.due played.0 c.play.new.observer (Appends old between)
-          played.2 c.play.new.world.fate c.play.new.world.scene played.1,
+          played.2 c.play.new.world.fate c.play.new.world.world_core played.1,
       is,
       subst (Appends old new) (sym (text_append told ends))
           (appends_both old between new (text_of told) (text_of ends) played.2.so whole),

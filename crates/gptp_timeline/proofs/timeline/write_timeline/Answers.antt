@@ -18,7 +18,7 @@ all_stretches-requires-clause-begun g c = (c.args.fate, c.in_ok-world.ensures.be
 
 pub all_stretches-requires-clause-starts : goal.all_stretches-requires-clause-starts
 all_stretches-requires-clause-starts g c =
-    c.in_ok-write_start.ensures.sees ∙ ap (see_all (event_look 0) c.in_ok-world.world.scene) c.in_ok-watch.ensures
+    c.in_ok-write_start.ensures.sees ∙ ap (see_all (event_look 0) c.in_ok-world.world.world_core) c.in_ok-watch.ensures
 
 -- ---- it breaks off
 
@@ -42,7 +42,7 @@ returns-in_err-watch-clause-some g c =
 
 pub returns-in_err-write_start-clause-some : goal.returns-in_err-write_start-clause-some
 returns-in_err-write_start-clause-some g c =
-    let w = c.in_ok-world.world.scene in let options = c.args.options.now in
+    let w = c.in_ok-world.world.world_core in let options = c.args.options.now in
     let old = g.K.Sink.written c.args.sink.now in let new = g.K.Sink.written c.write_start.new.sink in
     after_error c.from_residual-in_err-write_start.result
     (start_begun g.F.Fate.answers c.args.document.now c.args.until options c.args.fate c.in_ok-world.world.fate w
@@ -53,7 +53,7 @@ returns-in_err-write_start-clause-some g c =
 
 pub returns-in_err-kept-clause-some : goal.returns-in_err-kept-clause-some
 returns-in_err-kept-clause-some g c =
-    let w = c.in_ok-world.world.scene in let options = c.args.options.now in
+    let w = c.in_ok-world.world.world_core in let options = c.args.options.now in
     let old = g.K.Sink.written c.args.sink.now in let first = g.K.Sink.written c.write_start.new.sink in
     let new = g.K.Sink.written c.all_stretches.new.sink in
     after_error c.from_residual-in_err-kept.result
@@ -88,7 +88,7 @@ returns-clause-works g c = λ other.
 
 pub returns-clause-some : goal.returns-clause-some
 returns-clause-some g c =
-    let w = c.in_ok-world.world.scene in let options = c.args.options.now in
+    let w = c.in_ok-world.world.world_core in let options = c.args.options.now in
     let old = g.K.Sink.written c.args.sink.now in let first = g.K.Sink.written c.write_start.new.sink in
     let second = g.K.Sink.written c.all_stretches.new.sink in let new = g.K.Sink.written c.end_verdict.new.sink in
     let passed = c.in_ok-kept.ensures.passed in
@@ -96,7 +96,7 @@ returns-clause-some g c =
     (verdict_begun g.F.Fate.answers c.args.document.now c.args.until options c.args.fate c.in_ok-world.world.fate w
     c.in_ok-world.ensures.begun old first second new
     (subst (λ lines. Appends old first (text_of lines)) (start_told options w c.in_ok-watch.watch c.in_ok-watch.ensures)
-    c.in_ok-write_start.ensures.whole) c.all_stretches.new.world.fate c.all_stretches.new.world.scene
+    c.in_ok-write_start.ensures.whole) c.all_stretches.new.world.fate c.all_stretches.new.world.world_core
     c.in_ok-kept.kept.exceeded passed.0 passed.1
     (exceeded_is options.limits (rising_clocks w) passed.0 c.in_ok-kept.kept passed.2) passed.3
     c.end_verdict.ensures.some)
@@ -106,14 +106,14 @@ returns-clause-some g c =
 pub returns-clause-whole : goal.returns-clause-whole
 returns-clause-whole g c =
     if_ok_both c.end_verdict.result _ _ _ (λ exceeded is whole.
-    let w = c.in_ok-world.world.scene in let options = c.args.options.now in
+    let w = c.in_ok-world.world.world_core in let options = c.args.options.now in
     let old = g.K.Sink.written c.args.sink.now in let first = g.K.Sink.written c.write_start.new.sink in
     let second = g.K.Sink.written c.all_stretches.new.sink in let new = g.K.Sink.written c.end_verdict.new.sink in
     let passed = c.in_ok-kept.ensures.passed in
     all_written g.F.Fate.answers c.args.document.now c.args.until options c.args.fate c.in_ok-world.world.fate w
     c.in_ok-world.ensures.begun old first second new
     (subst (λ lines. Appends old first (text_of lines)) (start_told options w c.in_ok-watch.watch c.in_ok-watch.ensures)
-    c.in_ok-write_start.ensures.whole) c.all_stretches.new.world.fate c.all_stretches.new.world.scene
+    c.in_ok-write_start.ensures.whole) c.all_stretches.new.world.fate c.all_stretches.new.world.world_core
     c.in_ok-kept.kept.exceeded passed.0 passed.1
     (exceeded_is options.limits (rising_clocks w) passed.0 c.in_ok-kept.kept passed.2) passed.3 exceeded is whole)
     c.end_verdict.ensures.is

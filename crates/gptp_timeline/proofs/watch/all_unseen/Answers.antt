@@ -7,7 +7,7 @@ use Rattle.gptp_timeline.proofs.watch.all_unseen.Goals as goal
 
 pub returns : goal.returns
 returns g c =
-    let w = c.args.world.now.scene in
+    let w = c.args.world.now.world_core in
     let count = rising_clocks-count w in let total = c.count-place-end.ensures.count in
     let past = c.loop-place-test.false in
     let all : length (rising_clocks w) ≤ c.loop-place.place = omega (arith, count, total, past) in

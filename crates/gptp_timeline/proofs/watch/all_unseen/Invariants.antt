@@ -5,4 +5,4 @@ use Rattle.gptp_timeline.specs.Watch.{unseen}
 use Rattle.gptp_timeline.proofs.watch.all_unseen.Given as goal
 
 abbrev pub invariant-loop-place : goal.invariant-loop-place
-invariant-loop-place g l = l.systems.items ≡ map unseen (take l.place (rising_clocks l.world.scene))
+invariant-loop-place g l = l.systems.items ≡ map unseen (take l.place (rising_clocks l.world.world_core))

@@ -16,7 +16,7 @@ none_more (x ∷ xs) (suc i) none =
 
 pub returns-in_ok-push : goal.returns-in_ok-push
 returns-in_ok-push g c =
-    let names = rising_clocks c.args.world.now.scene in let place = c.args.place in let clock = c.in-Some.clock in
+    let names = rising_clocks c.args.world.now.world_core in let place = c.args.place in let clock = c.in-Some.clock in
     c.in_ok-push.ensures.items
     ∙ ap (λ (xs : List Watched). xs ++ c.unseen.result ∷ []) c.requires
     ∙ ap (λ (x : Watched). map unseen (take place names) ++ x ∷ []) c.unseen.ensures
@@ -25,5 +25,5 @@ returns-in_ok-push g c =
 
 pub returns-in_default : goal.returns-in_default
 returns-in_default g c =
-    let names = rising_clocks c.args.world.now.scene in
+    let names = rising_clocks c.args.world.now.world_core in
     c.requires ∙ ap (map unseen) (none_more names c.args.place (sym c.clock_at.ensures ∙ c.in_default.is))

@@ -6,9 +6,9 @@ use Rattle.gptp_timeline.proofs.watch.shown_in.Goals as goal
 pub returns-in-Some : goal.returns-in-Some
 returns-in-Some g c =
     ap Some c.shown_of.ensures
-    ∙ sym (ap (option_map shown_of) (live_shown c.args.clock c.args.world.now.scene c.in-Some.system.now
+    ∙ sym (ap (option_map shown_of) (live_shown c.args.clock c.args.world.now.world_core c.in-Some.system.now
     c.well_formed-2.ensures.sound.wired.clocks c.in-Some.ensures.some))
 
 pub returns-in-None : goal.returns-in-None
 returns-in-None g c =
-    sym (ap (option_map shown_of) (none_shown c.args.clock c.args.world.now.scene c.in-None.ensures.none))
+    sym (ap (option_map shown_of) (none_shown c.args.clock c.args.world.now.world_core c.in-None.ensures.none))

@@ -10,7 +10,7 @@ use Rattle.gptp_timeline.proofs.watch.write_receipt.Goals as goal
 
 pub returns-in-Some : goal.returns-in-Some
 returns-in-Some g c =
-    let w = c.args.world.now.scene in let at = c.args.at in let clock = c.args.clock in let s = c.in-Some.system.now in
+    let w = c.args.world.now.world_core in let at = c.args.at in let clock = c.args.clock in let s = c.in-Some.system.now in
     let text = string_bytes c.args.text.now in
     let line = offset_line at clock c.offset.result c.error_of.result in
     let lines : receipt_lines_of at w clock (live_system clock w) ≡ line ∷ [] =
@@ -25,6 +25,6 @@ returns-in-Some g c =
 
 pub returns-in-None : goal.returns-in-None
 returns-in-None g c =
-    let w = c.args.world.now.scene in let text = string_bytes c.args.text.now in
+    let w = c.args.world.now.world_core in let text = string_bytes c.args.text.now in
     sym (ap (λ l. text ++ text_of (receipt_lines_of c.args.at w c.args.clock l))
     (none_shown c.args.clock w c.in-None.ensures.none) ∙ append-nil text)

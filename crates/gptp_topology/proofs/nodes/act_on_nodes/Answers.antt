@@ -2,7 +2,7 @@
 use Rattle.std.proofs.Common.{get_or, slice_set, ap, ◌∙◌}
 use Rattle.gptp_topology.specs.Tables.{node_acted}
 use Rattle.gptp_topology.specs.declared.nodes.Node.{Node}
-use Rattle.gptp_topology.proofs.MemberLemmas.{mapped_set}
+use Rattle.gptp_topology.proofs.SystemSpecLemmas.{mapped_set}
 use Rattle.gptp_topology.proofs.nodes.act_on_nodes.Goals as goal
 
 pub loop-node-preserved : goal.loop-node-preserved

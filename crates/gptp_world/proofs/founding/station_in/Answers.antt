@@ -4,7 +4,7 @@ use Rattle.gptp_setup.specs.declared.setup.Setup.{Setup}
 use Rattle.gptp_system.specs.Start.{started}
 use Rattle.gptp_system.specs.State.{SystemState}
 use Rattle.gptp_plan.specs.Network.{member, pace_of}
-use Rattle.gptp_plan.specs.declared.network.Member.{Member}
+use Rattle.gptp_plan.specs.declared.network.SystemSpec.{SystemSpec}
 use Rattle.gptp_acts.specs.declared.station.Station.{Station}
 use Rattle.gptp_acts.specs.Initial.{setup_of, station_of}
 use Rattle.gptp_world.proofs.InitialLemmas.{intervals_within, member_told, set_up}
@@ -54,7 +54,7 @@ returns c =
     let limits = c.well_formed-2.ensures.systems c.args.place _ here in
     let most = c.largest-largest.ensures in
     let told = c.unwrap-identity.result in
-    let member : Member = member told.0 told.1 told.2 told.3 told.4 in
+    let member : SystemSpec = member told.0 told.1 told.2 told.3 told.4 in
     let made = set_up n member c.copy.result _ _ limits.drift most.range most.is c.params.ensures c.copy.ensures in
     let station : Setup → SystemState → Station =
     λ setup system. record { setup = setup; system = system; live = false } in

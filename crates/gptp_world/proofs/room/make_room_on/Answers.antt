@@ -1,6 +1,6 @@
 use Rattle.std.proofs.Common.{slice_index_or, refl}
 use Rattle.std.proofs.lemmas.Option.{slice_get-get_or}
-use Rattle.gptp_world.specs.Cable.{channel_of, join_of}
+use Rattle.gptp_world.specs.JoinedLink.{channel_of, join_of}
 use Rattle.gptp_lists.proofs.PlaceLemmas.{map-set_same}
 use Rattle.gptp_world.proofs.QueueLemmas.{on_ok}
 use Rattle.gptp_world.proofs.RoomLemmas.{both_ways, channel_kept, kept_on}

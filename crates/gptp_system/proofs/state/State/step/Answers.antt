@@ -2,7 +2,7 @@ use Rattle.std.proofs.Common.{sym, subst, ◌∙◌}
 use Rattle.gptp_system.specs.declared.input.Input.{Input}
 use Rattle.gptp_system.specs.Input.{given, IsTimely}
 use Rattle.gptp_system.specs.Ready.{state_of}
-use Rattle.gptp_system.specs.Touched.{Touches}
+use Rattle.gptp_system.specs.TimersChanged.{Touches}
 use Rattle.gptp_system.proofs.LeavesLemmas.{timer_touches_these}
 use Rattle.gptp_system.proofs.SystemLemmas.{capable_holds}
 use Rattle.gptp_system.proofs.TimelyLemmas.{timely_timer}

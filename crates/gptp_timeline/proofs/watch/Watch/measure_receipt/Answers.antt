@@ -5,7 +5,7 @@ use Rattle.gptp_timeline.proofs.watch.Watch.measure_receipt.Goals as goal
 
 pub returns-in-Some : goal.returns-in-Some
 returns-in-Some g c =
-    let o = c.args.self.now in let w = c.args.world.now.scene in let at = c.args.at in let place = c.args.place in
+    let o = c.args.self.now in let w = c.args.world.now.world_core in let at = c.args.at in let place = c.args.place in
     let live = live_shown c.args.clock w c.in-Some.system.now c.well_formed-2.ensures.sound.wired.clocks
     c.in-Some.ensures.some in
     c.take_error.ensures
@@ -14,6 +14,6 @@ returns-in-Some g c =
 
 pub returns-in_default : goal.returns-in_default
 returns-in_default g c =
-    let w = c.args.world.now.scene in
+    let w = c.args.world.now.world_core in
     sym (ap (λ l. see_receipt_of c.args.at w c.args.place l c.args.self.now)
     (none_shown c.args.clock w c.in_default.ensures.none))

@@ -9,7 +9,7 @@ use Rattle.gptp_timeline.proofs.watch.Watch.see_all.Goals as goal
 
 pub loop-place-init : goal.loop-place-init
 loop-place-init g c =
-    let o = c.args.self.now in let look = c.args.look in let w = c.args.world.now.scene in
+    let o = c.args.self.now in let look = c.args.look in let w = c.args.world.now.world_core in
     let text = string_bytes c.args.text.now in
     let whole : length o.systems - 0 ≡ length o.systems = omega arith in
     record {
@@ -21,7 +21,7 @@ loop-place-init g c =
 
 pub loop-place-preserved : goal.loop-place-preserved
 loop-place-preserved g c =
-    let o = c.args.self.now in let look = c.args.look in let w = c.args.world.now.scene in
+    let o = c.args.self.now in let look = c.args.look in let w = c.args.world.now.world_core in
     let place = c.loop-place.place in let so_far = c.loop-place.invariant in
     let is = c.in_ok-see_at.ensures.sees in
     let below : place < length o.systems = grind (arith, common_steps) in

@@ -1,6 +1,6 @@
 use Rattle.std.proofs.Common.{take}
 use Rattle.gptp_system.specs.State.{clock}
-use Rattle.gptp_world.specs.Cable.{SentAll}
+use Rattle.gptp_world.specs.JoinedLink.{SentAll}
 use Rattle.gptp_world.specs.Net.{between, IsNet}
 use Rattle.gptp_world.specs.Room.{for_sends, Uses}
 use Rattle.gptp_world.proofs.net.Net.send_all.Given as goal

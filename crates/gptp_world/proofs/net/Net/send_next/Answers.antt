@@ -1,7 +1,7 @@
 use Rattle.std.proofs.Common.{◌≡◌, [], ◌∷◌, slice_get, refl, ap, sym, ◌∙◌, inl, arith}
 use Rattle.std.proofs.lemmas.Option.{same_Some}
 use Rattle.gptp_system.specs.State.{clock}
-use Rattle.gptp_world.specs.declared.cable.Cable.{Cable}
+use Rattle.gptp_world.specs.declared.joined_link.JoinedLink.{JoinedLink}
 use Rattle.gptp_acts.specs.World.{port_id}
 use Rattle.gptp_world.specs.Room.{for_sends}
 use Rattle.gptp_world.proofs.NeedLemmas.{room_first, sent_uses, unsent}
@@ -18,8 +18,8 @@ pub send_one-requires-clause-up : goal.send_one-requires-clause-up
 send_one-requires-clause-up g c = λ one here.
     let up = c.in-Some.ensures.some (clock c.args.system.now) c.requires.place in
     let there = ap (λ cs. slice_get cs c.in-Some.lane.link) c.as_mut_slice.ensures.value ∙ up.here in
-    let same : one ≡ up.cable = same_Some one up.cable (sym here ∙ there) in
-    ap (λ (x : Cable). x.link.up) same ∙ up.up
+    let same : one ≡ up.joined_link = same_Some one up.joined_link (sym here ∙ there) in
+    ap (λ (x : JoinedLink). x.link.up) same ∙ up.up
 
 pub returns-in-Some-clause-sent : goal.returns-in-Some-clause-sent
 returns-in-Some-clause-sent g c =

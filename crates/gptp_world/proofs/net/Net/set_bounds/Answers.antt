@@ -13,9 +13,9 @@ returns-clause-net c =
     still_net c.args.self.now _ c.args.link one _ c.requires.net here refl refl refl refl refl
 
 pub returns-clause-bounds : goal.returns-clause-bounds
-returns-clause-bounds c = λ cable there.
+returns-clause-bounds c = λ joined_link there.
     let one = c.index_mut.result.now in let cables = c.args.self.now.cables.items in
-    let is : one ≡ cable = c.index_mut.ensures.value ∙ read cables c.args.link cable one there in
+    let is : one ≡ joined_link = c.index_mut.ensures.value ∙ read cables c.args.link joined_link one there in
     rw (← is) (net_changed cables c.args.link _ _ c.args.self.now.pending _ (let link = c.set.ensures in
     rw link refl) refl)
 

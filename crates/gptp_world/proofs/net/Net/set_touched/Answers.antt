@@ -1,5 +1,5 @@
 use Rattle.std.proofs.Common.{◌∙◌, subst}
-use Rattle.gptp_system.specs.Touched.{holds, IsTouchedOf}
+use Rattle.gptp_system.specs.TimersChanged.{holds, IsTouchedOf}
 use Rattle.gptp_world.specs.Timing.{AreSetBut}
 use Rattle.gptp_acts.specs.World.{timers_from}
 use Rattle.gptp_acts.proofs.OwnTimerLemmas.{own_timer}

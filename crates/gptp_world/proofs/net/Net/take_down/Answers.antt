@@ -15,9 +15,9 @@ returns-clause-net c =
     (ap (λ (p : PendingView). p.links) c.cancel_arrivals.ensures.kept)
 
 pub returns-clause-down : goal.returns-clause-down
-returns-clause-down c = λ cable there.
+returns-clause-down c = λ joined_link there.
     let one = c.index_mut.result.now in let cables = c.args.self.now.cables.items in
-    let is : one ≡ cable = c.index_mut.ensures.value ∙ read cables c.args.link cable one there in
+    let is : one ≡ joined_link = c.index_mut.ensures.value ∙ read cables c.args.link joined_link one there in
     rw (← is) (net_changed cables c.args.link _ _ c.cancel_arrivals.new.self _ (let e = c.down.ensures in
     let bounds = e.bounds in let down = e.down in let from_a = e.from_a in let from_b = e.from_b in
     rw (bounds, down, from_a, from_b) refl)

@@ -23,7 +23,7 @@ returns-in-true-clause-some c = λ clock here.
     let known = known_cable c.args.self.now _ c.in_ok-lane.lane c.requires.net begins in
     record {
       begins = begins;
-      cable = known.0;
+      joined_link = known.0;
       here = known.1;
       up = sym (c.is_up.ensures known.0 known.1) ∙ c.in-true.is;
     }

@@ -1,4 +1,4 @@
-use Rattle.gptp_world.proofs.FiledLemmas.{known-plain}
+use Rattle.gptp_world.proofs.PendingIndexLemmas.{known-plain}
 use Rattle.gptp_world.proofs.pending.Pending.items_are_known.Goals as goal
 
 pub returns : goal.returns

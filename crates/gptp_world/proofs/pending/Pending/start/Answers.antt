@@ -1,4 +1,4 @@
-use Rattle.gptp_world.proofs.FiledLemmas.{filed-put_timer, not_filed}
+use Rattle.gptp_world.proofs.PendingIndexLemmas.{pending_index-put_timer, not_filed}
 use Rattle.gptp_world.proofs.pending.Pending.start.Goals as goal
 
 pub invariant_of-self : goal.invariant_of-self
@@ -9,6 +9,6 @@ invariant_of-self c =
     let known = rw (← c.self.view_is) at c.requires.known in
     let stopped = rw (← c.self.view_is) at c.requires.stopped in
     rw (c.set_timer.ensures, c.timer_place.ensures, entries, number)
-    (filed-put_timer p.systems p.links p.filed p.agenda.entries c.self.invariant c.args.place c.args.timer c.args.time
+    (pending_index-put_timer p.systems p.links p.pending_index p.agenda.entries c.self.invariant c.args.place c.args.timer c.args.time
     p.agenda.next known
-    (not_filed p.systems p.links p.filed p.agenda.entries c.self.invariant c.args.place c.args.timer known stopped))
+    (not_filed p.systems p.links p.pending_index p.agenda.entries c.self.invariant c.args.place c.args.timer known stopped))

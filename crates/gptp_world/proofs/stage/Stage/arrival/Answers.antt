@@ -1,5 +1,5 @@
 use Rattle.std.proofs.Common.{◌<◌, length, refl, arith}
-use Rattle.gptp_world.specs.Cable.{channel_of}
+use Rattle.gptp_world.specs.JoinedLink.{channel_of}
 use Rattle.gptp_lists.proofs.MappedLemmas.{mapped_there}
 use Rattle.gptp_lists.proofs.PlaceLemmas.{member_there}
 use Rattle.gptp_world.proofs.stage.Stage.arrival.Goals as goal

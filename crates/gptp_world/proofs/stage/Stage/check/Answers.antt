@@ -11,7 +11,7 @@ returns-in-false-clause-refused c = (
     first = c.if-not-is_first.ensures.first refl;
   },
   (
-    aim_there c.args.timed.now.act (world_of c.args.self.now) c.in-Some.aim c.in-Some.ensures.some,
+    aim_there c.args.timed.now.act (world_of c.args.self.now) c.in-Some.target c.in-Some.ensures.some,
     λ due.
         let told = c.in-false.ensures.1 due in absurd cc,
   ),

@@ -2,11 +2,11 @@ use Rattle.std.proofs.Common.{◌≡◌, slice_get, ap, sym, ◌∙◌}
 use Rattle.gptp_system.specs.Reach.{frame_reach}
 use Rattle.gptp_system.specs.Steps.{IsUp}
 use Rattle.gptp_vector.specs.declared.port.PortId.{PortId}
-use Rattle.gptp_world.specs.Cable.{channel_of, join_of}
+use Rattle.gptp_world.specs.JoinedLink.{channel_of, join_of}
 use Rattle.gptp_world.specs.Directory.{direction_end, DirectoryState}
 use Rattle.gptp_world.specs.Net.{between, IsOldest}
 use Rattle.gptp_world.specs.Room.{for_reach}
-use Rattle.gptp_world.proofs.CreditLemmas.{after_nothing}
+use Rattle.gptp_world.proofs.FrameBudgetLemmas.{after_nothing}
 use Rattle.gptp_world.proofs.DeliveringLemmas.{oldest_taken}
 use Rattle.gptp_world.proofs.EndLemmas.{end_placed, end_same, known_join, place_within, station_at}
 use Rattle.gptp_world.proofs.StageLemmas.{net_replaced, room_kept}
@@ -16,8 +16,8 @@ use Rattle.gptp_world.proofs.stage.Stage.deliver.Goals as goal
 pub narrowed-requires : goal.narrowed-requires
 narrowed-requires g c =
     let net = c.args.self.now.net in let due = c.requires.due in let lane = c.args.lane in
-    let join = join_of due.cable in
-    let there = known_join net lane.link due.cable c.requires.stage.net due.here in
+    let join = join_of due.joined_link in
+    let there = known_join net lane.link due.joined_link c.requires.stage.net due.here in
     let same = c.take_frame-frame.ensures.uses.directory in
     let at = c.port_at-at.ensures join (ap (λ (d : DirectoryState). slice_get d.joins lane.link) same ∙ there) in
     rw at (end_placed net.directory lane.direction lane.link join c.well_formed-2.ensures there).last
@@ -30,8 +30,8 @@ hear_if_live-answer-requires-clause-stage g c =
 pub hear_if_live-answer-requires-clause-place : goal.hear_if_live-answer-requires-clause-place
 hear_if_live-answer-requires-clause-place g c =
     let net = c.args.self.now.net in let due = c.requires.due in let lane = c.args.lane in
-    let join = join_of due.cable in
-    let there = known_join net lane.link due.cable c.requires.stage.net due.here in
+    let join = join_of due.joined_link in
+    let there = known_join net lane.link due.joined_link c.requires.stage.net due.here in
     let same = c.take_frame-frame.ensures.uses.directory in
     let place = c.receiver-place.ensures join (ap (λ (d : DirectoryState). slice_get d.joins lane.link) same ∙ there) in
     place_within c.args.self.now c.receiver-place.result (direction_end lane.direction join).clock c.requires.stage
@@ -40,8 +40,8 @@ hear_if_live-answer-requires-clause-place g c =
 pub hear_if_live-answer-requires-clause-heard : goal.hear_if_live-answer-requires-clause-heard
 hear_if_live-answer-requires-clause-heard g c = λ station here live.
     let net = c.args.self.now.net in let due = c.requires.due in let lane = c.args.lane in
-    let join = join_of due.cable in
-    let there = known_join net lane.link due.cable c.requires.stage.net due.here in
+    let join = join_of due.joined_link in
+    let there = known_join net lane.link due.joined_link c.requires.stage.net due.here in
     let same = c.take_frame-frame.ensures.uses.directory in
     let after = ap (λ (d : DirectoryState). slice_get d.joins lane.link) same ∙ there in
     let place = c.receiver-place.ensures join after in
@@ -57,18 +57,18 @@ pub hear_if_live-answer-requires-clause-set : goal.hear_if_live-answer-requires-
 hear_if_live-answer-requires-clause-set g c =
     let due = c.requires.due in
     set_for_frame c.args.self.now c.take_frame-frame.new.self c.args.lane c.take_frame-frame.result.items
-    (channel_of due.cable) c.receiver-place.result c.requires.agrees
-    (c.take_frame-frame.ensures.takes due.cable due.here)
+    (channel_of due.joined_link) c.receiver-place.result c.requires.agrees
+    (c.take_frame-frame.ensures.takes due.joined_link due.here)
 
 pub hear_if_live-answer-requires-clause-room : goal.hear_if_live-answer-requires-clause-room
 hear_if_live-answer-requires-clause-room g c = λ station here.
     let net = c.args.self.now.net in let due = c.requires.due in let lane = c.args.lane in
-    let join = join_of due.cable in
-    let there = known_join net lane.link due.cable c.requires.stage.net due.here in
+    let join = join_of due.joined_link in
+    let there = known_join net lane.link due.joined_link c.requires.stage.net due.here in
     let same = c.take_frame-frame.ensures.uses.directory in
     let place = c.receiver-place.ensures join (ap (λ (d : DirectoryState). slice_get d.joins lane.link) same ∙ there) in
     let octets = c.deref.result.now in
-    let takes = c.take_frame-frame.ensures.takes due.cable due.here in
+    let takes = c.take_frame-frame.ensures.takes due.joined_link due.here in
     let oldest : IsOldest lane octets net =
     rw c.deref.ensures.value
     (oldest_taken net c.take_frame-frame.new.self lane c.args.self.now.now c.take_frame-frame.result.items due takes) in
@@ -81,15 +81,15 @@ hear_if_live-answer-requires-clause-room g c = λ station here.
 pub returns-clause-delivered : goal.returns-clause-delivered
 returns-clause-delivered g c =
     let net = c.args.self.now.net in let due = c.requires.due in let lane = c.args.lane in
-    let join = join_of due.cable in
-    let there = known_join net lane.link due.cable c.requires.stage.net due.here in
+    let join = join_of due.joined_link in
+    let there = known_join net lane.link due.joined_link c.requires.stage.net due.here in
     let same = c.take_frame-frame.ensures.uses.directory in
     let after = ap (λ (d : DirectoryState). slice_get d.joins lane.link) same ∙ there in
     let place = c.receiver-place.ensures join after in
     let at = c.port_at-at.ensures join after in
     let stands = station_at c.args.self.now c.receiver-place.result (direction_end lane.direction join).clock c.requires.stage
     (ap (λ (d : DirectoryState). slice_get d.clocks c.receiver-place.result) (sym same) ∙ place) in
-    let ends = end_same lane.direction due.cable in
+    let ends = end_same lane.direction due.joined_link in
     let port = c.narrowed.ensures ∙ ap (λ (p : PortId). p.port) (at ∙ ends) in
     let heard = c.hear_if_live-answer.ensures.heard in
     record {
@@ -99,11 +99,11 @@ returns-clause-delivered g c =
       draws = heard.draws;
       drawn = heard.drawn;
       delivers = record {
-        channel = channel_of due.cable;
+        channel = channel_of due.joined_link;
         net = between c.take_frame-frame.new.self;
         place = c.receiver-place.result;
         station = stands.station;
-        takes = c.take_frame-frame.ensures.takes due.cable due.here;
+        takes = c.take_frame-frame.ensures.takes due.joined_link due.here;
         there = stands.here;
         is_end = stands.named ∙ ap (λ (p : PortId). p.clock) ends;
         hears = rw (← port, ← c.deref.ensures.value) heard.hears;
@@ -113,13 +113,13 @@ returns-clause-delivered g c =
 pub returns-clause-uses : goal.returns-clause-uses
 returns-clause-uses g c =
     let net = c.args.self.now.net in let due = c.requires.due in let lane = c.args.lane in
-    let join = join_of due.cable in
-    let there = known_join net lane.link due.cable c.requires.stage.net due.here in
+    let join = join_of due.joined_link in
+    let there = known_join net lane.link due.joined_link c.requires.stage.net due.here in
     let same = c.take_frame-frame.ensures.uses.directory in
     let place = c.receiver-place.ensures join (ap (λ (d : DirectoryState). slice_get d.joins lane.link) same ∙ there) in
     let placed = ap (λ (d : DirectoryState). slice_get d.clocks c.receiver-place.result) (sym same) ∙ place in
     let octets = c.deref.result.now in
-    let takes = c.take_frame-frame.ensures.takes due.cable due.here in
+    let takes = c.take_frame-frame.ensures.takes due.joined_link due.here in
     let stands = station_at c.args.self.now c.receiver-place.result (direction_end lane.direction join).clock c.requires.stage
     placed in
     record {

@@ -4,10 +4,10 @@ use Rattle.gptp_world.proofs.TellingLemmas.{net_becomes}
 use Rattle.gptp_world.proofs.stage.Stage.inject.Goals as goal
 
 pub inject-requires-clause-room : goal.inject-requires-clause-room
-inject-requires-clause-room g c = c.requires.room (λ cable here. sym (c.is_up.ensures cable here) ∙ c.if-is_up.true)
+inject-requires-clause-room g c = c.requires.room (λ joined_link here. sym (c.is_up.ensures joined_link here) ∙ c.if-is_up.true)
 
 pub inject-requires-clause-up : goal.inject-requires-clause-up
-inject-requires-clause-up g c = λ cable here. sym (c.is_up.ensures cable here) ∙ c.if-is_up.true
+inject-requires-clause-up g c = λ joined_link here. sym (c.is_up.ensures joined_link here) ∙ c.if-is_up.true
 
 pub returns-then-is_up-clause-stage : goal.returns-then-is_up-clause-stage
 returns-then-is_up-clause-stage g c =
@@ -16,13 +16,13 @@ returns-then-is_up-clause-stage g c =
 
 pub returns-then-is_up-clause-injected : goal.returns-then-is_up-clause-injected
 returns-then-is_up-clause-injected g c =
-    let room = c.requires.room (λ cable here. sym (c.is_up.ensures cable here) ∙ c.if-is_up.true) in
+    let room = c.requires.room (λ joined_link here. sym (c.is_up.ensures joined_link here) ∙ c.if-is_up.true) in
     let frame = room.frame in
     injected g.F.Fate.answers c.args.lane c.args.octets.now c.args.fate.now c.inject.new.fate c.args.self.now
-    c.inject.new.self frame.cable frame.here (sym (c.is_up.ensures frame.cable frame.here) ∙ c.if-is_up.true)
-    (c.inject.ensures.sent frame.cable frame.here)
+    c.inject.new.self frame.joined_link frame.here (sym (c.is_up.ensures frame.joined_link frame.here) ∙ c.if-is_up.true)
+    (c.inject.ensures.sent frame.joined_link frame.here)
 
 pub returns-else-is_up-clause-injected : goal.returns-else-is_up-clause-injected
 returns-else-is_up-clause-injected g c =
     not_injected g.F.Fate.answers c.args.lane c.args.octets.now c.args.fate.now c.args.self.now
-    (λ cable here. sym c.if-is_up.false ∙ c.is_up.ensures cable here)
+    (λ joined_link here. sym c.if-is_up.false ∙ c.is_up.ensures joined_link here)

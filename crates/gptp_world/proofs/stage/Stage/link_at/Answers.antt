@@ -1,6 +1,6 @@
 use Rattle.gptp_acts.specs.World.{port_id}
 use Rattle.gptp_world.specs.Stage.{world_of}
-use Rattle.gptp_world.proofs.AimLemmas.{lane_joins}
+use Rattle.gptp_world.proofs.ActTargetLemmas.{lane_joins}
 use Rattle.gptp_world.proofs.stage.Stage.link_at.Goals as goal
 
 pub returns-in-Some-clause-some : goal.returns-in-Some-clause-some

@@ -2,7 +2,7 @@ use Rattle.std.proofs.Common.{◌<◌, ◌++◌, List, length, ap, sym, ◌∙�
 use Rattle.gptp_graph.specs.Snapshot.{Link}
 use Rattle.gptp_lists.proofs.PlaceLemmas.{member_there}
 use Rattle.gptp_kept.specs.Standing.{live_stations}
-use Rattle.gptp_world.specs.Cable.{channel_of}
+use Rattle.gptp_world.specs.JoinedLink.{channel_of}
 use Rattle.gptp_world.specs.Used.{used_if}
 use Rattle.gptp_world.proofs.UsedLemmas.{one_more}
 use Rattle.gptp_world.proofs.stage.Stage.list_used.Goals as goal
@@ -12,8 +12,8 @@ loop-link-preserved c =
     let stage = c.args.self.now in let link = c.loop-link.link in let test = c.loop-link-test.true in
     let all = c.len-link-end.ensures in let known = stage.net.cables.ok.0 in
     let within : link < length stage.net.cables.items = omega arith in
-    let (cable, here) = member_there stage.net.cables.items link within in
-    let last = used_if (live_stations stage.stations.items) (channel_of cable) in
-    c.in_ok-push_used.ensures cable here
+    let (joined_link, here) = member_there stage.net.cables.items link within in
+    let last = used_if (live_stations stage.stations.items) (channel_of joined_link) in
+    c.in_ok-push_used.ensures joined_link here
     ∙ ap (λ (ls : List Link). ls ++ last) c.loop-link.invariant
-    ∙ sym (one_more stage link cable here)
+    ∙ sym (one_more stage link joined_link here)

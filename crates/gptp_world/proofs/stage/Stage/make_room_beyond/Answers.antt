@@ -1,6 +1,6 @@
 use Rattle.std.proofs.Common.{◌≡◌, ◌*◌, ◌+◌, ◌≤◌, length, Some, slice_get, refl, ap, sym, ◌∙◌, arith}
 use Rattle.std.proofs.lemmas.Option.{slice_get-get_or}
-use Rattle.gptp_world.proofs.CreditLemmas.{covered_kept, its_ports, ports_stay, room_beyond}
+use Rattle.gptp_world.proofs.FrameBudgetLemmas.{covered_kept, its_ports, ports_stay, room_beyond}
 use Rattle.gptp_world.proofs.QueueLemmas.{on_ok}
 use Rattle.gptp_world.proofs.RoomLemmas.{one_after_another, stage_stays}
 use Rattle.gptp_world.proofs.stage.Stage.make_room_beyond.Goals as goal
@@ -11,7 +11,7 @@ returns-in_err-reserve-clause-stage c =
 
 pub returns-in_err-reserve-clause-covered : goal.returns-in_err-reserve-clause-covered
 returns-in_err-reserve-clause-covered c =
-    covered_kept c.args.credit.now c.args.self.now.net c.reserve.new.self c.reserve.ensures.only c.requires.covered
+    covered_kept c.args.frame_budget.now c.args.self.now.net c.reserve.new.self c.reserve.ensures.only c.requires.covered
 
 pub draw_within-requires-clause-ports : goal.draw_within-requires-clause-ports
 draw_within-requires-clause-ports c =
@@ -25,7 +25,7 @@ draw_within-requires-clause-ports c =
 
 pub draw_within-requires-clause-covered : goal.draw_within-requires-clause-covered
 draw_within-requires-clause-covered c =
-    covered_kept c.args.credit.now c.args.self.now.net c.reserve.new.self c.reserve.ensures.only c.requires.covered
+    covered_kept c.args.frame_budget.now c.args.self.now.net c.reserve.new.self c.reserve.ensures.only c.requires.covered
 
 pub returns-clause-stage : goal.returns-clause-stage
 returns-clause-stage c =
@@ -50,5 +50,5 @@ returns-clause-room c =
     let room : 6 * length one.system.ports + 3 ≤ after.net.pending.room = rw (← count) (omega arith) in
     let ready : 2 * length one.system.ports ≤ after.net.buffers.ready = rw (← count) (omega arith) in
     on_ok c.draw_within.result _ _
-    (λ has. room_beyond after c.args.reach c.args.place one c.draw_within.new.credit is here room ready has)
+    (λ has. room_beyond after c.args.reach c.args.place one c.draw_within.new.frame_budget is here room ready has)
     c.draw_within.ensures.ok

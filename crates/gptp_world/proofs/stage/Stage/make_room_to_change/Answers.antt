@@ -1,67 +1,67 @@
 use Rattle.std.proofs.Common.{subst}
-use Rattle.gptp_world.specs.Credit.{IsChange}
+use Rattle.gptp_world.specs.FrameBudget.{IsChange}
 use Rattle.gptp_world.proofs.PerformingLemmas.{aim_within, free_aim, AsksForNone, IsWithin}
 use Rattle.gptp_world.proofs.stage.Stage.make_room_to_change.Goals as goal
 
 pub make_room_to_take_down-requires-clause-link : goal.make_room_to_take_down-requires-clause-link
 make_room_to_take_down-requires-clause-link c =
     let stage = c.args.self.now in
-    subst (λ aim. IsWithin aim stage) c.in-LinkDown.is (aim_within c.args.act.now c.args.aim stage c.requires.aim)
+    subst (λ target. IsWithin target stage) c.in-LinkDown.is (aim_within c.args.act.now c.args.target stage c.requires.target)
 
 pub make_room_to_bring_up-requires-clause-link : goal.make_room_to_bring_up-requires-clause-link
 make_room_to_bring_up-requires-clause-link c =
     let stage = c.args.self.now in
-    subst (λ aim. IsWithin aim stage) c.in-LinkUp.is (aim_within c.args.act.now c.args.aim stage c.requires.aim)
+    subst (λ target. IsWithin target stage) c.in-LinkUp.is (aim_within c.args.act.now c.args.target stage c.requires.target)
 
 pub make_room_to_recover-requires-clause-place : goal.make_room_to_recover-requires-clause-place
 make_room_to_recover-requires-clause-place c =
     let stage = c.args.self.now in
-    subst (λ aim. IsWithin aim stage) c.in-Recover.is (aim_within c.args.act.now c.args.aim stage c.requires.aim)
+    subst (λ target. IsWithin target stage) c.in-Recover.is (aim_within c.args.act.now c.args.target stage c.requires.target)
 
 pub make_room-requires-clause-place : goal.make_room-requires-clause-place
 make_room-requires-clause-place c =
     let stage = c.args.self.now in
-    subst (λ aim. IsWithin aim stage) c.in-Priority1.is (aim_within c.args.act.now c.args.aim stage c.requires.aim)
+    subst (λ target. IsWithin target stage) c.in-Priority1.is (aim_within c.args.act.now c.args.target stage c.requires.target)
 
 pub make_room_to_inject-requires-clause-link : goal.make_room_to_inject-requires-clause-link
 make_room_to_inject-requires-clause-link c =
     let stage = c.args.self.now in
-    subst (λ aim. IsWithin aim stage) c.in-Inject.is (aim_within c.args.act.now c.args.aim stage c.requires.aim)
+    subst (λ target. IsWithin target stage) c.in-Inject.is (aim_within c.args.act.now c.args.target stage c.requires.target)
 
 pub returns-in-LinkDown-clause-free : goal.returns-in-LinkDown-clause-free
 returns-in-LinkDown-clause-free c = λ asks.
     let stage = c.args.self.now in
     c.make_room_to_take_down.ensures.free
-    (subst (λ aim. AsksForNone aim stage) c.in-LinkDown.is
-    (free_aim c.args.act.now c.args.aim stage c.requires.aim asks))
+    (subst (λ target. AsksForNone target stage) c.in-LinkDown.is
+    (free_aim c.args.act.now c.args.target stage c.requires.target asks))
 
 pub returns-in-LinkUp-clause-free : goal.returns-in-LinkUp-clause-free
 returns-in-LinkUp-clause-free c = λ asks.
     let stage = c.args.self.now in
     c.make_room_to_bring_up.ensures.free
-    (subst (λ aim. AsksForNone aim stage) c.in-LinkUp.is
-    (free_aim c.args.act.now c.args.aim stage c.requires.aim asks))
+    (subst (λ target. AsksForNone target stage) c.in-LinkUp.is
+    (free_aim c.args.act.now c.args.target stage c.requires.target asks))
 
 pub returns-in-Recover-clause-free : goal.returns-in-Recover-clause-free
 returns-in-Recover-clause-free c = λ asks.
     let stage = c.args.self.now in
     c.make_room_to_recover.ensures.free
-    (subst (λ aim. AsksForNone aim stage) c.in-Recover.is
-    (free_aim c.args.act.now c.args.aim stage c.requires.aim asks))
+    (subst (λ target. AsksForNone target stage) c.in-Recover.is
+    (free_aim c.args.act.now c.args.target stage c.requires.target asks))
 
 pub returns-in-Priority1-clause-free : goal.returns-in-Priority1-clause-free
 returns-in-Priority1-clause-free c = λ asks.
     let stage = c.args.self.now in
     absurd
-    (subst (λ aim. AsksForNone aim stage) c.in-Priority1.is
-    (free_aim c.args.act.now c.args.aim stage c.requires.aim asks))
+    (subst (λ target. AsksForNone target stage) c.in-Priority1.is
+    (free_aim c.args.act.now c.args.target stage c.requires.target asks))
 
 pub returns-in-Inject-clause-free : goal.returns-in-Inject-clause-free
 returns-in-Inject-clause-free c = λ asks.
     let stage = c.args.self.now in
     c.make_room_to_inject.ensures.free
-    (subst (λ aim. AsksForNone aim stage) c.in-Inject.is
-    (free_aim c.args.act.now c.args.aim stage c.requires.aim asks))
+    (subst (λ target. AsksForNone target stage) c.in-Inject.is
+    (free_aim c.args.act.now c.args.target stage c.requires.target asks))
 
 pub returns-in-Arrival-clause-room : goal.returns-in-Arrival-clause-room
 returns-in-Arrival-clause-room c = absurd (subst IsChange c.in-Arrival.is c.requires.change)

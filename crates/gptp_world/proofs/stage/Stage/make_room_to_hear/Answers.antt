@@ -1,4 +1,4 @@
-use Rattle.gptp_world.specs.Credit.{HasRoomBeyond}
+use Rattle.gptp_world.specs.FrameBudget.{HasRoomBeyond}
 use Rattle.gptp_world.proofs.DeliveringLemmas.{receiver_within, so_heard}
 use Rattle.gptp_world.proofs.QueueLemmas.{on_ok}
 use Rattle.gptp_world.proofs.stage.Stage.make_room_to_hear.Goals as goal
@@ -18,7 +18,7 @@ returns-clause-room c =
     let e = c.make_room_beyond.ensures in let stage = c.make_room_beyond.new.self in
     on_ok c.make_room_beyond.result _ _
     (λ has. so_heard c.args.self.now stage c.args.lane c.receiver-place.result
-    c.reach_of_oldest-reach.result (λ r place. HasRoomBeyond r place c.make_room_beyond.new.credit stage)
+    c.reach_of_oldest-reach.result (λ r place. HasRoomBeyond r place c.make_room_beyond.new.frame_budget stage)
     c.requires.stage e.stage e.world c.well_formed-2.ensures c.receiver-place.ensures
     c.reach_of_oldest-reach.ensures has)
     e.room

@@ -1,23 +1,23 @@
 use Rattle.std.proofs.Common.{subst, sym}
 use Rattle.gptp_plan.specs.Allowed.{IsFitAct}
-use Rattle.gptp_world.specs.Aim.{IsAimOf}
-use Rattle.gptp_world.specs.Credit.{UsesForAim}
+use Rattle.gptp_world.specs.ActTarget.{IsTargetOf}
+use Rattle.gptp_world.specs.FrameBudget.{UsesForAim}
 use Rattle.gptp_world.specs.Performing.{HasRoomForAim}
 use Rattle.gptp_world.specs.Stage.{world_of}
-use Rattle.gptp_world.proofs.CreditLemmas.{change_uses, is_changing}
+use Rattle.gptp_world.proofs.FrameBudgetLemmas.{change_uses, is_changing}
 use Rattle.gptp_world.proofs.PerformingLemmas.{aim_within, can_change, change_told, injection_told, is_change, same_room, same_stage, IsWithin}
 use Rattle.gptp_world.proofs.stage.Stage.perform.Goals as goal
 
 pub change-requires : goal.change-requires
 change-requires g c =
     let stage = c.args.self.now in
-    let is = is_change c.args.act.now c.args.aim (world_of stage) c.in_default.not-Arrival c.in_default.not-Timer
-    c.requires.aim in
+    let is = is_change c.args.act.now c.args.target (world_of stage) c.in_default.not-Arrival c.in_default.not-Timer
+    c.requires.target in
     record {
       stage = same_stage stage c.requires.stage;
-      can = can_change is.change c.args.aim stage c.requires.sound (subst IsFitAct is.act_is c.requires.fit)
+      can = can_change is.change c.args.target stage c.requires.sound (subst IsFitAct is.act_is c.requires.fit)
           c.in_default.not-Inject is.at;
-      room = same_room c.args.aim stage c.requires.room;
+      room = same_room c.args.target stage c.requires.room;
     }
 
 pub inject-requires : goal.inject-requires
@@ -25,10 +25,10 @@ inject-requires g c =
     let stage = c.args.self.now in
     record {
       stage = same_stage stage c.requires.stage;
-      link = subst (λ aim. IsWithin aim stage) c.in-Inject.is
-          (aim_within c.args.act.now c.args.aim stage c.requires.aim);
+      link = subst (λ target. IsWithin target stage) c.in-Inject.is
+          (aim_within c.args.act.now c.args.target stage c.requires.target);
       few = c.octets_of.ensures.few;
-      room = subst (λ aim. HasRoomForAim aim stage) c.in-Inject.is c.requires.room;
+      room = subst (λ target. HasRoomForAim target stage) c.in-Inject.is c.requires.room;
     }
 
 pub returns-in-Inject : goal.returns-in-Inject
@@ -37,28 +37,28 @@ returns-in-Inject g c =
     record {
       stage = c.inject.ensures.stage;
       acted = injection_told g.F.Fate.answers act lane c.args.fate.now c.inject.new.fate stage c.inject.new.self
-          (subst (IsAimOf act (world_of stage)) c.in-Inject.is c.requires.aim)
+          (subst (IsTargetOf act (world_of stage)) c.in-Inject.is c.requires.target)
           (rw c.octets_of.ensures.is at c.inject.ensures.injected);
-      uses = subst (λ aim. UsesForAim aim stage c.inject.new.self.net) (sym c.in-Inject.is) tt;
+      uses = subst (λ target. UsesForAim target stage c.inject.new.self.net) (sym c.in-Inject.is) tt;
     }
 
 pub returns-in_default : goal.returns-in_default
 returns-in_default g c =
     let stage = c.args.self.now in
-    let is = is_change c.args.act.now c.args.aim (world_of stage) c.in_default.not-Arrival c.in_default.not-Timer
-    c.requires.aim in
+    let is = is_change c.args.act.now c.args.target (world_of stage) c.in_default.not-Arrival c.in_default.not-Timer
+    c.requires.target in
     record {
       stage = c.change.ensures.stage;
-      acted = change_told g.F.Fate.answers c.args.act.now c.args.aim c.args.fate.now c.change.new.fate stage
+      acted = change_told g.F.Fate.answers c.args.act.now c.args.target c.args.fate.now c.change.new.fate stage
           c.change.new.self is c.change.ensures.changed;
-      uses = change_uses c.args.aim stage c.change.new.self.net
-          (is_changing c.args.aim c.in_default.not-Arrival c.in_default.not-Timer);
+      uses = change_uses c.args.target stage c.change.new.self.net
+          (is_changing c.args.target c.in_default.not-Arrival c.in_default.not-Timer);
     }
 
 pub returns-in-Arrival-clause-uses : goal.returns-in-Arrival-clause-uses
 returns-in-Arrival-clause-uses g c =
-    subst (λ aim. UsesForAim aim c.args.self.now c.arrive.new.self.net) (sym c.in-Arrival.is) c.arrive.ensures.uses
+    subst (λ target. UsesForAim target c.args.self.now c.arrive.new.self.net) (sym c.in-Arrival.is) c.arrive.ensures.uses
 
 pub returns-in-Timer-clause-uses : goal.returns-in-Timer-clause-uses
 returns-in-Timer-clause-uses g c =
-    subst (λ aim. UsesForAim aim c.args.self.now c.run_out.new.self.net) (sym c.in-Timer.is) c.run_out.ensures.uses
+    subst (λ target. UsesForAim target c.args.self.now c.run_out.new.self.net) (sym c.in-Timer.is) c.run_out.ensures.uses

@@ -5,7 +5,7 @@ use Rattle.gptp_system.specs.Steps.{IsDue}
 use Rattle.gptp_acts.specs.declared.station.Station.{Station}
 use Rattle.gptp_world.specs.Stage.{world_of}
 use Rattle.gptp_world.specs.Room.{for_reach}
-use Rattle.gptp_world.proofs.CreditLemmas.{after_nothing}
+use Rattle.gptp_world.proofs.FrameBudgetLemmas.{after_nothing}
 use Rattle.gptp_world.proofs.ExpiringLemmas.{expired, known_timer}
 use Rattle.gptp_acts.proofs.NextDueLemmas.{runs_out}
 use Rattle.gptp_world.proofs.StageLemmas.{room_kept}

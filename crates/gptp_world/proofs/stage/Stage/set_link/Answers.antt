@@ -1,5 +1,5 @@
 use Rattle.std.proofs.Common.{◌≡◌, refl, ap, sym, ◌∙◌}
-use Rattle.gptp_world.specs.Cable.{channel_of}
+use Rattle.gptp_world.specs.JoinedLink.{channel_of}
 use Rattle.gptp_acts.specs.Changing.{with_bounds}
 use Rattle.gptp_world.specs.Net.{between}
 use Rattle.gptp_acts.specs.World.{Net}

@@ -1,5 +1,5 @@
 use Rattle.std.proofs.lemmas.Option.{none-some}
-use Rattle.gptp_world.proofs.AimLemmas.{no_system, system_found}
+use Rattle.gptp_world.proofs.ActTargetLemmas.{no_system, system_found}
 use Rattle.gptp_world.proofs.stage.Stage.system_at.Goals as goal
 
 pub returns-in-Some-clause-some : goal.returns-in-Some-clause-some

@@ -5,7 +5,7 @@ use Rattle.gptp_world.proofs.PerformingLemmas.{of_link, of_this}
 use Rattle.gptp_world.proofs.stage.Stage.take_link_down.Goals as goal
 
 pub link_down-requires-clause-room : goal.link_down-requires-clause-room
-link_down-requires-clause-room g c = c.requires.room (λ cable here. sym (c.is_up.ensures cable here) ∙ c.if-is_up.true)
+link_down-requires-clause-room g c = c.requires.room (λ joined_link here. sym (c.is_up.ensures joined_link here) ∙ c.if-is_up.true)
 
 pub returns-then-is_up-clause-down : goal.returns-then-is_up-clause-down
 returns-then-is_up-clause-down g c =
@@ -14,7 +14,7 @@ returns-then-is_up-clause-down g c =
       draws = down.draws;
       drawn = down.drawn;
       turns = of_link c.args.self.now c.args.link true (λ up channel. GoesDownIf up c.args.link channel w down.draws w')
-          (λ cable here. sym c.if-is_up.true ∙ c.is_up.ensures cable here)
+          (λ joined_link here. sym c.if-is_up.true ∙ c.is_up.ensures joined_link here)
           (of_this w c.args.link down.channel (λ channel. GoesDownIf true c.args.link channel w down.draws w') down.here
           down.down);
     }
@@ -26,5 +26,5 @@ returns-else-is_up-clause-down g c =
       draws = [];
       drawn = refl;
       turns = of_link c.args.self.now c.args.link false (λ up channel. GoesDownIf up c.args.link channel w [] w)
-          (λ cable here. sym c.if-is_up.false ∙ c.is_up.ensures cable here) (λ channel here. (refl, refl));
+          (λ joined_link here. sym c.if-is_up.false ∙ c.is_up.ensures joined_link here) (λ channel here. (refl, refl));
     }

@@ -1,6 +1,6 @@
 use Rattle.std.proofs.Common.{refl}
 use Rattle.std.proofs.lemmas.Option.{none-some}
-use Rattle.gptp_world.proofs.AimLemmas.{no_system, no_timer_at, timer_found}
+use Rattle.gptp_world.proofs.ActTargetLemmas.{no_system, no_timer_at, timer_found}
 use Rattle.gptp_world.proofs.stage.Stage.timer_at.Goals as goal
 
 pub returns-in-true-clause-some : goal.returns-in-true-clause-some

@@ -23,11 +23,11 @@ loop-place-preserved g c =
     let was = c.in_ok-play_next.ensures.played in let so_far = c.loop-place.invariant in
     record {
       played = rw front (plays_more g.F.Fate.answers (take i acts) x c.args.self.now.fate c.loop-place.self.fate
-          c.play_next.new.self.fate c.args.self.now.scene c.loop-place.self.scene c.play_next.new.self.scene was.done
+          c.play_next.new.self.fate c.args.self.now.world_core c.loop-place.self.world_core c.play_next.new.self.world_core was.done
           so_far.played was.was);
-      prompt = stay_prompt acts c.loop-place.self.scene c.play_next.new.self.scene
-          (done_stays g.F.Fate.answers x c.loop-place.self.fate c.play_next.new.self.fate c.loop-place.self.scene
-          c.play_next.new.self.scene was.done c.well_formed-in-loop-place.ensures.sound.wired.setups was.was)
+      prompt = stay_prompt acts c.loop-place.self.world_core c.play_next.new.self.world_core
+          (done_stays g.F.Fate.answers x c.loop-place.self.fate c.play_next.new.self.fate c.loop-place.self.world_core
+          c.play_next.new.self.world_core was.done c.well_formed-in-loop-place.ensures.sound.wired.setups was.was)
           so_far.prompt;
     }
 
@@ -38,8 +38,8 @@ returns-in_err-play_next-clause-err g c =
     let passed = err_from_is_err_and c.from_residual.result c.from_residual.ensures.1 in
     let why = c.in_err-play_next.ensures in
     let Stops : ℕ × Refused → Type 0 =
-    λ e. StopsAt g.F.Fate.answers acts e.0 e.1 c.args.self.now.fate c.play_next.new.self.fate c.args.self.now.scene
-    c.play_next.new.self.scene in
+    λ e. StopsAt g.F.Fate.answers acts e.0 e.1 c.args.self.now.fate c.play_next.new.self.fate c.args.self.now.world_core
+    c.play_next.new.self.world_core in
     let stops : Stops c.in_err-play_next.field-0.0 = record {
       played = rw (why.place, why.kept) c.loop-place.invariant.played;
       timed = x;

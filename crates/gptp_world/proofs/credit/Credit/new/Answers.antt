@@ -1,9 +1,0 @@
-use Rattle.std.proofs.Common.{subst, sym}
-use Rattle.gptp_world.specs.Credit.{HasNoCredit}
-use Rattle.gptp_world.proofs.CreditLemmas.{no_credit}
-use Rattle.gptp_world.proofs.credit.Credit.new.Goals as goal
-
-pub returns : goal.returns
-returns c =
-    let items = c.in_ok-frames.ensures.items_if_clones_equal (λ y is. cc) in
-    subst HasNoCredit (sym items) (no_credit c.args.systems)

@@ -1,6 +1,0 @@
-use Rattle.gptp_world.proofs.ViewLemmas.{next_placed}
-use Rattle.gptp_world.proofs.scene.Scene.next.Goals as goal
-
-pub act_of-act-requires-clause-placed : goal.act_of-act-requires-clause-placed
-act_of-act-requires-clause-placed c =
-    next_placed c.self.inside.stage c.in-Some.at c.in-Some.item c.self.invariant.sound.agrees c.in-Some.ensures.next

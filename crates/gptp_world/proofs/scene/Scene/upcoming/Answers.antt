@@ -1,7 +1,0 @@
-use Rattle.gptp_world.proofs.FollowLemmas.{is_upcoming}
-use Rattle.gptp_world.proofs.scene.Scene.upcoming.Goals as goal
-
-pub returns : goal.returns
-returns c =
-    rw (← c.self.view_is)
-    (is_upcoming c.next.result c.self.inside.stage.net.pending.entries c.next.ensures.next c.next.ensures.empty)

@@ -1,0 +1,32 @@
+-- A world and its fate: how it begins, and what an act makes of it.
+use Rattle.std.specs.Prelude.{ℕ, List, Option}
+use Rattle.std.specs.List.{range_with_len}
+use Rattle.gptp_links.specs.declared.bounds.Bounds.{Bounds}
+use Rattle.gptp_links.specs.Fate.{Draw, Draws}
+use Rattle.gptp_world.specs.declared.stage.Stage.{Stage}
+use Rattle.gptp_acts.specs.Changing.{StartsAll}
+use Rattle.gptp_acts.specs.Sound.{IsSound}
+use Rattle.gptp_world.specs.FrameBudget.{IsCovered}
+use Rattle.gptp_world.specs.Stage.{world_of, IsStage}
+use Rattle.gptp_kept.specs.TimedClaim.{WorldInvariant}
+
+-- what the code keeps of a world while its systems start
+pub record IsFounded (stage : Stage) : Type 0 where
+  pub stage_kept : IsStage stage
+  pub sound : IsSound (world_of stage)
+
+-- what it keeps between acts: also what every world of a network keeps, from which it follows that the world settles
+-- and how exact its offsets are; and there is room for the credit of each system
+pub record IsWorldCore (frame_budget : List ℕ) (stage : Stage) : Type 0 where
+  pub stage_kept : IsStage stage
+  pub sound : IsSound (world_of stage)
+  pub claimed : WorldInvariant (world_of stage)
+  pub covered : IsCovered frame_budget stage.net
+
+-- so many systems started, one after another
+pub record SystemsStarted {F : Type 0} (answers : Bounds → ℕ → F → Option ℕ → F → Type 0) (count : ℕ)
+    (fate fate_after : F)
+    (stage stage_after : Stage) : Type 0 where
+  pub draws : List Draw
+  pub drawn : Draws answers fate draws fate_after
+  pub starts : StartsAll (range_with_len 0 count) (world_of stage) draws (world_of stage_after)

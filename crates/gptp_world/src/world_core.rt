@@ -1,0 +1,136 @@
+//! A world without its fate.
+
+ghost use Rattle.std.specs.Prelude.{◌≡◌, ◌<◌, length, OnOk};
+ghost use Rattle.gptp_world.specs.Starting.{Started};
+ghost use Rattle.gptp_world.specs.WorldCore.{IsFounded, SystemsStarted};
+
+use crate::target::ActTarget;
+use crate::checking::sets_an_octet;
+use crate::frame_budget::FrameBudget;
+use crate::stage::Stage;
+use gptp_acts::{Done, Network, Refused, Timed};
+use gptp_links::Fate;
+use std::alloc::{AllocError, Global};
+use std::marker::Model;
+
+/// A world without its fate: its systems, and what is between them; and for how many frames there is room ahead.
+#[derive(Drop)]
+pub(crate) struct WorldCore {
+    pub(crate) stage: Stage,
+    frame_budget: FrameBudget,
+}
+
+impl Model for WorldCore {
+    ghost use Rattle.gptp_acts.specs.World.{WorldState};
+
+    ghost Value = { WorldState };
+
+    ghost use Rattle.gptp_world.specs.Stage.{world_of};
+    ghost use Rattle.gptp_world.specs.WorldCore.{IsWorldCore};
+
+    ghost view = { λ s. world_of s.stage };
+
+    ghost invariant = { λ s. IsWorldCore s.frame_budget s.stage };
+}
+
+/// The system at a place starts, once room is made for it. Refused where there is no memory for that.
+fn start_next<F: Fate>(stage: &mut Stage, place: usize, fate: &mut F) -> Result<(), AllocError>
+    requires world_core { IsFounded stage.old }
+    requires place { place < length stage.old.stations.items }
+    ensures world_core { OnOk result (IsFounded stage.new) }
+    ensures count { OnOk result (length stage.new.stations.items ≡ length stage.old.stations.items) }
+    ensures started { OnOk result (Started F.answers place fate.old fate.new stage.old stage.new) }
+{
+    stage.make_room_to_start(place)?;
+    stage.start(place, fate);
+    Ok(())
+}
+
+/// All systems start, in their order. Refused where there is no memory for that.
+fn start_all<F: Fate>(stage: &mut Stage, fate: &mut F) -> Result<(), AllocError>
+    requires { IsFounded stage.old }
+    ensures world_core { OnOk result (IsFounded stage.new) }
+    ensures started { OnOk result (SystemsStarted F.answers (length stage.old.stations.items) fate.old fate.new stage.old stage.new) }
+{
+    for place in 0..stage.stations.len() {
+        start_next(stage, place, fate)?;
+    }
+    Ok(())
+}
+
+impl WorldCore {
+    ghost use Rattle.std.specs.Prelude.{◌≡◌, ◌≢◌, ◌≤◌, IfErr, IfOk, IsOk, OnErr};
+    ghost use Rattle.gptp_acts.specs.declared.done.Refused.TheVariants.{OutOfMemory};
+    ghost use Rattle.gptp_plan.specs.Allowed.{IsFitAct};
+    ghost use Rattle.gptp_acts.specs.Acts.{IsReadyAct, Refuses};
+    ghost use Rattle.gptp_acts.specs.Prompt.{DelaysFitIntervals};
+    ghost use Rattle.gptp_kept.specs.EncodableLaws.{SetsAnOctet};
+    ghost use Rattle.gptp_kept.specs.Exact.{IsHeardExact};
+    ghost use Rattle.gptp_kept.specs.Traces.{IsHeardClean};
+    ghost use Rattle.gptp_world.specs.ActTarget.{IsTargetOf};
+    ghost use Rattle.gptp_world.specs.Memory.{AsksForNoMemory};
+    ghost use Rattle.gptp_acts.specs.Course.{Begun, WasDone};
+
+    /// The world of a network at time 0, whose systems have all started, in their order. Refused for want of memory alone.
+    pub(crate) fn new<F: Fate>(
+        alloc: Global,
+        network: &Network,
+        fate: &mut F,
+    ) -> Result<Self, AllocError>
+        ensures { IfOk result (Begun F.answers network.now fate.old fate.new) }
+    {
+        network.well_formed();
+        let mut stage = Stage::found(alloc, network)?;
+        start_all(&mut stage, fate)?;
+        let frame_budget = FrameBudget::new(alloc, stage.stations.len())?;
+        Ok(WorldCore { stage, frame_budget })
+    }
+
+    /// An act is done at its time, where it can be; otherwise the first test that it fails is answered, and nothing changes.
+    pub(crate) fn act<F: Fate>(&mut self, timed: &Timed, fate: &mut F) -> Result<Done, Refused>
+        requires moment { timed.now.at ≤ 1000000000000000 }
+        requires fit { IsFitAct timed.now.act }
+        requires prompt { DelaysFitIntervals self.old timed.now.act }
+        ensures done { IfOk result (WasDone F.answers timed.now fate.old fate.new self.old self.new) }
+        ensures clean { IfOk result (IsHeardClean self.old timed.now.at) }
+        ensures exact { IfOk result (IsHeardExact self.old timed.now.at self.new) }
+        ensures refused { IfErr result (Refuses timed.now.act timed.now.at self.old) }
+        ensures free { AsksForNoMemory timed.now.act self.old → IfErr result (λ refused. refused ≢ OutOfMemory) }
+        ensures kept { OnErr result (self.new ≡ self.old) }
+        ensures fate { OnErr result (fate.new ≡ fate.old) }
+    {
+        sets_an_octet(&timed.act);
+        self.well_formed();
+        match self.stage.check(timed) {
+            Ok(target) => match self.perform(timed, target, fate) {
+                Ok(done) => Ok(done),
+                Err(_) => Err(Refused::OutOfMemory),
+            },
+            Err(refused) => Err(refused),
+        }
+    }
+
+    /// An act that is ready is done at its time. Refused where there is no memory for what it can leave, and then nothing
+    /// changes.
+    pub(crate) fn perform<F: Fate>(
+        &mut self,
+        timed: &Timed,
+        target: ActTarget,
+        fate: &mut F,
+    ) -> Result<Done, AllocError>
+        requires moment { timed.now.at ≤ 1000000000000000 }
+        requires fit { IsFitAct timed.now.act }
+        requires prompt { DelaysFitIntervals self.old timed.now.act }
+        requires octet { SetsAnOctet timed.now.act }
+        requires target { IsTargetOf timed.now.act self.old target }
+        requires ready { IsReadyAct timed.now.act timed.now.at self.old }
+        ensures done { IfOk result (WasDone F.answers timed.now fate.old fate.new self.old self.new) }
+        ensures free { AsksForNoMemory timed.now.act self.old → IsOk result }
+        ensures kept { OnErr result (self.new ≡ self.old) }
+        ensures fate { OnErr result (fate.new ≡ fate.old) }
+    {
+        self.stage.make_room_for(&timed.act, target, &mut self.frame_budget)?;
+        self.stage.now = timed.at;
+        Ok(self.stage.perform(&timed.act, target, fate))
+    }
+}
