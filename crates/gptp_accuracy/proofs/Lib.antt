@@ -1,5 +1,13 @@
-pub mod LinkLemmas
-pub mod HopLemmas
+pub mod SumLemmas
+mod MachineLemmas
+mod OptionLemmas
+pub mod DelayLemmas
+pub mod StandingLemmas
+pub mod PassLemmas
+mod EventLemmas
+pub mod ExactLemmas
+mod TextLemmas
 pub mod WayLemmas
-pub mod LongerLemmas
-mod ExampleLemmas
+pub mod OneLemmas
+pub mod CalmLemmas
+pub mod EveryLemmas

@@ -1,5 +1,6 @@
-pub mod TimeError
-pub mod HopLaws
-pub mod WayLaws
-pub mod Examples
-pub mod ExampleSync
+pub mod Ways
+pub mod Sums
+pub mod Passing
+pub mod TimeErrors
+pub mod AccuracyText
+pub mod Laws

@@ -1,15 +1,18 @@
-//! How exact the time is that gPTP carries to a system, by the links and clocks on the way to it.
+//! How exact the time is that each system of a network gets, by its document alone and without a run.
 //!
-//! A way is what a planner knows of it: the least and the greatest delay of each link, the drifts of the clocks, the
-//! interval between two requests, the turnaround and the residence. Over it stands one number, the time error, in units
-//! of 2^-16 ns: each link costs its jitter, and each bridge its residence times the error of the rate so far, to which
-//! each link above adds its jitter over the interval.
-//!
-//! The definitions stand in `specs/`, the time error in `TimeError`. Each function of this crate is a law: it does
-//! nothing, and its contract is a theorem about the definitions. The time that is carried over the whole way is within
-//! the time error of the root's clock, and so is the offset that a system computes. [`examples`] has ways whose time
-//! error is worked out by hand. Lemmas for the crates above are in the public modules of `proofs/`.
+//! [`time_errors`] answers for the network of a document as it stands at a time: where it is calm then, each system
+//! that follows a grandmaster and isn't too far from it has a time error, in units of 2^-16 ns, by the links and clocks
+//! on the way from its root. The way goes along the parents of the settled choice, and the time error is that of
+//! gptp_error_laws; `specs/` says what they are. [`write_accuracy`] writes them as text.
 #![tactic(auto)]
 
-pub mod examples;
+mod delays;
+mod drifts;
+mod errors;
 pub mod laws;
+mod sums;
+mod text;
+mod ways;
+
+pub use errors::{SystemError, TimeErrors, time_errors};
+pub use text::{Thousandths, write_accuracy};

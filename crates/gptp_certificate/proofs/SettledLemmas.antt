@@ -24,18 +24,18 @@ use Rattle.gptp_roles.specs.declared.role.Role.TheVariants.{Disabled, Master, Sl
 use Rattle.gptp_system.specs.Start.{role_at}
 use Rattle.gptp_system.specs.State.{SystemState, clock, parent}
 use Rattle.gptp_system.specs.Steps.{HasPortNumber}
-use Rattle.gptp_acts.specs.Sound.{HaveOwnClocks}
-use Rattle.gptp_acts.specs.World.{WorldState}
-use Rattle.gptp_acts.specs.declared.station.Station.{Station}
-use Rattle.gptp_kept.specs.Bounded.{IsBoundedWorld, statement_of, statements_of}
-use Rattle.gptp_kept.specs.Standing.{snapshot_of, standing_system}
-use Rattle.gptp_kept.proofs.BoundedLemmas.{claimed_bounded, statement_there, stated_lives}
-use Rattle.gptp_kept.proofs.StandsLemmas.{stands_well}
-use Rattle.gptp_kept.proofs.SystemLemmas.{clock_in, live_from, live_there}
-use Rattle.gptp_kept.specs.Settled.{IsSettledSystem, Settled, followed_link}
-use Rattle.gptp_kept.specs.Settled as graphs
-use Rattle.gptp_kept.specs.SettlingInvariant.{SettlingInvariant}
-use Rattle.gptp_kept.proofs.SettlingInvariantLemmas.{claimed_settled}
+use Rattle.gptp_model.specs.Sound.{HaveOwnClocks}
+use Rattle.gptp_model.specs.World.{WorldState}
+use Rattle.gptp_model.specs.declared.station.Station.{Station}
+use Rattle.gptp_invariants.specs.Bounded.{IsBoundedWorld, statement_of, statements_of}
+use Rattle.gptp_invariants.specs.Standing.{snapshot_of, standing_system}
+use Rattle.gptp_invariants.proofs.BoundedLemmas.{claimed_bounded, statement_there, stated_lives}
+use Rattle.gptp_invariants.proofs.StandsLemmas.{stands_well}
+use Rattle.gptp_invariants.proofs.SystemLemmas.{clock_in, live_from, live_there}
+use Rattle.gptp_invariants.specs.Settled.{IsSettledSystem, Settled, followed_link}
+use Rattle.gptp_invariants.specs.Settled as graphs
+use Rattle.gptp_invariants.specs.SettlingInvariant.{SettlingInvariant}
+use Rattle.gptp_invariants.proofs.SettlingInvariantLemmas.{claimed_settled}
 use Rattle.gptp_certificate_text.specs.Certificate.{IsCertificate, parent_of, role_of}
 use Rattle.gptp_certificate.specs.Settled.{IsRightInTime}
 use Rattle.gptp_certificate.specs.Stated.{IsFarLine, IsStatedLine, IsNearLine, States, stated_line, stated_port}

@@ -8,13 +8,13 @@ use Rattle.gptp_lists.specs.Members.{In}
 use Rattle.gptp_graph.specs.Order.{IsRising}
 use Rattle.gptp_lists.proofs.SystemSpecLemmas.{In-left, In-map, In-parts, In-right, In-slice_get, from_map, slice_get-In}
 use Rattle.gptp_system.specs.State.{SystemState, clock}
-use Rattle.gptp_acts.specs.Acts.{AtSystem}
-use Rattle.gptp_acts.specs.Sound.{HaveOwnClocks}
-use Rattle.gptp_acts.specs.Views.{rising_clocks}
-use Rattle.gptp_acts.specs.World.{WorldState}
-use Rattle.gptp_acts.specs.declared.station.Station.{Station}
-use Rattle.gptp_acts.proofs.RisingLemmas.{rising_clocks-count}
-use Rattle.gptp_kept.proofs.NameLemmas.{clock_of_station, clocks_rise, In-rising}
+use Rattle.gptp_model.specs.Acts.{AtSystem}
+use Rattle.gptp_model.specs.Sound.{HaveOwnClocks}
+use Rattle.gptp_model.specs.Views.{rising_clocks}
+use Rattle.gptp_model.specs.World.{WorldState}
+use Rattle.gptp_model.specs.declared.station.Station.{Station}
+use Rattle.gptp_model.proofs.RisingLemmas.{rising_clocks-count}
+use Rattle.gptp_invariants.proofs.NameLemmas.{clock_of_station, clocks_rise, In-rising}
 use Rattle.gptp_certificate.specs.Stated.{stated_line, stated_port}
 use Rattle.gptp_certificate.specs.Stating.{stated_if, Adds, AreSaid}
 

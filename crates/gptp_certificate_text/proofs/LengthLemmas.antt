@@ -13,7 +13,7 @@ use Rattle.gptp_graph.specs.Labelling.{PortLine, SystemLine}
 use Rattle.gptp_graph.specs.Parent.{ParentLink}
 use Rattle.gptp_graph.specs.SettledRole.{Role, Disabled, Master, Slave, Passive}
 use Rattle.gptp_lists.specs.Members.{In}
-use Rattle.gptp_spelling.specs.Digits.{clock_text, identity_text}
+use Rattle.gptp_words.specs.Digits.{clock_text, identity_text}
 use Rattle.gptp_certificate_text.specs.CertificateText.{certificate_text, end_text, entry_text, far_words, head_text, parent_words, port_words, system_words}
 use Rattle.gptp_certificate_text.specs.Entries.{LineKey, SystemEntry, PortEntry, IsReadable, IsReadableEntry, IsReadableParent, entries_of}
 use Rattle.gptp_certificate_text.specs.Forms.{far_text, parent_text, port_text, role_word, system_text}

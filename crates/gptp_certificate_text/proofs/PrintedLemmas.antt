@@ -2,7 +2,7 @@
 use Rattle.std.proofs.Common.{◌≡◌, ℕ, List, [], ◌∷◌, ◌++◌, map, codes, sym}
 use Rattle.std.proofs.lemmas.Grind.{flat_map-append}
 use Rattle.gptp_graph.specs.Labelling.{SystemLine}
-use Rattle.gptp_spelling.specs.Lines.{text_of}
+use Rattle.gptp_words.specs.Lines.{text_of}
 use Rattle.gptp_certificate_text.specs.CertificateText.{certificate_lines, certificate_text, entry_text, head_text}
 use Rattle.gptp_certificate_text.specs.Entries.{entries_of}
 

@@ -6,7 +6,7 @@ use Rattle.std.proofs.lemmas.List.{map-append}
 use Rattle.std.proofs.lemmas.Grind.{flat_map-append}
 use Rattle.gptp_graph.specs.Parent.{ParentLink}
 use Rattle.gptp_roles.specs.declared.role.Role.{Role}
-use Rattle.gptp_spelling.specs.Lines.{text_of}
+use Rattle.gptp_words.specs.Lines.{text_of}
 use Rattle.gptp_certificate_text.specs.declared.certificate.SystemLine.{SystemLine}
 use Rattle.gptp_certificate_text.specs.Certificate.{line_of, lines_of, parent_of, port_line_of}
 use Rattle.gptp_certificate_text.specs.CertificateText.{entry_text, far_words, system_words}

@@ -4,8 +4,8 @@ use Rattle.std.specs.Fmt.{decimal}
 use Rattle.std.specs.Option.{option_map}
 use Rattle.gptp_graph.specs.Labelling.{PortLine, SystemLine}
 use Rattle.gptp_graph.specs.Parent.{ParentLink}
-use Rattle.gptp_spelling.specs.Digits.{clock_text, identity_text}
-use Rattle.gptp_spelling.specs.Lines.{text_of}
+use Rattle.gptp_words.specs.Digits.{clock_text, identity_text}
+use Rattle.gptp_words.specs.Lines.{text_of}
 use Rattle.gptp_certificate_text.specs.Entries.{LineKey, SystemEntry, PortEntry, entries_of}
 use Rattle.gptp_certificate_text.specs.Forms.{Form, SystemForm, FarForm, PortForm, ParentWords, PortWords, FarWords, SystemWords, form_text}
 

@@ -2,7 +2,7 @@
 
 ghost use Rattle.std.specs.Prelude.{◌≡◌, ◌≢◌, ◌≤◌, ◌<◌, ◌^◌, ◌↔◌, ℕ, decimal, length, IfSome, IfNone, IsTrue};
 ghost use Rattle.hex.specs.Hex.{encode_lower};
-ghost use Rattle.gptp_spelling.specs.Digits.{clock_text, identity_text};
+ghost use Rattle.gptp_words.specs.Digits.{clock_text, identity_text};
 ghost use Rattle.gptp_certificate_text.specs.Entries.{IsPortNumber};
 
 use gptp_vector::{ClockId, Identity};

@@ -1,14 +1,14 @@
 -- What a run certifies of a document at rest is accepted of it.
 use Rattle.std.proofs.Common.{◌≡◌, ◌≤◌, ℕ, true, List, [], ◌∷◌, Option, length, codes, refl, sym, ap, subst, ◌∙◌, inl, inr}
 use Rattle.gptp_graph.specs.Snapshot.{IsWellFormed, Snapshot}
-use Rattle.gptp_plan.specs.Network.{IsNetwork}
+use Rattle.gptp_scenario.specs.Network.{IsNetwork}
 use Rattle.gptp_network.specs.Document.{DocumentState}
 use Rattle.gptp_network.specs.Snapshot.{IsSnapshot, StandsAfter}
 use Rattle.gptp_network.specs.declared.fault.DocumentFault.TheVariants.{TooMany}
 use Rattle.gptp_network.proofs.ExistenceLemmas.{snapshot_exists}
 use Rattle.gptp_network.proofs.LawLemmas.{never_both, one_meaning, within_limits}
 use Rattle.gptp_network.proofs.MeantLemmas.{meant_document, meant_well}
-use Rattle.gptp_spelling.specs.Lines.{text_of}
+use Rattle.gptp_words.specs.Lines.{text_of}
 use Rattle.gptp_certificate_text.specs.CertificateText.{certificate_text}
 use Rattle.gptp_certificate_text.specs.declared.fault.CertificateFault.TheVariants.{Line}
 use Rattle.gptp_certificate_text.proofs.PrintedLemmas.{text_of_lines}

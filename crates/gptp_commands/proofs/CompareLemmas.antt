@@ -11,7 +11,7 @@ use Rattle.gptp_sink.proofs.SinkLemmas.{all_of, appends_both, appends_none, some
 use Rattle.gptp_commands.specs.declared.answer.Answer.{Answer}
 use Rattle.gptp_commands.specs.Answer.{AnswersLine, answer_text, is_refusal}
 use Rattle.gptp_commands.specs.Failure.{status_by}
-use Rattle.gptp_spelling.specs.Lines.{text_of}
+use Rattle.gptp_words.specs.Lines.{text_of}
 use Rattle.gptp_commands.specs.CompareText.{AreAnswers, AnswersLines, AnswersSome}
 
 -- the first lines are answered, and their answers are written

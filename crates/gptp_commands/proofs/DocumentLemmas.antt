@@ -3,7 +3,7 @@ use Rattle.std.proofs.Common.{◌≡◌, ◌≤◌, ℕ, nat_le, true, List, len
 use Rattle.std.proofs.lemmas.Bool.{le-leb}
 use Rattle.gptp_network.specs.Document.{DocumentState, Means}
 use Rattle.gptp_sink.specs.Sink.{AppendsSome}
-use Rattle.gptp_spelling.specs.Lines.{text_of}
+use Rattle.gptp_words.specs.Lines.{text_of}
 use Rattle.gptp_commands.specs.declared.failure.Status.{Status}
 use Rattle.gptp_commands.specs.Documents.{Answers, AnswersInput, AnswersSoFar, BeginsInput, document_limit, SomeOf}
 

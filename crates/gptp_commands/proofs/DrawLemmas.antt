@@ -7,7 +7,7 @@ use Rattle.rand_pcg.specs.Pcg.{pcg64}
 use Rattle.gptp_links.specs.declared.bounds.Bounds.{Bounds}
 use Rattle.gptp_links.specs.Bounds.{Fit, IsLawful}
 use Rattle.gptp_links.specs.Draws.{delayed, drawn}
-use Rattle.gptp_outcome.specs.GoingOn.{AnswersAll}
+use Rattle.gptp_determinism.specs.GoingOn.{AnswersAll}
 use Rattle.gptp_commands.specs.RunText.{draws}
 
 module _ (b : Bounds) (fit : Fit b) where

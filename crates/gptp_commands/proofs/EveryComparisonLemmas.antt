@@ -13,8 +13,8 @@ use Rattle.gptp_messages.specs.declared.message.Message.TheVariants as messages
 use Rattle.gptp_messages.specs.declared.refused.Refused.{Refused}
 use Rattle.gptp_messages.specs.declared.refused.Refused.TheVariants.{UnknownType}
 use Rattle.gptp_messages.specs.Grammar.{Reads, RefusesFrame}
-use Rattle.gptp_outcome.specs.GoingOn.{AllAreOctets}
-use Rattle.gptp_outcome.proofs.ReadLemmas.{frames_are_judged}
+use Rattle.gptp_determinism.specs.GoingOn.{AllAreOctets}
+use Rattle.gptp_determinism.proofs.ReadLemmas.{frames_are_judged}
 use Rattle.gptp_commands.specs.declared.announced.WordFault.{WordFault}
 use Rattle.gptp_commands.specs.declared.announced.WordFault.TheVariants as faults
 use Rattle.gptp_commands.specs.declared.answer.Answer.{Answer}

@@ -1,8 +1,8 @@
 -- Each input has a text of its faults, where a fault stays for some time.
 use Rattle.std.proofs.Common.{◌≡◌, ◌≢◌, ◌≤◌, ◌<◌, ℕ, false, nat_le, nat_lt, List, [], ◌∷◌, ◌++◌, Option, Some, None, IfSome, le-leb, lt-ltb, refl, subst, inl, inr}
 use Rattle.rand_pcg.specs.Lcg.{Lcg}
-use Rattle.gptp_acts.specs.Views.{rising_clocks}
-use Rattle.gptp_acts.specs.World.{WorldState}
+use Rattle.gptp_model.specs.Views.{rising_clocks}
+use Rattle.gptp_model.specs.World.{WorldState}
 use Rattle.gptp_links.specs.declared.bounds.Bounds.{Bounds}
 use Rattle.gptp_lists.specs.Members.{In}
 use Rattle.gptp_lists.proofs.SystemSpecLemmas.{In-right}
@@ -11,12 +11,12 @@ use Rattle.gptp_network.specs.Document.{DocumentState, Means}
 use Rattle.gptp_network.specs.Snapshot.{events_by}
 use Rattle.gptp_network.proofs.MeantLemmas.{meant_document}
 use Rattle.gptp_network.proofs.PassLemmas.{kept}
-use Rattle.gptp_plan.specs.declared.change.Act.TheVariants as acts
-use Rattle.gptp_plan.specs.declared.change.Change.{Change}
-use Rattle.gptp_plan.specs.declared.change.Change.TheVariants as changes
-use Rattle.gptp_plan.specs.declared.change.Timed.{Timed}
-use Rattle.gptp_reached.specs.PlayedLaws.{IsPlayable}
-use Rattle.gptp_reached.proofs.OctetLemmas.{documents_playable}
+use Rattle.gptp_scenario.specs.declared.change.Act.TheVariants as acts
+use Rattle.gptp_scenario.specs.declared.change.Change.{Change}
+use Rattle.gptp_scenario.specs.declared.change.Change.TheVariants as changes
+use Rattle.gptp_scenario.specs.declared.change.Timed.{Timed}
+use Rattle.gptp_theorem.specs.PlayedLaws.{IsPlayable}
+use Rattle.gptp_theorem.proofs.OctetLemmas.{documents_playable}
 use Rattle.gptp_timeline.specs.Ends.{EndState}
 use Rattle.gptp_timeline.specs.LastTwo.{end_in, ends_in, last_two}
 use Rattle.gptp_timeline.specs.Stretch.{waits}
@@ -26,9 +26,9 @@ use Rattle.gptp_faults.specs.Runs.{draws}
 use Rattle.gptp_faults.specs.Times.{AreOptions}
 use Rattle.gptp_faults.specs.declared.options.FaultsOptions.{FaultsOptions}
 use Rattle.gptp_faults.proofs.EveryLemmas as faults
-use Rattle.gptp_outcome.specs.ExistenceLaws.{AllInject}
-use Rattle.gptp_outcome.proofs.DocumentExistLemmas.{documents_unfold}
-use Rattle.gptp_outcome.specs.GoingOn.{InjectsOctets}
+use Rattle.gptp_determinism.specs.ExistenceLaws.{AllInject}
+use Rattle.gptp_determinism.proofs.DocumentExistLemmas.{documents_unfold}
+use Rattle.gptp_determinism.specs.GoingOn.{InjectsOctets}
 use Rattle.gptp_commands.specs.Every.{HasText, HaveText}
 use Rattle.gptp_commands.specs.Failure.{status_by}
 use Rattle.gptp_commands.specs.FaultsText.{FaultsText, TellsFaults}

@@ -1,20 +1,20 @@
 -- Where a document unfolds, its stretches pass one after another.
 use Rattle.std.proofs.Common.{◌≡◌, ◌≢◌, ◌≤◌, ◌<◌, ◌+◌, ℕ, zero, suc, Bool, true, false, nat_le, nat_lt, List, [], ◌∷◌, ◌++◌, length, Option, refl, sym, ap, subst, ◌∙◌, arith}
-use Rattle.gptp_acts.specs.Acts.{at}
-use Rattle.gptp_acts.specs.Pending.{NothingBefore}
-use Rattle.gptp_acts.specs.World.{WorldState}
+use Rattle.gptp_model.specs.Acts.{at}
+use Rattle.gptp_model.specs.Pending.{NothingBefore}
+use Rattle.gptp_model.specs.World.{WorldState}
 use Rattle.gptp_links.specs.declared.bounds.Bounds.{Bounds}
 use Rattle.gptp_network.specs.Document.{DocumentState}
 use Rattle.gptp_network.specs.Events.{AreEvents, AreInOrder}
 use Rattle.gptp_network.specs.Snapshot.{events_by}
 use Rattle.gptp_network.specs.Span.{IsBound, IsCalmAt}
 use Rattle.gptp_network.proofs.SpanLemmas.{bound_exists}
-use Rattle.gptp_plan.specs.Network.{IsNetwork}
-use Rattle.gptp_plan.specs.declared.change.Timed.{Timed}
+use Rattle.gptp_scenario.specs.Network.{IsNetwork}
+use Rattle.gptp_scenario.specs.declared.change.Timed.{Timed}
 use Rattle.gptp_world.specs.Transitions.{PassesTo, Transition, transition}
 use Rattle.gptp_report.specs.Transitions.{Courses, Makes}
-use Rattle.gptp_time_error.specs.declared.errors.TimeErrors.{TimeErrors}
-use Rattle.gptp_time_error.proofs.CalmLemmas.{calm_dec}
+use Rattle.gptp_accuracy.specs.declared.errors.TimeErrors.{TimeErrors}
+use Rattle.gptp_accuracy.proofs.CalmLemmas.{calm_dec}
 use Rattle.gptp_timeline.specs.Timeline.{AllPass, AreErrorsIf, Passage, end_before, later_than, now_of}
 use Rattle.gptp_timeline.proofs.EventLemmas.{all_now, fewer_later, filter_in_order}
 use Rattle.gptp_timeline.proofs.UnfoldLemmas.{now_and_later}

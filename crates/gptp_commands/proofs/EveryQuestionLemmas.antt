@@ -18,7 +18,7 @@ use Rattle.gptp_certificate_text.specs.CertificateText.{certificate_lines}
 use Rattle.gptp_choice.proofs.RoleLemmas.{range_rises}
 use Rattle.gptp_explain.specs.Explained.{Explains, IsAbsent}
 use Rattle.gptp_explain.proofs.EveryLemmas.{each_is_explained}
-use Rattle.gptp_time_error.proofs.EveryLemmas.{each_is_exact}
+use Rattle.gptp_accuracy.proofs.EveryLemmas.{each_is_exact}
 use Rattle.gptp_commands.specs.declared.failure.Status.{Status}
 use Rattle.gptp_commands.specs.declared.failure.Status.TheVariants.{Done, Refused}
 use Rattle.gptp_commands.specs.declared.question.Question.TheVariants.{Accuracy, Choice, Explain}

@@ -8,28 +8,28 @@ use Rattle.rand_pcg.specs.Pcg.{pcg64}
 use Rattle.gptp_links.specs.declared.bounds.Bounds.{Bounds}
 use Rattle.gptp_links.specs.Bounds.{Fit, IsLawful}
 use Rattle.gptp_links.specs.Draws.{delay_drawn, delayed, drawn}
-use Rattle.gptp_plan.specs.Change.{system_after}
-use Rattle.gptp_plan.specs.InUse.{count_live}
-use Rattle.gptp_plan.specs.Network.{IsNetwork, pace_of}
-use Rattle.gptp_plan.specs.SettlingTime.{settles}
-use Rattle.gptp_plan.specs.SyncWait.{sync_paths}
-use Rattle.gptp_plan.specs.declared.change.Timed.{Timed}
-use Rattle.gptp_plan.specs.declared.network.SystemSpec.{SystemSpec}
-use Rattle.gptp_plan.proofs.InUseLemmas.{short_delay}
-use Rattle.gptp_plan.proofs.LogLemmas.{largest_log, smallest_log}
-use Rattle.gptp_plan.proofs.SyncWaitLemmas.{short_time}
-use Rattle.gptp_acts.specs.World.{WorldState}
+use Rattle.gptp_scenario.specs.Change.{system_after}
+use Rattle.gptp_scenario.specs.InUse.{count_live}
+use Rattle.gptp_scenario.specs.Network.{IsNetwork, pace_of}
+use Rattle.gptp_scenario.specs.SettlingTime.{settles}
+use Rattle.gptp_scenario.specs.SyncWait.{sync_paths}
+use Rattle.gptp_scenario.specs.declared.change.Timed.{Timed}
+use Rattle.gptp_scenario.specs.declared.network.SystemSpec.{SystemSpec}
+use Rattle.gptp_scenario.proofs.InUseLemmas.{short_delay}
+use Rattle.gptp_scenario.proofs.LogLemmas.{largest_log, smallest_log}
+use Rattle.gptp_scenario.proofs.SyncWaitLemmas.{short_time}
+use Rattle.gptp_model.specs.World.{WorldState}
 use Rattle.gptp_network.specs.Document.{DocumentState, Means}
 use Rattle.gptp_network.specs.Events.{AreEvents}
 use Rattle.gptp_network.proofs.EventLemmas.{early_from, events_allowed}
 use Rattle.gptp_network.proofs.MeantLemmas.{meant_document}
 use Rattle.gptp_network.proofs.PassLemmas.{count_more}
-use Rattle.gptp_kept.specs.SettlingInvariant.{SettlingInvariant}
+use Rattle.gptp_invariants.specs.SettlingInvariant.{SettlingInvariant}
 use Rattle.gptp_certificate_text.specs.CertificateText.{certificate_lines}
-use Rattle.gptp_reached.proofs.SettlingInvariantLemmas.{played_claimed}
-use Rattle.gptp_reached.proofs.OctetLemmas.{documents_playable}
-use Rattle.gptp_outcome.proofs.LineExistLemmas.{documents_lead}
-use Rattle.gptp_outcome.proofs.StatedExistLemmas.{states_exist}
+use Rattle.gptp_theorem.proofs.SettlingInvariantLemmas.{played_claimed}
+use Rattle.gptp_theorem.proofs.OctetLemmas.{documents_playable}
+use Rattle.gptp_determinism.proofs.LineExistLemmas.{documents_lead}
+use Rattle.gptp_determinism.proofs.StatedExistLemmas.{states_exist}
 use Rattle.gptp_commands.specs.declared.failure.Status.TheVariants.{Done}
 use Rattle.gptp_commands.specs.declared.run.RunOptions.{RunOptions}
 use Rattle.gptp_commands.specs.Every.{HasText, HaveText}

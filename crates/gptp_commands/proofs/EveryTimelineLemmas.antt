@@ -3,39 +3,39 @@ use Rattle.std.proofs.Common.{◌≡◌, ◌≤◌, ◌+◌, ◌*◌, ℕ, Bool,
 use Rattle.std.proofs.lemmas.Nat.{mul-le}
 use Rattle.std.proofs.lemmas.Option.{none-some, same_Some}
 use native.Mathlib.Decide.{dec_le}
-use Rattle.gptp_acts.specs.Views.{rising_clocks}
+use Rattle.gptp_model.specs.Views.{rising_clocks}
 use Rattle.gptp_graph.specs.PathBound.{path_bound}
-use Rattle.gptp_kept.proofs.HoldsLemmas.{paths_fewer}
+use Rattle.gptp_invariants.proofs.HoldsLemmas.{paths_fewer}
 use Rattle.gptp_network.specs.Document.{DocumentState, Means}
 use Rattle.gptp_network.specs.Events.{AreEvents}
 use Rattle.gptp_network.proofs.EventLemmas.{early_from, events_allowed}
 use Rattle.gptp_network.proofs.ExistenceLemmas.{snapshot_exists}
 use Rattle.gptp_network.proofs.LawLemmas.{within_limits}
 use Rattle.gptp_network.proofs.MeantLemmas.{meant_document}
-use Rattle.gptp_plan.specs.Calm.{last_change}
-use Rattle.gptp_plan.specs.Network.{IsNetwork, pace_of}
-use Rattle.gptp_plan.specs.SettlingTime.{settling_span_with}
-use Rattle.gptp_plan.specs.SyncWait.{sync_paths}
-use Rattle.gptp_plan.proofs.InUseLemmas.{short_delay}
-use Rattle.gptp_plan.proofs.LogLemmas.{largest_log, smallest_log}
-use Rattle.gptp_plan.proofs.SyncWaitLemmas.{short_time}
-use Rattle.gptp_reached.specs.PlayedLaws.{IsPlayable}
-use Rattle.gptp_reached.proofs.OctetLemmas.{documents_playable}
+use Rattle.gptp_scenario.specs.Calm.{last_change}
+use Rattle.gptp_scenario.specs.Network.{IsNetwork, pace_of}
+use Rattle.gptp_scenario.specs.SettlingTime.{settling_span_with}
+use Rattle.gptp_scenario.specs.SyncWait.{sync_paths}
+use Rattle.gptp_scenario.proofs.InUseLemmas.{short_delay}
+use Rattle.gptp_scenario.proofs.LogLemmas.{largest_log, smallest_log}
+use Rattle.gptp_scenario.proofs.SyncWaitLemmas.{short_time}
+use Rattle.gptp_theorem.specs.PlayedLaws.{IsPlayable}
+use Rattle.gptp_theorem.proofs.OctetLemmas.{documents_playable}
 use Rattle.gptp_setup.specs.Intervals.{interval_of}
 use Rattle.gptp_setup.proofs.IntervalLemmas.{interval_most}
-use Rattle.gptp_time_error.specs.TimeErrors.{AreTimeErrors}
-use Rattle.gptp_time_error.specs.declared.errors.TimeErrors.{TimeErrors}
-use Rattle.gptp_time_error.proofs.EveryLemmas.{each_is_exact}
-use Rattle.gptp_time_error.proofs.OneLemmas.{errors_once}
-use Rattle.gptp_time_error.proofs.WayLemmas.{one_each}
+use Rattle.gptp_accuracy.specs.TimeErrors.{AreTimeErrors}
+use Rattle.gptp_accuracy.specs.declared.errors.TimeErrors.{TimeErrors}
+use Rattle.gptp_accuracy.proofs.EveryLemmas.{each_is_exact}
+use Rattle.gptp_accuracy.proofs.OneLemmas.{errors_once}
+use Rattle.gptp_accuracy.proofs.WayLemmas.{one_each}
 use Rattle.gptp_timeline.specs.End.{IsDefaultEnd, end_behind}
 use Rattle.gptp_timeline.specs.Limits.{is_exceeded, verdict_lines}
 use Rattle.gptp_timeline.specs.Timeline.{AreErrorsBy, HoldsBy, Passage, TimelineOf, all_exceeded, all_lines, none_waits, start_lines}
 use Rattle.gptp_timeline.specs.declared.limits.Limit.{Limit}
 use Rattle.gptp_timeline.specs.declared.timeline.TimelineOptions.{TimelineOptions}
 use Rattle.gptp_timeline.proofs.RightLemmas.{timelines_are_right}
-use Rattle.gptp_outcome.specs.ExistenceLaws.{AllInject}
-use Rattle.gptp_outcome.proofs.DocumentExistLemmas.{documents_unfold}
+use Rattle.gptp_determinism.specs.ExistenceLaws.{AllInject}
+use Rattle.gptp_determinism.proofs.DocumentExistLemmas.{documents_unfold}
 use Rattle.gptp_commands.specs.declared.timeline.TimelineOrder.{TimelineOrder}
 use Rattle.gptp_commands.specs.Every.{HasText, HaveText}
 use Rattle.gptp_commands.specs.Failure.{status_by}

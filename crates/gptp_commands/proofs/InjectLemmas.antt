@@ -2,14 +2,14 @@
 use Rattle.std.proofs.Common.{◌<◌, ℕ, List, [], ◌∷◌, refl, inl, inr}
 use Rattle.std.specs.List.{AllByRecursion}
 use Rattle.gptp_lists.specs.Members.{In}
-use Rattle.gptp_plan.specs.declared.change.Act.{Act}
-use Rattle.gptp_plan.specs.declared.change.Act.TheVariants.{Deliver, Expire, Change as Changing}
-use Rattle.gptp_plan.specs.declared.change.Change.TheVariants.{LinkDown, LinkUp, LinkSet, Fail, Recover, Priority1, Inject}
-use Rattle.gptp_plan.specs.declared.change.Timed.{Timed}
+use Rattle.gptp_scenario.specs.declared.change.Act.{Act}
+use Rattle.gptp_scenario.specs.declared.change.Act.TheVariants.{Deliver, Expire, Change as Changing}
+use Rattle.gptp_scenario.specs.declared.change.Change.TheVariants.{LinkDown, LinkUp, LinkSet, Fail, Recover, Priority1, Inject}
+use Rattle.gptp_scenario.specs.declared.change.Timed.{Timed}
 use Rattle.gptp_network.specs.Document.{DocumentState, Means}
 use Rattle.gptp_network.proofs.MeantLemmas.{SetsOctets, meant_octets}
-use Rattle.gptp_outcome.specs.ExistenceLaws.{AllInject}
-use Rattle.gptp_outcome.specs.GoingOn.{AllAreOctets, InjectsOctets}
+use Rattle.gptp_determinism.specs.ExistenceLaws.{AllInject}
+use Rattle.gptp_determinism.specs.GoingOn.{AllAreOctets, InjectsOctets}
 
 are_octets : (frame : List ℕ) → ((octet : ℕ) → In octet frame → octet < 256) → AllAreOctets frame
 are_octets [] below = tt

@@ -9,7 +9,7 @@ use Rattle.gptp_sink.specs.Sink.{AppendsSome}
 use Rattle.gptp_sink.proofs.SinkLemmas.{none_of}
 use Rattle.gptp_commands.specs.Limited.{Begins, Limited}
 use Rattle.gptp_commands.specs.Written.{Writes, WritesSome}
-use Rattle.gptp_spelling.specs.Lines.{text_of}
+use Rattle.gptp_words.specs.Lines.{text_of}
 use Rattle.gptp_commands.specs.Source.{ReadsWhole}
 
 -- what is so after an error is so whatever else is known of that

@@ -1,19 +1,19 @@
 -- A document and what is asked of its faults have one text, and one status.
 use Rattle.std.proofs.Common.{◌⊎◌, ◌≡◌, ℕ, Bool, false, List, [], ◌∷◌, map, Option, refl, sym, ap, ap₂, subst, ◌∙◌, inl, inr}
-use Rattle.gptp_acts.specs.Initial.{initial}
-use Rattle.gptp_acts.specs.Views.{rising_clocks}
-use Rattle.gptp_acts.specs.World.{WorldState}
+use Rattle.gptp_model.specs.Initial.{initial}
+use Rattle.gptp_model.specs.Views.{rising_clocks}
+use Rattle.gptp_model.specs.World.{WorldState}
 use Rattle.gptp_links.specs.declared.bounds.Bounds.{Bounds}
 use Rattle.gptp_network.specs.Document.{DocumentState}
 use Rattle.gptp_network.specs.Snapshot.{events_by}
 use Rattle.gptp_network.specs.declared.fault.DocumentFault.{DocumentFault}
 use Rattle.gptp_network.proofs.LawLemmas as network_laws
-use Rattle.gptp_plan.specs.Network.{NetworkState}
-use Rattle.gptp_outcome.specs.Named.{AnswersOnce, IsNamed}
-use Rattle.gptp_outcome.proofs.CourseLemmas.{begins_once}
-use Rattle.gptp_outcome.proofs.MeantLemmas.{meant_named, meant_names}
-use Rattle.gptp_outcome.proofs.NameLemmas.{begun_named}
-use Rattle.gptp_time_error.proofs.WayLemmas.{HasOneEach}
+use Rattle.gptp_scenario.specs.Network.{NetworkState}
+use Rattle.gptp_determinism.specs.Named.{AnswersOnce, IsNamed}
+use Rattle.gptp_determinism.proofs.CourseLemmas.{begins_once}
+use Rattle.gptp_determinism.proofs.MeantLemmas.{meant_named, meant_names}
+use Rattle.gptp_determinism.proofs.NameLemmas.{begun_named}
+use Rattle.gptp_accuracy.proofs.WayLemmas.{HasOneEach}
 use Rattle.gptp_timeline.specs.Ends.{EndState}
 use Rattle.gptp_timeline.specs.LastTwo.{EndsOf, end_in, ends_in, last_two}
 use Rattle.gptp_timeline.specs.Shown.{shown}

@@ -8,7 +8,7 @@ use Rattle.gptp_network.proofs.MeantLemmas.{meant_document}
 use Rattle.gptp_certificate_text.specs.CertificateText.{certificate_lines}
 use Rattle.gptp_checker.proofs.LawLemmas.{one_accepted}
 use Rattle.gptp_explain.proofs.OneLemmas as explanations
-use Rattle.gptp_time_error.proofs.OneLemmas as errors
+use Rattle.gptp_accuracy.proofs.OneLemmas as errors
 use Rattle.gptp_commands.specs.declared.failure.Status.{Status}
 use Rattle.gptp_commands.specs.declared.question.Question.TheVariants.{Accuracy, Choice, Explain}
 use Rattle.gptp_commands.specs.AccuracyText.{TellsAccuracy}

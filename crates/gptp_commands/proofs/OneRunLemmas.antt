@@ -2,18 +2,18 @@
 use Rattle.std.proofs.Common.{◌≡◌, ℕ, Bool, true, false, nat_le, List, [], ◌++◌, length, Option, sym, ap, subst, ◌∙◌, inl, inr, append_assoc, append-nil}
 use Rattle.std.proofs.lemmas.Bool.{le-leb}
 use Rattle.rand_pcg.specs.Lcg.{Lcg}
-use Rattle.gptp_acts.specs.Initial.{initial}
-use Rattle.gptp_acts.specs.World.{WorldState}
+use Rattle.gptp_model.specs.Initial.{initial}
+use Rattle.gptp_model.specs.World.{WorldState}
 use Rattle.gptp_network.specs.Document.{DocumentState}
 use Rattle.gptp_network.proofs.LawLemmas as network_laws
 use Rattle.gptp_report.specs.Report.{Reports}
 use Rattle.gptp_certificate_text.specs.CertificateText.{certificate_lines}
-use Rattle.gptp_outcome.specs.Named.{AnswersOnce, IsNamed}
+use Rattle.gptp_determinism.specs.Named.{AnswersOnce, IsNamed}
 use Rattle.gptp_report.specs.Run.{LeadsSoFar}
-use Rattle.gptp_outcome.proofs.LineLemmas.{reports_once, states_once}
-use Rattle.gptp_outcome.proofs.MeantLemmas.{meant_named}
-use Rattle.gptp_outcome.proofs.RunLemmas.{leads_once, played_named}
-use Rattle.gptp_outcome.proofs.SoFarLemmas.{leads_begin_so}
+use Rattle.gptp_determinism.proofs.LineLemmas.{reports_once, states_once}
+use Rattle.gptp_determinism.proofs.MeantLemmas.{meant_named}
+use Rattle.gptp_determinism.proofs.RunLemmas.{leads_once, played_named}
+use Rattle.gptp_determinism.proofs.SoFarLemmas.{leads_begin_so}
 use Rattle.gptp_commands.specs.declared.failure.Status.{Status}
 use Rattle.gptp_commands.specs.declared.run.RunOptions.{RunOptions}
 use Rattle.gptp_commands.specs.Documents.{document_limit, AnswersSoFar}

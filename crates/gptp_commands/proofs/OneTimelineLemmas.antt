@@ -3,31 +3,31 @@ use Rattle.std.proofs.Common.{◌≡◌, ℕ, Bool, true, false, List, [], ◌�
 use Rattle.std.specs.Bool.{⊤}
 use Rattle.std.specs.List.{flat_map}
 use Rattle.gptp_links.specs.declared.bounds.Bounds.{Bounds}
-use Rattle.gptp_acts.specs.Initial.{initial}
-use Rattle.gptp_acts.specs.Views.{rising_clocks}
-use Rattle.gptp_acts.specs.World.{WorldState}
+use Rattle.gptp_model.specs.Initial.{initial}
+use Rattle.gptp_model.specs.Views.{rising_clocks}
+use Rattle.gptp_model.specs.World.{WorldState}
 use Rattle.gptp_graph.specs.PathBound.{path_bound}
 use Rattle.gptp_graph.specs.Snapshot.{Snapshot}
 use Rattle.gptp_network.specs.Document.{DocumentState}
 use Rattle.gptp_network.specs.Snapshot.{events_by}
 use Rattle.gptp_network.specs.Span.{IsBound}
 use Rattle.gptp_network.proofs.LawLemmas as network_laws
-use Rattle.gptp_plan.specs.Calm.{last_change}
-use Rattle.gptp_plan.specs.Network.{pace_of}
-use Rattle.gptp_plan.specs.SettlingTime.{settling_span_with}
-use Rattle.gptp_plan.specs.SyncWait.{sync_paths}
-use Rattle.gptp_plan.specs.declared.change.Timed.{Timed}
+use Rattle.gptp_scenario.specs.Calm.{last_change}
+use Rattle.gptp_scenario.specs.Network.{pace_of}
+use Rattle.gptp_scenario.specs.SettlingTime.{settling_span_with}
+use Rattle.gptp_scenario.specs.SyncWait.{sync_paths}
+use Rattle.gptp_scenario.specs.declared.change.Timed.{Timed}
 use Rattle.gptp_report.specs.Transitions.{Courses, Transition}
-use Rattle.gptp_outcome.specs.Named.{AnswersOnce, IsNamed}
-use Rattle.gptp_outcome.specs.TransitionLaws.{SameTransitions}
-use Rattle.gptp_outcome.proofs.CourseLemmas.{begins_once}
-use Rattle.gptp_outcome.proofs.MeantLemmas.{meant_named, meant_names}
-use Rattle.gptp_outcome.proofs.NameLemmas.{begun_named, NamesOne}
-use Rattle.gptp_outcome.proofs.TransitionLemmas.{courses_named, courses_once}
-use Rattle.gptp_time_error.specs.declared.errors.SystemError.{SystemError}
-use Rattle.gptp_time_error.specs.declared.errors.TimeErrors.{TimeErrors}
-use Rattle.gptp_time_error.proofs.OneLemmas.{errors_once}
-use Rattle.gptp_time_error.proofs.WayLemmas.{HasOneEach}
+use Rattle.gptp_determinism.specs.Named.{AnswersOnce, IsNamed}
+use Rattle.gptp_determinism.specs.TransitionLaws.{SameTransitions}
+use Rattle.gptp_determinism.proofs.CourseLemmas.{begins_once}
+use Rattle.gptp_determinism.proofs.MeantLemmas.{meant_named, meant_names}
+use Rattle.gptp_determinism.proofs.NameLemmas.{begun_named, NamesOne}
+use Rattle.gptp_determinism.proofs.TransitionLemmas.{courses_named, courses_once}
+use Rattle.gptp_accuracy.specs.declared.errors.SystemError.{SystemError}
+use Rattle.gptp_accuracy.specs.declared.errors.TimeErrors.{TimeErrors}
+use Rattle.gptp_accuracy.proofs.OneLemmas.{errors_once}
+use Rattle.gptp_accuracy.proofs.WayLemmas.{HasOneEach}
 use Rattle.gptp_timeline.specs.End.{end_behind}
 use Rattle.gptp_timeline.specs.Limits.{exceeded_after, is_exceeded, verdict_lines}
 use Rattle.gptp_timeline.specs.Shown.{shown}

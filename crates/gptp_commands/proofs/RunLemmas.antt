@@ -8,9 +8,9 @@ use Rattle.gptp_certificate.proofs.SettledLemmas.{states_certificate}
 use Rattle.gptp_commands.specs.declared.failure.Status.{Status}
 use Rattle.gptp_commands.specs.declared.run.RunOptions.{RunOptions}
 use Rattle.gptp_commands.specs.RunText.{CertifiesIf, CertifiesRight, PlaysDocument, SettlesInTime, draws, generator, until_of}
-use Rattle.gptp_reached.specs.PlayedLaws.{IsPlayable}
-use Rattle.gptp_reached.proofs.HeadlineLemmas.{documents_lead}
-use Rattle.gptp_reached.proofs.SettleLemmas.{played_settle}
+use Rattle.gptp_theorem.specs.PlayedLaws.{IsPlayable}
+use Rattle.gptp_theorem.proofs.HeadlineLemmas.{documents_lead}
+use Rattle.gptp_theorem.proofs.SettleLemmas.{played_settle}
 
 pub runs_settle : (d : DocumentState) (options : RunOptions) (output : List (List ℕ)) (status : Status)
     → IsPlayable d → PlaysDocument d options output status → SettlesInTime d options output

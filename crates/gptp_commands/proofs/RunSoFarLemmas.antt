@@ -1,19 +1,19 @@
 -- The text of `run`, part after part.
 use Rattle.std.proofs.Common.{◌≡◌, ◌⊎◌, ℕ, true, false, List, [], ◌++◌, Option, inl, inr, refl, sym, ap, subst, ◌∙◌, append_assoc, append-nil}
 use Rattle.std.specs.Io.KnownBytes.{Appends}
-use Rattle.gptp_acts.specs.World.{WorldState}
+use Rattle.gptp_model.specs.World.{WorldState}
 use Rattle.gptp_certificate.specs.Stated.{States}
 use Rattle.gptp_certificate_text.specs.CertificateText.{certificate_lines}
 use Rattle.gptp_graph.specs.Labelling.{SystemLine}
 use Rattle.gptp_network.specs.Document.{DocumentState}
-use Rattle.gptp_reached.specs.PlayedLaws.{IsPlayable}
+use Rattle.gptp_theorem.specs.PlayedLaws.{IsPlayable}
 use Rattle.gptp_report.specs.Report.{Reports}
 use Rattle.gptp_report.specs.Run.{LeadsSoFar, LeadsTo}
 use Rattle.gptp_sink.specs.Sink.{AppendsSome}
 use Rattle.gptp_world.proofs.FollowLemmas.{text_append}
 use Rattle.gptp_report.proofs.RunLemmas.{led_so_far}
 use Rattle.gptp_sink.proofs.SinkLemmas.{appends_both, some_before, some_behind}
-use Rattle.gptp_spelling.specs.Lines.{text_of}
+use Rattle.gptp_words.specs.Lines.{text_of}
 use Rattle.gptp_commands.specs.declared.failure.Status.TheVariants.{Done}
 use Rattle.gptp_commands.specs.declared.run.RunOptions.{RunOptions}
 use Rattle.gptp_commands.specs.Documents.{SomeOf}

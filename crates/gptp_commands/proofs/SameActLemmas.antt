@@ -3,13 +3,13 @@ use Rattle.std.proofs.Common.{◌≡◌, ◌==◌, ◌&&◌, ℕ, Bool, true, fa
 use Rattle.std.specs.Prelude.{unsigned_abs}
 use Rattle.std.specs.List.{cons_option, filter, filter_map, flat_map, list_any}
 use Rattle.std.specs.Option.{option_and_then, option_map, option_map_or, option_or}
-use Rattle.gptp_acts.specs.World.{WorldState}
-use Rattle.gptp_acts.specs.declared.done.Done.{Done}
-use Rattle.gptp_acts.specs.declared.done.Done.TheVariants.{Heard, Quiet}
-use Rattle.gptp_plan.specs.declared.change.Timed.{Timed}
+use Rattle.gptp_model.specs.World.{WorldState}
+use Rattle.gptp_model.specs.declared.done.Done.{Done}
+use Rattle.gptp_model.specs.declared.done.Done.TheVariants.{Heard, Quiet}
+use Rattle.gptp_scenario.specs.declared.change.Timed.{Timed}
 use Rattle.gptp_report.specs.Transitions.{Transition, transition}
-use Rattle.gptp_outcome.specs.ActLaws.{SameDone}
-use Rattle.gptp_outcome.specs.TransitionLaws.{IsSameTransition, SameTransitions}
+use Rattle.gptp_determinism.specs.ActLaws.{SameDone}
+use Rattle.gptp_determinism.specs.TransitionLaws.{IsSameTransition, SameTransitions}
 use Rattle.gptp_timeline.specs.Changes.{change_lines}
 use Rattle.gptp_timeline.specs.Limits.{amount_of}
 use Rattle.gptp_timeline.specs.Measures.{ended_by, greatest, one_at, since_after}

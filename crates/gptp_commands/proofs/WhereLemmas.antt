@@ -6,7 +6,7 @@ use Rattle.std.specs.Prelude.{nat_le}
 use Rattle.std.specs.Bool.{MatchBool}
 use Rattle.gptp_network.specs.Document.{DocumentState}
 use Rattle.gptp_world.proofs.FollowLemmas.{text_append}
-use Rattle.gptp_spelling.specs.Lines.{text_of}
+use Rattle.gptp_words.specs.Lines.{text_of}
 use Rattle.gptp_commands.specs.declared.failure.Status.{Status}
 use Rattle.gptp_commands.specs.CheckText.{CheckText, certificate_limit}
 use Rattle.gptp_commands.specs.Documents.{document_limit}

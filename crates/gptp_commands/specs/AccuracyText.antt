@@ -1,7 +1,7 @@
 -- What `accuracy` writes for a document, and its status (profile).
 use Rattle.std.specs.Prelude.{◌≡◌, ℕ, Bool, List, Option}
 use Rattle.gptp_network.specs.Document.{DocumentState}
-use Rattle.gptp_time_error.specs.AccuracyText as exact
+use Rattle.gptp_accuracy.specs.AccuracyText as exact
 use Rattle.gptp_commands.specs.declared.failure.Status.{Status}
 use Rattle.gptp_commands.specs.CheckText.{moment_of}
 use Rattle.gptp_commands.specs.Failure.{status_by}

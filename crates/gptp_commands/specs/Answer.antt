@@ -2,7 +2,7 @@
 use Rattle.std.specs.Prelude.{◌≡◌, ℕ, Bool, true, false, List, [], ◌∷◌, ◌++◌, codes, Result, Ok, Err}
 use Rattle.std.specs.declared.cmp.Ordering.{Ordering}
 use Rattle.std.specs.declared.cmp.Ordering.TheVariants as orderings
-use Rattle.gptp_spelling.specs.Digits.{identity_text}
+use Rattle.gptp_words.specs.Digits.{identity_text}
 use Rattle.gptp_vector.specs.declared.vector.Vector.{Vector}
 use Rattle.gptp_vector.specs.Vector.{order}
 use Rattle.gptp_commands.specs.declared.announced.WordFault.{WordFault}

@@ -2,8 +2,8 @@
 use Rattle.std.specs.Prelude.{◌≡◌, ◌≤◌, ℕ, true, List, [], ◌∷◌, ◌++◌, Option, codes, length}
 use Rattle.gptp_network.specs.Document.{DocumentState, Means}
 use Rattle.gptp_network.specs.Snapshot.{events_by}
-use Rattle.gptp_reached.specs.PlayedLaws.{DocumentIsAtRest}
-use Rattle.gptp_spelling.specs.Lines.{text_of}
+use Rattle.gptp_theorem.specs.PlayedLaws.{DocumentIsAtRest}
+use Rattle.gptp_words.specs.Lines.{text_of}
 use Rattle.gptp_commands.specs.declared.failure.Status.TheVariants.{Done}
 use Rattle.gptp_commands.specs.declared.question.Question.TheVariants.{Choice}
 use Rattle.gptp_commands.specs.declared.run.RunOptions.{RunOptions}

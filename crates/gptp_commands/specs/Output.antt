@@ -1,6 +1,6 @@
 -- What a command has ready to write.
 use Rattle.std.specs.Prelude.{◌≡◌, ℕ, List}
-use Rattle.gptp_spelling.specs.Lines.{text_of}
+use Rattle.gptp_words.specs.Lines.{text_of}
 use Rattle.gptp_commands.specs.declared.failure.Status.{Status}
 use Rattle.gptp_commands.specs.declared.output.Output.{Output}
 

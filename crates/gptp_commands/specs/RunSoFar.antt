@@ -1,6 +1,6 @@
 -- What the parts of `run` write.
 use Rattle.std.specs.Prelude.{◌≡◌, ◌⊎◌, ℕ, Bool, List, [], ◌++◌}
-use Rattle.gptp_acts.specs.World.{WorldState}
+use Rattle.gptp_model.specs.World.{WorldState}
 use Rattle.gptp_network.specs.Document.{DocumentState}
 use Rattle.gptp_report.specs.Report.{Reports}
 use Rattle.gptp_report.specs.Run.{LeadsSoFar}

@@ -7,8 +7,8 @@ use Rattle.gptp_links.specs.declared.bounds.Bounds.{Bounds}
 use Rattle.gptp_links.specs.Draws.{drawn}
 use Rattle.gptp_network.specs.Document.{DocumentState}
 use Rattle.gptp_network.specs.Snapshot.{IsSnapshot}
-use Rattle.gptp_plan.specs.SettlingTime.{settles}
-use Rattle.gptp_acts.specs.World.{WorldState}
+use Rattle.gptp_scenario.specs.SettlingTime.{settles}
+use Rattle.gptp_model.specs.World.{WorldState}
 use Rattle.gptp_graph.specs.Labelling.{SystemLine}
 use Rattle.gptp_graph.specs.SettledChoice.{IsSettledChoice}
 use Rattle.gptp_graph.specs.Snapshot.{Snapshot}
@@ -17,9 +17,9 @@ use Rattle.gptp_report.specs.Run.{LeadsSoFar, LeadsTo}
 use Rattle.gptp_certificate_text.specs.Certificate.{IsCertificate}
 use Rattle.gptp_certificate_text.specs.CertificateText.{certificate_lines}
 use Rattle.gptp_certificate.specs.Stated.{States}
-use Rattle.gptp_reached.specs.Headline.{IsSettled}
-use Rattle.gptp_reached.specs.HeadlineLaws.{HasSnapshotOf}
-use Rattle.gptp_reached.specs.PlayedLaws.{DocumentIsAtRest}
+use Rattle.gptp_theorem.specs.Headline.{IsSettled}
+use Rattle.gptp_theorem.specs.HeadlineLaws.{HasSnapshotOf}
+use Rattle.gptp_theorem.specs.PlayedLaws.{DocumentIsAtRest}
 use Rattle.gptp_commands.specs.declared.failure.Status.{Status}
 use Rattle.gptp_commands.specs.declared.failure.Status.TheVariants.{Done}
 use Rattle.gptp_commands.specs.declared.run.RunOptions.{RunOptions}

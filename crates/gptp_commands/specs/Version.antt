@@ -1,6 +1,6 @@
 -- What `gptp_sim --version` writes, and by which words it is asked for.
 use Rattle.std.specs.Prelude.{◌≡◌, ℕ, List, [], ◌∷◌, codes, drop}
-use Rattle.gptp_spelling.specs.Lines.{text_of}
+use Rattle.gptp_words.specs.Lines.{text_of}
 
 -- the words of a command line, the program's name first
 abbrev pub AsksVersion : List (List ℕ) → Type 0

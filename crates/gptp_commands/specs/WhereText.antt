@@ -8,7 +8,7 @@ use Rattle.gptp_network.specs.declared.fault.DocumentFault.{DocumentFault}
 use Rattle.gptp_network.specs.Document.{DocumentState, Fails as FailsDocument, Means}
 use Rattle.gptp_network.specs.Snapshot.{IsSnapshot}
 use Rattle.gptp_vector.specs.declared.port.PortId.{PortId}
-use Rattle.gptp_spelling.specs.Digits.{clock_text}
+use Rattle.gptp_words.specs.Digits.{clock_text}
 use Rattle.gptp_certificate_text.specs.declared.fault.CertificateFault.{CertificateFault}
 use Rattle.gptp_certificate_text.specs.Certificate.{CertificateContent, IsCertificate}
 use Rattle.gptp_certificate_text.specs.CertificateText.{certificate_text}

@@ -1,7 +1,7 @@
 -- What stands written when a command ends: the text for its input, or a front of it.
 use Rattle.std.specs.Prelude.{ℕ, List, Option, IfSome}
 use Rattle.std.specs.Io.KnownBytes.{Appends}
-use Rattle.gptp_spelling.specs.Lines.{text_of}
+use Rattle.gptp_words.specs.Lines.{text_of}
 use Rattle.gptp_commands.specs.declared.failure.Status.{Status}
 use Rattle.gptp_sink.specs.Sink.{AppendsFront, AppendsSome}
 

@@ -1,8 +1,8 @@
 //! The command `accuracy`: how exact the time is that each system of a document gets.
 
 ghost use Rattle.std.specs.Prelude.{◌≡◌, IfErr, IfOk};
-ghost use Rattle.gptp_spelling.specs.Lines.{text_of};
-ghost use Rattle.gptp_time_error.specs.AccuracyText.{accuracy_lines, error_is_exceeded};
+ghost use Rattle.gptp_words.specs.Lines.{text_of};
+ghost use Rattle.gptp_accuracy.specs.AccuracyText.{accuracy_lines, error_is_exceeded};
 ghost use Rattle.gptp_commands.specs.AccuracyText.{TellsAccuracy};
 ghost use Rattle.gptp_commands.specs.Failure.{status_by};
 ghost use Rattle.gptp_commands.specs.Output.{IsOutput};
@@ -11,7 +11,7 @@ use crate::check::moment_of;
 use crate::failure::{SimError, Status};
 use crate::output::Output;
 use gptp_network::Document;
-use gptp_time_error::{TimeErrors, time_errors, write_accuracy};
+use gptp_accuracy::{TimeErrors, time_errors, write_accuracy};
 use std::alloc::Global;
 
 /// The text of time errors.

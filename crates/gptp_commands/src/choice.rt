@@ -1,7 +1,7 @@
 //! The command `choice`: the choice that the network of a document settles at.
 
 ghost use Rattle.std.specs.Prelude.{◌≡◌, IfErr, IfOk};
-ghost use Rattle.gptp_spelling.specs.Lines.{text_of};
+ghost use Rattle.gptp_words.specs.Lines.{text_of};
 ghost use Rattle.gptp_certificate_text.specs.CertificateText.{certificate_lines};
 ghost use Rattle.gptp_commands.specs.ChoiceText.{ChoosesAt, ShowsChoice};
 ghost use Rattle.gptp_commands.specs.Output.{IsOutput};

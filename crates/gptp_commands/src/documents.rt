@@ -4,7 +4,7 @@ ghost use Rattle.std.specs.Prelude.{◌≡◌, ◌≢◌, ◌+◌, List, ℕ, If
 ghost use Rattle.std.specs.Io.KnownBytes.{Appends, Keeps};
 ghost use Rattle.gptp_network.specs.Document.{DocumentState};
 ghost use Rattle.gptp_sink.specs.Sink.{AppendsSome};
-ghost use Rattle.gptp_spelling.specs.Lines.{text_of};
+ghost use Rattle.gptp_words.specs.Lines.{text_of};
 ghost use Rattle.gptp_commands.specs.Documents.{document_limit, Answers, AnswersInput, AnswersSoFar, BeginsInput, IsRead, RefusesFault, SomeOf};
 ghost use Rattle.gptp_commands.specs.declared.failure.Status.{Status};
 ghost use Rattle.gptp_commands.specs.Source.{ReadsWhole, TakesAtMost};

@@ -1,7 +1,7 @@
 //! Where a certificate that `check` doesn't accept first fails.
 
 ghost use Rattle.std.specs.Prelude.{◌≡◌, ◌≢◌, ◌⊎◌, ◌++◌, [], List, ℕ, IfErr, IfOk, string_bytes};
-ghost use Rattle.gptp_spelling.specs.Lines.{text_of};
+ghost use Rattle.gptp_words.specs.Lines.{text_of};
 ghost use Rattle.gptp_certificate_text.specs.Parsing.{FailsFrom};
 ghost use Rattle.gptp_checker.specs.Faults.{IsFirstFault};
 ghost use Rattle.gptp_commands.specs.WhereText.{BeginsInLine, IsAt, PlaceIsLine, LocatesAt, LocatesBoth, LocatesCertificate};
@@ -13,7 +13,7 @@ use crate::failure::SimError;
 use gptp_certificate_text::{Certificate, CertificateFault, parse_located};
 use gptp_checker::{Fault, Location, accepts, locate};
 use gptp_network::{Document, DocumentFault, Snapshot};
-use gptp_spelling::ClockDigits;
+use gptp_words::ClockDigits;
 use gptp_vector::PortId;
 use std::alloc::Global;
 use std::fmt;

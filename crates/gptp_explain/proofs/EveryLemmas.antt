@@ -19,9 +19,9 @@ use Rattle.gptp_graph.proofs.ParentLemmas.{LeadsNearer-distance, no_parent_at_ze
 use Rattle.gptp_graph.proofs.RisingLemmas.{IsArranged, arranged}
 use Rattle.gptp_graph.proofs.RoleLemmas.{settled_role_exists}
 use Rattle.gptp_graph.proofs.SystemLemmas.{In-clocks, same_identity, system_of}
-use Rattle.gptp_plan.specs.Change.{link_after}
-use Rattle.gptp_plan.specs.Network.{IsEnd}
-use Rattle.gptp_plan.specs.declared.network.LinkSpec.{LinkSpec}
+use Rattle.gptp_scenario.specs.Change.{link_after}
+use Rattle.gptp_scenario.specs.Network.{IsEnd}
+use Rattle.gptp_scenario.specs.declared.network.LinkSpec.{LinkSpec}
 use Rattle.gptp_vector.specs.declared.port.PortId.{PortId}
 use Rattle.gptp_network.specs.Document.{DocumentState}
 use Rattle.gptp_network.specs.Snapshot.{IsSnapshot, events_by, port_identity}

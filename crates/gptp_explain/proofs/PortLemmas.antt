@@ -11,9 +11,9 @@ use Rattle.gptp_graph.specs.SettledRole.{Master, Passive, Slave}
 use Rattle.gptp_graph.proofs.BestLemmas.{IsBest-agree}
 use Rattle.gptp_graph.proofs.DistanceLemmas.{best_at_zero}
 use Rattle.gptp_graph.proofs.ParentLemmas.{parent_exists}
-use Rattle.gptp_plan.specs.Change.{link_after}
-use Rattle.gptp_plan.specs.declared.change.Timed.{Timed}
-use Rattle.gptp_plan.specs.declared.network.LinkSpec.{LinkSpec}
+use Rattle.gptp_scenario.specs.Change.{link_after}
+use Rattle.gptp_scenario.specs.declared.change.Timed.{Timed}
+use Rattle.gptp_scenario.specs.declared.network.LinkSpec.{LinkSpec}
 use Rattle.gptp_network.specs.Document.{DocumentState}
 use Rattle.gptp_network.specs.Snapshot.{IsSnapshot, events_by, link_of, port_identity}
 use Rattle.gptp_vector.specs.declared.port.PortId.{PortId}

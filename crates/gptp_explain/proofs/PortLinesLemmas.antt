@@ -2,7 +2,7 @@
 use Rattle.std.proofs.Common.{◌≡◌, ℕ, List, [], ◌∷◌, ◌++◌, append_assoc, append-nil, refl, sym, subst}
 use Rattle.gptp_graph.specs.Snapshot.{Snapshot}
 use Rattle.gptp_network.specs.Document.{DocumentState}
-use Rattle.gptp_spelling.specs.Lines.{text_of}
+use Rattle.gptp_words.specs.Lines.{text_of}
 use Rattle.gptp_explain.specs.Ports.{ArePortLines, IsPortLine}
 use Rattle.gptp_explain.specs.Writing.{AppendsLine, AppendsLines}
 use Rattle.gptp_explain.proofs.TextLemmas.{line_behind}

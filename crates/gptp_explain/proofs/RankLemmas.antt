@@ -18,7 +18,7 @@ use Rattle.gptp_network.proofs.SnapshotLemmas.{In-permutation}
 use Rattle.gptp_components.proofs.ComponentLemmas.{reaches_by_best, same_best}
 use Rattle.gptp_explain.specs.Ranks.{FollowersAreFound, AreRanked, FollowsRoot, rank_lines, shown_line}
 use Rattle.gptp_explain.proofs.TextLemmas.{lines_behind}
-use Rattle.gptp_spelling.specs.Lines.{text_of}
+use Rattle.gptp_words.specs.Lines.{text_of}
 
 -- ---- what was found of the systems at the first places
 

@@ -5,8 +5,8 @@ use Rattle.gptp_certificate_text.specs.Certificate.{role_of}
 use Rattle.gptp_certificate_text.specs.Forms as forms
 use Rattle.gptp_roles.specs.declared.role.Role.{Role}
 use Rattle.gptp_roles.specs.declared.role.Role.TheVariants.{Disabled, Master, Slave, Passive}
-use Rattle.gptp_spelling.specs.Lines.{text_of}
-use Rattle.gptp_spelling.specs.Roles.{role_text}
+use Rattle.gptp_words.specs.Lines.{text_of}
+use Rattle.gptp_words.specs.Roles.{role_text}
 
 -- lines and then others
 pub lines_behind : (before : List ℕ) (first later : List (List ℕ))

@@ -5,9 +5,9 @@ use Rattle.gptp_lists.specs.Members.{In}
 use Rattle.gptp_lists.proofs.SystemSpecLemmas.{In-map, from_map}
 use Rattle.gptp_graph.specs.Snapshot.{Snapshot, System, clocks}
 use Rattle.gptp_vector.specs.declared.port.PortId.{PortId}
-use Rattle.gptp_plan.specs.Change.{joined_after, link_after}
-use Rattle.gptp_plan.specs.declared.change.Timed.{Timed}
-use Rattle.gptp_plan.specs.declared.network.LinkSpec.{LinkSpec}
+use Rattle.gptp_scenario.specs.Change.{joined_after, link_after}
+use Rattle.gptp_scenario.specs.declared.change.Timed.{Timed}
+use Rattle.gptp_scenario.specs.declared.network.LinkSpec.{LinkSpec}
 use Rattle.gptp_network.specs.Snapshot.{has_clock, joins_two, link_of, used_links}
 
 kept_one : {X : Type 0} (p : X → Bool) (x y : X) (xs : List X) (t : Bool) → p y ≡ t

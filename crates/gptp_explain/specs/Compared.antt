@@ -3,7 +3,7 @@ use Rattle.std.specs.Prelude.{ℕ, ◌+◌, ◌*◌, ◌==◌, ◌++◌, if◌th
 use Rattle.std.specs.Fmt.{decimal}
 use Rattle.byteorder.specs.Endian.{big_bytes}
 use Rattle.gptp_roles.specs.Selection.{clock_of}
-use Rattle.gptp_spelling.specs.Digits.{clock_text}
+use Rattle.gptp_words.specs.Digits.{clock_text}
 use Rattle.gptp_vector.specs.declared.port.PortId.{PortId}
 use Rattle.gptp_explain.specs.declared.compared.Compared.{Compared}
 use Rattle.gptp_explain.specs.declared.compared.Compared.TheVariants.{Priority1, Class, Accuracy, Variance, Priority2, Clock, Steps, Source, SourcePort}

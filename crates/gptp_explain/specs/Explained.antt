@@ -9,7 +9,7 @@ use Rattle.gptp_graph.specs.Parent.{IsParent, ParentLink}
 use Rattle.gptp_graph.specs.Snapshot.{Snapshot, System, clocks}
 use Rattle.gptp_network.specs.Document.{DocumentState}
 use Rattle.gptp_network.specs.Snapshot.{IsSnapshot}
-use Rattle.gptp_spelling.specs.Digits.{clock_text, identity_text}
+use Rattle.gptp_words.specs.Digits.{clock_text, identity_text}
 use Rattle.gptp_explain.specs.Compared.{compared_text, difference}
 use Rattle.gptp_explain.specs.Ports.{ArePortLines}
 use Rattle.gptp_explain.specs.Ranks.{AreRanked, rank_lines}

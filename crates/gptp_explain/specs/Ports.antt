@@ -8,8 +8,8 @@ use Rattle.gptp_graph.specs.SettledChoice.{IsSettledLine}
 use Rattle.gptp_graph.specs.SettledRole.{Disabled, IsSettledRole, Master, Passive, Role, Slave}
 use Rattle.gptp_graph.specs.Snapshot.{Joins, Snapshot, clocks}
 use Rattle.gptp_vector.specs.declared.port.PortId.{PortId}
-use Rattle.gptp_plan.specs.Change.{link_after}
-use Rattle.gptp_plan.specs.declared.network.LinkSpec.{LinkSpec}
+use Rattle.gptp_scenario.specs.Change.{link_after}
+use Rattle.gptp_scenario.specs.declared.network.LinkSpec.{LinkSpec}
 use Rattle.gptp_certificate_text.specs.Forms.{role_word}
 use Rattle.gptp_network.specs.Document.{DocumentState}
 use Rattle.gptp_network.specs.Snapshot.{events_by, port_identity}

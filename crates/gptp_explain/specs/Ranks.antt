@@ -7,7 +7,7 @@ use Rattle.gptp_graph.specs.Order.{IsRising}
 use Rattle.gptp_graph.specs.Path.{Reaches}
 use Rattle.gptp_graph.specs.SettledChoice.{IsBestIdentity}
 use Rattle.gptp_graph.specs.Snapshot.{Snapshot, System}
-use Rattle.gptp_spelling.specs.Digits.{identity_text}
+use Rattle.gptp_words.specs.Digits.{identity_text}
 use Rattle.gptp_explain.specs.Compared.{compared_text, difference}
 
 -- the identities of the live systems of v's component, by rising identity

@@ -2,7 +2,7 @@
 use Rattle.std.specs.Prelude.{ℕ, List, codes, ◌++◌}
 use Rattle.std.specs.Fmt.{decimal}
 use Rattle.gptp_vector.specs.declared.port.PortId.{PortId}
-use Rattle.gptp_spelling.specs.Digits.{clock_text}
+use Rattle.gptp_words.specs.Digits.{clock_text}
 use Rattle.gptp_explain.specs.Compared.{compared_text}
 use Rattle.gptp_explain.specs.declared.why.Why.{Why}
 use Rattle.gptp_explain.specs.declared.why.Why.TheVariants.{Unlinked, Down, Failed, Offers, Loses, Wins}

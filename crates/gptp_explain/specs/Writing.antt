@@ -1,6 +1,6 @@
 -- Lines that are appended to a text, each with its line feed.
 use Rattle.std.specs.Prelude.{◌≡◌, ℕ, List, [], ◌∷◌, ◌++◌}
-use Rattle.gptp_spelling.specs.Lines.{text_of}
+use Rattle.gptp_words.specs.Lines.{text_of}
 
 -- one of which this holds
 abbrev pub AppendsLine : (List ℕ → Type 0) → List ℕ → List ℕ → Type 0

@@ -3,7 +3,7 @@
 ghost use Rattle.std.specs.Prelude.{◌≡◌};
 ghost use Rattle.gptp_explain.specs.Compared.{difference, loss, variance, win};
 
-use gptp_spelling::ClockDigits;
+use gptp_words::ClockDigits;
 use gptp_vector::{ClockId, Identity, PortId};
 use std::fmt;
 

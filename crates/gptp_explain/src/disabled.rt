@@ -5,13 +5,13 @@ ghost use Rattle.gptp_graph.specs.Snapshot.{IsLinked, clocks};
 ghost use Rattle.gptp_lists.specs.Members.{In};
 ghost use Rattle.gptp_network.specs.Events.{AreInOrder};
 ghost use Rattle.gptp_network.specs.Snapshot.{IsSnapshot, events_by, port_identity};
-ghost use Rattle.gptp_plan.specs.Change.{link_after};
-ghost use Rattle.gptp_plan.specs.declared.network.LinkSpec.{LinkSpec};
+ghost use Rattle.gptp_scenario.specs.Change.{link_after};
+ghost use Rattle.gptp_scenario.specs.declared.network.LinkSpec.{LinkSpec};
 ghost use Rattle.gptp_explain.specs.Ports.{OtherEndHasFailed, IsKnownLink, JoinsPorts};
 
 use crate::why::Why;
 use gptp_network::{Document, Snapshot};
-use gptp_plan::{Network, Timed};
+use gptp_scenario::{Network, Timed};
 use gptp_vector::PortId;
 
 /// The events up to a time, of events in order.

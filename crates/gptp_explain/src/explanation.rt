@@ -6,7 +6,7 @@ ghost use Rattle.gptp_checker.specs.Places.{IsLineAt};
 ghost use Rattle.gptp_graph.specs.SettledChoice.{IsSettledChoice};
 ghost use Rattle.gptp_lists.specs.Members.{In};
 ghost use Rattle.gptp_network.specs.Snapshot.{IsSnapshot, system_of};
-ghost use Rattle.gptp_spelling.specs.Lines.{text_of};
+ghost use Rattle.gptp_words.specs.Lines.{text_of};
 ghost use Rattle.gptp_explain.specs.Explained.{Explains, ExplainsSystem, IsAbsent, ShowsWay};
 ghost use Rattle.gptp_explain.specs.Writing.{AppendsLines};
 

@@ -5,14 +5,14 @@ ghost use Rattle.std.specs.List.{flat_map};
 ghost use Rattle.gptp_graph.specs.Distance.{IsDistance};
 ghost use Rattle.gptp_graph.specs.Parent.{IsParent, ParentLink};
 ghost use Rattle.gptp_graph.specs.SettledChoice.{IsSettledChoice};
-ghost use Rattle.gptp_spelling.specs.Digits.{clock_text};
+ghost use Rattle.gptp_words.specs.Digits.{clock_text};
 ghost use Rattle.gptp_explain.specs.Explained.{LeadsUp, path_line};
 ghost use Rattle.gptp_explain.specs.Writing.{AppendsLine};
 
 use gptp_certificate_text::Certificate;
 use gptp_checker::line_of;
 use gptp_network::Snapshot;
-use gptp_spelling::ClockDigits;
+use gptp_words::ClockDigits;
 use gptp_vector::ClockId;
 use std::alloc::{AllocError, Global};
 

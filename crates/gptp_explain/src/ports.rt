@@ -20,7 +20,7 @@ use gptp_certificate_text::{Certificate, SystemLine};
 use gptp_checker::steps_of;
 use gptp_network::{Document, Snapshot};
 use gptp_roles::Role;
-use gptp_spelling::RoleWord;
+use gptp_words::RoleWord;
 use gptp_vector::{ClockId, PortId};
 use std::alloc::AllocError;
 

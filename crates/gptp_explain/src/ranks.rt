@@ -5,13 +5,13 @@ ghost use Rattle.gptp_graph.specs.SettledChoice.{IsBestIdentity, IsSettledChoice
 ghost use Rattle.gptp_graph.specs.Snapshot.{System};
 ghost use Rattle.gptp_explain.specs.Ranks.{FollowersAreFound, AreRanked, FollowsRoot, better_words, never_words, rank_line, rank_lines, shown_line};
 ghost use Rattle.gptp_roles.specs.Selection.{clock_of};
-ghost use Rattle.gptp_spelling.specs.Lines.{text_of};
+ghost use Rattle.gptp_words.specs.Lines.{text_of};
 
 use crate::compared::difference;
 use gptp_certificate_text::Certificate;
 use gptp_checker::line_of;
 use gptp_network::Snapshot;
-use gptp_spelling::IdentityDigits;
+use gptp_words::IdentityDigits;
 use gptp_vector::{ClockId, Identity};
 use std::alloc::{AllocError, Global};
 

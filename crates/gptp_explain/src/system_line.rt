@@ -5,7 +5,7 @@ ghost use Rattle.gptp_explain.specs.Explained.{by_words, distance_word, explaine
 
 use crate::compared::difference;
 use gptp_certificate_text::SystemLine;
-use gptp_spelling::{ClockDigits, IdentityDigits};
+use gptp_words::{ClockDigits, IdentityDigits};
 use gptp_vector::Identity;
 use std::alloc::AllocError;
 

@@ -1,7 +1,7 @@
 //! Why a port has its role.
 
 use crate::compared::Compared;
-use gptp_spelling::ClockDigits;
+use gptp_words::ClockDigits;
 use gptp_vector::PortId;
 use std::fmt;
 

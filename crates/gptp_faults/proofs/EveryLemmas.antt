@@ -3,7 +3,7 @@ use Rattle.std.proofs.Common.{◌≡◌, ◌≤◌, ℕ, Bool, true, false, List
 use Rattle.gptp_network.specs.Document.{DocumentState}
 use Rattle.gptp_network.specs.declared.fault.DocumentFault.{DocumentFault}
 use Rattle.gptp_network.specs.declared.fault.DocumentFault.TheVariants.{OutOfRange}
-use Rattle.gptp_reached.specs.PlayedLaws.{IsPlayable}
+use Rattle.gptp_theorem.specs.PlayedLaws.{IsPlayable}
 use Rattle.gptp_faults.specs.Cases.{AreCases}
 use Rattle.gptp_faults.specs.EveryLaws.{EachHasFaults, HasFaults, RunsEnd}
 use Rattle.gptp_faults.specs.Faults.{FaultsOf}

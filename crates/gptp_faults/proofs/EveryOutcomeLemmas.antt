@@ -6,7 +6,7 @@ use Rattle.gptp_lists.specs.Members.{In}
 use Rattle.gptp_lists.proofs.PlaceLemmas.{member_there}
 use Rattle.gptp_network.specs.Document.{DocumentState}
 use Rattle.gptp_network.proofs.SnapshotLemmas.{from_filter}
-use Rattle.gptp_reached.specs.PlayedLaws.{IsPlayable}
+use Rattle.gptp_theorem.specs.PlayedLaws.{IsPlayable}
 use Rattle.gptp_timeline.specs.Each.{Each}
 use Rattle.gptp_timeline.specs.Ends.{EndState}
 use Rattle.gptp_faults.specs.Cases.{AreCases, fault_of, return_of}

@@ -9,12 +9,12 @@ use Rattle.gptp_network.specs.Document.{DocumentState}
 use Rattle.gptp_network.specs.Snapshot.{events_by}
 use Rattle.gptp_network.specs.Span.{IsSpan}
 use Rattle.gptp_network.proofs.ExistenceLemmas.{snapshot_exists}
-use Rattle.gptp_plan.specs.Calm.{last_change}
-use Rattle.gptp_plan.specs.Network.{IsNetwork, largest_of, pace_of}
-use Rattle.gptp_plan.specs.SettlingTime.{settling_span, settling_span_with}
-use Rattle.gptp_plan.specs.SyncWait.{sync_paths}
-use Rattle.gptp_plan.specs.declared.sync_wait.SyncPaths.{SyncPaths}
-use Rattle.gptp_plan.proofs.LogLemmas.{largest_log}
+use Rattle.gptp_scenario.specs.Calm.{last_change}
+use Rattle.gptp_scenario.specs.Network.{IsNetwork, largest_of, pace_of}
+use Rattle.gptp_scenario.specs.SettlingTime.{settling_span, settling_span_with}
+use Rattle.gptp_scenario.specs.SyncWait.{sync_paths}
+use Rattle.gptp_scenario.specs.declared.sync_wait.SyncPaths.{SyncPaths}
+use Rattle.gptp_scenario.proofs.LogLemmas.{largest_log}
 use Rattle.gptp_setup.specs.Intervals.{IsLog, interval_of}
 use Rattle.gptp_setup.specs.SettlingParams.{SettlingParams}
 use Rattle.gptp_setup.proofs.IntervalLemmas.{interval_positive}

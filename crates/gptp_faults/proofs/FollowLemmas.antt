@@ -2,7 +2,7 @@
 use Rattle.std.proofs.Common.{◌≡◌, ◌≤◌, ◌<◌, ◌+◌, ◌*◌, ◌/◌, ℕ, zero, suc, Bool, false, nat_le, List, [], ◌∷◌, ◌++◌, Some, None, refl, sym, ap, subst, ◌∙◌, inl, inr, append-nil, arith}
 use Rattle.std.specs.List.{range_with_len}
 use Rattle.std.proofs.lemmas.Bool.Decides.{nat_tests}
-use Rattle.gptp_acts.specs.Views.{rising_clocks}
+use Rattle.gptp_model.specs.Views.{rising_clocks}
 use Rattle.gptp_graph.specs.PathBound.{path_bound}
 use Rattle.gptp_graph.specs.Snapshot.{Snapshot}
 use Rattle.gptp_lists.specs.Members.{In}
@@ -11,13 +11,13 @@ use Rattle.gptp_network.specs.Document.{DocumentState}
 use Rattle.gptp_network.specs.Snapshot.{events_by, IsSnapshot, StandsAfter}
 use Rattle.gptp_network.specs.Span.{IsSpan}
 use Rattle.gptp_network.proofs.LawLemmas.{one_snapshot}
-use Rattle.gptp_plan.specs.Calm.{last_change}
-use Rattle.gptp_plan.specs.Network.{pace_of}
-use Rattle.gptp_plan.specs.SettlingTime.{settling_span_with}
-use Rattle.gptp_plan.specs.SyncWait.{sync_paths}
-use Rattle.gptp_plan.specs.declared.change.Act.TheVariants as acts
-use Rattle.gptp_plan.specs.declared.change.Timed.{Timed}
-use Rattle.gptp_reached.specs.PlayedLaws.{IsPlayable}
+use Rattle.gptp_scenario.specs.Calm.{last_change}
+use Rattle.gptp_scenario.specs.Network.{pace_of}
+use Rattle.gptp_scenario.specs.SettlingTime.{settling_span_with}
+use Rattle.gptp_scenario.specs.SyncWait.{sync_paths}
+use Rattle.gptp_scenario.specs.declared.change.Act.TheVariants as acts
+use Rattle.gptp_scenario.specs.declared.change.Timed.{Timed}
+use Rattle.gptp_theorem.specs.PlayedLaws.{IsPlayable}
 use Rattle.gptp_timeline.specs.Each.{Each}
 use Rattle.gptp_timeline.specs.Ends.{EndState}
 use Rattle.gptp_timeline.specs.LastTwo.{EndsOf}
@@ -25,7 +25,7 @@ use Rattle.gptp_timeline.specs.Laws.{AreRoots}
 use Rattle.gptp_timeline.specs.Timeline.{none_waits}
 use Rattle.gptp_timeline.specs.declared.stretch.Stretch.{Stretch}
 use Rattle.gptp_timeline.proofs.FollowedLemmas.{follow_there}
-use Rattle.gptp_plan.proofs.LogLemmas.{largest_log}
+use Rattle.gptp_scenario.proofs.LogLemmas.{largest_log}
 use Rattle.gptp_timeline.proofs.PastLemmas.{all_past, by_past, past_later, PastBy}
 use Rattle.gptp_timeline.proofs.SettlingLemmas.{keeps_first}
 use Rattle.gptp_faults.specs.Cases.{fault_of, return_of}

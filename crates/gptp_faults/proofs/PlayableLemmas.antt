@@ -4,7 +4,7 @@ use Rattle.std.specs.List.{list_any}
 use Rattle.std.proofs.lemmas.Bool.Decides.{nat_tests}
 use Rattle.std.proofs.lemmas.Option.{same_Some}
 use Rattle.gptp_graph.specs.Snapshot.{Link, Snapshot}
-use Rattle.gptp_kept.specs.EncodableLaws.{SetsAnOctet}
+use Rattle.gptp_invariants.specs.EncodableLaws.{SetsAnOctet}
 use Rattle.gptp_lists.specs.Members.{In}
 use Rattle.gptp_lists.proofs.SystemSpecLemmas.{from_map, In-parts}
 use Rattle.gptp_lists.proofs.PlaceLemmas.{behind}
@@ -15,17 +15,17 @@ use Rattle.gptp_network.specs.Links.{port_numbered}
 use Rattle.gptp_network.specs.Snapshot.{joins_two, link_of}
 use Rattle.gptp_network.proofs.EventLemmas.{event_added}
 use Rattle.gptp_network.proofs.SnapshotLemmas.{clock_after, from_filter, from_filter_map}
-use Rattle.gptp_plan.specs.Calm.{last_change}
-use Rattle.gptp_plan.specs.Change.{joined_after, link_after, live_after, system_after}
-use Rattle.gptp_plan.specs.Network.{members_have_clock, is_taken, same_port}
-use Rattle.gptp_plan.specs.declared.change.Act.{Act}
-use Rattle.gptp_plan.specs.declared.change.Act.TheVariants as acts
-use Rattle.gptp_plan.specs.declared.change.Change.{Change}
-use Rattle.gptp_plan.specs.declared.change.Timed.{Timed}
-use Rattle.gptp_plan.specs.declared.network.SystemSpec.{SystemSpec}
-use Rattle.gptp_plan.specs.declared.network.LinkSpec.{LinkSpec}
-use Rattle.gptp_reached.specs.PlayedLaws.{IsPlayable}
-use Rattle.gptp_reached.proofs.EventLemmas.{last_behind}
+use Rattle.gptp_scenario.specs.Calm.{last_change}
+use Rattle.gptp_scenario.specs.Change.{joined_after, link_after, live_after, system_after}
+use Rattle.gptp_scenario.specs.Network.{members_have_clock, is_taken, same_port}
+use Rattle.gptp_scenario.specs.declared.change.Act.{Act}
+use Rattle.gptp_scenario.specs.declared.change.Act.TheVariants as acts
+use Rattle.gptp_scenario.specs.declared.change.Change.{Change}
+use Rattle.gptp_scenario.specs.declared.change.Timed.{Timed}
+use Rattle.gptp_scenario.specs.declared.network.SystemSpec.{SystemSpec}
+use Rattle.gptp_scenario.specs.declared.network.LinkSpec.{LinkSpec}
+use Rattle.gptp_theorem.specs.PlayedLaws.{IsPlayable}
+use Rattle.gptp_theorem.proofs.EventLemmas.{last_behind}
 use Rattle.gptp_roles.specs.Selection.{clock_of}
 use Rattle.gptp_vector.specs.declared.port.PortId.{PortId}
 use Rattle.gptp_faults.specs.Cases.{AreCases, fault_of, has_links, has_systems, link_case, link_cases, live_cases, return_of, system_case, system_cases}

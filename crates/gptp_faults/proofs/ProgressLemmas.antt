@@ -5,7 +5,7 @@ use Rattle.std.proofs.lemmas.List.{length-append}
 use Rattle.std.proofs.lemmas.List.Concat.{flat_map-append}
 use Rattle.gptp_network.specs.Document.{DocumentState}
 use Rattle.gptp_sink.proofs.SinkLemmas.{appends_both}
-use Rattle.gptp_spelling.specs.Lines.{text_of}
+use Rattle.gptp_words.specs.Lines.{text_of}
 use Rattle.gptp_timeline.specs.Each.{Each}
 use Rattle.gptp_faults.specs.Cases.{AreCases}
 use Rattle.gptp_faults.specs.Faults.{IsTable}

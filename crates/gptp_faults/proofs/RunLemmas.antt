@@ -3,8 +3,8 @@ use Rattle.std.proofs.Common.{◌≡◌, ◌≤◌, ◌<◌, ◌+◌, ◌*◌, �
 use Rattle.std.proofs.lemmas.Nat.{div_below}
 use Rattle.gptp_network.specs.Adding.{with_event, with_first}
 use Rattle.gptp_network.specs.Document.{DocumentState}
-use Rattle.gptp_plan.specs.declared.change.Change.{Change}
-use Rattle.gptp_plan.specs.declared.change.Timed.{Timed}
+use Rattle.gptp_scenario.specs.declared.change.Change.{Change}
+use Rattle.gptp_scenario.specs.declared.change.Timed.{Timed}
 
 front_alone : {X : Type 0} (xs ys : List X) → take (length xs) (xs ++ ys) ≡ xs
 front_alone [] [] = refl

@@ -1,7 +1,7 @@
 -- Texts of several lines.
 use Rattle.std.proofs.Common.{◌≡◌, ℕ, Option, List, [], ◌∷◌, ◌++◌, append_assoc, codes, length, map, sym, ap, ◌∙◌}
 use Rattle.std.specs.List.{flat_map}
-use Rattle.gptp_spelling.specs.Lines.{text_of}
+use Rattle.gptp_words.specs.Lines.{text_of}
 use Rattle.gptp_timeline.proofs.LineLemmas.{line_on, line_text, lines_on, words_on}
 use Rattle.gptp_timeline.specs.Limits.{amount_of, verdict_line}
 use Rattle.gptp_timeline.specs.declared.limits.Limit.{Limit}

@@ -1,7 +1,7 @@
 -- What becomes of the network of a document where something fails and comes back (profile).
 use Rattle.std.specs.Prelude.{◌≡◌, ℕ, Bool, false, List, None, string_bytes}
 use Rattle.gptp_network.specs.Document.{DocumentState}
-use Rattle.gptp_spelling.specs.Lines.{text_of}
+use Rattle.gptp_words.specs.Lines.{text_of}
 use Rattle.gptp_faults.specs.Cases.{AreCases}
 use Rattle.gptp_faults.specs.FaultsText.{exceeds_limit, table_lines}
 use Rattle.gptp_faults.specs.Outcomes.{AreOutcomes, OutcomeState}

@@ -2,7 +2,7 @@
 use Rattle.std.specs.Prelude.{ℕ, List, [], ◌∷◌, ◌++◌, codes, length, map, is_some, Bool, Option, Some}
 use Rattle.std.specs.Fmt.{decimal}
 use Rattle.std.specs.List.{flat_map}
-use Rattle.gptp_spelling.specs.Digits.{clock_text, identity_text, or_none}
+use Rattle.gptp_words.specs.Digits.{clock_text, identity_text, or_none}
 use Rattle.gptp_timeline.specs.Amounts.{near_text}
 use Rattle.gptp_timeline.specs.Limits.{all_limits, amount_of, first_exceeded, verdict_line}
 use Rattle.gptp_timeline.specs.StretchText.{longest_text, worst_text}

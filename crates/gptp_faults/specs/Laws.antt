@@ -9,7 +9,7 @@ use Rattle.gptp_network.specs.Snapshot.{IsSnapshot}
 use Rattle.gptp_network.specs.declared.fault.DocumentFault.{DocumentFault}
 use Rattle.gptp_timeline.specs.Ends.{EndState}
 use Rattle.gptp_timeline.specs.LastTwo.{EndsOf}
-use Rattle.gptp_reached.specs.PlayedLaws.{IsPlayable}
+use Rattle.gptp_theorem.specs.PlayedLaws.{IsPlayable}
 use Rattle.gptp_timeline.specs.Laws.{AreRoots}
 use Rattle.gptp_faults.specs.Cases.{fault_of}
 use Rattle.gptp_faults.specs.Faults.{FaultsOf}

@@ -4,7 +4,7 @@ use Rattle.std.specs.List.{list_any}
 use Rattle.gptp_network.specs.Document.{DocumentState}
 use Rattle.gptp_network.specs.declared.fault.DocumentFault.{DocumentFault}
 use Rattle.gptp_network.specs.declared.fault.DocumentFault.TheVariants.{EventOrder, OutOfRange, TooMany}
-use Rattle.gptp_plan.specs.Calm.{last_change}
+use Rattle.gptp_scenario.specs.Calm.{last_change}
 use Rattle.gptp_faults.specs.Cases.{AreCases}
 use Rattle.gptp_faults.specs.Times.{ArePlanned, AreTimes, last_moment}
 use Rattle.gptp_faults.specs.declared.cases.Case.{Case}

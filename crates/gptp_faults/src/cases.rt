@@ -2,12 +2,12 @@
 
 ghost use Rattle.std.specs.Prelude.{◌≡◌, ◌+◌, ◌++◌, ◌∷◌, [], IfOk, OnOk, map, filter_map, take};
 ghost use Rattle.gptp_network.specs.Events.{IsInRange};
-ghost use Rattle.gptp_plan.specs.Change.{live_after};
+ghost use Rattle.gptp_scenario.specs.Change.{live_after};
 ghost use Rattle.gptp_faults.specs.Cases.{AreCases, fault_of, has_links, has_systems, link_case, link_cases, live_cases, return_of, system_case, system_cases};
 
 use crate::options::Only;
 use gptp_network::{Document, Snapshot};
-use gptp_plan::Change;
+use gptp_scenario::Change;
 use gptp_vector::{ClockId, Identity, PortId};
 use std::alloc::{AllocError, Global};
 

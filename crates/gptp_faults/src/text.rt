@@ -3,8 +3,8 @@
 ghost use Rattle.std.specs.Prelude.{◌≡◌, ◌++◌, ◌∷◌, [], IfOk, OnOk, codes, map, string_bytes};
 ghost use Rattle.std.specs.Fmt.{decimal};
 ghost use Rattle.std.specs.List.{flat_map};
-ghost use Rattle.gptp_spelling.specs.Lines.{text_of};
-ghost use Rattle.gptp_spelling.specs.Digits.{or_none};
+ghost use Rattle.gptp_words.specs.Lines.{text_of};
+ghost use Rattle.gptp_words.specs.Digits.{or_none};
 ghost use Rattle.gptp_timeline.specs.Limits.{first_exceeded};
 ghost use Rattle.gptp_faults.specs.FaultsText.{amounts_words, case_line, counts_text, exceeded_by, exceeds_limit, extremes_line, follow_line, head_line, outcome_lines, table_lines, worst_amount, worst_line, worst_of_all, worst_words};
 
@@ -14,7 +14,7 @@ use crate::follows::Follow;
 use crate::outcome::Outcome;
 use crate::ranking::amount_or_0;
 use crate::times::Times;
-use gptp_spelling::{ClockDigits, IdentityDigits};
+use gptp_words::{ClockDigits, IdentityDigits};
 use gptp_timeline::{
     Counts, Limit, Limits, Longest, Near, TimeOrNone, Worst, amount_of, write_first_exceeded,
 };
@@ -62,7 +62,7 @@ struct AmountOrNone(Option<u128>);
 impl fmt::Display for AmountOrNone {
     ghost use Rattle.std.specs.Prelude.{Some};
     ghost use Rattle.std.specs.Fmt.{decimal};
-    ghost use Rattle.gptp_spelling.specs.Digits.{or_none};
+    ghost use Rattle.gptp_words.specs.Digits.{or_none};
 
     ghost output = { λ amount. Some (or_none decimal amount.0) };
 

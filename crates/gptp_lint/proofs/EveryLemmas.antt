@@ -11,13 +11,13 @@ use Rattle.gptp_lists.proofs.SystemSpecLemmas.{from_map, slice_get-In}
 use Rattle.gptp_roles.specs.Selection.{clock_of}
 use Rattle.gptp_graph.specs.PathBound.{path_bound}
 use Rattle.gptp_setup.specs.SettlingParams.{lapse_span}
-use Rattle.gptp_plan.specs.Calm.{IsCalm}
-use Rattle.gptp_plan.specs.Change.{standing}
-use Rattle.gptp_plan.specs.Network.{IsNetwork, NetworkState, pace_of}
-use Rattle.gptp_plan.specs.SettlingTime.{settling_span_with}
-use Rattle.gptp_plan.specs.SyncWait.{sync_paths}
-use Rattle.gptp_plan.specs.declared.change.Timed.{Timed}
-use Rattle.gptp_plan.specs.declared.network.LinkSpec.{LinkSpec}
+use Rattle.gptp_scenario.specs.Calm.{IsCalm}
+use Rattle.gptp_scenario.specs.Change.{standing}
+use Rattle.gptp_scenario.specs.Network.{IsNetwork, NetworkState, pace_of}
+use Rattle.gptp_scenario.specs.SettlingTime.{settling_span_with}
+use Rattle.gptp_scenario.specs.SyncWait.{sync_paths}
+use Rattle.gptp_scenario.specs.declared.change.Timed.{Timed}
+use Rattle.gptp_scenario.specs.declared.network.LinkSpec.{LinkSpec}
 use Rattle.gptp_network.specs.Document.{DocumentState}
 use Rattle.gptp_network.specs.Events.{AreEvents}
 use Rattle.gptp_network.specs.Snapshot.{events_by}
@@ -29,7 +29,7 @@ use Rattle.gptp_topology.specs.Course.{cable_of, cable_wire}
 use Rattle.gptp_topology.specs.Tables.{clocks_of}
 use Rattle.gptp_topology.specs.Times.{IsCalmTime, late_at, times_of}
 use Rattle.gptp_topology.specs.declared.times.CalmTime.{CalmTime}
-use Rattle.gptp_time_error.proofs.CalmLemmas.{calm_dec}
+use Rattle.gptp_accuracy.proofs.CalmLemmas.{calm_dec}
 use Rattle.gptp_lint.specs.Components.{AreComponents, IsChance, IsBestsMoment, apart_from, nobody_from}
 use Rattle.gptp_lint.specs.Findings.{AreFound}
 use Rattle.gptp_lint.specs.Graph.{NodesHaveOctets}

@@ -9,9 +9,9 @@ use Rattle.std.proofs.lemmas.List.Folds.{list_all-append}
 use Rattle.hex.specs.Hex.{encode_lower, encode_with, lower_digits}
 use Rattle.gptp_vector.specs.declared.port.PortId.{PortId}
 use Rattle.gptp_setup.specs.declared.setup.Params.{Params}
-use Rattle.gptp_plan.specs.Faults as plans
-use Rattle.gptp_plan.specs.declared.fault.NetworkFault.{NetworkFault}
-use Rattle.gptp_plan.specs.declared.fault.NetworkFault.TheVariants as networks
+use Rattle.gptp_scenario.specs.Faults as plans
+use Rattle.gptp_scenario.specs.declared.fault.NetworkFault.{NetworkFault}
+use Rattle.gptp_scenario.specs.declared.fault.NetworkFault.TheVariants as networks
 use Rattle.gptp_network.specs.Document.{DocumentState}
 use Rattle.gptp_network.specs.Keys.{name_text}
 use Rattle.gptp_network.specs.ReadDocument.{read_document}
@@ -22,7 +22,7 @@ use Rattle.gptp_network.specs.declared.why.Shape.{Shape}
 use Rattle.gptp_network.specs.declared.why.Shape.TheVariants as shapes
 use Rattle.gptp_network.specs.declared.why.Why.{Why}
 use Rattle.gptp_network.specs.declared.why.Why.TheVariants as whys
-use Rattle.gptp_spelling.specs.Digits.{clock_text}
+use Rattle.gptp_words.specs.Digits.{clock_text}
 use Rattle.gptp_lint.specs.Refusal.{HasNoFeed, TellsPlace, TellsRefusal, no_toml_words, place_of, refusal_words}
 use Rattle.gptp_lint.specs.Unread.{escaped, escaped_octet, is_plain, line_words, near_words, place_words, section_name}
 use Rattle.gptp_lint.specs.Why.{nanoseconds, port_words, shape_word, timing_words, why_words}

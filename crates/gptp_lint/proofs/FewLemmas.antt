@@ -5,10 +5,10 @@ use Rattle.std.specs.List.{AllByRecursion}
 use Rattle.std.proofs.lemmas.List.{length-append, length-map}
 use Rattle.toml.specs.Data.{item, no_items, Data, Items, Members, as_table}
 use Rattle.gptp_lists.specs.Members.{In}
-use Rattle.gptp_plan.specs.Calm.{last_change}
-use Rattle.gptp_plan.specs.Network.{NetworkState}
-use Rattle.gptp_plan.specs.declared.change.Timed.{Timed}
-use Rattle.gptp_plan.specs.declared.network.LinkSpec.{LinkSpec}
+use Rattle.gptp_scenario.specs.Calm.{last_change}
+use Rattle.gptp_scenario.specs.Network.{NetworkState}
+use Rattle.gptp_scenario.specs.declared.change.Timed.{Timed}
+use Rattle.gptp_scenario.specs.declared.network.LinkSpec.{LinkSpec}
 use Rattle.gptp_network.specs.Document.{document_of, whole_network_of, DocumentState, Means}
 use Rattle.gptp_network.specs.Events.{change_fault, event_of, events_of, not_before, timed, with_event_of}
 use Rattle.gptp_network.specs.Members.{count, each_of, limited}

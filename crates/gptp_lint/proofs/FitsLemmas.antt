@@ -9,10 +9,10 @@ use Rattle.gptp_lists.proofs.MappedLemmas.{mapped, mapped_there, some_same}
 use Rattle.gptp_lists.proofs.SystemSpecLemmas.{In-map, In-slice_get, from_map, slice_get-In}
 use Rattle.gptp_roles.specs.Selection.{clock_of}
 use Rattle.gptp_graph.specs.Snapshot.{Adjacent, Link, Snapshot, System, port_of}
-use Rattle.gptp_plan.specs.Change.{joined_after, link_after, live_after, system_after}
-use Rattle.gptp_plan.specs.Network.{IsNetwork, NetworkState}
-use Rattle.gptp_plan.specs.declared.change.Timed.{Timed}
-use Rattle.gptp_plan.specs.declared.network.SystemSpec.{SystemSpec}
+use Rattle.gptp_scenario.specs.Change.{joined_after, link_after, live_after, system_after}
+use Rattle.gptp_scenario.specs.Network.{IsNetwork, NetworkState}
+use Rattle.gptp_scenario.specs.declared.change.Timed.{Timed}
+use Rattle.gptp_scenario.specs.declared.network.SystemSpec.{SystemSpec}
 use Rattle.gptp_network.specs.Snapshot.{StandsAfter, has_clock, joins_two, link_of, live_systems, system_of}
 use Rattle.gptp_network.proofs.InUseLemmas.{runs}
 use Rattle.gptp_network.proofs.PassLemmas.{given, kept, passes_at}

@@ -3,11 +3,11 @@ use Rattle.std.proofs.Common.{◌≡◌, ◌≤◌, ◌<◌, ℕ, Bool, true, fa
 use Rattle.std.proofs.lemmas.Bool.{eqb-true, eqb-false, eq-eqb, ne_eqb, or_parts}
 use Rattle.gptp_setup.specs.declared.setup.Params.{Params}
 use Rattle.gptp_vector.specs.declared.port.PortId.{PortId}
-use Rattle.gptp_plan.specs.declared.change.Timed.{Timed}
-use Rattle.gptp_plan.specs.declared.network.LinkSpec.{LinkSpec}
+use Rattle.gptp_scenario.specs.declared.change.Timed.{Timed}
+use Rattle.gptp_scenario.specs.declared.network.LinkSpec.{LinkSpec}
 use Rattle.gptp_network.specs.Document.{DocumentState}
 use Rattle.gptp_network.specs.Events.{AreInOrder}
-use Rattle.gptp_plan.proofs.AfterLemmas.{acted_keeps}
+use Rattle.gptp_scenario.proofs.AfterLemmas.{acted_keeps}
 use Rattle.gptp_topology.specs.Course.{acted, course_at_time, cable_of, course_from, course_of, first, is_cable_end, named, naming, past, cable_wire}
 use Rattle.gptp_topology.specs.Trouble.{is_long, loss_in_use}
 use Rattle.gptp_topology.specs.declared.course.Cable.{Cable}

@@ -10,8 +10,8 @@ use Rattle.gptp_lists.specs.Members.{Different, In}
 use Rattle.gptp_lists.proofs.MappedLemmas.{taken}
 use Rattle.gptp_lists.proofs.SystemSpecLemmas.{In-map, from_map, slice_get-In}
 use Rattle.gptp_roles.specs.Selection.{clock_of}
-use Rattle.gptp_plan.specs.Network.{IsNetwork, NetworkState}
-use Rattle.gptp_plan.specs.declared.network.SystemSpec.{SystemSpec}
+use Rattle.gptp_scenario.specs.Network.{IsNetwork, NetworkState}
+use Rattle.gptp_scenario.specs.declared.network.SystemSpec.{SystemSpec}
 use Rattle.gptp_network.proofs.PassLemmas.{kept, passes, passes_at}
 use Rattle.gptp_network.proofs.SnapshotLemmas.{In-permutation, from_filter}
 use Rattle.gptp_topology.specs.Course.{cable_of, is_cable_end}

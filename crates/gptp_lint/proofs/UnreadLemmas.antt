@@ -9,7 +9,7 @@ use Rattle.std.proofs.lemmas.List.Sums.{fold_push}
 use Rattle.toml.specs.Data.{Members}
 use Rattle.gptp_outline.specs.Rows.{table_of}
 use Rattle.gptp_lists.proofs.MappedLemmas.{taken}
-use Rattle.gptp_spelling.specs.Lines.{text_of}
+use Rattle.gptp_words.specs.Lines.{text_of}
 use Rattle.gptp_lint.specs.Keys.{is_known, keys_read}
 use Rattle.gptp_lint.specs.Outline.{OutlineState, PlacedKey, entry_view, outline_of_text}
 use Rattle.gptp_lint.specs.Unread.{UnreadKey, placed, unread_line}

@@ -6,8 +6,8 @@ use Rattle.std.specs.Option.{option_to_list}
 use Rattle.gptp_network.specs.Faults as documents
 use Rattle.gptp_network.specs.declared.fault.DocumentFault.{DocumentFault}
 use Rattle.gptp_outline.specs.Rows.{table_of}
-use Rattle.gptp_spelling.specs.Digits.{clock_text, identity_text, or_none}
-use Rattle.gptp_spelling.specs.Lines.{text_of}
+use Rattle.gptp_words.specs.Digits.{clock_text, identity_text, or_none}
+use Rattle.gptp_words.specs.Lines.{text_of}
 use Rattle.gptp_topology.specs.declared.times.CalmTime.{CalmTime}
 use Rattle.gptp_lint.specs.declared.components.Apart.{Apart}
 use Rattle.gptp_lint.specs.declared.components.Nobody.{Nobody}

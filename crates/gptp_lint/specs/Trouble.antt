@@ -4,7 +4,7 @@ use Rattle.std.specs.Option.{option_to_list}
 use Rattle.std.specs.List.{flat_map}
 use Rattle.gptp_setup.specs.declared.setup.Params.{Params}
 use Rattle.gptp_network.specs.Document.{DocumentState}
-use Rattle.gptp_plan.specs.declared.network.LinkSpec.{LinkSpec}
+use Rattle.gptp_scenario.specs.declared.network.LinkSpec.{LinkSpec}
 use Rattle.gptp_topology.specs.Course.{course_of}
 use Rattle.gptp_topology.specs.Trouble.{is_long, loss_in_use, needed}
 use Rattle.gptp_topology.specs.declared.course.Standing.{Standing}

@@ -4,14 +4,14 @@ use Rattle.std.specs.Fmt.{decimal, signed_decimal}
 use Rattle.gptp_vector.specs.declared.port.PortId.{PortId}
 use Rattle.gptp_setup.specs.Intervals.{interval_of}
 use Rattle.gptp_setup.specs.declared.setup.Params.{Params}
-use Rattle.gptp_plan.specs.Params.{is_log}
-use Rattle.gptp_plan.specs.Faults as plans
+use Rattle.gptp_scenario.specs.Params.{is_log}
+use Rattle.gptp_scenario.specs.Faults as plans
 use Rattle.gptp_network.specs.Keys.{name_text}
 use Rattle.gptp_network.specs.declared.why.Shape.{Shape}
 use Rattle.gptp_network.specs.declared.why.Shape.TheVariants as shapes
 use Rattle.gptp_network.specs.declared.why.Why.{Why}
 use Rattle.gptp_network.specs.declared.why.Why.TheVariants as whys
-use Rattle.gptp_spelling.specs.Digits.{clock_text}
+use Rattle.gptp_words.specs.Digits.{clock_text}
 use Rattle.gptp_lint.specs.Unread.{escaped}
 
 abbrev pub shape_word : Shape → List ℕ

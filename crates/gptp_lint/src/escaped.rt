@@ -3,7 +3,7 @@
 ghost use Rattle.std.specs.Prelude.{◌≡◌};
 ghost use Rattle.gptp_lint.specs.Unread.{is_plain};
 
-use gptp_spelling::OctetDigits;
+use gptp_words::OctetDigits;
 use std::fmt;
 
 /// How many octets of a text are shown.

@@ -1,10 +1,10 @@
 //! How the systems and the links of a network stand, by place, as its events come.
 
 ghost use Rattle.std.specs.Prelude.{◌≡◌, ◌<◌, ◌+◌, ◌++◌, ◌∷◌, [], length, map, take, IfOk, OnOk};
-ghost use Rattle.gptp_plan.specs.declared.network.SystemSpec.{SystemSpec};
+ghost use Rattle.gptp_scenario.specs.declared.network.SystemSpec.{SystemSpec};
 ghost use Rattle.gptp_lint.specs.Graph.{GraphActed, IsFirstGraph, edge_acted, edge_of, first_node, lint_node_acted, node_changed, place_in, up_changed};
 
-use gptp_plan::{Act, Change, Network};
+use gptp_scenario::{Act, Change, Network};
 use gptp_topology::Cable;
 use gptp_vector::{ClockId, Identity, PortId};
 use std::alloc::{AllocError, Global};

@@ -2,7 +2,7 @@
 
 ghost use Rattle.std.specs.Prelude.{◌≡◌, ◌++◌, ◌∷◌, [], Err, None, Option, List, ℕ, IfOk, OnOk, false, option_map, string_bytes};
 ghost use Rattle.toml.specs.View.{table_view};
-ghost use Rattle.gptp_spelling.specs.Lines.{text_of};
+ghost use Rattle.gptp_words.specs.Lines.{text_of};
 ghost use Rattle.gptp_network.specs.ReadDocument.{read_document};
 ghost use Rattle.gptp_lint.specs.LintText.{refused_line};
 ghost use Rattle.gptp_lint.specs.Refusal.{TellsPlace, TellsRefusal, is_missing, no_toml_words, refusal_words};

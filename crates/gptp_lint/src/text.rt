@@ -2,7 +2,7 @@
 
 ghost use Rattle.std.specs.Prelude.{◌≡◌, ◌++◌, ◌∷◌, ◌↔◌, [], Bool, List, ℕ, IfOk, IsTrue, OnOk, map, option_map, slice_get, string_bytes};
 ghost use Rattle.std.specs.List.{flat_map};
-ghost use Rattle.gptp_spelling.specs.Lines.{text_of};
+ghost use Rattle.gptp_words.specs.Lines.{text_of};
 ghost use Rattle.gptp_lint.specs.LintText.{AppendsFindings, apart_line, calm_time_line, chance_line, late_line, late_lines, long_line, lossy_line, nobody_line, other_lines, unlinked_line};
 ghost use Rattle.toml.specs.View.{table_view};
 ghost use Rattle.gptp_lint.specs.Outline.{outline_state};
@@ -15,7 +15,7 @@ use crate::place::LineWords;
 use crate::source::Source;
 use crate::trouble::{Long, Lossy};
 use crate::unknown::write_unknown_keys;
-use gptp_spelling::{ClockDigits, IdentityDigits};
+use gptp_words::{ClockDigits, IdentityDigits};
 use gptp_topology::CalmTime;
 use gptp_vector::{ClockId, Identity};
 use std::alloc::{AllocError, Global};
@@ -28,7 +28,7 @@ struct TimeOrNone(Option<u64>);
 impl fmt::Display for TimeOrNone {
     ghost use Rattle.std.specs.Prelude.{Some};
     ghost use Rattle.std.specs.Fmt.{decimal};
-    ghost use Rattle.gptp_spelling.specs.Digits.{or_none};
+    ghost use Rattle.gptp_words.specs.Digits.{or_none};
 
     ghost output = { λ time. Some (or_none decimal time.0) };
 

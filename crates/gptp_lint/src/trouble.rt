@@ -4,7 +4,7 @@ ghost use Rattle.std.specs.Prelude.{◌≡◌, ◌++◌, OnOk};
 ghost use Rattle.gptp_setup.specs.declared.setup.Params.{Params};
 ghost use Rattle.gptp_lint.specs.Trouble.{long_at, long_of, lossy_stretch, stretches};
 
-use gptp_plan::Params;
+use gptp_scenario::Params;
 use gptp_topology::{Standing, is_long, loss_in_use, needed};
 use std::alloc::AllocError;
 

@@ -2,11 +2,11 @@
 
 ghost use Rattle.std.specs.Prelude.{◌≡◌, ◌<◌, ◌+◌, ◌++◌, ◌∷◌, [], filter, length, map, not, take, IfOk, OnOk};
 ghost use Rattle.gptp_roles.specs.Selection.{clock_of};
-ghost use Rattle.gptp_plan.specs.declared.network.SystemSpec.{SystemSpec};
+ghost use Rattle.gptp_scenario.specs.declared.network.SystemSpec.{SystemSpec};
 ghost use Rattle.gptp_topology.specs.Course.{cable_of};
 ghost use Rattle.gptp_lint.specs.Unlinked.{AreUnlinked, is_linked, unlinked_in};
 
-use gptp_plan::Network;
+use gptp_scenario::Network;
 use gptp_topology::Cable;
 use gptp_vector::ClockId;
 use std::alloc::{AllocError, Global};

@@ -5,9 +5,9 @@ ghost use Rattle.gptp_lint.specs.Why.{nanoseconds};
 
 use crate::escaped::Escaped;
 use gptp_network::{Name, Shape, Why};
-use gptp_plan::Params;
+use gptp_scenario::Params;
 use gptp_setup::interval_of;
-use gptp_spelling::ClockDigits;
+use gptp_words::ClockDigits;
 use gptp_vector::PortId;
 use std::fmt;
 

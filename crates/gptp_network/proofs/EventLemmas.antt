@@ -3,17 +3,17 @@ use Rattle.std.proofs.Common.{◌≡◌, ◌≤◌, ◌-◌, ◌++◌, ℕ, zero
 use Rattle.std.specs.List.{AllByRecursion}
 use Rattle.gptp_setup.specs.Intervals.{interval_of, IsLog}
 use Rattle.gptp_setup.proofs.IntervalLemmas.{interval_most}
-use Rattle.gptp_plan.specs.Allowed.{IsFitAct}
-use Rattle.gptp_plan.specs.Calm.{last_change}
+use Rattle.gptp_scenario.specs.Allowed.{IsFitAct}
+use Rattle.gptp_scenario.specs.Calm.{last_change}
 use Rattle.gptp_network.specs.Events.{timed, AreInOrder, AreEvents, IsEvent, IsPossibleChange}
 use Rattle.gptp_network.specs.declared.events.Event.{Event}
-use Rattle.gptp_plan.specs.Network.{NetworkState, smallest_of}
-use Rattle.gptp_plan.specs.Allowed.{AreAllowed, IsAllowed}
-use Rattle.gptp_plan.specs.Prompt.{ArePromptActs, DelayFitsInterval}
-use Rattle.gptp_plan.specs.declared.change.Act.TheVariants as acts
-use Rattle.gptp_plan.specs.declared.change.Change.{Change}
-use Rattle.gptp_plan.specs.declared.change.Change.TheVariants as changes
-use Rattle.gptp_plan.specs.declared.change.Timed.{Timed}
+use Rattle.gptp_scenario.specs.Network.{NetworkState, smallest_of}
+use Rattle.gptp_scenario.specs.Allowed.{AreAllowed, IsAllowed}
+use Rattle.gptp_scenario.specs.Prompt.{ArePromptActs, DelayFitsInterval}
+use Rattle.gptp_scenario.specs.declared.change.Act.TheVariants as acts
+use Rattle.gptp_scenario.specs.declared.change.Change.{Change}
+use Rattle.gptp_scenario.specs.declared.change.Change.TheVariants as changes
+use Rattle.gptp_scenario.specs.declared.change.Timed.{Timed}
 
 before_last : (n : ℕ) → suc n - 1 ≡ n
 before_last n = omega arith

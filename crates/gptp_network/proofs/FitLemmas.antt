@@ -11,15 +11,15 @@ use Rattle.gptp_vector.specs.declared.port.PortId.{PortId}
 use Rattle.gptp_roles.specs.Selection.{clock_of}
 use Rattle.gptp_setup.specs.Intervals.{interval_of, IsLog}
 use Rattle.gptp_setup.specs.declared.setup.Params.{Params}
-use Rattle.gptp_plan.specs.Network.{members_have_clock, has_port, is_any_slower, is_member_in_range, is_member_timed, is_taken, is_wire_in_range, link_fault, same_port, smallest_of, system_fault, CanAddLink, CanAddSystem, IsFree, IsNewClock, IsMember, IsPort, NetworkState}
-use Rattle.gptp_plan.specs.Params.{are_counts_in_range, are_in_range, are_intervals_in_range, are_times_in_range, is_log, is_timed, params_fault, AreInRange, KeepParams}
-use Rattle.gptp_plan.specs.declared.change.Change.{Change}
-use Rattle.gptp_plan.specs.declared.change.Change.TheVariants as changes
-use Rattle.gptp_plan.specs.declared.fault.NetworkFault.{NetworkFault}
-use Rattle.gptp_plan.specs.declared.fault.NetworkFault.TheVariants as faults
-use Rattle.gptp_plan.specs.declared.network.SystemSpec.{SystemSpec}
-use Rattle.gptp_plan.specs.declared.network.LinkSpec.{LinkSpec}
-use Rattle.gptp_plan.proofs.LogLemmas.{all_prompt, interval_least}
+use Rattle.gptp_scenario.specs.Network.{members_have_clock, has_port, is_any_slower, is_member_in_range, is_member_timed, is_taken, is_wire_in_range, link_fault, same_port, smallest_of, system_fault, CanAddLink, CanAddSystem, IsFree, IsNewClock, IsMember, IsPort, NetworkState}
+use Rattle.gptp_scenario.specs.Params.{are_counts_in_range, are_in_range, are_intervals_in_range, are_times_in_range, is_log, is_timed, params_fault, AreInRange, KeepParams}
+use Rattle.gptp_scenario.specs.declared.change.Change.{Change}
+use Rattle.gptp_scenario.specs.declared.change.Change.TheVariants as changes
+use Rattle.gptp_scenario.specs.declared.fault.NetworkFault.{NetworkFault}
+use Rattle.gptp_scenario.specs.declared.fault.NetworkFault.TheVariants as faults
+use Rattle.gptp_scenario.specs.declared.network.SystemSpec.{SystemSpec}
+use Rattle.gptp_scenario.specs.declared.network.LinkSpec.{LinkSpec}
+use Rattle.gptp_scenario.proofs.LogLemmas.{all_prompt, interval_least}
 use Rattle.gptp_network.specs.Events.{change_fault, IsPossibleChange, IsInRange}
 use Rattle.gptp_network.specs.Links.{port_numbered}
 use Rattle.gptp_network.proofs.PassLemmas.{passes}

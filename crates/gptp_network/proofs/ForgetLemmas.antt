@@ -5,10 +5,10 @@ use Rattle.hex.specs.Hex.{decode_of, decode_sized}
 use Rattle.hex.specs.declared.error.FromHexError.{FromHexError}
 use Rattle.toml.specs.Data.{Data, Items, Members, item, no_items, as_array, as_bool, as_integer, as_str, as_table, get_member, no_members}
 use Rattle.gptp_roles.specs.Selection.{clock_of}
-use Rattle.gptp_plan.specs.Calm.{last_change}
-use Rattle.gptp_plan.specs.Network.{NetworkState, link_fault, system_fault, with_link, with_system, without_members}
-use Rattle.gptp_plan.specs.Params.{is_between, params_fault}
-use Rattle.gptp_plan.specs.declared.change.Timed.{Timed}
+use Rattle.gptp_scenario.specs.Calm.{last_change}
+use Rattle.gptp_scenario.specs.Network.{NetworkState, link_fault, system_fault, with_link, with_system, without_members}
+use Rattle.gptp_scenario.specs.Params.{is_between, params_fault}
+use Rattle.gptp_scenario.specs.declared.change.Timed.{Timed}
 use Rattle.gptp_network.specs.Document.{DocumentState, document_of, whole_network_of}
 use Rattle.gptp_network.specs.Events.{change_fault, change_of, event_of, events_of, fail_of, inject_of, link_down_of, link_set_of, link_up_of, not_before, priority1_of, recover_of, timed, with_event_of}
 use Rattle.gptp_network.specs.Faults.{◌>>=◌, tested}

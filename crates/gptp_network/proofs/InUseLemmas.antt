@@ -13,14 +13,14 @@ use Rattle.gptp_graph.specs.Snapshot.{Adjacent, Link, Snapshot, System, clocks, 
 use Rattle.gptp_graph.proofs.PathBoundLemmas.{adjacent_joined, two_from}
 use Rattle.gptp_roles.specs.Selection.{clock_of}
 use Rattle.gptp_vector.specs.declared.port.PortId.{PortId}
-use Rattle.gptp_plan.specs.Change.{joined_after, link_after, live_after, system_after}
-use Rattle.gptp_plan.specs.InUse.{any_differ, far_clock, is_used, lives, lives_between, neighbour, neighbours, path_systems}
-use Rattle.gptp_plan.specs.InUse as plans
-use Rattle.gptp_plan.specs.Network.{IsNetwork, NetworkState}
-use Rattle.gptp_plan.specs.declared.change.Timed.{Timed}
-use Rattle.gptp_plan.specs.declared.network.SystemSpec.{SystemSpec}
-use Rattle.gptp_plan.specs.declared.network.LinkSpec.{LinkSpec}
-use Rattle.gptp_plan.proofs.AfterLemmas.{after_keeps}
+use Rattle.gptp_scenario.specs.Change.{joined_after, link_after, live_after, system_after}
+use Rattle.gptp_scenario.specs.InUse.{any_differ, far_clock, is_used, lives, lives_between, neighbour, neighbours, path_systems}
+use Rattle.gptp_scenario.specs.InUse as plans
+use Rattle.gptp_scenario.specs.Network.{IsNetwork, NetworkState}
+use Rattle.gptp_scenario.specs.declared.change.Timed.{Timed}
+use Rattle.gptp_scenario.specs.declared.network.SystemSpec.{SystemSpec}
+use Rattle.gptp_scenario.specs.declared.network.LinkSpec.{LinkSpec}
+use Rattle.gptp_scenario.proofs.AfterLemmas.{after_keeps}
 use Rattle.gptp_network.specs.Snapshot.{StandsAfter, has_clock, joins_two, link_of, live_systems, system_of}
 use Rattle.gptp_network.proofs.PassLemmas.{count_alike, count_more, given, kept, passes, passes_at, same_tests}
 use Rattle.gptp_network.proofs.SnapshotLemmas.{In-permutation, clock_after, from_filter, from_filter_map, with_clock}

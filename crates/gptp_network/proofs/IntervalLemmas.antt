@@ -7,7 +7,7 @@ use Rattle.std.proofs.lemmas.List.Folds.{list_all-append}
 use Rattle.toml.specs.Data.{Items, as_integer}
 use Rattle.toml.specs.View.{items_view, view}
 use Rattle.toml.specs.declared.value.Value.{Value}
-use Rattle.gptp_plan.specs.Params.{is_log}
+use Rattle.gptp_scenario.specs.Params.{is_log}
 use Rattle.gptp_network.specs.Faults.{◌>>=◌}
 use Rattle.gptp_network.specs.Intervals.{intervals_in, one_for_each, whole_numbers}
 use Rattle.gptp_network.specs.Values.{kind_of}

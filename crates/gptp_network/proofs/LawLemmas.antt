@@ -9,7 +9,7 @@ use Rattle.toml.specs.Parse.{parse_document}
 use Rattle.gptp_graph.specs.Snapshot.{Link, Snapshot, System}
 use Rattle.gptp_graph.proofs.RisingLemmas.{same_rising}
 use Rattle.gptp_lists.specs.Members.{In}
-use Rattle.gptp_plan.specs.Network.{IsNetwork}
+use Rattle.gptp_scenario.specs.Network.{IsNetwork}
 use Rattle.gptp_network.specs.Document.{DocumentState, Fails, Means, Parses, document_of}
 use Rattle.gptp_network.specs.Snapshot.{IsSnapshot, IsWithinLimits, events_by, live_systems, used_links}
 use Rattle.gptp_network.specs.declared.fault.DocumentFault.{DocumentFault}

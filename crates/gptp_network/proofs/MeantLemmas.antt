@@ -15,17 +15,17 @@ use Rattle.gptp_lists.specs.Members.{In}
 use Rattle.gptp_lists.proofs.SystemSpecLemmas.{slice_get-In}
 use Rattle.gptp_graph.specs.Snapshot.{IsWellFormed, Snapshot, System as LiveSystem}
 use Rattle.gptp_roles.specs.Selection.{clock_of}
-use Rattle.gptp_plan.specs.Calm.{last_change}
-use Rattle.gptp_plan.specs.Change.{standing, system_acted, system_stands, with_live, with_priority1}
-use Rattle.gptp_plan.specs.Network.{link_fault, logs_of, system_fault, with_link, with_system, without_members, IsKeptNetwork, IsNetwork, NetworkState}
-use Rattle.gptp_plan.specs.Params.{is_between, params_fault}
-use Rattle.gptp_plan.specs.declared.change.Act.{Act}
-use Rattle.gptp_plan.specs.declared.change.Act.TheVariants as acts
-use Rattle.gptp_plan.specs.declared.change.Change.{Change}
-use Rattle.gptp_plan.specs.declared.change.Change.TheVariants as changes
-use Rattle.gptp_plan.specs.declared.change.Timed.{Timed}
-use Rattle.gptp_plan.proofs.NetworkLemmas.{link_added, none_yet, system_added}
-use Rattle.gptp_plan.proofs.OctetLemmas.{each_below}
+use Rattle.gptp_scenario.specs.Calm.{last_change}
+use Rattle.gptp_scenario.specs.Change.{standing, system_acted, system_stands, with_live, with_priority1}
+use Rattle.gptp_scenario.specs.Network.{link_fault, logs_of, system_fault, with_link, with_system, without_members, IsKeptNetwork, IsNetwork, NetworkState}
+use Rattle.gptp_scenario.specs.Params.{is_between, params_fault}
+use Rattle.gptp_scenario.specs.declared.change.Act.{Act}
+use Rattle.gptp_scenario.specs.declared.change.Act.TheVariants as acts
+use Rattle.gptp_scenario.specs.declared.change.Change.{Change}
+use Rattle.gptp_scenario.specs.declared.change.Change.TheVariants as changes
+use Rattle.gptp_scenario.specs.declared.change.Timed.{Timed}
+use Rattle.gptp_scenario.proofs.NetworkLemmas.{link_added, none_yet, system_added}
+use Rattle.gptp_scenario.proofs.OctetLemmas.{each_below}
 use Rattle.gptp_network.specs.Document.{document_of, whole_network_of, DocumentState, Means}
 use Rattle.gptp_network.specs.Events.{change_fault, change_of, event_of, events_of, fail_of, inject_of, link_down_of, link_set_of, link_up_of, not_before, priority1_of, recover_of, timed, with_event_of, AreEvents, IsInRange}
 use Rattle.gptp_network.specs.Intervals.{intervals}

@@ -14,15 +14,15 @@ use Rattle.gptp_graph.proofs.RisingLemmas.{Different-rising}
 use Rattle.gptp_graph.proofs.Sure.{and_true}
 use Rattle.gptp_roles.specs.Selection.{clock_of}
 use Rattle.gptp_vector.specs.declared.port.PortId.{PortId}
-use Rattle.gptp_plan.specs.Change.{joined_after, live_after, link_after, standing, system_acted, system_after, system_changed, system_stands, with_live, with_priority1}
-use Rattle.gptp_plan.specs.Network.{NetworkState, IsEnd, IsNetwork, IsPort}
-use Rattle.gptp_plan.specs.declared.change.Act.{Act}
-use Rattle.gptp_plan.specs.declared.change.Act.TheVariants as acts
-use Rattle.gptp_plan.specs.declared.change.Change.{Change}
-use Rattle.gptp_plan.specs.declared.change.Change.TheVariants as changes
-use Rattle.gptp_plan.specs.declared.change.Timed.{Timed}
-use Rattle.gptp_plan.specs.declared.network.SystemSpec.{SystemSpec}
-use Rattle.gptp_plan.specs.declared.network.LinkSpec.{LinkSpec}
+use Rattle.gptp_scenario.specs.Change.{joined_after, live_after, link_after, standing, system_acted, system_after, system_changed, system_stands, with_live, with_priority1}
+use Rattle.gptp_scenario.specs.Network.{NetworkState, IsEnd, IsNetwork, IsPort}
+use Rattle.gptp_scenario.specs.declared.change.Act.{Act}
+use Rattle.gptp_scenario.specs.declared.change.Act.TheVariants as acts
+use Rattle.gptp_scenario.specs.declared.change.Change.{Change}
+use Rattle.gptp_scenario.specs.declared.change.Change.TheVariants as changes
+use Rattle.gptp_scenario.specs.declared.change.Timed.{Timed}
+use Rattle.gptp_scenario.specs.declared.network.SystemSpec.{SystemSpec}
+use Rattle.gptp_scenario.specs.declared.network.LinkSpec.{LinkSpec}
 use Rattle.gptp_lists.proofs.MappedLemmas.{contains_there, there_contains}
 use Rattle.gptp_network.specs.Snapshot.{IsWithinLimits, StandsAfter, has_clock, joins_two, link_of, live_systems, port_identity, system_of}
 

@@ -16,11 +16,11 @@ use Rattle.gptp_graph.specs.Snapshot.{System, PortIdentity, Link}
 use Rattle.gptp_lists.proofs.SystemSpecLemmas.{slice_get-In, from_map}
 use Rattle.gptp_roles.specs.Selection.{clock_of}
 use Rattle.gptp_vector.specs.declared.port.PortId.{PortId}
-use Rattle.gptp_plan.specs.Change.{joined_after, live_after, system_after}
-use Rattle.gptp_plan.specs.Network.{NetworkState, IsNetwork}
-use Rattle.gptp_plan.specs.declared.change.Timed.{Timed}
-use Rattle.gptp_plan.specs.declared.network.SystemSpec.{SystemSpec}
-use Rattle.gptp_plan.specs.declared.network.LinkSpec.{LinkSpec}
+use Rattle.gptp_scenario.specs.Change.{joined_after, live_after, system_after}
+use Rattle.gptp_scenario.specs.Network.{NetworkState, IsNetwork}
+use Rattle.gptp_scenario.specs.declared.change.Timed.{Timed}
+use Rattle.gptp_scenario.specs.declared.network.SystemSpec.{SystemSpec}
+use Rattle.gptp_scenario.specs.declared.network.LinkSpec.{LinkSpec}
 use Rattle.gptp_network.specs.Events.{AreInOrder}
 use Rattle.gptp_network.specs.Snapshot.{StandsAfter, has_clock, joins_two, link_of, live_systems, system_of, used_links}
 use Rattle.gptp_network.specs.SnapshotTables.{AreEnds, AreLive, AreSystems, AreTables, HasClock, HaveOctets, RisesByPort, both_ends, seen, seen_links, seen_systems}

@@ -1,9 +1,9 @@
 -- Events that are put behind those of a document (profile).
 use Rattle.std.specs.Prelude.{ℕ, if◌then◌else◌, nat_le, nat_lt, ◌∷◌, [], ◌++◌, length, take, Option, Some}
 use Rattle.std.specs.Option.{option_map}
-use Rattle.gptp_plan.specs.Calm.{last_change}
-use Rattle.gptp_plan.specs.declared.change.Act.TheVariants as acts
-use Rattle.gptp_plan.specs.declared.change.Change.{Change}
+use Rattle.gptp_scenario.specs.Calm.{last_change}
+use Rattle.gptp_scenario.specs.declared.change.Act.TheVariants as acts
+use Rattle.gptp_scenario.specs.declared.change.Change.{Change}
 use Rattle.gptp_network.specs.Document.{DocumentState}
 use Rattle.gptp_network.specs.Events.{change_fault}
 use Rattle.gptp_network.specs.Faults.{document_fault}

@@ -3,15 +3,15 @@ use Rattle.std.specs.Prelude.{◌≡◌, ◌≤◌, ⊤, true, ℕ, codes, not, 
 use Rattle.std.specs.List.{AllByRecursion}
 use Rattle.toml.specs.Data.{Data, Members, as_table}
 use Rattle.gptp_setup.specs.Intervals.{interval_of}
-use Rattle.gptp_plan.specs.Calm.{last_change}
-use Rattle.gptp_plan.specs.Faults.{first_fault}
-use Rattle.gptp_plan.specs.Network.{NetworkState, members_have_clock, is_taken, smallest_of}
-use Rattle.gptp_plan.specs.declared.change.Act.TheVariants as acts
-use Rattle.gptp_plan.specs.declared.change.Change.{Change}
-use Rattle.gptp_plan.specs.declared.change.Change.TheVariants as changes
-use Rattle.gptp_plan.specs.declared.change.Timed.{Timed}
-use Rattle.gptp_plan.specs.declared.fault.NetworkFault.{NetworkFault}
-use Rattle.gptp_plan.specs.declared.fault.NetworkFault.TheVariants as networks
+use Rattle.gptp_scenario.specs.Calm.{last_change}
+use Rattle.gptp_scenario.specs.Faults.{first_fault}
+use Rattle.gptp_scenario.specs.Network.{NetworkState, members_have_clock, is_taken, smallest_of}
+use Rattle.gptp_scenario.specs.declared.change.Act.TheVariants as acts
+use Rattle.gptp_scenario.specs.declared.change.Change.{Change}
+use Rattle.gptp_scenario.specs.declared.change.Change.TheVariants as changes
+use Rattle.gptp_scenario.specs.declared.change.Timed.{Timed}
+use Rattle.gptp_scenario.specs.declared.fault.NetworkFault.{NetworkFault}
+use Rattle.gptp_scenario.specs.declared.fault.NetworkFault.TheVariants as networks
 use Rattle.gptp_network.specs.Faults.{◌>>=◌, tested}
 use Rattle.gptp_network.specs.Links.{port_numbered}
 use Rattle.gptp_network.specs.Members.{limited, each_of}

@@ -1,7 +1,7 @@
 -- Why a document is refused.
 use Rattle.std.specs.Prelude.{◌≡◌, ◌⊎◌, ℕ, codes, List, Option, Some, None, Result, Ok, Err, IfErr}
-use Rattle.gptp_plan.specs.declared.fault.NetworkFault.{NetworkFault}
-use Rattle.gptp_plan.specs.declared.fault.NetworkFault.TheVariants as networks
+use Rattle.gptp_scenario.specs.declared.fault.NetworkFault.{NetworkFault}
+use Rattle.gptp_scenario.specs.declared.fault.NetworkFault.TheVariants as networks
 use Rattle.gptp_network.specs.declared.fault.DocumentFault.{DocumentFault}
 use Rattle.gptp_network.specs.declared.fault.DocumentFault.TheVariants.{NotToml, MissingKey, WrongKind, OutOfRange, DuplicateClock, SelfLink, PortTaken, NoSuchPort, DelayTooLong, EventOrder, TooMany, Timing, OutOfMemory}
 

@@ -1,7 +1,7 @@
 -- What a table means as a document, or why it is refused and where (profile).
 use Rattle.std.specs.Prelude.{ℕ, Result, Ok}
 use Rattle.toml.specs.Data.{Members}
-use Rattle.gptp_plan.specs.Network.{NetworkState}
+use Rattle.gptp_scenario.specs.Network.{NetworkState}
 use Rattle.gptp_network.specs.Document.{DocumentState}
 use Rattle.gptp_network.specs.Faults.{◌>>=◌}
 use Rattle.gptp_network.specs.ReadEvents.{read_events}

@@ -3,11 +3,11 @@ use Rattle.std.specs.Prelude.{ℕ, nat_le, if◌then◌else◌, Bool, true, fals
 use Rattle.toml.specs.Data.{Data, Members, as_table}
 use Rattle.gptp_setup.specs.Intervals.{interval_of}
 use Rattle.gptp_vector.specs.declared.port.PortId.{PortId}
-use Rattle.gptp_plan.specs.Network.{NetworkState, is_taken, link_fault, smallest_of, with_link}
-use Rattle.gptp_plan.specs.declared.fault.NetworkFault.{NetworkFault}
-use Rattle.gptp_plan.specs.declared.fault.NetworkFault.TheVariants as networks
-use Rattle.gptp_plan.specs.declared.network.SystemSpec.{SystemSpec}
-use Rattle.gptp_plan.specs.declared.network.LinkSpec.{LinkSpec}
+use Rattle.gptp_scenario.specs.Network.{NetworkState, is_taken, link_fault, smallest_of, with_link}
+use Rattle.gptp_scenario.specs.declared.fault.NetworkFault.{NetworkFault}
+use Rattle.gptp_scenario.specs.declared.fault.NetworkFault.TheVariants as networks
+use Rattle.gptp_scenario.specs.declared.network.SystemSpec.{SystemSpec}
+use Rattle.gptp_scenario.specs.declared.network.LinkSpec.{LinkSpec}
 use Rattle.gptp_network.specs.Faults.{◌>>=◌}
 use Rattle.gptp_network.specs.Found.{link_from, system_from}
 use Rattle.gptp_network.specs.Links.{port_numbered, wire_of}

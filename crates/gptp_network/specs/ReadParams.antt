@@ -2,10 +2,10 @@
 use Rattle.std.specs.Prelude.{Result, Ok}
 use Rattle.toml.specs.Data.{Members}
 use Rattle.gptp_setup.specs.declared.setup.Params.{Params}
-use Rattle.gptp_plan.specs.Network.{NetworkState, without_members}
-use Rattle.gptp_plan.specs.Params.{params_fault}
-use Rattle.gptp_plan.specs.declared.fault.NetworkFault.{NetworkFault}
-use Rattle.gptp_plan.specs.declared.fault.NetworkFault.TheVariants as networks
+use Rattle.gptp_scenario.specs.Network.{NetworkState, without_members}
+use Rattle.gptp_scenario.specs.Params.{params_fault}
+use Rattle.gptp_scenario.specs.declared.fault.NetworkFault.{NetworkFault}
+use Rattle.gptp_scenario.specs.declared.fault.NetworkFault.TheVariants as networks
 use Rattle.gptp_network.specs.Faults.{◌>>=◌}
 use Rattle.gptp_network.specs.Reading.{natural_at, table_in, whole_at}
 use Rattle.gptp_network.specs.Why.{at_place, told}

@@ -2,9 +2,9 @@
 use Rattle.std.specs.Prelude.{ℕ, ℤ, int_lt, if◌then◌else◌, List, [], ◌∷◌, Option, Some, None, Result, Ok}
 use Rattle.toml.specs.Data.{Data, Members, as_table}
 use Rattle.gptp_roles.specs.Selection.{clock_of}
-use Rattle.gptp_plan.specs.Network.{NetworkState, system_fault, with_system}
-use Rattle.gptp_plan.specs.declared.fault.NetworkFault.{NetworkFault}
-use Rattle.gptp_plan.specs.declared.fault.NetworkFault.TheVariants as networks
+use Rattle.gptp_scenario.specs.Network.{NetworkState, system_fault, with_system}
+use Rattle.gptp_scenario.specs.declared.fault.NetworkFault.{NetworkFault}
+use Rattle.gptp_scenario.specs.declared.fault.NetworkFault.TheVariants as networks
 use Rattle.gptp_network.specs.Faults.{◌>>=◌}
 use Rattle.gptp_network.specs.Found.{system_from}
 use Rattle.gptp_network.specs.ReadIntervals.{read_intervals}

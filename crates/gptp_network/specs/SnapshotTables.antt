@@ -7,8 +7,8 @@ use Rattle.gptp_lists.specs.Members.{In}
 use Rattle.gptp_graph.specs.Order.{IsRising}
 use Rattle.gptp_graph.specs.Snapshot.{System, Link, Snapshot, IsWellFormed}
 use Rattle.gptp_vector.specs.declared.port.PortId.{PortId}
-use Rattle.gptp_plan.specs.declared.change.Timed.{Timed}
-use Rattle.gptp_plan.specs.declared.network.SystemSpec.{SystemSpec}
+use Rattle.gptp_scenario.specs.declared.change.Timed.{Timed}
+use Rattle.gptp_scenario.specs.declared.network.SystemSpec.{SystemSpec}
 use Rattle.gptp_network.specs.declared.snapshot.LinkEnd.{LinkEnd}
 use Rattle.gptp_network.specs.declared.snapshot.LiveSystem.{LiveSystem}
 use Rattle.gptp_network.specs.declared.snapshot.UsedLink.{UsedLink}

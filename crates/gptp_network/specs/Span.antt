@@ -2,10 +2,10 @@
 use Rattle.std.specs.Prelude.{◌≡◌, ℕ, Option, Some, None}
 use Rattle.gptp_graph.specs.PathBound.{path_bound}
 use Rattle.gptp_graph.specs.Snapshot.{Snapshot}
-use Rattle.gptp_plan.specs.Calm.{IsCalm}
-use Rattle.gptp_plan.specs.Network.{pace_of}
-use Rattle.gptp_plan.specs.SettlingTime.{settling_span_with}
-use Rattle.gptp_plan.specs.SyncWait.{sync_paths}
+use Rattle.gptp_scenario.specs.Calm.{IsCalm}
+use Rattle.gptp_scenario.specs.Network.{pace_of}
+use Rattle.gptp_scenario.specs.SettlingTime.{settling_span_with}
+use Rattle.gptp_scenario.specs.SyncWait.{sync_paths}
 use Rattle.gptp_network.specs.Document.{DocumentState}
 use Rattle.gptp_network.specs.Snapshot.{IsSnapshot, events_by}
 

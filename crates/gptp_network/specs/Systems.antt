@@ -2,8 +2,8 @@
 use Rattle.std.specs.Prelude.{ℕ, ℤ, pos, neg_ℤ, codes, ◌∷◌, ◌++◌, Some, Result, Ok}
 use Rattle.byteorder.specs.Endian.{big_bytes, big_number}
 use Rattle.toml.specs.Data.{Data, Members, as_table}
-use Rattle.gptp_plan.specs.Network.{NetworkState, member, with_system, system_fault}
-use Rattle.gptp_plan.specs.declared.network.SystemSpec.{SystemSpec}
+use Rattle.gptp_scenario.specs.Network.{NetworkState, member, with_system, system_fault}
+use Rattle.gptp_scenario.specs.declared.network.SystemSpec.{SystemSpec}
 use Rattle.gptp_network.specs.Faults.{◌>>=◌, tested}
 use Rattle.gptp_network.specs.Intervals.{intervals}
 use Rattle.gptp_network.specs.Members.{needed, limited, each_of}

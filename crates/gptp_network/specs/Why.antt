@@ -1,7 +1,7 @@
 -- Why a document is refused, and where.
 use Rattle.std.specs.Prelude.{◌≡◌, ◌⊎◌, ℕ, List, length, take, Option, Some, None, Result, Ok, Err, IfErr}
 use Rattle.toml.specs.Data.{Data, array, boolean, datetime, float, integer, string, table}
-use Rattle.gptp_plan.specs.declared.fault.NetworkFault.{NetworkFault}
+use Rattle.gptp_scenario.specs.declared.fault.NetworkFault.{NetworkFault}
 use Rattle.gptp_network.specs.Faults.{document_fault}
 use Rattle.gptp_network.specs.declared.fault.DocumentFault.{DocumentFault}
 use Rattle.gptp_network.specs.declared.fault.DocumentFault.TheVariants as faults

@@ -2,12 +2,12 @@
 
 ghost use Rattle.std.specs.Prelude.{◌≡◌, ◌≤◌, ◌⊎◌, ◌↔◌, IsTrue, None, Ok, Some, IfOk, IfErr, OnErr, OnOk};
 ghost use Rattle.toml.specs.View.{table_view};
-ghost use Rattle.gptp_plan.specs.Calm.{last_change, IsCalm};
-ghost use Rattle.gptp_plan.specs.Network.{smallest_of};
+ghost use Rattle.gptp_scenario.specs.Calm.{last_change, IsCalm};
+ghost use Rattle.gptp_scenario.specs.Network.{smallest_of};
 ghost use Rattle.gptp_setup.specs.Intervals.{interval_of};
-ghost use Rattle.gptp_plan.specs.Allowed.{AreAllowed};
-ghost use Rattle.gptp_plan.specs.Prompt.{ArePromptActs};
-ghost use Rattle.gptp_plan.specs.SettlingTime.{settles};
+ghost use Rattle.gptp_scenario.specs.Allowed.{AreAllowed};
+ghost use Rattle.gptp_scenario.specs.Prompt.{ArePromptActs};
+ghost use Rattle.gptp_scenario.specs.SettlingTime.{settles};
 ghost use Rattle.gptp_network.specs.Adding.{adding_fault, with_event, with_first};
 ghost use Rattle.gptp_network.specs.Events.{AreEvents, IsInRange};
 ghost use Rattle.gptp_network.specs.Faults.{RefusesDocument};
@@ -26,7 +26,7 @@ use crate::snapshot::Snapshot;
 use crate::systems::add_systems;
 use crate::values::natural;
 use crate::why::Refusal;
-use gptp_plan::{Change, Network, Timed};
+use gptp_scenario::{Change, Network, Timed};
 use std::alloc::{AllocError, Global};
 use std::marker::Model;
 use toml::Table;

@@ -2,7 +2,7 @@
 
 ghost use Rattle.std.specs.Prelude.{◌≡◌, ◌≤◌, ◌++◌, ◌∷◌, [], Ok, Some, None, OnErr, OnOk, IfOk, IfErr};
 ghost use Rattle.toml.specs.View.{view, items_view, table_view};
-ghost use Rattle.gptp_plan.specs.Calm.{last_change};
+ghost use Rattle.gptp_scenario.specs.Calm.{last_change};
 ghost use Rattle.gptp_network.specs.Events.{link_fault_at, system_fault_at, change_fault, timed, AreEvents, AreInOrder, IsInRange, IsPossibleChange};
 ghost use Rattle.gptp_network.specs.Adding.{adding_fault};
 ghost use Rattle.gptp_network.specs.ReadEvents.{bounds_why, change_why, clock_why, port_why, put_event, read_change, read_event, read_events, read_fail, read_inject, read_link_down, read_link_set, read_link_up, read_priority1, read_recover, read_with_event, unlinked};
@@ -17,7 +17,7 @@ use crate::members::{limited_in, section_in};
 use crate::place::{Place, Section};
 use crate::values::{clock, natural, octets, text};
 use crate::why::{Refusal, Why, misspelled, other_kind};
-use gptp_plan::{Act, Change, Network, NetworkFault, Timed};
+use gptp_scenario::{Act, Change, Network, NetworkFault, Timed};
 use gptp_vector::{ClockId, PortId};
 use std::alloc::Global;
 use toml::{Table, Value};

@@ -1,6 +1,6 @@
 //! Why a document is refused.
 
-use gptp_plan::NetworkFault;
+use gptp_scenario::NetworkFault;
 use std::alloc::AllocFailed;
 use std::error::Error;
 use std::fmt;

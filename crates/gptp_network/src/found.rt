@@ -4,7 +4,7 @@ ghost use Rattle.std.specs.Prelude.{◌≡◌, slice_get};
 ghost use Rattle.std.specs.Option.{option_and_then};
 ghost use Rattle.gptp_network.specs.Found.{is_either, joins, link_from, ports_by, ports_if, system_from};
 
-use gptp_plan::Network;
+use gptp_scenario::Network;
 use gptp_vector::{ClockId, Identity, PortId};
 
 /// How many ports a system with this identity has, where it has this clock.

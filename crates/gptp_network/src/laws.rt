@@ -3,7 +3,7 @@
 ghost use Rattle.std.specs.Prelude.{◌≡◌, ◌⊎◌, ℕ, List};
 ghost use Rattle.toml.specs.Data.{Members};
 ghost use Rattle.gptp_graph.specs.Snapshot.{IsWellFormed, Snapshot};
-ghost use Rattle.gptp_plan.specs.Network.{IsNetwork};
+ghost use Rattle.gptp_scenario.specs.Network.{IsNetwork};
 ghost use Rattle.gptp_network.specs.Document.{DocumentState, Fails, Means, document_of};
 ghost use Rattle.gptp_network.specs.Events.{AreEvents};
 ghost use Rattle.gptp_network.specs.ReadDocument.{read_document};

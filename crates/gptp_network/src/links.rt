@@ -14,7 +14,7 @@ use crate::members::{limited_in, section_in};
 use crate::place::{Place, Section};
 use crate::values::{clock, flag, natural};
 use crate::why::{Refusal, Why, other_kind};
-use gptp_plan::{Network, NetworkFault};
+use gptp_scenario::{Network, NetworkFault};
 use gptp_vector::PortId;
 use toml::{Table, Value};
 

@@ -13,7 +13,7 @@ use crate::keys::{
 use crate::place::Place;
 use crate::values::{natural, table_in, whole};
 use crate::why::{Refusal, Why};
-use gptp_plan::{Network, NetworkFault, Params};
+use gptp_scenario::{Network, NetworkFault, Params};
 use std::alloc::Global;
 use toml::Table;
 

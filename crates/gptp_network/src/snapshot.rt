@@ -5,7 +5,7 @@ ghost use Rattle.gptp_lists.specs.Members.{In};
 ghost use Rattle.gptp_network.specs.SnapshotTables.{HasClock, RisesByClock, RisesByPort, seen_systems};
 
 use crate::taking::{ends_by_port, links_between, systems_by_clock};
-use gptp_plan::{Network, Timed};
+use gptp_scenario::{Network, Timed};
 use gptp_vector::{ClockId, Identity, PortId};
 use std::alloc::{AllocError, Global};
 use std::marker::Model;

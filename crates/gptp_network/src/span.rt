@@ -3,18 +3,18 @@
 use crate::document::Document;
 use crate::events::events_by;
 use crate::snapshot::Snapshot;
-use gptp_plan::{Network, Timed};
+use gptp_scenario::{Network, Timed};
 use std::alloc::{AllocError, Global};
 
 impl Snapshot {
     ghost use Rattle.std.specs.Prelude.{◌≡◌, ◌≤◌};
     ghost use Rattle.gptp_graph.specs.PathBound.{path_bound};
-    ghost use Rattle.gptp_plan.specs.Allowed.{AreAllowed};
-    ghost use Rattle.gptp_plan.specs.Network.{pace_of};
-    ghost use Rattle.gptp_plan.specs.InUse.{greatest_delay};
-    ghost use Rattle.gptp_plan.specs.SettlingAtOnce.{settling_span_at_once};
-    ghost use Rattle.gptp_plan.specs.SettlingTime.{settling_span_with};
-    ghost use Rattle.gptp_plan.specs.SyncWait.{sync_paths};
+    ghost use Rattle.gptp_scenario.specs.Allowed.{AreAllowed};
+    ghost use Rattle.gptp_scenario.specs.Network.{pace_of};
+    ghost use Rattle.gptp_scenario.specs.InUse.{greatest_delay};
+    ghost use Rattle.gptp_scenario.specs.SettlingAtOnce.{settling_span_at_once};
+    ghost use Rattle.gptp_scenario.specs.SettlingTime.{settling_span_with};
+    ghost use Rattle.gptp_scenario.specs.SyncWait.{sync_paths};
     ghost use Rattle.gptp_network.specs.Snapshot.{StandsAfter};
 
     /// How long a network that stands so after these events takes at most to settle if it is calm, in ns: by how many

@@ -7,8 +7,8 @@ ghost use Rattle.gptp_network.specs.Found.{system_from};
 ghost use Rattle.gptp_network.specs.ReadMembers.{read_each};
 ghost use Rattle.gptp_network.specs.ReadSystems.{duplicate, first_shorter, put_system, read_system, read_with_system, read_with_systems, system_why};
 ghost use Rattle.gptp_network.specs.Reading.{natural_at, whole_at};
-ghost use Rattle.gptp_plan.specs.Faults.{IsRefusal};
-ghost use Rattle.gptp_plan.specs.Network.{system_fault, with_system};
+ghost use Rattle.gptp_scenario.specs.Faults.{IsRefusal};
+ghost use Rattle.gptp_scenario.specs.Network.{system_fault, with_system};
 ghost use Rattle.gptp_network.specs.Systems.{identity_of, member_of};
 ghost use Rattle.gptp_network.specs.Why.{Stops, StopsAt};
 
@@ -22,7 +22,7 @@ use crate::place::{Place, Section};
 use crate::values::{clock, natural, whole};
 use crate::why::{Refusal, Why, other_kind};
 use arrayvec::ArrayVec;
-use gptp_plan::{Network, NetworkFault};
+use gptp_scenario::{Network, NetworkFault};
 use gptp_vector::{ClockId, Identity};
 use toml::{Table, Value};
 

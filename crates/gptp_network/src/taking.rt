@@ -5,7 +5,7 @@ ghost use Rattle.gptp_network.specs.Snapshot.{has_clock, joins_two, link_of, use
 ghost use Rattle.gptp_network.specs.SnapshotTables.{AreEnds, AreLive, AreSystems, RisesByClock, both_ends, seen_links, seen_systems};
 
 use crate::snapshot::{LinkEnd, LiveSystem, UsedLink, place_among};
-use gptp_plan::{Network, Timed};
+use gptp_scenario::{Network, Timed};
 use gptp_vector::{ClockId, Identity, PortId};
 use std::alloc::{AllocError, Global};
 

@@ -10,7 +10,7 @@ ghost use Rattle.gptp_network.specs.Why.{Stops};
 
 use crate::keys::{Name, Natural, Whole};
 use crate::why::{Why, misspelled, other_kind};
-use gptp_plan::Octets;
+use gptp_scenario::Octets;
 use gptp_vector::ClockId;
 use hex::{FromHex, FromHexError};
 use std::alloc::Global;

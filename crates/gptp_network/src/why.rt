@@ -8,7 +8,7 @@ use crate::fault::DocumentFault;
 use crate::keys::Name;
 use crate::place::Place;
 use arrayvec::ArrayVec;
-use gptp_plan::{NetworkFault, Params};
+use gptp_scenario::{NetworkFault, Params};
 use gptp_vector::{ClockId, PortId};
 use toml::Value;
 

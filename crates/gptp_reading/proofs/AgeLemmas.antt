@@ -10,41 +10,41 @@ use Rattle.gptp_graph.proofs.DistanceLemmas.{IsDistance-unique}
 use Rattle.gptp_graph.proofs.LinkLemmas.{Joins-sym}
 use Rattle.gptp_graph.proofs.PathBoundLemmas.{IsDistance-within}
 use Rattle.gptp_setup.specs.SettlingParams.{SettlingParams, lapse_span}
-use Rattle.gptp_plan.specs.Calm.{SyncsComeInTime}
-use Rattle.gptp_plan.specs.SettlingTime.{settling_span_with}
-use Rattle.gptp_plan.specs.SyncWait.{sync_wait}
+use Rattle.gptp_scenario.specs.Calm.{SyncsComeInTime}
+use Rattle.gptp_scenario.specs.SettlingTime.{settling_span_with}
+use Rattle.gptp_scenario.specs.SyncWait.{sync_wait}
 use Rattle.gptp_system.specs.State.{SystemState, clock}
-use Rattle.gptp_acts.specs.declared.station.Station.{Station}
-use Rattle.gptp_acts.specs.World.{WorldState}
-use Rattle.gptp_settling.specs.Calm.{Calm}
-use Rattle.gptp_settling.specs.Frame.{SaysSync}
-use Rattle.gptp_settling.specs.Lapsing.{FollowsFarther}
-use Rattle.gptp_settling.specs.Network.{IsSettlingNetwork, Network, settled_from, since}
-use Rattle.gptp_settling.specs.Settled.{IsSlaveOf}
-use Rattle.gptp_settling.specs.Sound.{RunIsSound}
-use Rattle.gptp_settling.specs.Station.{MachineState}
-use Rattle.gptp_settling.specs.Station as seen
-use Rattle.gptp_settling.specs.Syncs.{HaveSyncTimers, HearsBy, IsPrompt, SyncsAreExpected, TellsBy, wait}
-use Rattle.gptp_settling.proofs.SyncLemmas.{flight_left, known_station, parent_there}
-use Rattle.gptp_settling.proofs.SyncRunLemmas.{prompt}
-use Rattle.gptp_kept.specs.Calm.{IsQuietWorld, in_turn, paths_with, sync_paths_of}
-use Rattle.gptp_kept.specs.CalmFor.{IsCalmFor, span_over}
-use Rattle.gptp_kept.specs.SettlingInvariant.{SettlingInvariant, KeepsAll}
-use Rattle.gptp_kept.specs.SettlesAsMachine.{BecomeCapable, IsSettling, IsWorld, quick_network, settling_network, start_of}
-use Rattle.gptp_kept.specs.Settled.{Settled}
-use Rattle.gptp_kept.specs.Standing.{snapshot_of}
-use Rattle.gptp_kept.specs.View.{says_sync, station_view, view}
-use Rattle.gptp_kept.proofs.SettlingInvariantLemmas.{settled_by_paths}
-use Rattle.gptp_kept.proofs.ClaimLemmas.{claim_capable}
-use Rattle.gptp_kept.proofs.DelayLemmas.{delay_short}
-use Rattle.gptp_kept.proofs.SettlesAsMachineLemmas.{is_calm, is_network, paths_bound}
-use Rattle.gptp_kept.proofs.PlaceLemmas.{station_there}
-use Rattle.gptp_kept.proofs.SettledLemmas.{span_ends}
-use Rattle.gptp_kept.proofs.StandsLemmas.{stands_well}
-use Rattle.gptp_kept.proofs.SyncActLemmas.{timers_seen}
-use Rattle.gptp_kept.proofs.WaitLemmas.{step_long, wait_is}
-use Rattle.gptp_reached.specs.Headline.{WorldIsCalm}
-use Rattle.gptp_reached.proofs.HeadlineLemmas.{quiet_as}
+use Rattle.gptp_model.specs.declared.station.Station.{Station}
+use Rattle.gptp_model.specs.World.{WorldState}
+use Rattle.gptp_bmca_machine.specs.Calm.{Calm}
+use Rattle.gptp_bmca_machine.specs.Frame.{SaysSync}
+use Rattle.gptp_bmca_machine.specs.Lapsing.{FollowsFarther}
+use Rattle.gptp_bmca_machine.specs.Network.{IsSettlingNetwork, Network, settled_from, since}
+use Rattle.gptp_bmca_machine.specs.Settled.{IsSlaveOf}
+use Rattle.gptp_bmca_machine.specs.Sound.{RunIsSound}
+use Rattle.gptp_bmca_machine.specs.Station.{MachineState}
+use Rattle.gptp_bmca_machine.specs.Station as seen
+use Rattle.gptp_bmca_machine.specs.Syncs.{HaveSyncTimers, HearsBy, IsPrompt, SyncsAreExpected, TellsBy, wait}
+use Rattle.gptp_bmca_machine.proofs.SyncLemmas.{flight_left, known_station, parent_there}
+use Rattle.gptp_bmca_machine.proofs.SyncRunLemmas.{prompt}
+use Rattle.gptp_invariants.specs.Calm.{IsQuietWorld, in_turn, paths_with, sync_paths_of}
+use Rattle.gptp_invariants.specs.CalmFor.{IsCalmFor, span_over}
+use Rattle.gptp_invariants.specs.SettlingInvariant.{SettlingInvariant, KeepsAll}
+use Rattle.gptp_invariants.specs.SettlesAsMachine.{BecomeCapable, IsSettling, IsWorld, quick_network, settling_network, start_of}
+use Rattle.gptp_invariants.specs.Settled.{Settled}
+use Rattle.gptp_invariants.specs.Standing.{snapshot_of}
+use Rattle.gptp_invariants.specs.View.{says_sync, station_view, view}
+use Rattle.gptp_invariants.proofs.SettlingInvariantLemmas.{settled_by_paths}
+use Rattle.gptp_invariants.proofs.ClaimLemmas.{claim_capable}
+use Rattle.gptp_invariants.proofs.DelayLemmas.{delay_short}
+use Rattle.gptp_invariants.proofs.SettlesAsMachineLemmas.{is_calm, is_network, paths_bound}
+use Rattle.gptp_invariants.proofs.PlaceLemmas.{station_there}
+use Rattle.gptp_invariants.proofs.SettledLemmas.{span_ends}
+use Rattle.gptp_invariants.proofs.StandsLemmas.{stands_well}
+use Rattle.gptp_invariants.proofs.SyncActLemmas.{timers_seen}
+use Rattle.gptp_invariants.proofs.WaitLemmas.{step_long, wait_is}
+use Rattle.gptp_theorem.specs.Headline.{WorldIsCalm}
+use Rattle.gptp_theorem.proofs.HeadlineLemmas.{quiet_as}
 use Rattle.gptp_reading.specs.Age.{WorldsAreRecent}
 
 -- ---- Syncs that are expected

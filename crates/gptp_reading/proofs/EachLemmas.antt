@@ -6,21 +6,21 @@ use Rattle.gptp_links.specs.Fate.{Draw}
 use Rattle.gptp_setup.specs.declared.timer.Timer.TheVariants as timers
 use Rattle.gptp_system.specs.declared.answer.Answer.{Answer}
 use Rattle.gptp_system.specs.Input.{Input, PortUp, PortDown, Frame as FrameHeard, Expires as TimerExpires, Priority}
-use Rattle.gptp_plan.specs.declared.change.Act.{Act}
-use Rattle.gptp_plan.specs.declared.change.Act.TheVariants.{Deliver, Expire, Change as Changing}
-use Rattle.gptp_plan.specs.declared.change.Change.{Change}
-use Rattle.gptp_plan.specs.declared.change.Change.TheVariants.{LinkDown, LinkUp, LinkSet, Fail, Recover, Priority1, Inject}
-use Rattle.gptp_plan.specs.Network.{NetworkState, pace_of}
-use Rattle.gptp_acts.specs.Act.{Calls, Hears, all_timers, in_state}
-use Rattle.gptp_acts.specs.Acts.{Acts, Changes}
-use Rattle.gptp_acts.specs.Agrees.{stopped}
-use Rattle.gptp_acts.specs.Ahead.{IsSteady}
-use Rattle.gptp_acts.specs.Changing.{CallsAll, CallsIfLive, ComesUpIf, FailsIf, GoesDownIf, InjectsIf, RecoversIf, Starts, StartsAll, TellsEnds, brought_up, fresh, taken_down, up_ports, with_setup, with_station}
-use Rattle.gptp_acts.specs.declared.done.Done.{Done}
-use Rattle.gptp_acts.specs.declared.station.Station.{Station}
-use Rattle.gptp_acts.specs.Initial.{initial, station_of}
-use Rattle.gptp_acts.specs.Sound.{IsSound}
-use Rattle.gptp_acts.specs.World.{Channel, WorldState, port_id, receiver}
+use Rattle.gptp_scenario.specs.declared.change.Act.{Act}
+use Rattle.gptp_scenario.specs.declared.change.Act.TheVariants.{Deliver, Expire, Change as Changing}
+use Rattle.gptp_scenario.specs.declared.change.Change.{Change}
+use Rattle.gptp_scenario.specs.declared.change.Change.TheVariants.{LinkDown, LinkUp, LinkSet, Fail, Recover, Priority1, Inject}
+use Rattle.gptp_scenario.specs.Network.{NetworkState, pace_of}
+use Rattle.gptp_model.specs.Act.{Calls, Hears, all_timers, in_state}
+use Rattle.gptp_model.specs.Acts.{Acts, Changes}
+use Rattle.gptp_model.specs.Agrees.{stopped}
+use Rattle.gptp_model.specs.Ahead.{IsSteady}
+use Rattle.gptp_model.specs.Changing.{CallsAll, CallsIfLive, ComesUpIf, FailsIf, GoesDownIf, InjectsIf, RecoversIf, Starts, StartsAll, TellsEnds, brought_up, fresh, taken_down, up_ports, with_setup, with_station}
+use Rattle.gptp_model.specs.declared.done.Done.{Done}
+use Rattle.gptp_model.specs.declared.station.Station.{Station}
+use Rattle.gptp_model.specs.Initial.{initial, station_of}
+use Rattle.gptp_model.specs.Sound.{IsSound}
+use Rattle.gptp_model.specs.World.{Channel, WorldState, port_id, receiver}
 use Rattle.gptp_vector.specs.declared.port.PortId.{PortId}
 use Rattle.gptp_reading.proofs.LapseLemmas.{HasLapse, lapse_kept, lapse_starts}
 

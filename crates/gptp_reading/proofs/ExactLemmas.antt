@@ -11,7 +11,7 @@ use Rattle.gptp_lists.proofs.MappedLemmas.{same_there}
 use Rattle.gptp_lists.proofs.PlaceLemmas.{get-set_same}
 use Rattle.gptp_scaled.specs.Counts.{AreWithin}
 use Rattle.gptp_correction.specs.SyncIn.{together}
-use Rattle.gptp_accuracy.specs.TimeError.{Way}
+use Rattle.gptp_error_laws.specs.TimeError.{Way}
 use Rattle.gptp_messages.specs.declared.follow_up.FollowUp.{FollowUp}
 use Rattle.gptp_messages.specs.declared.message.Message.TheVariants as messages
 use Rattle.gptp_messages.specs.Grammar.{Reads}
@@ -20,55 +20,55 @@ use Rattle.gptp_links.specs.declared.link.Direction.{Direction}
 use Rattle.gptp_links.specs.Fate.{Draw}
 use Rattle.gptp_links.specs.Queue.{Frame, frame}
 use Rattle.gptp_setup.specs.SettlingParams.{SettlingParams}
-use Rattle.gptp_plan.specs.SettlingTime.{settling_span_with}
-use Rattle.gptp_plan.specs.declared.change.Act.{Act}
-use Rattle.gptp_plan.specs.declared.change.Act.TheVariants.{Deliver, Expire, Change as Changing}
-use Rattle.gptp_plan.specs.declared.change.Timed.{Timed}
+use Rattle.gptp_scenario.specs.SettlingTime.{settling_span_with}
+use Rattle.gptp_scenario.specs.declared.change.Act.{Act}
+use Rattle.gptp_scenario.specs.declared.change.Act.TheVariants.{Deliver, Expire, Change as Changing}
+use Rattle.gptp_scenario.specs.declared.change.Timed.{Timed}
 use Rattle.gptp_system.specs.declared.answer.Answer.{Answer}
 use Rattle.gptp_system.specs.declared.answer.Answer.TheVariants as answers
 use Rattle.gptp_system.specs.declared.sending.Sending.{Sending}
 use Rattle.gptp_system.specs.Input.{Frame as FrameHeard, Steps}
 use Rattle.gptp_system.specs.State.{SystemState, clock, local_time}
-use Rattle.gptp_acts.proofs.SoundLemmas.{acts_sound}
-use Rattle.gptp_acts.proofs.SteadyLemmas.{same_clock}
-use Rattle.gptp_acts.specs.Act.{Hears, in_state}
-use Rattle.gptp_acts.specs.Acts.{Acts, at}
-use Rattle.gptp_acts.specs.Course.{WasDone}
-use Rattle.gptp_acts.specs.declared.done.Done.{Done}
-use Rattle.gptp_acts.specs.declared.done.Done.TheVariants.{Quiet, Heard}
-use Rattle.gptp_acts.specs.declared.station.Station.{Station}
-use Rattle.gptp_acts.specs.Prompt.{HavePace}
-use Rattle.gptp_acts.specs.Sound.{IsSound}
-use Rattle.gptp_acts.specs.Views.{ShowsLive}
-use Rattle.gptp_acts.specs.World.{Channel, WorldState, world_queue, receiver}
-use Rattle.gptp_timing.specs.Follower.{from}
-use Rattle.gptp_timing.specs.Tree.{IsWayTo}
-use Rattle.gptp_timing.proofs.TreeLemmas.{way_ends_at_parent}
-use Rattle.gptp_kept.specs.Calm.{clock_place, sync_paths_of}
-use Rattle.gptp_kept.specs.CalmFor.{IsCalmFor, span_over}
-use Rattle.gptp_kept.specs.SettlingInvariant.{KeepsAll}
-use Rattle.gptp_kept.specs.Followers.{HasWay, IsFollower, follower_clock, follower_setting, follower_parts, follower_state}
-use Rattle.gptp_kept.specs.LinkView.{LinkPlace, other_direction}
-use Rattle.gptp_kept.specs.Standing.{snapshot_of}
-use Rattle.gptp_kept.specs.Timed.{AllMeasureRight, IsSettledFrom}
-use Rattle.gptp_kept.specs.TimedClaim.{WorldInvariant, CarriesWhereCalm, IsCalmBy}
-use Rattle.gptp_kept.specs.TimedLaws.{IsRootOf}
-use Rattle.gptp_kept.specs.View.{port_identity_number}
-use Rattle.gptp_kept.proofs.CalmKeptLemmas.{acts_keep}
-use Rattle.gptp_kept.proofs.SettlingInvariantLemmas.{over_capable}
-use Rattle.gptp_kept.proofs.ExactLemmas.{all_later}
-use Rattle.gptp_kept.proofs.FollowClaimLemmas.{settled_from}
-use Rattle.gptp_kept.proofs.FollowDeliveryLemmas.{opposite_same}
-use Rattle.gptp_kept.proofs.FollowMeasureLemmas.{measured_right}
-use Rattle.gptp_kept.proofs.FollowTreeLemmas.{slave_is}
-use Rattle.gptp_kept.proofs.FollowWayLemmas.{Follows, follows_parent}
-use Rattle.gptp_kept.proofs.FoundLemmas.{place_is}
-use Rattle.gptp_kept.proofs.LinkLemmas.{sender_opposite}
-use Rattle.gptp_kept.proofs.MeasuredLinkLemmas.{claimed_measured}
-use Rattle.gptp_kept.proofs.TimeStepLemmas.{knows_on}
-use Rattle.gptp_kept.proofs.WayLemmas.{one_way}
-use Rattle.gptp_reached.specs.Headline.{HasComeDown, WorldIsCalm, UsesFollowUp}
-use Rattle.gptp_reached.proofs.HeadlineLemmas.{quiet_as}
+use Rattle.gptp_model.proofs.SoundLemmas.{acts_sound}
+use Rattle.gptp_model.proofs.SteadyLemmas.{same_clock}
+use Rattle.gptp_model.specs.Act.{Hears, in_state}
+use Rattle.gptp_model.specs.Acts.{Acts, at}
+use Rattle.gptp_model.specs.Course.{WasDone}
+use Rattle.gptp_model.specs.declared.done.Done.{Done}
+use Rattle.gptp_model.specs.declared.done.Done.TheVariants.{Quiet, Heard}
+use Rattle.gptp_model.specs.declared.station.Station.{Station}
+use Rattle.gptp_model.specs.Prompt.{HavePace}
+use Rattle.gptp_model.specs.Sound.{IsSound}
+use Rattle.gptp_model.specs.Views.{ShowsLive}
+use Rattle.gptp_model.specs.World.{Channel, WorldState, world_queue, receiver}
+use Rattle.gptp_sync_machine.specs.Follower.{from}
+use Rattle.gptp_sync_machine.specs.Tree.{IsWayTo}
+use Rattle.gptp_sync_machine.proofs.TreeLemmas.{way_ends_at_parent}
+use Rattle.gptp_invariants.specs.Calm.{clock_place, sync_paths_of}
+use Rattle.gptp_invariants.specs.CalmFor.{IsCalmFor, span_over}
+use Rattle.gptp_invariants.specs.SettlingInvariant.{KeepsAll}
+use Rattle.gptp_invariants.specs.Followers.{HasWay, IsFollower, follower_clock, follower_setting, follower_parts, follower_state}
+use Rattle.gptp_invariants.specs.LinkView.{LinkPlace, other_direction}
+use Rattle.gptp_invariants.specs.Standing.{snapshot_of}
+use Rattle.gptp_invariants.specs.Timed.{AllMeasureRight, IsSettledFrom}
+use Rattle.gptp_invariants.specs.TimedClaim.{WorldInvariant, CarriesWhereCalm, IsCalmBy}
+use Rattle.gptp_invariants.specs.TimedLaws.{IsRootOf}
+use Rattle.gptp_invariants.specs.View.{port_identity_number}
+use Rattle.gptp_invariants.proofs.CalmKeptLemmas.{acts_keep}
+use Rattle.gptp_invariants.proofs.SettlingInvariantLemmas.{over_capable}
+use Rattle.gptp_invariants.proofs.ExactLemmas.{all_later}
+use Rattle.gptp_invariants.proofs.FollowClaimLemmas.{settled_from}
+use Rattle.gptp_invariants.proofs.FollowDeliveryLemmas.{opposite_same}
+use Rattle.gptp_invariants.proofs.FollowMeasureLemmas.{measured_right}
+use Rattle.gptp_invariants.proofs.FollowTreeLemmas.{slave_is}
+use Rattle.gptp_invariants.proofs.FollowWayLemmas.{Follows, follows_parent}
+use Rattle.gptp_invariants.proofs.FoundLemmas.{place_is}
+use Rattle.gptp_invariants.proofs.LinkLemmas.{sender_opposite}
+use Rattle.gptp_invariants.proofs.MeasuredLinkLemmas.{claimed_measured}
+use Rattle.gptp_invariants.proofs.TimeStepLemmas.{knows_on}
+use Rattle.gptp_invariants.proofs.WayLemmas.{one_way}
+use Rattle.gptp_theorem.specs.Headline.{HasComeDown, WorldIsCalm, UsesFollowUp}
+use Rattle.gptp_theorem.proofs.HeadlineLemmas.{quiet_as}
 use Rattle.gptp_reading.specs.Reading.{IsBestsTime, reading, reading_error_at}
 use Rattle.gptp_reading.specs.Readings.{LeavesTime, WorldsHaveReadings, WorldsLeaveTime, WorldsReadExactly}
 use Rattle.gptp_reading.proofs.UsedLemmas.{IsUsedBy, has_reading, leaves_time, used_by, used_exactly}

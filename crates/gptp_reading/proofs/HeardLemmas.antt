@@ -23,48 +23,48 @@ use Rattle.gptp_links.specs.declared.bounds.Bounds.{Bounds}
 use Rattle.gptp_setup.specs.declared.setup.Params.{Params}
 use Rattle.gptp_setup.specs.SettlingParams.{SettlingParams, lapse_span}
 use Rattle.gptp_setup.proofs.IntervalLemmas.{interval_positive}
-use Rattle.gptp_plan.specs.declared.change.Act.{Act}
-use Rattle.gptp_plan.specs.declared.change.Act.TheVariants.{Deliver, Expire, Change as Changing}
-use Rattle.gptp_plan.specs.declared.change.Timed.{Timed}
-use Rattle.gptp_plan.specs.Network.{IsNetwork, NetworkState, pace_of}
-use Rattle.gptp_plan.specs.SettlingTime.{settling_span_with}
-use Rattle.gptp_plan.specs.SyncWait.{step_more, sync_wait}
+use Rattle.gptp_scenario.specs.declared.change.Act.{Act}
+use Rattle.gptp_scenario.specs.declared.change.Act.TheVariants.{Deliver, Expire, Change as Changing}
+use Rattle.gptp_scenario.specs.declared.change.Timed.{Timed}
+use Rattle.gptp_scenario.specs.Network.{IsNetwork, NetworkState, pace_of}
+use Rattle.gptp_scenario.specs.SettlingTime.{settling_span_with}
+use Rattle.gptp_scenario.specs.SyncWait.{step_more, sync_wait}
 use Rattle.gptp_system.specs.declared.answer.Answer.{Answer}
 use Rattle.gptp_system.specs.declared.answer.Answer.TheVariants as answers
 use Rattle.gptp_system.specs.Input.{Input, Frame as FrameHeard, Expires as TimerExpires}
 use Rattle.gptp_system.specs.State.{SystemState, can_lead, clock}
 use Rattle.gptp_system.proofs.LapseLemmas.{lapse_begins}
-use Rattle.gptp_acts.proofs.SteadyLemmas.{same_clock}
-use Rattle.gptp_acts.specs.Act.{Calls, Hears, in_state}
-use Rattle.gptp_acts.specs.Acts.{Acts, TellsHearing, at}
-use Rattle.gptp_acts.specs.Agrees.{stopped}
-use Rattle.gptp_acts.specs.Course.{Begun}
-use Rattle.gptp_acts.specs.declared.done.Done.{Done}
-use Rattle.gptp_acts.specs.declared.done.Done.TheVariants.{Quiet, Heard}
-use Rattle.gptp_acts.specs.declared.station.Station.{Station}
-use Rattle.gptp_acts.specs.Initial.{initial}
-use Rattle.gptp_acts.specs.Pending.{NothingBefore}
-use Rattle.gptp_acts.specs.Views.{ShowsLive}
-use Rattle.gptp_acts.specs.World.{WorldState, receiver}
+use Rattle.gptp_model.proofs.SteadyLemmas.{same_clock}
+use Rattle.gptp_model.specs.Act.{Calls, Hears, in_state}
+use Rattle.gptp_model.specs.Acts.{Acts, TellsHearing, at}
+use Rattle.gptp_model.specs.Agrees.{stopped}
+use Rattle.gptp_model.specs.Course.{Begun}
+use Rattle.gptp_model.specs.declared.done.Done.{Done}
+use Rattle.gptp_model.specs.declared.done.Done.TheVariants.{Quiet, Heard}
+use Rattle.gptp_model.specs.declared.station.Station.{Station}
+use Rattle.gptp_model.specs.Initial.{initial}
+use Rattle.gptp_model.specs.Pending.{NothingBefore}
+use Rattle.gptp_model.specs.Views.{ShowsLive}
+use Rattle.gptp_model.specs.World.{WorldState, receiver}
 use Rattle.gptp_world.proofs.InitialLemmas.{initial_sound}
 use Rattle.gptp_report.specs.Transitions.{Transition, transition}
-use Rattle.gptp_settling.specs.Settled.{IsSlaveOf}
-use Rattle.gptp_kept.specs.Calm.{sync_paths_of}
-use Rattle.gptp_kept.specs.CalmFor.{IsCalmFor, span_over}
-use Rattle.gptp_kept.specs.SettlingInvariant.{KeepsAll}
-use Rattle.gptp_kept.specs.SeenLaws.{IsNoChange}
-use Rattle.gptp_kept.specs.Settled.{IsSettledSystem, Settled}
-use Rattle.gptp_kept.specs.Standing.{snapshot_of}
-use Rattle.gptp_kept.specs.TimedClaim.{IsCalmBy}
-use Rattle.gptp_kept.proofs.CalmKeptLemmas.{KeepsNetwork, acts_keep, earlier_quiet, same_paths, same_snapshot, stays_quiet}
-use Rattle.gptp_kept.proofs.SettlingInvariantLemmas.{settled_by_paths}
-use Rattle.gptp_kept.proofs.ClaimLemmas.{claim_begins, claim_kept, claim_later}
-use Rattle.gptp_kept.proofs.FollowClaimLemmas.{acts_time}
-use Rattle.gptp_kept.proofs.SettlesAsMachineLemmas.{paths_bound}
-use Rattle.gptp_kept.proofs.OutlineLemmas.{change_is_last, starts_are_last}
-use Rattle.gptp_kept.proofs.StandsLemmas.{stands_well}
-use Rattle.gptp_reached.specs.Headline.{HasPassed, WorldIsCalm, UsesFollowUp}
-use Rattle.gptp_reached.proofs.HeadlineLemmas.{quiet_as}
+use Rattle.gptp_bmca_machine.specs.Settled.{IsSlaveOf}
+use Rattle.gptp_invariants.specs.Calm.{sync_paths_of}
+use Rattle.gptp_invariants.specs.CalmFor.{IsCalmFor, span_over}
+use Rattle.gptp_invariants.specs.SettlingInvariant.{KeepsAll}
+use Rattle.gptp_invariants.specs.SeenLaws.{IsNoChange}
+use Rattle.gptp_invariants.specs.Settled.{IsSettledSystem, Settled}
+use Rattle.gptp_invariants.specs.Standing.{snapshot_of}
+use Rattle.gptp_invariants.specs.TimedClaim.{IsCalmBy}
+use Rattle.gptp_invariants.proofs.CalmKeptLemmas.{KeepsNetwork, acts_keep, earlier_quiet, same_paths, same_snapshot, stays_quiet}
+use Rattle.gptp_invariants.proofs.SettlingInvariantLemmas.{settled_by_paths}
+use Rattle.gptp_invariants.proofs.ClaimLemmas.{claim_begins, claim_kept, claim_later}
+use Rattle.gptp_invariants.proofs.FollowClaimLemmas.{acts_time}
+use Rattle.gptp_invariants.proofs.SettlesAsMachineLemmas.{paths_bound}
+use Rattle.gptp_invariants.proofs.OutlineLemmas.{change_is_last, starts_are_last}
+use Rattle.gptp_invariants.proofs.StandsLemmas.{stands_well}
+use Rattle.gptp_theorem.specs.Headline.{HasPassed, WorldIsCalm, UsesFollowUp}
+use Rattle.gptp_theorem.proofs.HeadlineLemmas.{quiet_as}
 use Rattle.gptp_reading.specs.Age.{HeardWithin, RunsHearInTime}
 use Rattle.gptp_reading.proofs.AgeLemmas.{lapse_lately}
 use Rattle.gptp_reading.proofs.EachLemmas.{Each, acts_each, all_start, none_lives}

@@ -7,11 +7,11 @@ use Rattle.gptp_scaled.specs.Counts.{IsClockRate, IsCounted}
 use Rattle.gptp_scaled.proofs.CountLemmas.{quotient_is}
 use Rattle.gptp_pdelay.proofs.DelayLemmas.{IsScaled, scaled_is}
 use Rattle.gptp_correction.specs.Correction.{link_time}
-use Rattle.gptp_accuracy.specs.TimeError.{hop_error}
-use Rattle.gptp_accuracy.specs.HopLaws.{IsRateWithin, AreRates, IsOverLink}
-use Rattle.gptp_accuracy.proofs.HopLemmas.{link_time_of, scaled_time}
-use Rattle.gptp_accuracy.proofs.LinkLemmas.{link_time_is_below, link_time_is_above, stay_is_below, stay_is_above}
-use Rattle.gptp_accuracy.proofs.WayLemmas.{natural}
+use Rattle.gptp_error_laws.specs.TimeError.{hop_error}
+use Rattle.gptp_error_laws.specs.HopLaws.{IsRateWithin, AreRates, IsOverLink}
+use Rattle.gptp_error_laws.proofs.HopLemmas.{link_time_of, scaled_time}
+use Rattle.gptp_error_laws.proofs.LinkLemmas.{link_time_is_below, link_time_is_above, stay_is_below, stay_is_above}
+use Rattle.gptp_error_laws.proofs.WayLemmas.{natural}
 use Rattle.gptp_reading.specs.ReadingLaws.{ReadingIsWithin}
 
 -- the link time as a natural number, and the rates about it

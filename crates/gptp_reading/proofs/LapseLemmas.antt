@@ -40,8 +40,8 @@ use Rattle.gptp_system.proofs.ChangedLemmas.{Changed, change-get, each_port-get}
 use Rattle.gptp_system.proofs.FollowLemmas.{follows}
 use Rattle.gptp_system.proofs.LapseLemmas.{followed}
 use Rattle.gptp_system.proofs.StepLemmas.{steps_sound}
-use Rattle.gptp_acts.specs.Ahead.{IsSteady}
-use Rattle.gptp_kept.proofs.TimeStepLemmas.{can_lapse}
+use Rattle.gptp_model.specs.Ahead.{IsSteady}
+use Rattle.gptp_invariants.proofs.TimeStepLemmas.{can_lapse}
 
 -- ---- the cases
 

@@ -17,35 +17,35 @@ use Rattle.gptp_pdelay.specs.GoodLink.{ceil_div}
 use Rattle.gptp_setup.specs.declared.setup.Setup.{Setup}
 use Rattle.gptp_setup.specs.SettlingParams.{SettlingParams}
 use Rattle.gptp_setup.proofs.IntervalLemmas.{interval_positive}
-use Rattle.gptp_plan.specs.declared.change.Act.{Act}
-use Rattle.gptp_plan.specs.declared.change.Act.TheVariants.{Deliver, Expire, Change as Changing}
-use Rattle.gptp_plan.specs.declared.change.Timed.{Timed}
-use Rattle.gptp_plan.specs.SyncWait.{step_more}
+use Rattle.gptp_scenario.specs.declared.change.Act.{Act}
+use Rattle.gptp_scenario.specs.declared.change.Act.TheVariants.{Deliver, Expire, Change as Changing}
+use Rattle.gptp_scenario.specs.declared.change.Timed.{Timed}
+use Rattle.gptp_scenario.specs.SyncWait.{step_more}
 use Rattle.gptp_system.specs.State.{SystemState, clock, local_time}
-use Rattle.gptp_accuracy.specs.TimeError.{Way, jitter_at, time_error_at}
-use Rattle.gptp_acts.specs.Acts.{Acts, at}
-use Rattle.gptp_acts.specs.declared.done.Done.{Done}
-use Rattle.gptp_acts.specs.declared.station.Station.{Station}
-use Rattle.gptp_acts.specs.Prompt.{HavePace}
-use Rattle.gptp_acts.specs.Views.{ShowsLive}
-use Rattle.gptp_acts.specs.World.{WorldState}
+use Rattle.gptp_error_laws.specs.TimeError.{Way, jitter_at, time_error_at}
+use Rattle.gptp_model.specs.Acts.{Acts, at}
+use Rattle.gptp_model.specs.declared.done.Done.{Done}
+use Rattle.gptp_model.specs.declared.station.Station.{Station}
+use Rattle.gptp_model.specs.Prompt.{HavePace}
+use Rattle.gptp_model.specs.Views.{ShowsLive}
+use Rattle.gptp_model.specs.World.{WorldState}
 use Rattle.gptp_network.specs.Document.{DocumentState}
 use Rattle.gptp_report.specs.Transitions.{Transition, Unfolds, transition}
-use Rattle.gptp_timing.specs.Tree.{IsWayTo}
-use Rattle.gptp_kept.specs.Calm.{IsQuietWorld, sync_paths_of}
-use Rattle.gptp_kept.specs.SettlingInvariant.{KeepsAll}
-use Rattle.gptp_kept.specs.Followers.{follower_parts}
-use Rattle.gptp_kept.specs.Standing.{snapshot_of}
-use Rattle.gptp_kept.specs.TimedClaim.{WorldInvariant}
-use Rattle.gptp_kept.proofs.CalmKeptLemmas.{KeepsNetwork, acts_keep, keeps_on, same_paths, same_snapshot, stays_quiet}
-use Rattle.gptp_kept.proofs.ExactLemmas.{claimed_of}
-use Rattle.gptp_kept.proofs.FollowClaimLemmas.{acts_time}
-use Rattle.gptp_kept.proofs.FollowPartLemmas.{clock_shown, same_parts}
-use Rattle.gptp_kept.proofs.OutlineLemmas.{change_is_last, change_time}
-use Rattle.gptp_kept.proofs.SystemLemmas.{live_from}
-use Rattle.gptp_reached.specs.Headline.{HasComeDown, WorldIsCalm, UsesFollowUp}
-use Rattle.gptp_reached.specs.PlayedLaws.{IsPlayable}
-use Rattle.gptp_reached.proofs.HeadlineLemmas.{quiet_as}
+use Rattle.gptp_sync_machine.specs.Tree.{IsWayTo}
+use Rattle.gptp_invariants.specs.Calm.{IsQuietWorld, sync_paths_of}
+use Rattle.gptp_invariants.specs.SettlingInvariant.{KeepsAll}
+use Rattle.gptp_invariants.specs.Followers.{follower_parts}
+use Rattle.gptp_invariants.specs.Standing.{snapshot_of}
+use Rattle.gptp_invariants.specs.TimedClaim.{WorldInvariant}
+use Rattle.gptp_invariants.proofs.CalmKeptLemmas.{KeepsNetwork, acts_keep, keeps_on, same_paths, same_snapshot, stays_quiet}
+use Rattle.gptp_invariants.proofs.ExactLemmas.{claimed_of}
+use Rattle.gptp_invariants.proofs.FollowClaimLemmas.{acts_time}
+use Rattle.gptp_invariants.proofs.FollowPartLemmas.{clock_shown, same_parts}
+use Rattle.gptp_invariants.proofs.OutlineLemmas.{change_is_last, change_time}
+use Rattle.gptp_invariants.proofs.SystemLemmas.{live_from}
+use Rattle.gptp_theorem.specs.Headline.{HasComeDown, WorldIsCalm, UsesFollowUp}
+use Rattle.gptp_theorem.specs.PlayedLaws.{IsPlayable}
+use Rattle.gptp_theorem.proofs.HeadlineLemmas.{quiet_as}
 use Rattle.gptp_reading.specs.Reading.{IsBestsTime, held_rates_error_at, reading, reading_error_at}
 use Rattle.gptp_reading.specs.Readings.{LeavesReading, RunsReadInTime}
 use Rattle.gptp_reading.proofs.AgeLemmas.{claimed_alike}

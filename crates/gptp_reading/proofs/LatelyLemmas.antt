@@ -3,12 +3,12 @@ use Rattle.std.proofs.Common.{◌≡◌, ◌≤◌, ℕ, ℤ, Option, Some, None
 use Rattle.std.specs.Prelude.{IsSome}
 use Rattle.gptp_graph.specs.PathBound.{BoundsPaths, path_bound}
 use Rattle.gptp_links.specs.declared.bounds.Bounds.{Bounds}
-use Rattle.gptp_plan.specs.SyncWait.{sync_wait}
+use Rattle.gptp_scenario.specs.SyncWait.{sync_wait}
 use Rattle.gptp_setup.proofs.IntervalLemmas.{interval_positive}
-use Rattle.gptp_kept.specs.Calm.{sync_paths_of}
-use Rattle.gptp_kept.specs.Standing.{snapshot_of}
-use Rattle.gptp_kept.proofs.ExactLemmas.{claimed_of}
-use Rattle.gptp_kept.proofs.SettlesAsMachineLemmas.{paths_bound}
+use Rattle.gptp_invariants.specs.Calm.{sync_paths_of}
+use Rattle.gptp_invariants.specs.Standing.{snapshot_of}
+use Rattle.gptp_invariants.proofs.ExactLemmas.{claimed_of}
+use Rattle.gptp_invariants.proofs.SettlesAsMachineLemmas.{paths_bound}
 use Rattle.gptp_reading.specs.Age.{RunsReadLately}
 use Rattle.gptp_reading.specs.Reading.{reading}
 use Rattle.gptp_reading.specs.Readings.{LeavesReading}

@@ -6,28 +6,28 @@ use Rattle.std.proofs.lemmas.List.{append-nil}
 use Rattle.gptp_lists.specs.Members.{In}
 use Rattle.gptp_lists.proofs.SystemSpecLemmas.{In-parts}
 use Rattle.gptp_links.specs.declared.bounds.Bounds.{Bounds}
-use Rattle.gptp_plan.specs.declared.change.Timed.{Timed}
-use Rattle.gptp_plan.specs.Allowed.{IsFitAct}
-use Rattle.gptp_acts.specs.Acts.{at}
-use Rattle.gptp_acts.specs.Course.{WasDone}
-use Rattle.gptp_acts.specs.declared.done.Done.{Done}
-use Rattle.gptp_acts.specs.Pending.{NothingBefore}
-use Rattle.gptp_acts.specs.Prompt.{DelaysFitIntervals, NoneFaster}
-use Rattle.gptp_acts.specs.World.{WorldState}
-use Rattle.gptp_acts.proofs.AdvanceLemmas.{leaves_less, next_fits, nothing_sooner}
-use Rattle.gptp_acts.proofs.PromptLemmas.{begun_none_faster, next_prompt, prompt_within, stays_none_faster}
-use Rattle.gptp_acts.proofs.SoundLemmas.{later_sound}
-use Rattle.gptp_acts.proofs.StayLemmas.{done_stays}
+use Rattle.gptp_scenario.specs.declared.change.Timed.{Timed}
+use Rattle.gptp_scenario.specs.Allowed.{IsFitAct}
+use Rattle.gptp_model.specs.Acts.{at}
+use Rattle.gptp_model.specs.Course.{WasDone}
+use Rattle.gptp_model.specs.declared.done.Done.{Done}
+use Rattle.gptp_model.specs.Pending.{NothingBefore}
+use Rattle.gptp_model.specs.Prompt.{DelaysFitIntervals, NoneFaster}
+use Rattle.gptp_model.specs.World.{WorldState}
+use Rattle.gptp_model.proofs.AdvanceLemmas.{leaves_less, next_fits, nothing_sooner}
+use Rattle.gptp_model.proofs.PromptLemmas.{begun_none_faster, next_prompt, prompt_within, stays_none_faster}
+use Rattle.gptp_model.proofs.SoundLemmas.{later_sound}
+use Rattle.gptp_model.proofs.StayLemmas.{done_stays}
 use Rattle.gptp_world.proofs.SettlingInvariantLemmas.{next_octet}
 use Rattle.gptp_world.proofs.InitialLemmas.{initial_sound}
 use Rattle.gptp_network.specs.Document.{DocumentState}
 use Rattle.gptp_network.specs.Snapshot.{events_by}
 use Rattle.gptp_report.specs.Transitions.{Courses, Makes, Passes, PassesTo, Transition, Unfolds, transition}
-use Rattle.gptp_kept.specs.EncodableLaws.{SetsAnOctet}
-use Rattle.gptp_kept.specs.TimedClaim.{WorldInvariant}
-use Rattle.gptp_kept.proofs.ExactLemmas.{all_begins, all_kept, all_later}
-use Rattle.gptp_reached.specs.PlayedLaws.{IsPlayable}
-use Rattle.gptp_reached.proofs.SettlingInvariantLemmas.{IsFitEvent, events_fit, least_of}
+use Rattle.gptp_invariants.specs.EncodableLaws.{SetsAnOctet}
+use Rattle.gptp_invariants.specs.TimedClaim.{WorldInvariant}
+use Rattle.gptp_invariants.proofs.ExactLemmas.{all_begins, all_kept, all_later}
+use Rattle.gptp_theorem.specs.PlayedLaws.{IsPlayable}
+use Rattle.gptp_theorem.proofs.SettlingInvariantLemmas.{IsFitEvent, events_fit, least_of}
 use Rattle.gptp_reading.specs.Readings.{RunsReadExactly}
 use Rattle.gptp_reading.proofs.ExactLemmas.{worlds_read_exactly}
 

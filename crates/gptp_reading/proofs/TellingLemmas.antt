@@ -12,16 +12,16 @@ use Rattle.gptp_correction.specs.declared.correction.Relayed.{Relayed}
 use Rattle.gptp_correction.specs.declared.sync_in.SyncInfo.{SyncInfo}
 use Rattle.gptp_correction.specs.Correction.{bridge, link_time, passage}
 use Rattle.gptp_system.specs.Syncing.{OffsetFits}
-use Rattle.gptp_measuring.specs.Lanes.{LaneFrame}
-use Rattle.gptp_accuracy.specs.TimeError.{jitter_at, time_error_at}
-use Rattle.gptp_timing.specs.Messages.{Message, Sync, FollowUp, IsOneMessage}
-use Rattle.gptp_timing.specs.Right.{IsHeldAt, IsMeasuredAt, FollowUpIsRight, at_rate, info_of, most_correction_at}
-use Rattle.gptp_timing.specs.RightLaws.{IsOnWay}
-use Rattle.gptp_timing.specs.Follower.{Follower, IsSetting, FollowerSync, FollowerSetting, from, own_clock, root_clock}
-use Rattle.gptp_timing.specs.Flows.{AreCarried, Arrival, FramesFlow}
-use Rattle.gptp_timing.specs.Acts.{kept_at_ingress}
-use Rattle.gptp_timing.specs.Invariant.{FollowerInvariant, IsKept}
-use Rattle.gptp_timing.proofs.RightLemmas.{bridge_numbers_fit}
+use Rattle.gptp_pdelay_machine.specs.Lanes.{LaneFrame}
+use Rattle.gptp_error_laws.specs.TimeError.{jitter_at, time_error_at}
+use Rattle.gptp_sync_machine.specs.Messages.{Message, Sync, FollowUp, IsOneMessage}
+use Rattle.gptp_sync_machine.specs.Right.{IsHeldAt, IsMeasuredAt, FollowUpIsRight, at_rate, info_of, most_correction_at}
+use Rattle.gptp_sync_machine.specs.RightLaws.{IsOnWay}
+use Rattle.gptp_sync_machine.specs.Follower.{Follower, IsSetting, FollowerSync, FollowerSetting, from, own_clock, root_clock}
+use Rattle.gptp_sync_machine.specs.Flows.{AreCarried, Arrival, FramesFlow}
+use Rattle.gptp_sync_machine.specs.Acts.{kept_at_ingress}
+use Rattle.gptp_sync_machine.specs.Invariant.{FollowerInvariant, IsKept}
+use Rattle.gptp_sync_machine.proofs.RightLemmas.{bridge_numbers_fit}
 use Rattle.gptp_reading.specs.Reading.{held_rates_error_at, read_after}
 use Rattle.gptp_reading.proofs.WayLemmas.{later_within, reading_is_right}
 

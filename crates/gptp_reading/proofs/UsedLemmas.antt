@@ -24,30 +24,30 @@ use Rattle.gptp_system.specs.declared.sending.Sending.{Sending}
 use Rattle.gptp_system.specs.Input.{Frame as FrameHeard, Steps}
 use Rattle.gptp_system.specs.State.{SystemState, is_capable_at, lapse_of, local_time}
 use Rattle.gptp_system.specs.Syncing.{HearsFollowUpIf, IsOffset, OffsetFits, KnowsBy, KnowsIf, delay_at, is_slave_at, offset_of, root_rate_at, said_on, slave_delay, slave_rate}
-use Rattle.gptp_accuracy.specs.TimeError.{jitter_at, time_error_at}
-use Rattle.gptp_acts.specs.declared.station.Station.{Station}
-use Rattle.gptp_acts.specs.World.{WorldState, world_queue, receiver}
-use Rattle.gptp_timing.specs.Follower.{FollowerSetting, from, own_clock, root_clock}
-use Rattle.gptp_timing.specs.Messages.{FollowUp, IsOneMessage}
-use Rattle.gptp_timing.specs.Right.{IsHeldAt, IsMeasuredAt, at_rate, info_of}
-use Rattle.gptp_timing.proofs.ModestLemmas.{rates_are_held, ways_are_modest}
-use Rattle.gptp_timing.proofs.TreeLemmas.{way_leads_to}
-use Rattle.gptp_kept.specs.FollowView.{kept_sync, tells, told_in}
-use Rattle.gptp_kept.specs.Followers.{HasWay, IsFollower, follower, follower_clock, follower_setting, follower_parts, follower_state}
-use Rattle.gptp_kept.specs.LinkView.{LinkPlace, link_frame_view}
-use Rattle.gptp_kept.specs.Standing.{snapshot_of}
-use Rattle.gptp_kept.specs.Timed.{AllMeasureRight, CarriesTime, IsSettledFrom}
-use Rattle.gptp_kept.specs.TimedLaws.{IsRootOf}
-use Rattle.gptp_kept.specs.View.{port_identity_number}
-use Rattle.gptp_kept.proofs.FollowOctetLemmas.{told_alone}
-use Rattle.gptp_kept.proofs.FollowOffsetLemmas.{IsUsed, is_used}
-use Rattle.gptp_kept.proofs.FollowPartLemmas.{clock_shown}
-use Rattle.gptp_kept.proofs.FollowSettingLemmas.{is_setting, own_shown}
-use Rattle.gptp_kept.proofs.FollowSizeLemmas.{origin_fits}
-use Rattle.gptp_kept.proofs.FollowTreeLemmas.{slave_is, well_formed}
-use Rattle.gptp_kept.proofs.FollowWayLemmas.{correction_small, documented, few, long, own_time_fits, root_time_fits, short_way}
-use Rattle.gptp_kept.proofs.SyncHeardLemmas.{heard_as}
-use Rattle.gptp_kept.proofs.TimeStepLemmas.{can_lapse}
+use Rattle.gptp_error_laws.specs.TimeError.{jitter_at, time_error_at}
+use Rattle.gptp_model.specs.declared.station.Station.{Station}
+use Rattle.gptp_model.specs.World.{WorldState, world_queue, receiver}
+use Rattle.gptp_sync_machine.specs.Follower.{FollowerSetting, from, own_clock, root_clock}
+use Rattle.gptp_sync_machine.specs.Messages.{FollowUp, IsOneMessage}
+use Rattle.gptp_sync_machine.specs.Right.{IsHeldAt, IsMeasuredAt, at_rate, info_of}
+use Rattle.gptp_sync_machine.proofs.ModestLemmas.{rates_are_held, ways_are_modest}
+use Rattle.gptp_sync_machine.proofs.TreeLemmas.{way_leads_to}
+use Rattle.gptp_invariants.specs.FollowView.{kept_sync, tells, told_in}
+use Rattle.gptp_invariants.specs.Followers.{HasWay, IsFollower, follower, follower_clock, follower_setting, follower_parts, follower_state}
+use Rattle.gptp_invariants.specs.LinkView.{LinkPlace, link_frame_view}
+use Rattle.gptp_invariants.specs.Standing.{snapshot_of}
+use Rattle.gptp_invariants.specs.Timed.{AllMeasureRight, CarriesTime, IsSettledFrom}
+use Rattle.gptp_invariants.specs.TimedLaws.{IsRootOf}
+use Rattle.gptp_invariants.specs.View.{port_identity_number}
+use Rattle.gptp_invariants.proofs.FollowOctetLemmas.{told_alone}
+use Rattle.gptp_invariants.proofs.FollowOffsetLemmas.{IsUsed, is_used}
+use Rattle.gptp_invariants.proofs.FollowPartLemmas.{clock_shown}
+use Rattle.gptp_invariants.proofs.FollowSettingLemmas.{is_setting, own_shown}
+use Rattle.gptp_invariants.proofs.FollowSizeLemmas.{origin_fits}
+use Rattle.gptp_invariants.proofs.FollowTreeLemmas.{slave_is, well_formed}
+use Rattle.gptp_invariants.proofs.FollowWayLemmas.{correction_small, documented, few, long, own_time_fits, root_time_fits, short_way}
+use Rattle.gptp_invariants.proofs.SyncHeardLemmas.{heard_as}
+use Rattle.gptp_invariants.proofs.TimeStepLemmas.{can_lapse}
 use Rattle.gptp_reading.specs.Reading.{held_rates_error_at, read_after, read_from, reading, reading_error_at}
 use Rattle.gptp_reading.specs.Readings.{LeavesTime}
 use Rattle.gptp_reading.proofs.TellingLemmas.{IsAsSent, offset_fits, reading_is_exact, told_as_sent}

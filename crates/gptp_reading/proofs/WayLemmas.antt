@@ -13,13 +13,13 @@ use Rattle.gptp_pdelay.specs.GoodLink.{ceil_div}
 use Rattle.gptp_pdelay.proofs.MeasurementLemmas.{clock_counts, counts_between}
 use Rattle.gptp_correction.specs.declared.correction.Relayed.{Relayed}
 use Rattle.gptp_correction.specs.Sum.{sum_below}
-use Rattle.gptp_accuracy.specs.TimeError.{Way, clock_at, drift_at, jitter_at, link_at, rate_error_at, rates_error_at, steady_rate_at, time_error_at, total_below}
-use Rattle.gptp_accuracy.specs.HopLaws.{IsOverLink, IsRateBehind, IsRateWithin}
-use Rattle.gptp_accuracy.specs.WayLaws.{IsDocumented, shown_at}
-use Rattle.gptp_accuracy.proofs.WayLemmas.{adds, ceil_reaches, error_before, error_behind, error_sent, link_grows, natural, rate_near, size_is}
-use Rattle.gptp_timing.specs.Right.{IsHeldAt, IsMeasuredAt, at_rate, info_of, measured_error_at, sent_error_at}
-use Rattle.gptp_timing.specs.RightLaws.{IsOnWay}
-use Rattle.gptp_timing.proofs.RightLemmas.{held_is_right}
+use Rattle.gptp_error_laws.specs.TimeError.{Way, clock_at, drift_at, jitter_at, link_at, rate_error_at, rates_error_at, steady_rate_at, time_error_at, total_below}
+use Rattle.gptp_error_laws.specs.HopLaws.{IsOverLink, IsRateBehind, IsRateWithin}
+use Rattle.gptp_error_laws.specs.WayLaws.{IsDocumented, shown_at}
+use Rattle.gptp_error_laws.proofs.WayLemmas.{adds, ceil_reaches, error_before, error_behind, error_sent, link_grows, natural, rate_near, size_is}
+use Rattle.gptp_sync_machine.specs.Right.{IsHeldAt, IsMeasuredAt, at_rate, info_of, measured_error_at, sent_error_at}
+use Rattle.gptp_sync_machine.specs.RightLaws.{IsOnWay}
+use Rattle.gptp_sync_machine.proofs.RightLemmas.{held_is_right}
 use Rattle.gptp_reading.specs.Reading.{held_rates_error_at, read_after}
 use Rattle.gptp_reading.specs.ReadingLaws.{ReadingIsRight}
 use Rattle.gptp_reading.proofs.HopLemmas.{reading_is_within}

@@ -10,18 +10,18 @@ use Rattle.gptp_graph.specs.PathBound.{path_bound}
 use Rattle.gptp_links.specs.declared.bounds.Bounds.{Bounds}
 use Rattle.gptp_scaled.specs.Counts.{AreWithin}
 use Rattle.gptp_setup.specs.SettlingParams.{SettlingParams, lapse_span}
-use Rattle.gptp_plan.specs.SyncWait.{sync_wait}
+use Rattle.gptp_scenario.specs.SyncWait.{sync_wait}
 use Rattle.gptp_system.specs.State.{SystemState, can_lead}
-use Rattle.gptp_acts.specs.Acts.{at}
-use Rattle.gptp_acts.specs.Views.{ShowsLive}
-use Rattle.gptp_acts.specs.World.{WorldState}
+use Rattle.gptp_model.specs.Acts.{at}
+use Rattle.gptp_model.specs.Views.{ShowsLive}
+use Rattle.gptp_model.specs.World.{WorldState}
 use Rattle.gptp_network.specs.Document.{DocumentState}
 use Rattle.gptp_report.specs.Transitions.{Transition, Unfolds}
-use Rattle.gptp_kept.specs.Calm.{sync_paths_of}
-use Rattle.gptp_kept.specs.SettlingInvariant.{SettlingInvariant}
-use Rattle.gptp_kept.specs.Standing.{snapshot_of}
-use Rattle.gptp_reached.specs.Headline.{HasComeDown, HasPassed, WorldIsCalm, UsesFollowUp}
-use Rattle.gptp_reached.specs.PlayedLaws.{IsPlayable}
+use Rattle.gptp_invariants.specs.Calm.{sync_paths_of}
+use Rattle.gptp_invariants.specs.SettlingInvariant.{SettlingInvariant}
+use Rattle.gptp_invariants.specs.Standing.{snapshot_of}
+use Rattle.gptp_theorem.specs.Headline.{HasComeDown, HasPassed, WorldIsCalm, UsesFollowUp}
+use Rattle.gptp_theorem.specs.PlayedLaws.{IsPlayable}
 use Rattle.gptp_reading.specs.Reading.{IsBestsTime, IsReadingErrorOf}
 use Rattle.gptp_reading.specs.Readings.{LeavesReading}
 

@@ -11,12 +11,12 @@ use Rattle.gptp_correction.specs.Correction.{nearest_rate, sync_received}
 use Rattle.gptp_setup.specs.declared.setup.Params.{Params}
 use Rattle.gptp_system.specs.State.{SystemState, local_time}
 use Rattle.gptp_system.specs.Syncing.{slave_rate}
-use Rattle.gptp_accuracy.specs.TimeError.{Way, jitter_at, rates_error_at, time_error_at}
-use Rattle.gptp_acts.specs.Views.{ShowsLive}
-use Rattle.gptp_acts.specs.World.{WorldState}
-use Rattle.gptp_timing.specs.Tree.{IsWayTo}
-use Rattle.gptp_kept.specs.Followers.{follower_parts}
-use Rattle.gptp_kept.specs.Standing.{snapshot_of}
+use Rattle.gptp_error_laws.specs.TimeError.{Way, jitter_at, rates_error_at, time_error_at}
+use Rattle.gptp_model.specs.Views.{ShowsLive}
+use Rattle.gptp_model.specs.World.{WorldState}
+use Rattle.gptp_sync_machine.specs.Tree.{IsWayTo}
+use Rattle.gptp_invariants.specs.Followers.{follower_parts}
+use Rattle.gptp_invariants.specs.Standing.{snapshot_of}
 
 -- ---- what is read
 

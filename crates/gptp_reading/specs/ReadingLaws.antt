@@ -5,16 +5,16 @@ use Rattle.gptp_scaled.specs.Counts.{AreWithin, IsClockRate, IsCounted}
 use Rattle.gptp_scaled.specs.Stamp.{scaled_of}
 use Rattle.gptp_correction.specs.declared.correction.Relayed.{Relayed}
 use Rattle.gptp_correction.specs.declared.sync_in.SyncInfo.{SyncInfo}
-use Rattle.gptp_measuring.specs.Lanes.{LaneFrame}
-use Rattle.gptp_accuracy.specs.HopLaws.{IsOverLink, IsRateBehind}
-use Rattle.gptp_accuracy.specs.TimeError.{Way, hop_error, jitter_at, time_error_at}
-use Rattle.gptp_accuracy.specs.WayLaws.{shown_at}
-use Rattle.gptp_timing.specs.Acts.{kept_at_ingress}
-use Rattle.gptp_timing.specs.Follower.{Follower, IsSetting, FollowerSetting, from, own_clock, root_clock}
-use Rattle.gptp_timing.specs.Invariant.{FollowerInvariant}
-use Rattle.gptp_timing.specs.Messages.{Message, FollowUp, IsOneMessage}
-use Rattle.gptp_timing.specs.Right.{IsHeldAt, IsMeasuredAt, at_rate, info_of}
-use Rattle.gptp_timing.specs.RightLaws.{IsOnWay}
+use Rattle.gptp_pdelay_machine.specs.Lanes.{LaneFrame}
+use Rattle.gptp_error_laws.specs.HopLaws.{IsOverLink, IsRateBehind}
+use Rattle.gptp_error_laws.specs.TimeError.{Way, hop_error, jitter_at, time_error_at}
+use Rattle.gptp_error_laws.specs.WayLaws.{shown_at}
+use Rattle.gptp_sync_machine.specs.Acts.{kept_at_ingress}
+use Rattle.gptp_sync_machine.specs.Follower.{Follower, IsSetting, FollowerSetting, from, own_clock, root_clock}
+use Rattle.gptp_sync_machine.specs.Invariant.{FollowerInvariant}
+use Rattle.gptp_sync_machine.specs.Messages.{Message, FollowUp, IsOneMessage}
+use Rattle.gptp_sync_machine.specs.Right.{IsHeldAt, IsMeasuredAt, at_rate, info_of}
+use Rattle.gptp_sync_machine.specs.RightLaws.{IsOnWay}
 use Rattle.gptp_reading.specs.Reading.{held_rates_error_at, read_after}
 
 -- What is read so long after a Sync came over a link is the root's time then: within the link's part of the time error,

@@ -12,21 +12,21 @@ use Rattle.gptp_graph.specs.PathBound.{BoundsPaths}
 use Rattle.gptp_links.specs.declared.bounds.Bounds.{Bounds}
 use Rattle.gptp_scaled.specs.Counts.{AreWithin}
 use Rattle.gptp_setup.specs.SettlingParams.{SettlingParams}
-use Rattle.gptp_accuracy.specs.TimeError.{Way}
-use Rattle.gptp_timing.specs.Tree.{IsWayTo}
-use Rattle.gptp_kept.specs.Followers.{follower_parts}
-use Rattle.gptp_plan.specs.declared.change.Timed.{Timed}
+use Rattle.gptp_error_laws.specs.TimeError.{Way}
+use Rattle.gptp_sync_machine.specs.Tree.{IsWayTo}
+use Rattle.gptp_invariants.specs.Followers.{follower_parts}
+use Rattle.gptp_scenario.specs.declared.change.Timed.{Timed}
 use Rattle.gptp_system.specs.State.{SystemState, lapse_of}
-use Rattle.gptp_acts.specs.Course.{WasDone}
-use Rattle.gptp_acts.specs.declared.done.Done.{Done}
-use Rattle.gptp_acts.specs.Views.{ShowsLive}
-use Rattle.gptp_acts.specs.World.{WorldState}
+use Rattle.gptp_model.specs.Course.{WasDone}
+use Rattle.gptp_model.specs.declared.done.Done.{Done}
+use Rattle.gptp_model.specs.Views.{ShowsLive}
+use Rattle.gptp_model.specs.World.{WorldState}
 use Rattle.gptp_network.specs.Document.{DocumentState}
 use Rattle.gptp_report.specs.Transitions.{Transition, Unfolds}
-use Rattle.gptp_kept.specs.Standing.{snapshot_of}
-use Rattle.gptp_kept.specs.TimedClaim.{WorldInvariant}
-use Rattle.gptp_reached.specs.Headline.{HasComeDown, WorldIsCalm, UsesFollowUp}
-use Rattle.gptp_reached.specs.PlayedLaws.{IsPlayable}
+use Rattle.gptp_invariants.specs.Standing.{snapshot_of}
+use Rattle.gptp_invariants.specs.TimedClaim.{WorldInvariant}
+use Rattle.gptp_theorem.specs.Headline.{HasComeDown, WorldIsCalm, UsesFollowUp}
+use Rattle.gptp_theorem.specs.PlayedLaws.{IsPlayable}
 use Rattle.gptp_reading.specs.Reading.{IsBestsTime, IsReadingErrorOf, reading}
 
 -- By an act of which this is told, the system with this clock used a Follow_Up; and by the state that the act left it,

@@ -2,7 +2,7 @@
 
 ghost use Rattle.gptp_reading.specs.ReadingLaws.{ReadingIsExact, ReadingIsRight, ReadingIsWithin};
 
-use gptp_timing::Coding;
+use gptp_sync_machine::Coding;
 
 /// What is read so long after a Sync came over a link is the root's time, but for the error of the link and what the
 /// errors of the rates make of delay and span.

@@ -1,6 +1,6 @@
 //! What an application reads of the time of its root at any moment, and how exact that is.
 //!
-//! The theorem of gptp_reached bounds the offset that a Follow_Up leaves, at the instant at which it comes. Here it
+//! The theorem of gptp_theorem bounds the offset that a Follow_Up leaves, at the instant at which it comes. Here it
 //! is said of every later time what is read: between two Follow_Ups, in holdover, and while the network changes.
 //! `specs/Reading.antt` defines what is read and its error, `specs/Readings.antt` is the theorem on one page, and
 //! `specs/Age.antt` says how old what is known may be.

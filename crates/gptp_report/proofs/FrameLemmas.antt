@@ -2,16 +2,16 @@
 use Rattle.std.proofs.Common.{◌≡◌, ◌⊎◌, ℕ, Bool, true, false, List, [], ◌∷◌, ◌++◌, nat_le, Option, inl, inr, refl, ap, sym, subst, ◌∙◌, append_assoc, append-nil}
 use Rattle.std.specs.List.{AllByRecursion}
 use Rattle.gptp_links.specs.declared.bounds.Bounds.{Bounds}
-use Rattle.gptp_plan.specs.declared.change.Act.TheVariants as acts
-use Rattle.gptp_plan.specs.declared.change.Change.{Change}
-use Rattle.gptp_plan.specs.declared.change.Timed.{Timed}
-use Rattle.gptp_plan.specs.Network.{NetworkState}
-use Rattle.gptp_acts.specs.declared.done.Done.{Done}
-use Rattle.gptp_acts.specs.declared.done.Done.TheVariants.{Quiet}
-use Rattle.gptp_acts.specs.Acts.{at, Acts}
-use Rattle.gptp_acts.specs.Advancing.{Told}
-use Rattle.gptp_acts.specs.Course.{Begun, WasDone}
-use Rattle.gptp_acts.specs.World.{WorldState}
+use Rattle.gptp_scenario.specs.declared.change.Act.TheVariants as acts
+use Rattle.gptp_scenario.specs.declared.change.Change.{Change}
+use Rattle.gptp_scenario.specs.declared.change.Timed.{Timed}
+use Rattle.gptp_scenario.specs.Network.{NetworkState}
+use Rattle.gptp_model.specs.declared.done.Done.{Done}
+use Rattle.gptp_model.specs.declared.done.Done.TheVariants.{Quiet}
+use Rattle.gptp_model.specs.Acts.{at, Acts}
+use Rattle.gptp_model.specs.Advancing.{Told}
+use Rattle.gptp_model.specs.Course.{Begun, WasDone}
+use Rattle.gptp_model.specs.World.{WorldState}
 use Rattle.gptp_network.specs.Document.{DocumentState}
 use Rattle.gptp_network.specs.Events.{AreEvents, IsEvent}
 use Rattle.gptp_network.specs.Snapshot.{events_by}
@@ -22,7 +22,7 @@ use Rattle.gptp_report.specs.Following.{tells_frames, ShowsDoneIf}
 use Rattle.gptp_world.specs.Observing.{Observed, Tells}
 use Rattle.gptp_report.specs.Run.{BreaksOff, Changed, Goes, GoesSoFar, LeadsSoFar, LeadsTo, ShowsDone, ShowsFrames, ShowsIf}
 use Rattle.gptp_report.specs.Transitions.{Breaks, Courses, CoursesSoFar, Makes, Transition}
-use Rattle.gptp_spelling.specs.Lines.{text_of}
+use Rattle.gptp_words.specs.Lines.{text_of}
 use Rattle.gptp_system.specs.declared.answer.Answer.{Answer}
 use Rattle.gptp_world.proofs.FollowLemmas.{all_told, passes_advances}
 

@@ -4,7 +4,7 @@ use Rattle.std.proofs.Common.{append_assoc, append-nil}
 use Rattle.std.specs.List.{range_with_len}
 use Rattle.std.proofs.lemmas.Grind.{flat_map-append}
 use Rattle.std.proofs.lemmas.List.FromFn.{map-range_with_len_more}
-use Rattle.gptp_spelling.specs.Lines.{text_of}
+use Rattle.gptp_words.specs.Lines.{text_of}
 use Rattle.gptp_world.proofs.FollowLemmas.{text_append}
 
 -- a line behind a text is the last of its lines

@@ -2,12 +2,12 @@
 use Rattle.std.proofs.Common.{◌≡◌, ◌<◌, ◌+◌, ℕ, Bool, true, false, List, [], ◌∷◌, ◌++◌, length, drop, get_or, slice_get, Some, refl, ap, sym, subst, ◌∙◌, append_assoc, append-nil}
 use Rattle.std.proofs.lemmas.List.{drop_more}
 use Rattle.std.proofs.lemmas.Option.{same_Some, slice_get-get_or, slice_get_within}
-use Rattle.gptp_acts.specs.Views.{rising_clocks}
-use Rattle.gptp_acts.proofs.RisingLemmas.{rising_clocks-count}
+use Rattle.gptp_model.specs.Views.{rising_clocks}
+use Rattle.gptp_model.proofs.RisingLemmas.{rising_clocks-count}
 use Rattle.gptp_system.specs.State.{clock}
-use Rattle.gptp_acts.specs.declared.station.Station.{Station}
-use Rattle.gptp_acts.specs.World.{WorldState}
-use Rattle.gptp_spelling.specs.Lines.{text_of}
+use Rattle.gptp_model.specs.declared.station.Station.{Station}
+use Rattle.gptp_model.specs.World.{WorldState}
+use Rattle.gptp_words.specs.Lines.{text_of}
 use Rattle.gptp_report.specs.Report.{ShowsSystems, WritesSystem}
 use Rattle.gptp_report.specs.SystemLines.{failed_line, system_lines}
 use Rattle.gptp_report.proofs.LineLemmas.{written_more}

@@ -1,13 +1,13 @@
 -- Events, one after another.
 use Rattle.std.proofs.Common.{◌≡◌, ℕ, nat_le, Bool, true, false, List, [], ◌∷◌, ◌++◌, Option, inl, inr, refl, sym, subst, append_assoc, append-nil}
 use Rattle.gptp_links.specs.declared.bounds.Bounds.{Bounds}
-use Rattle.gptp_plan.specs.declared.change.Timed.{Timed}
-use Rattle.gptp_acts.specs.declared.done.Done.{Done}
-use Rattle.gptp_acts.specs.Advancing.{Told}
-use Rattle.gptp_acts.specs.Course.{WasDone}
-use Rattle.gptp_acts.specs.Sound.{HaveTheirSetups}
-use Rattle.gptp_acts.specs.World.{WorldState}
-use Rattle.gptp_acts.proofs.StayLemmas.{Stays, done_stays, same_stays, stays_on, stays_setups}
+use Rattle.gptp_scenario.specs.declared.change.Timed.{Timed}
+use Rattle.gptp_model.specs.declared.done.Done.{Done}
+use Rattle.gptp_model.specs.Advancing.{Told}
+use Rattle.gptp_model.specs.Course.{WasDone}
+use Rattle.gptp_model.specs.Sound.{HaveTheirSetups}
+use Rattle.gptp_model.specs.World.{WorldState}
+use Rattle.gptp_model.proofs.StayLemmas.{Stays, done_stays, same_stays, stays_on, stays_setups}
 use Rattle.gptp_network.specs.Document.{DocumentState}
 use Rattle.gptp_network.specs.Snapshot.{events_by}
 use Rattle.gptp_report.specs.Following.{BreaksAbout, BreaksSeen, MakesIf}

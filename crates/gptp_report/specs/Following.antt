@@ -1,11 +1,11 @@
 -- A world that goes on with events before an observer, and what is told meanwhile.
 use Rattle.std.specs.Prelude.{◌≡◌, ◌⊎◌, ℕ, Bool, true, false, List, [], Option}
 use Rattle.gptp_links.specs.declared.bounds.Bounds.{Bounds}
-use Rattle.gptp_plan.specs.declared.change.Timed.{Timed}
-use Rattle.gptp_acts.specs.declared.done.Done.{Done}
-use Rattle.gptp_acts.specs.Advancing.{Told}
-use Rattle.gptp_acts.specs.World.{WorldState}
-use Rattle.gptp_spelling.specs.Lines.{text_of}
+use Rattle.gptp_scenario.specs.declared.change.Timed.{Timed}
+use Rattle.gptp_model.specs.declared.done.Done.{Done}
+use Rattle.gptp_model.specs.Advancing.{Told}
+use Rattle.gptp_model.specs.World.{WorldState}
+use Rattle.gptp_words.specs.Lines.{text_of}
 use Rattle.gptp_report.specs.declared.frames.Frames.{Frames}
 use Rattle.gptp_report.specs.Run.{ShowsDone}
 use Rattle.gptp_report.specs.Transitions.{Breaks, Makes, Transition}

@@ -11,7 +11,7 @@ use Rattle.gptp_system.specs.declared.answer.Answer.{Answer}
 use Rattle.gptp_system.specs.declared.answer.Answer.TheVariants as answers
 use Rattle.gptp_report.specs.declared.frame_line.FrameType.{FrameType}
 use Rattle.gptp_report.specs.declared.frame_line.FrameType.TheVariants as types
-use Rattle.gptp_spelling.specs.Digits.{clock_text}
+use Rattle.gptp_words.specs.Digits.{clock_text}
 
 -- the type of a message (IEEE 802.1AS-2020, 10.6.2.2.1 and 11.4.2.1)
 abbrev pub frame_type_of : Message → FrameType

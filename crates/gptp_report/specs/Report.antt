@@ -2,12 +2,12 @@
 use Rattle.std.specs.Prelude.{◌≡◌, ◌⊎◌, ℕ, List, [], ◌∷◌, ◌++◌, codes}
 use Rattle.std.specs.Fmt.{decimal}
 use Rattle.gptp_network.specs.Document.{DocumentState}
-use Rattle.gptp_acts.specs.Acts.{AtSystem}
-use Rattle.gptp_plan.specs.Calm.{IsCalm, last_change}
-use Rattle.gptp_plan.specs.SettlingTime.{settles}
-use Rattle.gptp_acts.specs.Views.{rising_clocks}
-use Rattle.gptp_acts.specs.World.{WorldState}
-use Rattle.gptp_spelling.specs.Lines.{text_of}
+use Rattle.gptp_model.specs.Acts.{AtSystem}
+use Rattle.gptp_scenario.specs.Calm.{IsCalm, last_change}
+use Rattle.gptp_scenario.specs.SettlingTime.{settles}
+use Rattle.gptp_model.specs.Views.{rising_clocks}
+use Rattle.gptp_model.specs.World.{WorldState}
+use Rattle.gptp_words.specs.Lines.{text_of}
 use Rattle.gptp_report.specs.SystemLines.{system_lines}
 
 abbrev pub time_line : ℕ → List ℕ

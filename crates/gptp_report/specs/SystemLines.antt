@@ -7,9 +7,9 @@ use Rattle.gptp_system.specs.declared.port.Port.{Port}
 use Rattle.gptp_system.specs.Start.{role_at}
 use Rattle.gptp_system.specs.State.{SystemState, clock, is_capable_at, number}
 use Rattle.gptp_pdelay.specs.Peer.{delay_of}
-use Rattle.gptp_acts.specs.declared.station.Station.{Station}
-use Rattle.gptp_spelling.specs.Roles.{role_text}
-use Rattle.gptp_spelling.specs.Digits.{clock_text, identity_text, or_none, yes_or_no}
+use Rattle.gptp_model.specs.declared.station.Station.{Station}
+use Rattle.gptp_words.specs.Roles.{role_text}
+use Rattle.gptp_words.specs.Digits.{clock_text, identity_text, or_none, yes_or_no}
 
 -- A grandmaster is there where the root's priority1 is below 255 (IEEE 802.1AS-2020, 10.2.4.13).
 abbrev pub is_grandmaster : ℕ → Bool

@@ -3,10 +3,10 @@ use Rattle.std.specs.Prelude.{◌≡◌, ◌⊎◌, ℕ, List, [], ◌∷◌, �
 use Rattle.gptp_links.specs.declared.bounds.Bounds.{Bounds}
 use Rattle.gptp_network.specs.Document.{DocumentState}
 use Rattle.gptp_network.specs.Snapshot.{events_by}
-use Rattle.gptp_plan.specs.declared.change.Timed.{Timed}
-use Rattle.gptp_acts.specs.declared.done.Done.{Done}
-use Rattle.gptp_acts.specs.Course.{Begun, WasDone}
-use Rattle.gptp_acts.specs.World.{WorldState}
+use Rattle.gptp_scenario.specs.declared.change.Timed.{Timed}
+use Rattle.gptp_model.specs.declared.done.Done.{Done}
+use Rattle.gptp_model.specs.Course.{Begun, WasDone}
+use Rattle.gptp_model.specs.World.{WorldState}
 pub use Rattle.gptp_world.specs.Transitions.{Passes, PassesTo, Transition, transition}
 
 -- Once all that is due by its time has happened, an event is made.

@@ -2,9 +2,9 @@
 
 ghost use Rattle.std.specs.Prelude.{◌≡◌, ◌≢◌, ◌≤◌, IfOk, OnErr, OnOk};
 ghost use Rattle.std.specs.Io.KnownBytes.{Appends};
-ghost use Rattle.gptp_plan.specs.Allowed.{IsAllowed};
-ghost use Rattle.gptp_acts.specs.Prompt.{DelaysFitIntervals};
-ghost use Rattle.gptp_acts.specs.Course.{WasDone};
+ghost use Rattle.gptp_scenario.specs.Allowed.{IsAllowed};
+ghost use Rattle.gptp_model.specs.Prompt.{DelaysFitIntervals};
+ghost use Rattle.gptp_model.specs.Course.{WasDone};
 ghost use Rattle.gptp_report.specs.Following.{BreaksSeen};
 ghost use Rattle.gptp_sink.specs.Sink.{AppendsSome};
 ghost use Rattle.gptp_world.specs.Following.{PassesSeen};

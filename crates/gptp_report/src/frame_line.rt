@@ -2,14 +2,14 @@
 
 ghost use Rattle.std.specs.Prelude.{◌≡◌, ◌≢◌, [], ◌∷◌, ◌++◌, OnOk, string_bytes};
 ghost use Rattle.std.specs.Io.KnownBytes.{Appends};
-ghost use Rattle.gptp_spelling.specs.Lines.{text_of};
+ghost use Rattle.gptp_words.specs.Lines.{text_of};
 ghost use Rattle.gptp_report.specs.FrameLine.{IsOfType, frame_line, refusal_number, frame_type_of};
 ghost use Rattle.gptp_sink.specs.Sink.{AppendsSome};
 
 use gptp_messages::{Message, Refused, decode};
 use gptp_sink::sink::Sink;
 use gptp_sink::{Cut, write_whole};
-use gptp_spelling::{ClockDigits, OctetDigits};
+use gptp_words::{ClockDigits, OctetDigits};
 use gptp_system::Answer;
 use gptp_vector::ClockId;
 use std::alloc::{AllocError, Global};

@@ -1,9 +1,9 @@
 //! The report of a world.
 
 ghost use Rattle.std.specs.Prelude.{◌≡◌, ◌++◌, ℕ, List, [], ◌∷◌, OnOk, Some, slice_get, string_bytes};
-ghost use Rattle.gptp_acts.specs.Acts.{AnySystem, AtSystem};
-ghost use Rattle.gptp_acts.specs.Views.{rising_clocks};
-ghost use Rattle.gptp_spelling.specs.Lines.{text_of};
+ghost use Rattle.gptp_model.specs.Acts.{AnySystem, AtSystem};
+ghost use Rattle.gptp_model.specs.Views.{rising_clocks};
+ghost use Rattle.gptp_words.specs.Lines.{text_of};
 ghost use Rattle.gptp_report.specs.Report.{calm_line, calm_text, restless_line, time_line, IsChangeLine, Reports, ShowsSystems, WritesSystem};
 
 use crate::system_lines::{write_failed, write_system};

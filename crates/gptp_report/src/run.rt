@@ -2,11 +2,11 @@
 
 ghost use Rattle.std.specs.Prelude.{◌≡◌, ◌≢◌, ◌⊎◌, ◌≤◌, [], true, List, ℕ, IfOk, OnErr, OnOk, nat_le};
 ghost use Rattle.std.specs.Io.KnownBytes.{Appends};
-ghost use Rattle.gptp_acts.specs.Course.{Begun, WasDone};
-ghost use Rattle.gptp_plan.specs.Allowed.{AreAllowed, IsAllowed};
-ghost use Rattle.gptp_acts.specs.Prompt.{AllDelaysFitIntervals, DelaysFitIntervals};
+ghost use Rattle.gptp_model.specs.Course.{Begun, WasDone};
+ghost use Rattle.gptp_scenario.specs.Allowed.{AreAllowed, IsAllowed};
+ghost use Rattle.gptp_model.specs.Prompt.{AllDelaysFitIntervals, DelaysFitIntervals};
 ghost use Rattle.gptp_report.specs.Following.{BreaksAbout, MakesIf};
-ghost use Rattle.gptp_spelling.specs.Lines.{text_of};
+ghost use Rattle.gptp_words.specs.Lines.{text_of};
 ghost use Rattle.gptp_network.specs.Snapshot.{events_by};
 ghost use Rattle.gptp_report.specs.Run.{LeadsSoFar, LeadsTo};
 ghost use Rattle.gptp_sink.specs.Sink.{AppendsSome};

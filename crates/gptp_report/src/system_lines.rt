@@ -3,10 +3,10 @@
 ghost use Rattle.std.specs.Prelude.{◌≡◌, List, ℕ, [], ◌∷◌, ◌++◌, length, map, OnOk, string_bytes};
 ghost use Rattle.std.specs.List.{range_with_len};
 ghost use Rattle.gptp_system.specs.Steps.{HasPortNumber};
-ghost use Rattle.gptp_spelling.specs.Lines.{text_of};
+ghost use Rattle.gptp_words.specs.Lines.{text_of};
 ghost use Rattle.gptp_report.specs.SystemLines.{failed_line, is_grandmaster, live_line, live_lines, port_line};
 
-use gptp_spelling::{ClockDigits, IdentityDigits, OrNone, RoleWord, yes_or_no};
+use gptp_words::{ClockDigits, IdentityDigits, OrNone, RoleWord, yes_or_no};
 use gptp_system::System;
 use gptp_vector::{ClockId, Identity};
 use std::alloc::AllocError;

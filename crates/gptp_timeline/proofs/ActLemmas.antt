@@ -1,12 +1,12 @@
 -- What each act does to what is shown of systems, and what is told of it.
 use Rattle.std.proofs.Common.{◌≡◌, ℕ, List, Option, Some, None, option_map, slice_get, sym, ap, ◌∙◌}
 use Rattle.std.proofs.lemmas.Option.{same_Some}
-use Rattle.gptp_acts.specs.declared.done.Done.{Done}
-use Rattle.gptp_acts.specs.declared.done.Done.TheVariants.{Heard, Quiet}
-use Rattle.gptp_acts.specs.declared.station.Station.{Station}
-use Rattle.gptp_acts.specs.Act.{Calls, Delivers, TimerRunsOut, Hears}
-use Rattle.gptp_acts.specs.Acts.{AnySystem, AtSystem, Delivery}
-use Rattle.gptp_acts.specs.World.{Channel, WorldState, receiver}
+use Rattle.gptp_model.specs.declared.done.Done.{Done}
+use Rattle.gptp_model.specs.declared.done.Done.TheVariants.{Heard, Quiet}
+use Rattle.gptp_model.specs.declared.station.Station.{Station}
+use Rattle.gptp_model.specs.Act.{Calls, Delivers, TimerRunsOut, Hears}
+use Rattle.gptp_model.specs.Acts.{AnySystem, AtSystem, Delivery}
+use Rattle.gptp_model.specs.World.{Channel, WorldState, receiver}
 use Rattle.gptp_links.specs.Fate.{Draw}
 use Rattle.gptp_links.specs.declared.link.Direction.{Direction}
 use Rattle.gptp_setup.specs.declared.timer.Timer.{Timer}

@@ -1,19 +1,19 @@
 -- No system expects time as a world begins: none has measured anything, so none has a Slave port.
 use Rattle.std.proofs.Common.{◌≡◌, ◌==◌, ℕ, zero, suc, ◌+◌, Bool, true, false, List, [], ◌∷◌, map, Option, Some, None, if◌then◌else◌, length, option_map, slice_get, refl, sym, subst, inl, inr}
 use Rattle.std.specs.List.{range_with_len}
-use Rattle.gptp_acts.specs.declared.station.Station.{Station}
-use Rattle.gptp_acts.specs.Act.{in_state, Calls}
-use Rattle.gptp_acts.specs.Changing.{CallsAll, fresh, Starts, StartsAll, up_ports}
-use Rattle.gptp_acts.specs.Course.{Begun}
-use Rattle.gptp_acts.specs.Initial.{initial, setup_of, station_of}
-use Rattle.gptp_acts.specs.World.{WorldState}
-use Rattle.gptp_acts.proofs.AgreeLemmas.{replaced}
+use Rattle.gptp_model.specs.declared.station.Station.{Station}
+use Rattle.gptp_model.specs.Act.{in_state, Calls}
+use Rattle.gptp_model.specs.Changing.{CallsAll, fresh, Starts, StartsAll, up_ports}
+use Rattle.gptp_model.specs.Course.{Begun}
+use Rattle.gptp_model.specs.Initial.{initial, setup_of, station_of}
+use Rattle.gptp_model.specs.World.{WorldState}
+use Rattle.gptp_model.proofs.AgreeLemmas.{replaced}
 use Rattle.gptp_links.specs.declared.bounds.Bounds.{Bounds}
 use Rattle.gptp_links.specs.Fate.{Draw}
 use Rattle.gptp_lists.proofs.MappedLemmas.{mapped}
 use Rattle.gptp_lists.proofs.PlaceLemmas.{get-set_all}
 use Rattle.gptp_pdelay.specs.Peer.{reset_peer}
-use Rattle.gptp_plan.specs.Network.{NetworkState, pace_of}
+use Rattle.gptp_scenario.specs.Network.{NetworkState, pace_of}
 use Rattle.gptp_setup.specs.Intervals.{interval_of}
 use Rattle.gptp_setup.specs.declared.setup.Setup.{Setup}
 use Rattle.gptp_system.specs.declared.answer.Answer.{Answer}

@@ -1,12 +1,12 @@
 -- The acts of a stretch, each with the systems before it and behind it.
 use Rattle.std.proofs.Common.{◌≡◌, ℕ, List, [], ◌∷◌, ◌++◌, Option, refl, sym, ap, subst, inl, inr}
-use Rattle.gptp_acts.specs.declared.station.Station.{Station}
-use Rattle.gptp_acts.specs.Acts.{at, Acts}
-use Rattle.gptp_acts.specs.Course.{WasDone}
-use Rattle.gptp_acts.specs.World.{WorldState}
+use Rattle.gptp_model.specs.declared.station.Station.{Station}
+use Rattle.gptp_model.specs.Acts.{at, Acts}
+use Rattle.gptp_model.specs.Course.{WasDone}
+use Rattle.gptp_model.specs.World.{WorldState}
 use Rattle.gptp_links.specs.declared.bounds.Bounds.{Bounds}
 use Rattle.gptp_links.specs.Fate.{Draw}
-use Rattle.gptp_plan.specs.declared.change.Timed.{Timed}
+use Rattle.gptp_scenario.specs.declared.change.Timed.{Timed}
 use Rattle.gptp_world.specs.Transitions.{Passes, PassesTo, Transition}
 use Rattle.gptp_report.specs.Transitions.{Breaks, Courses, CoursesSoFar, Makes}
 

@@ -2,8 +2,8 @@
 use Rattle.std.proofs.Common.{◌≡◌, ◌<◌, ◌+◌, ◌-◌, ℕ, suc, List, [], ◌∷◌, ◌++◌, length, map, Option, Some, None, slice_get, slice_set, refl, sym, ap, subst, ◌∙◌, append_assoc, length-append, arith}
 use Rattle.std.specs.List.{range_with_len}
 use Rattle.std.proofs.lemmas.List.{length-set}
-use Rattle.gptp_spelling.specs.Lines.{text_of}
-use Rattle.gptp_acts.specs.World.{WorldState}
+use Rattle.gptp_words.specs.Lines.{text_of}
+use Rattle.gptp_model.specs.World.{WorldState}
 use Rattle.gptp_timeline.specs.Shown.{shown}
 use Rattle.gptp_timeline.specs.Watch.{lines_at, lines_each, measures_after, see_all, see_at, see_each, see_one, watched_after, WatchState}
 use Rattle.gptp_timeline.specs.declared.measures.Measures.{Measures}

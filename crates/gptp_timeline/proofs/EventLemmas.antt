@@ -4,16 +4,16 @@ use Rattle.std.specs.List.{AllByRecursion, filter}
 use Rattle.std.specs.List.Sorted.{IsPartitionPoint}
 use Rattle.std.proofs.lemmas.Bool.Decides.{nat_tests}
 use Rattle.std.proofs.lemmas.Option.{same_Some}
-use Rattle.gptp_acts.specs.Prompt.{AllDelaysFitIntervals, DelaysFitIntervals}
-use Rattle.gptp_acts.specs.World.{WorldState}
-use Rattle.gptp_acts.proofs.PromptLemmas.{stay_prompt}
-use Rattle.gptp_acts.proofs.StayLemmas.{Stays}
+use Rattle.gptp_model.specs.Prompt.{AllDelaysFitIntervals, DelaysFitIntervals}
+use Rattle.gptp_model.specs.World.{WorldState}
+use Rattle.gptp_model.proofs.PromptLemmas.{stay_prompt}
+use Rattle.gptp_model.proofs.StayLemmas.{Stays}
 use Rattle.gptp_lists.proofs.SystemSpecLemmas.{In-slice_get, slice_get-In}
 use Rattle.gptp_network.specs.Events.{AreInOrder}
 use Rattle.gptp_network.specs.Snapshot.{events_by}
 use Rattle.gptp_network.proofs.SnapshotLemmas.{from_filter}
-use Rattle.gptp_plan.specs.Allowed.{AreAllowed, IsAllowed}
-use Rattle.gptp_plan.specs.declared.change.Timed.{Timed}
+use Rattle.gptp_scenario.specs.Allowed.{AreAllowed, IsAllowed}
+use Rattle.gptp_scenario.specs.declared.change.Timed.{Timed}
 use Rattle.gptp_timeline.specs.Passing.{first_time}
 use Rattle.gptp_timeline.specs.Timeline.{end_before, later_than, now_of}
 

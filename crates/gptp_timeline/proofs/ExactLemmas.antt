@@ -7,13 +7,13 @@ use Rattle.gptp_network.specs.Document.{DocumentState}
 use Rattle.gptp_network.specs.Snapshot.{events_by}
 use Rattle.gptp_network.specs.Span.{IsBound}
 use Rattle.gptp_network.proofs.LawLemmas.{one_snapshot}
-use Rattle.gptp_plan.specs.Calm.{last_change}
-use Rattle.gptp_plan.specs.Network.{NetworkState, pace_of}
-use Rattle.gptp_plan.specs.SettlingTime.{settling_span_with}
-use Rattle.gptp_plan.specs.SyncWait.{sync_paths}
-use Rattle.gptp_plan.specs.declared.change.Timed.{Timed}
-use Rattle.gptp_time_error.specs.TimeErrors.{AreTimeErrors, exact_from, IsFrom}
-use Rattle.gptp_time_error.specs.declared.errors.TimeErrors.{TimeErrors}
+use Rattle.gptp_scenario.specs.Calm.{last_change}
+use Rattle.gptp_scenario.specs.Network.{NetworkState, pace_of}
+use Rattle.gptp_scenario.specs.SettlingTime.{settling_span_with}
+use Rattle.gptp_scenario.specs.SyncWait.{sync_paths}
+use Rattle.gptp_scenario.specs.declared.change.Timed.{Timed}
+use Rattle.gptp_accuracy.specs.TimeErrors.{AreTimeErrors, exact_from, IsFrom}
+use Rattle.gptp_accuracy.specs.declared.errors.TimeErrors.{TimeErrors}
 use Rattle.gptp_timeline.specs.Timeline.{AreErrorsBy}
 
 from_once : (n : NetworkState) (events : List Timed) (g : Snapshot) (one other : Option ℕ) → IsFrom n events g one

@@ -1,24 +1,24 @@
 -- Where a stretch has a bound and lasts as long, the roots that are followed where it ends are those of the settled
 -- choice.
 use Rattle.std.proofs.Common.{◌≡◌, ◌≤◌, ◌+◌, ℕ, Bool, List, [], ◌∷◌, ◌++◌, map, Option, Some, None, inl, inr, refl, sym, ap, subst, ◌∙◌, arith, true}
-use Rattle.gptp_acts.specs.Views.{rising_clocks}
-use Rattle.gptp_acts.specs.World.{WorldState}
+use Rattle.gptp_model.specs.Views.{rising_clocks}
+use Rattle.gptp_model.specs.World.{WorldState}
 use Rattle.gptp_graph.specs.Distance.{IsNear}
 use Rattle.gptp_graph.specs.Order.{IsRising}
 use Rattle.gptp_graph.specs.SettledChoice.{IsBestIdentity}
 use Rattle.gptp_graph.specs.Snapshot.{clocks, Snapshot, System}
-use Rattle.gptp_kept.specs.Standing.{snapshot_of}
+use Rattle.gptp_invariants.specs.Standing.{snapshot_of}
 use Rattle.gptp_links.specs.declared.bounds.Bounds.{Bounds}
 use Rattle.gptp_lists.specs.Members.{In}
 use Rattle.gptp_lists.proofs.SystemSpecLemmas.{from_map}
 use Rattle.gptp_network.specs.Document.{DocumentState}
 use Rattle.gptp_network.specs.Snapshot.{events_by, IsSnapshot, StandsAfter}
 use Rattle.gptp_network.specs.Span.{IsBound, IsSpan}
-use Rattle.gptp_plan.specs.Calm.{IsCalm}
-use Rattle.gptp_plan.specs.declared.change.Timed.{Timed}
-use Rattle.gptp_reached.specs.AlikeLaws.{AreAlike}
-use Rattle.gptp_reached.specs.PlayedLaws.{IsPlayable}
-use Rattle.gptp_reached.proofs.AlikeLemmas.{best, clock_among, distance, turned}
+use Rattle.gptp_scenario.specs.Calm.{IsCalm}
+use Rattle.gptp_scenario.specs.declared.change.Timed.{Timed}
+use Rattle.gptp_theorem.specs.AlikeLaws.{AreAlike}
+use Rattle.gptp_theorem.specs.PlayedLaws.{IsPlayable}
+use Rattle.gptp_theorem.proofs.AlikeLemmas.{best, clock_among, distance, turned}
 use Rattle.gptp_report.specs.Transitions.{Courses}
 use Rattle.gptp_system.specs.State.{SystemState}
 use Rattle.gptp_world.specs.Transitions.{Transition}

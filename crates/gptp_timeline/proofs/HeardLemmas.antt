@@ -3,15 +3,15 @@ use Rattle.std.proofs.Common.{◌≡◌, ◌⊎◌, ◌%◌, ◌==◌, ℕ, ℤ,
 use Rattle.std.specs.Option.{option_map_or}
 use Rattle.std.proofs.lemmas.Bool.Decides.{nat_tests}
 use Rattle.std.proofs.lemmas.Option.{none-some, same_Some}
-use Rattle.gptp_acts.specs.Act.{Hears}
-use Rattle.gptp_acts.specs.Acts.{Acts, at}
-use Rattle.gptp_acts.specs.declared.done.Done.{Done}
-use Rattle.gptp_acts.specs.declared.done.Done.TheVariants.{Heard, Quiet}
-use Rattle.gptp_acts.specs.Views.{ShowsLive}
-use Rattle.gptp_acts.specs.World.{WorldState}
-use Rattle.gptp_acts.specs.World.{receiver_clock as to}
-use Rattle.gptp_kept.specs.Exact.{IsExactInTime, IsHeardExact}
-use Rattle.gptp_kept.specs.TimedLaws.{AreFollowUp}
+use Rattle.gptp_model.specs.Act.{Hears}
+use Rattle.gptp_model.specs.Acts.{Acts, at}
+use Rattle.gptp_model.specs.declared.done.Done.{Done}
+use Rattle.gptp_model.specs.declared.done.Done.TheVariants.{Heard, Quiet}
+use Rattle.gptp_model.specs.Views.{ShowsLive}
+use Rattle.gptp_model.specs.World.{WorldState}
+use Rattle.gptp_model.specs.World.{receiver_clock as to}
+use Rattle.gptp_invariants.specs.Exact.{IsExactInTime, IsHeardExact}
+use Rattle.gptp_invariants.specs.TimedLaws.{AreFollowUp}
 use Rattle.gptp_links.specs.Fate.{Draw}
 use Rattle.gptp_messages.specs.declared.message.Message.{Message}
 use Rattle.gptp_messages.specs.declared.message.Message.TheVariants as messages
@@ -19,8 +19,8 @@ use Rattle.gptp_messages.specs.Grammar.{message_of, Reads}
 use Rattle.gptp_messages.specs.Head.{head_of}
 use Rattle.gptp_messages.specs.MessageType.{type_of}
 use Rattle.gptp_messages.specs.Timestamp.{stamp_of}
-use Rattle.gptp_plan.specs.declared.change.Act.{Act}
-use Rattle.gptp_plan.specs.declared.change.Act.TheVariants.{Change as Changing, Deliver, Expire}
+use Rattle.gptp_scenario.specs.declared.change.Act.{Act}
+use Rattle.gptp_scenario.specs.declared.change.Act.TheVariants.{Change as Changing, Deliver, Expire}
 use Rattle.gptp_system.specs.declared.answer.Answer.{Answer}
 use Rattle.gptp_system.specs.declared.answer.Answer.TheVariants as answers
 use Rattle.gptp_system.specs.Input.{Frame as FrameHeard, Steps}

@@ -1,7 +1,7 @@
 -- Texts that grow by lines.
 use Rattle.std.proofs.Common.{◌≡◌, ℕ, List, [], ◌∷◌, ◌++◌, append_assoc, append-nil, refl, sym, ap, ◌∙◌}
 use Rattle.std.proofs.lemmas.Grind.{flat_map-append}
-use Rattle.gptp_spelling.specs.Lines.{text_of}
+use Rattle.gptp_words.specs.Lines.{text_of}
 
 -- one line
 pub line_text : (line : List ℕ) → line ++ 10 ∷ [] ≡ text_of (line ∷ [])

@@ -1,19 +1,19 @@
 -- The clocks of a world by which systems are named: they rise, and no act takes one away.
 use Rattle.std.proofs.Common.{◌≡◌, ℕ, List, [], ◌∷◌, map, Some, slice_get, refl, sym, ap, subst, ◌∙◌}
-use Rattle.gptp_acts.specs.declared.done.Done.{Done}
-use Rattle.gptp_acts.specs.declared.station.Station.{Station}
-use Rattle.gptp_acts.specs.Acts.{Acts, AtSystem}
-use Rattle.gptp_acts.specs.Sound.{HaveOwnClocks, HaveTheirSetups, IsWired}
-use Rattle.gptp_acts.specs.Views.{rising_clocks}
-use Rattle.gptp_acts.specs.World.{WorldState}
-use Rattle.gptp_acts.proofs.StayLemmas.{acts_stay, stays_setups}
+use Rattle.gptp_model.specs.declared.done.Done.{Done}
+use Rattle.gptp_model.specs.declared.station.Station.{Station}
+use Rattle.gptp_model.specs.Acts.{Acts, AtSystem}
+use Rattle.gptp_model.specs.Sound.{HaveOwnClocks, HaveTheirSetups, IsWired}
+use Rattle.gptp_model.specs.Views.{rising_clocks}
+use Rattle.gptp_model.specs.World.{WorldState}
+use Rattle.gptp_model.proofs.StayLemmas.{acts_stay, stays_setups}
 use Rattle.gptp_graph.specs.Order.{IsRising}
 use Rattle.gptp_links.specs.Fate.{Draw}
 use Rattle.gptp_lists.specs.Members.{In}
 use Rattle.gptp_lists.proofs.SystemSpecLemmas.{In-map, In-slice_get}
-use Rattle.gptp_plan.specs.declared.change.Act.{Act}
+use Rattle.gptp_scenario.specs.declared.change.Act.{Act}
 use Rattle.gptp_system.specs.State.{clock}
-use Rattle.gptp_kept.proofs.NameLemmas.{clock_of_station, clocks_rise, In-rising}
+use Rattle.gptp_invariants.proofs.NameLemmas.{clock_of_station, clocks_rise, In-rising}
 use Rattle.gptp_timeline.specs.Watch.{WatchedRise, unseen}
 use Rattle.gptp_timeline.specs.declared.watched.Watched.{Watched}
 

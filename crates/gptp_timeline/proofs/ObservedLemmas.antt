@@ -2,20 +2,20 @@
 use Rattle.std.proofs.Common.{◌≡◌, ℕ, Bool, false, List, [], ◌∷◌, ◌++◌, map, Option, Some, None, option_map, refl, sym, ap, subst, ◌∙◌, append_assoc, append-nil}
 use Rattle.std.specs.List.{filter_map, flat_map}
 use Rattle.std.proofs.lemmas.List.Folds.{flat_map-map}
-use Rattle.gptp_acts.specs.declared.station.Station.{Station}
-use Rattle.gptp_acts.specs.Acts.{at}
-use Rattle.gptp_acts.specs.Course.{Begun}
-use Rattle.gptp_acts.specs.Sound.{IsWired}
-use Rattle.gptp_acts.specs.Views.{rising_clocks}
-use Rattle.gptp_acts.specs.World.{WorldState}
+use Rattle.gptp_model.specs.declared.station.Station.{Station}
+use Rattle.gptp_model.specs.Acts.{at}
+use Rattle.gptp_model.specs.Course.{Begun}
+use Rattle.gptp_model.specs.Sound.{IsWired}
+use Rattle.gptp_model.specs.Views.{rising_clocks}
+use Rattle.gptp_model.specs.World.{WorldState}
 use Rattle.gptp_links.specs.declared.bounds.Bounds.{Bounds}
 use Rattle.gptp_lists.specs.Members.{In}
-use Rattle.gptp_plan.specs.Network.{NetworkState}
-use Rattle.gptp_plan.specs.declared.change.Timed.{Timed}
+use Rattle.gptp_scenario.specs.Network.{NetworkState}
+use Rattle.gptp_scenario.specs.declared.change.Timed.{Timed}
 use Rattle.gptp_world.specs.Observing.{Tells}
 use Rattle.gptp_world.specs.Transitions.{Transition}
 use Rattle.gptp_report.specs.Transitions.{Courses, CoursesSoFar}
-use Rattle.gptp_time_error.specs.declared.errors.TimeErrors.{TimeErrors}
+use Rattle.gptp_accuracy.specs.declared.errors.TimeErrors.{TimeErrors}
 use Rattle.gptp_timeline.specs.Changes.{change_lines}
 use Rattle.gptp_timeline.specs.Ends.{EndState}
 use Rattle.gptp_timeline.specs.LastTwo.{end_in, end_of}

@@ -3,10 +3,10 @@ use Rattle.std.proofs.Common.{◌≡◌, ◌≤◌, ◌<◌, ◌+◌, ◌==◌, 
 use Rattle.std.specs.List.{range_with_len}
 use Rattle.std.proofs.lemmas.Bool.Decides.{nat_tests}
 use Rattle.std.proofs.lemmas.Option.{same_Some}
-use Rattle.gptp_acts.specs.declared.station.Station.{Station}
-use Rattle.gptp_acts.specs.Sound.{HaveOwnClocks}
-use Rattle.gptp_acts.specs.Views.{ShowsLive}
-use Rattle.gptp_acts.specs.World.{WorldState}
+use Rattle.gptp_model.specs.declared.station.Station.{Station}
+use Rattle.gptp_model.specs.Sound.{HaveOwnClocks}
+use Rattle.gptp_model.specs.Views.{ShowsLive}
+use Rattle.gptp_model.specs.World.{WorldState}
 use Rattle.gptp_graph.specs.Distance.{IsDistance, IsNear}
 use Rattle.gptp_graph.specs.Parent.{ParentLink}
 use Rattle.gptp_graph.specs.PathBound.{BoundsPaths}
@@ -19,18 +19,18 @@ use Rattle.gptp_graph.proofs.DistanceLemmas.{IsDistance-unique}
 use Rattle.gptp_graph.proofs.ParentLemmas.{IsParent-unique}
 use Rattle.gptp_graph.proofs.RoleLemmas.{RoleBy-unique}
 use Rattle.gptp_graph.proofs.SystemLemmas.{same_clock}
-use Rattle.gptp_kept.specs.CalmFor.{IsCalmFor, span_over}
-use Rattle.gptp_kept.specs.SettlingInvariant.{SettlingInvariant}
-use Rattle.gptp_kept.specs.Settled.{IsSettledSystem, graph_role}
-use Rattle.gptp_kept.specs.Shown.{AreCapable}
-use Rattle.gptp_kept.specs.Standing.{snapshot_of, standing_system}
-use Rattle.gptp_kept.proofs.SettlingInvariantLemmas.{over_capable, settled_by_paths}
-use Rattle.gptp_kept.proofs.ShownLemmas.{capable_shown}
-use Rattle.gptp_kept.proofs.SystemLemmas.{live_from, live_there}
+use Rattle.gptp_invariants.specs.CalmFor.{IsCalmFor, span_over}
+use Rattle.gptp_invariants.specs.SettlingInvariant.{SettlingInvariant}
+use Rattle.gptp_invariants.specs.Settled.{IsSettledSystem, graph_role}
+use Rattle.gptp_invariants.specs.Shown.{AreCapable}
+use Rattle.gptp_invariants.specs.Standing.{snapshot_of, standing_system}
+use Rattle.gptp_invariants.proofs.SettlingInvariantLemmas.{over_capable, settled_by_paths}
+use Rattle.gptp_invariants.proofs.ShownLemmas.{capable_shown}
+use Rattle.gptp_invariants.proofs.SystemLemmas.{live_from, live_there}
 use Rattle.gptp_lists.specs.Members.{In}
 use Rattle.gptp_roles.specs.declared.role.Role.{Role}
 use Rattle.gptp_roles.specs.declared.role.Role.TheVariants as roles
-use Rattle.gptp_settling.specs.Settled.{IsSlaveOf}
+use Rattle.gptp_bmca_machine.specs.Settled.{IsSlaveOf}
 use Rattle.gptp_system.specs.Start.{role_at}
 use Rattle.gptp_system.specs.State.{clock, is_capable_at, SystemState}
 use Rattle.gptp_system.specs.Steps.{HasPortNumber}

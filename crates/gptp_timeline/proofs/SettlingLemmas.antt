@@ -2,39 +2,39 @@
 use Rattle.std.proofs.Common.{◌≡◌, ◌⊎◌, ◌≤◌, ◌+◌, ◌-◌, ℕ, suc, Bool, true, false, nat_le, List, [], ◌∷◌, ◌++◌, ◌≢◌, length, nat_lt, Option, Some, None, IfSome, option_map, inl, inr, refl, sym, ap, subst, ◌∙◌, append_assoc, append-nil, arith}
 use Rattle.std.specs.List.{AllByRecursion}
 use Rattle.std.proofs.lemmas.Bool.Decides.{nat_tests}
-use Rattle.gptp_acts.specs.Acts.{at}
-use Rattle.gptp_acts.specs.Advancing.{Happens}
-use Rattle.gptp_acts.specs.Course.{Begun}
-use Rattle.gptp_acts.specs.Prompt.{NoneFaster}
-use Rattle.gptp_acts.specs.Sound.{IsSound}
-use Rattle.gptp_acts.specs.Views.{IsActOf, rising_clocks}
+use Rattle.gptp_model.specs.Acts.{at}
+use Rattle.gptp_model.specs.Advancing.{Happens}
+use Rattle.gptp_model.specs.Course.{Begun}
+use Rattle.gptp_model.specs.Prompt.{NoneFaster}
+use Rattle.gptp_model.specs.Sound.{IsSound}
+use Rattle.gptp_model.specs.Views.{IsActOf, rising_clocks}
 use Rattle.gptp_graph.specs.Distance.{IsNear}
-use Rattle.gptp_reached.proofs.AlikeLemmas.{path, turned}
+use Rattle.gptp_theorem.proofs.AlikeLemmas.{path, turned}
 use Rattle.gptp_system.specs.State.{SystemState}
 use Rattle.gptp_timeline.proofs.BehindLemmas.{all_both, IsStill, last_choice, last_roles, ShowsTheSame, StillBehind}
 use Rattle.gptp_timeline.proofs.NameLemmas.{acts_named, AreNamed, first_names, same_named}
 use Rattle.gptp_timeline.proofs.PastLemmas.{by_past, by_sooner, last_past, past_both, past_later, PastBy}
-use Rattle.gptp_acts.specs.World.{WorldState}
-use Rattle.gptp_acts.specs.declared.item.Item.{Item}
-use Rattle.gptp_acts.specs.declared.item.Item.TheVariants.{Arrival, Expiry}
-use Rattle.gptp_acts.specs.Pending.{NothingBefore}
-use Rattle.gptp_acts.proofs.AdvanceLemmas.{leaves_less, next_fits, nothing_sooner}
-use Rattle.gptp_acts.proofs.PromptLemmas.{begun_none_faster, next_prompt, prompt_within, stays_none_faster}
-use Rattle.gptp_acts.proofs.SoundLemmas.{later_sound}
-use Rattle.gptp_acts.proofs.StayLemmas.{done_stays}
+use Rattle.gptp_model.specs.World.{WorldState}
+use Rattle.gptp_model.specs.declared.item.Item.{Item}
+use Rattle.gptp_model.specs.declared.item.Item.TheVariants.{Arrival, Expiry}
+use Rattle.gptp_model.specs.Pending.{NothingBefore}
+use Rattle.gptp_model.proofs.AdvanceLemmas.{leaves_less, next_fits, nothing_sooner}
+use Rattle.gptp_model.proofs.PromptLemmas.{begun_none_faster, next_prompt, prompt_within, stays_none_faster}
+use Rattle.gptp_model.proofs.SoundLemmas.{later_sound}
+use Rattle.gptp_model.proofs.StayLemmas.{done_stays}
 use Rattle.gptp_graph.specs.PathBound.{BoundsPaths, path_bound}
 use Rattle.gptp_graph.specs.Snapshot.{clocks, IsWellFormed, Snapshot, System}
 use Rattle.gptp_graph.proofs.PathBoundLemmas.{paths_within}
-use Rattle.gptp_kept.specs.CalmFor.{IsCalmFor, span_over}
-use Rattle.gptp_kept.specs.SettlingInvariant.{KeepsAll}
-use Rattle.gptp_kept.specs.EncodableLaws.{SetsAnOctet}
-use Rattle.gptp_kept.specs.SeenLaws.{IsNoChange}
-use Rattle.gptp_kept.specs.Standing.{snapshot_of}
-use Rattle.gptp_kept.specs.TimedClaim.{CarriesWhereCalm}
-use Rattle.gptp_kept.proofs.CalmKeptLemmas.{acts_keep, same_snapshot}
-use Rattle.gptp_kept.proofs.ClaimLemmas.{claim_begins, claim_kept, claim_later}
-use Rattle.gptp_kept.proofs.FollowClaimLemmas.{carries_begins, carries_kept, carries_later}
-use Rattle.gptp_kept.proofs.StandsLemmas.{stands_well}
+use Rattle.gptp_invariants.specs.CalmFor.{IsCalmFor, span_over}
+use Rattle.gptp_invariants.specs.SettlingInvariant.{KeepsAll}
+use Rattle.gptp_invariants.specs.EncodableLaws.{SetsAnOctet}
+use Rattle.gptp_invariants.specs.SeenLaws.{IsNoChange}
+use Rattle.gptp_invariants.specs.Standing.{snapshot_of}
+use Rattle.gptp_invariants.specs.TimedClaim.{CarriesWhereCalm}
+use Rattle.gptp_invariants.proofs.CalmKeptLemmas.{acts_keep, same_snapshot}
+use Rattle.gptp_invariants.proofs.ClaimLemmas.{claim_begins, claim_kept, claim_later}
+use Rattle.gptp_invariants.proofs.FollowClaimLemmas.{carries_begins, carries_kept, carries_later}
+use Rattle.gptp_invariants.proofs.StandsLemmas.{stands_well}
 use Rattle.gptp_links.specs.declared.bounds.Bounds.{Bounds}
 use Rattle.gptp_lists.specs.Members.{In}
 use Rattle.gptp_lists.proofs.SystemSpecLemmas.{In-map}
@@ -45,28 +45,28 @@ use Rattle.gptp_network.specs.Span.{IsBound}
 use Rattle.gptp_network.proofs.EventLemmas.{events_allowed, events_prompt}
 use Rattle.gptp_network.proofs.SnapshotLemmas.{In-permutation}
 use Rattle.gptp_network.proofs.SnapshotLemmas as snapshots
-use Rattle.gptp_plan.specs.Allowed.{IsFitAct}
-use Rattle.gptp_plan.specs.Calm.{IsCalm, last_change}
-use Rattle.gptp_plan.specs.Network.{pace_of, smallest_of}
-use Rattle.gptp_plan.specs.Prompt.{DelayFitsInterval}
-use Rattle.gptp_plan.specs.SettlingTime.{settling_span_with}
-use Rattle.gptp_plan.specs.SyncWait.{sync_paths}
-use Rattle.gptp_plan.specs.declared.change.Act.{Act}
-use Rattle.gptp_plan.specs.declared.change.Act.TheVariants.{Change as Changing}
-use Rattle.gptp_plan.specs.declared.change.Change.{Change}
-use Rattle.gptp_plan.specs.declared.change.Timed.{Timed}
-use Rattle.gptp_plan.specs.declared.sync_wait.SyncPaths.{SyncPaths}
-use Rattle.gptp_plan.proofs.LogLemmas.{smallest_log}
-use Rattle.gptp_reached.specs.AlikeLaws.{AreAlike}
-use Rattle.gptp_reached.specs.PlayedLaws.{IsPlayable}
-use Rattle.gptp_reached.specs.Reached.{StandsAsPlanned}
-use Rattle.gptp_reached.proofs.BeginLemmas.{begun_stands}
-use Rattle.gptp_reached.proofs.CalmLemmas.{quiet_stands}
-use Rattle.gptp_reached.proofs.ChangeLemmas.{changes_stand}
-use Rattle.gptp_reached.proofs.SettlingInvariantLemmas.{each_there}
-use Rattle.gptp_reached.proofs.KeptLemmas.{acts_stand, time_stands}
-use Rattle.gptp_reached.proofs.SnapshotLemmas.{snapshots_stand}
-use Rattle.gptp_reached.proofs.SyncPathLemmas.{paths_stand}
+use Rattle.gptp_scenario.specs.Allowed.{IsFitAct}
+use Rattle.gptp_scenario.specs.Calm.{IsCalm, last_change}
+use Rattle.gptp_scenario.specs.Network.{pace_of, smallest_of}
+use Rattle.gptp_scenario.specs.Prompt.{DelayFitsInterval}
+use Rattle.gptp_scenario.specs.SettlingTime.{settling_span_with}
+use Rattle.gptp_scenario.specs.SyncWait.{sync_paths}
+use Rattle.gptp_scenario.specs.declared.change.Act.{Act}
+use Rattle.gptp_scenario.specs.declared.change.Act.TheVariants.{Change as Changing}
+use Rattle.gptp_scenario.specs.declared.change.Change.{Change}
+use Rattle.gptp_scenario.specs.declared.change.Timed.{Timed}
+use Rattle.gptp_scenario.specs.declared.sync_wait.SyncPaths.{SyncPaths}
+use Rattle.gptp_scenario.proofs.LogLemmas.{smallest_log}
+use Rattle.gptp_theorem.specs.AlikeLaws.{AreAlike}
+use Rattle.gptp_theorem.specs.PlayedLaws.{IsPlayable}
+use Rattle.gptp_theorem.specs.Reached.{StandsAsPlanned}
+use Rattle.gptp_theorem.proofs.BeginLemmas.{begun_stands}
+use Rattle.gptp_theorem.proofs.CalmLemmas.{quiet_stands}
+use Rattle.gptp_theorem.proofs.ChangeLemmas.{changes_stand}
+use Rattle.gptp_theorem.proofs.SettlingInvariantLemmas.{each_there}
+use Rattle.gptp_theorem.proofs.KeptLemmas.{acts_stand, time_stands}
+use Rattle.gptp_theorem.proofs.SnapshotLemmas.{snapshots_stand}
+use Rattle.gptp_theorem.proofs.SyncPathLemmas.{paths_stand}
 use Rattle.gptp_world.specs.Transitions.{Passes, PassesTo, Transition, transition}
 use Rattle.gptp_report.specs.Transitions.{Courses, Makes}
 use Rattle.gptp_setup.specs.Intervals.{interval_of}

@@ -2,13 +2,13 @@
 use Rattle.std.proofs.Common.{◌≡◌, ◌==◌, ℕ, zero, suc, Bool, true, false, List, [], ◌∷◌, Some, None, if◌then◌else◌, slice_get, slice_set, refl, sym, ap, subst, ◌∙◌, arith}
 use Rattle.std.proofs.lemmas.Bool.Decides.{nat_tests}
 use Rattle.std.proofs.lemmas.Option.{same_Some}
-use Rattle.gptp_acts.specs.declared.station.Station.{Station}
-use Rattle.gptp_acts.specs.Act.{in_state, Calls}
-use Rattle.gptp_acts.specs.Sound.{HaveOwnClocks}
-use Rattle.gptp_acts.specs.Views.{ShowsLive, IsLiveSystem}
-use Rattle.gptp_acts.specs.Acts.{AtSystem}
-use Rattle.gptp_acts.specs.World.{WorldState}
-use Rattle.gptp_acts.proofs.SteadyLemmas.{same_clock}
+use Rattle.gptp_model.specs.declared.station.Station.{Station}
+use Rattle.gptp_model.specs.Act.{in_state, Calls}
+use Rattle.gptp_model.specs.Sound.{HaveOwnClocks}
+use Rattle.gptp_model.specs.Views.{ShowsLive, IsLiveSystem}
+use Rattle.gptp_model.specs.Acts.{AtSystem}
+use Rattle.gptp_model.specs.World.{WorldState}
+use Rattle.gptp_model.proofs.SteadyLemmas.{same_clock}
 use Rattle.gptp_links.specs.Fate.{Draw}
 use Rattle.gptp_system.specs.Input.{Input}
 use Rattle.gptp_system.specs.declared.answer.Answer.{Answer}

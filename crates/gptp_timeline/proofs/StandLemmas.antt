@@ -1,7 +1,7 @@
 -- What an observer keeps of each system is what is defined over the acts.
 use Rattle.std.proofs.Common.{◌≡◌, ℕ, zero, suc, Bool, true, false, List, [], ◌∷◌, map, Option, Some, None, slice_get, slice_set, refl, sym, ap, ◌∙◌, arith}
 use Rattle.std.proofs.lemmas.Option.{same_Some}
-use Rattle.gptp_acts.specs.World.{WorldState}
+use Rattle.gptp_model.specs.World.{WorldState}
 use Rattle.gptp_graph.specs.Order.{IsRising}
 use Rattle.gptp_lists.proofs.SystemSpecLemmas.{In-slice_get}
 use Rattle.gptp_timeline.specs.Measures.{since_after}

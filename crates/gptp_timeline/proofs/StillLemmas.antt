@@ -1,7 +1,7 @@
 -- An act that leaves all of a system as it was changes nothing that is kept, and no line tells of it.
 use Rattle.std.proofs.Common.{◌≡◌, ◌&&◌, ◌||◌, ℕ, zero, suc, not, Bool, true, false, List, [], ◌∷◌, Option, Some, None, is_none, slice_get, slice_set, refl, sym, ap, ◌∙◌}
 use Rattle.std.proofs.lemmas.Option.{same_Some}
-use Rattle.gptp_acts.specs.World.{WorldState}
+use Rattle.gptp_model.specs.World.{WorldState}
 use Rattle.gptp_timeline.specs.Changes.{change_lines}
 use Rattle.gptp_timeline.specs.Measures.{ended_by, since_after}
 use Rattle.gptp_timeline.specs.Shown.{is_expecting, shown}

@@ -2,9 +2,9 @@
 use Rattle.std.proofs.Common.{◌≡◌, ℕ, Bool, List, [], ◌++◌, Option, None, inl, inr, refl, sym, ap, subst, ◌∙◌, append-nil, append_assoc, true}
 use Rattle.std.specs.Io.KnownBytes.{Appends}
 use Rattle.std.specs.List.{flat_map}
-use Rattle.gptp_acts.specs.Course.{Begun}
-use Rattle.gptp_acts.specs.Views.{rising_clocks}
-use Rattle.gptp_acts.specs.World.{WorldState}
+use Rattle.gptp_model.specs.Course.{Begun}
+use Rattle.gptp_model.specs.Views.{rising_clocks}
+use Rattle.gptp_model.specs.World.{WorldState}
 use Rattle.gptp_links.specs.declared.bounds.Bounds.{Bounds}
 use Rattle.gptp_network.specs.Document.{DocumentState}
 use Rattle.gptp_network.specs.Snapshot.{events_by}
@@ -12,7 +12,7 @@ use Rattle.gptp_sink.specs.Sink.{AppendsSome}
 use Rattle.gptp_world.specs.Transitions.{Transition}
 use Rattle.gptp_world.proofs.FollowLemmas.{text_append}
 use Rattle.gptp_sink.proofs.SinkLemmas.{appends_both, none_of, some_behind}
-use Rattle.gptp_spelling.specs.Lines.{text_of}
+use Rattle.gptp_words.specs.Lines.{text_of}
 use Rattle.gptp_timeline.specs.Limits.{is_exceeded, verdict_lines}
 use Rattle.gptp_timeline.specs.Timeline.{act_lines, all_exceeded, all_lines, AllPass, BeginsTimeline, none_waits, Passage, SomePass, start_lines, TimelineOf}
 use Rattle.gptp_timeline.specs.declared.limits.Limit.{Limit}

@@ -1,7 +1,7 @@
 -- What an observer keeps and tells is what is defined over the acts: behind each act.
 use Rattle.std.proofs.Common.{◌≡◌, ◌||◌, ℕ, Bool, true, false, not, List, [], ◌∷◌, ◌++◌, map, Option, Some, None, slice_get, slice_set, refl, sym, ap, ◌∙◌, append_assoc, length-append, length, ◌+◌}
 use Rattle.std.specs.List.{flat_map, list_any, range_with_len}
-use Rattle.gptp_acts.specs.World.{WorldState}
+use Rattle.gptp_model.specs.World.{WorldState}
 use Rattle.gptp_timeline.specs.Changes.{change_lines}
 use Rattle.gptp_timeline.specs.Measures.{last_if}
 use Rattle.gptp_timeline.specs.Shown.{same_choice, same_roles, shown}

@@ -1,16 +1,16 @@
 -- Stretches that pass one after another are one run.
 use Rattle.std.proofs.Common.{◌≡◌, ◌≢◌, ◌+◌, ℕ, true, false, Bool, nat_le, nat_lt, List, [], ◌∷◌, ◌++◌, map, Option, refl, sym, ap, subst, ◌∙◌, append_assoc, append-nil, arith}
 use Rattle.std.proofs.lemmas.Bool.Decides.{nat_tests}
-use Rattle.gptp_acts.specs.Acts.{at}
-use Rattle.gptp_acts.specs.Advancing.{Told}
-use Rattle.gptp_acts.specs.Pending.{NothingBefore}
-use Rattle.gptp_acts.specs.World.{WorldState}
-use Rattle.gptp_acts.proofs.AdvanceLemmas.{next_not_before}
+use Rattle.gptp_model.specs.Acts.{at}
+use Rattle.gptp_model.specs.Advancing.{Told}
+use Rattle.gptp_model.specs.Pending.{NothingBefore}
+use Rattle.gptp_model.specs.World.{WorldState}
+use Rattle.gptp_model.proofs.AdvanceLemmas.{next_not_before}
 use Rattle.gptp_links.specs.declared.bounds.Bounds.{Bounds}
 use Rattle.gptp_network.specs.Document.{DocumentState}
 use Rattle.gptp_network.specs.Events.{AreEvents, AreInOrder}
 use Rattle.gptp_network.specs.Snapshot.{events_by}
-use Rattle.gptp_plan.specs.declared.change.Timed.{Timed}
+use Rattle.gptp_scenario.specs.declared.change.Timed.{Timed}
 use Rattle.gptp_report.specs.Run.{Goes, PlaysRun}
 use Rattle.gptp_world.specs.Transitions.{Passes, PassesTo, Transition, transition}
 use Rattle.gptp_report.specs.Transitions.{Courses, Makes, Unfolds}

@@ -1,38 +1,38 @@
 -- The way that a system has by a document is the one that it has in each world that the document leads to.
 use Rattle.std.proofs.Common.{◌≡◌, ℕ, zero, suc, ℤ, pos, List, Some, slice_get, inl, inr, sym, ap, ap₂, subst, ◌∙◌}
 use Rattle.std.proofs.lemmas.Option.{same_Some}
-use Rattle.gptp_accuracy.specs.TimeError.{WayLink, Way}
-use Rattle.gptp_accuracy.specs.WayLaws.{longer}
-use Rattle.gptp_acts.specs.Sound.{IsSound}
-use Rattle.gptp_acts.specs.World.{Channel, WorldState, receiver}
+use Rattle.gptp_error_laws.specs.TimeError.{WayLink, Way}
+use Rattle.gptp_error_laws.specs.WayLaws.{longer}
+use Rattle.gptp_model.specs.Sound.{IsSound}
+use Rattle.gptp_model.specs.World.{Channel, WorldState, receiver}
 use Rattle.gptp_graph.specs.Distance.{IsDistance}
 use Rattle.gptp_graph.specs.Parent.{IsParent, ParentLink}
 use Rattle.gptp_graph.specs.Snapshot.{IsWellFormed, Joins, PortIdentity, port_of, Snapshot}
 use Rattle.gptp_graph.proofs.LinkLemmas.{Joins-sym}
 use Rattle.gptp_graph.proofs.ParentLemmas.{IsParent-unique}
-use Rattle.gptp_kept.specs.Followers.{bound_at, follower_parts}
-use Rattle.gptp_kept.specs.Encodable.{IsEncodable}
-use Rattle.gptp_kept.specs.Standing.{live_stations, snapshot_of}
-use Rattle.gptp_kept.proofs.FollowPartLemmas.{bound_is, set_up_is}
-use Rattle.gptp_kept.proofs.WayLemmas.{way_of}
+use Rattle.gptp_invariants.specs.Followers.{bound_at, follower_parts}
+use Rattle.gptp_invariants.specs.Encodable.{IsEncodable}
+use Rattle.gptp_invariants.specs.Standing.{live_stations, snapshot_of}
+use Rattle.gptp_invariants.proofs.FollowPartLemmas.{bound_is, set_up_is}
+use Rattle.gptp_invariants.proofs.WayLemmas.{way_of}
 use Rattle.gptp_links.specs.declared.bounds.Bounds.{Bounds}
 use Rattle.gptp_links.specs.declared.link.Direction.{Direction}
 use Rattle.gptp_links.specs.declared.link.Direction.TheVariants.{FromA, FromB}
 use Rattle.gptp_lists.proofs.MappedLemmas.{alike}
 use Rattle.gptp_lists.proofs.SystemSpecLemmas.{slice_get-In}
 use Rattle.gptp_network.proofs.SnapshotLemmas.{clock_after}
-use Rattle.gptp_plan.specs.Change.{link_after}
-use Rattle.gptp_plan.specs.Network.{IsEnd, IsNetwork, NetworkState, pace_of}
-use Rattle.gptp_plan.specs.declared.change.Timed.{Timed}
-use Rattle.gptp_plan.specs.declared.network.LinkSpec.{LinkSpec}
-use Rattle.gptp_plan.proofs.AfterLemmas.{after_keeps}
-use Rattle.gptp_reached.specs.AlikeLaws.{AreAlike}
-use Rattle.gptp_reached.specs.Reached.{Shape, shape, shape_after, StandsAsPlanned, channel_wire}
-use Rattle.gptp_reached.proofs.AlikeLemmas.{distance, parent, turned}
+use Rattle.gptp_scenario.specs.Change.{link_after}
+use Rattle.gptp_scenario.specs.Network.{IsEnd, IsNetwork, NetworkState, pace_of}
+use Rattle.gptp_scenario.specs.declared.change.Timed.{Timed}
+use Rattle.gptp_scenario.specs.declared.network.LinkSpec.{LinkSpec}
+use Rattle.gptp_scenario.proofs.AfterLemmas.{after_keeps}
+use Rattle.gptp_theorem.specs.AlikeLaws.{AreAlike}
+use Rattle.gptp_theorem.specs.Reached.{Shape, shape, shape_after, StandsAsPlanned, channel_wire}
+use Rattle.gptp_theorem.proofs.AlikeLemmas.{distance, parent, turned}
 use Rattle.gptp_roles.specs.Selection.{clock_of}
-use Rattle.gptp_time_error.specs.Ways.{HasDrift, IsLinkTo, IsWay, root_way}
-use Rattle.gptp_timing.specs.Tree.{IsWayTo, last_link, Parts}
-use Rattle.gptp_timing.proofs.TreeLemmas.{way_exists}
+use Rattle.gptp_accuracy.specs.Ways.{HasDrift, IsLinkTo, IsWay, root_way}
+use Rattle.gptp_sync_machine.specs.Tree.{IsWayTo, last_link, Parts}
+use Rattle.gptp_sync_machine.proofs.TreeLemmas.{way_exists}
 use Rattle.gptp_vector.specs.declared.port.PortId.{PortId}
 
 module _ (n : NetworkState) (network : IsNetwork n) (events : List Timed) (w : WorldState) (so : StandsAsPlanned n events w)

@@ -4,42 +4,42 @@ use Rattle.std.specs.List.{AllByRecursion}
 use Rattle.std.proofs.Math.Nat.{le_refl, mul-le-mul}
 use Rattle.std.proofs.lemmas.Int.{ints}
 use Rattle.std.proofs.lemmas.Option.{none-some, same_Some}
-use Rattle.gptp_accuracy.specs.TimeError.{Way, time_error}
-use Rattle.gptp_acts.specs.Acts.{at}
-use Rattle.gptp_acts.specs.Advancing.{Happens}
-use Rattle.gptp_acts.specs.Views.{rising_clocks}
-use Rattle.gptp_acts.specs.World.{WorldState}
+use Rattle.gptp_error_laws.specs.TimeError.{Way, time_error}
+use Rattle.gptp_model.specs.Acts.{at}
+use Rattle.gptp_model.specs.Advancing.{Happens}
+use Rattle.gptp_model.specs.Views.{rising_clocks}
+use Rattle.gptp_model.specs.World.{WorldState}
 use Rattle.gptp_graph.specs.Best.{IsBest}
 use Rattle.gptp_graph.specs.Distance.{IsDistance, IsNear}
 use Rattle.gptp_graph.specs.PathBound.{BoundsPaths, path_bound}
 use Rattle.gptp_graph.specs.Snapshot.{IsWellFormed, Snapshot, System}
 use Rattle.gptp_graph.proofs.DistanceLemmas.{best_at_zero}
-use Rattle.gptp_kept.specs.CalmFor.{IsCalmFor}
-use Rattle.gptp_kept.specs.SettlingInvariant.{KeepsAll}
-use Rattle.gptp_kept.specs.Exact.{exact_span, IsWayError, IsExactInTime}
-use Rattle.gptp_kept.specs.Followers.{follower_parts}
-use Rattle.gptp_kept.specs.Standing.{snapshot_of}
-use Rattle.gptp_kept.specs.TimedClaim.{WorldInvariant}
-use Rattle.gptp_kept.proofs.CalmKeptLemmas.{acts_keep, KeepsNetwork, same_snapshot}
-use Rattle.gptp_kept.proofs.ExactLemmas.{receipts_are_exact}
-use Rattle.gptp_kept.proofs.FollowPartLemmas.{clock_shown, same_parts}
-use Rattle.gptp_kept.proofs.StandsLemmas.{stands_well}
+use Rattle.gptp_invariants.specs.CalmFor.{IsCalmFor}
+use Rattle.gptp_invariants.specs.SettlingInvariant.{KeepsAll}
+use Rattle.gptp_invariants.specs.Exact.{exact_span, IsWayError, IsExactInTime}
+use Rattle.gptp_invariants.specs.Followers.{follower_parts}
+use Rattle.gptp_invariants.specs.Standing.{snapshot_of}
+use Rattle.gptp_invariants.specs.TimedClaim.{WorldInvariant}
+use Rattle.gptp_invariants.proofs.CalmKeptLemmas.{acts_keep, KeepsNetwork, same_snapshot}
+use Rattle.gptp_invariants.proofs.ExactLemmas.{receipts_are_exact}
+use Rattle.gptp_invariants.proofs.FollowPartLemmas.{clock_shown, same_parts}
+use Rattle.gptp_invariants.proofs.StandsLemmas.{stands_well}
 use Rattle.gptp_links.specs.declared.bounds.Bounds.{Bounds}
 use Rattle.gptp_lists.specs.Members.{In}
 use Rattle.gptp_lists.proofs.SystemSpecLemmas.{slice_get-In}
 use Rattle.gptp_network.specs.Document.{DocumentState}
 use Rattle.gptp_network.specs.Snapshot.{events_by, StandsAfter}
 use Rattle.gptp_pdelay.specs.Clock.{local_clock}
-use Rattle.gptp_plan.specs.Calm.{IsCalm, last_change}
-use Rattle.gptp_plan.specs.Network.{NetworkState, pace_of}
-use Rattle.gptp_plan.specs.SettlingTime.{settling_span_with}
-use Rattle.gptp_plan.specs.SyncWait.{sync_paths}
-use Rattle.gptp_plan.specs.declared.change.Timed.{Timed}
-use Rattle.gptp_plan.specs.declared.sync_wait.SyncPaths.{SyncPaths}
-use Rattle.gptp_reached.specs.AlikeLaws.{AreAlike}
-use Rattle.gptp_reached.specs.PlayedLaws.{IsPlayable}
-use Rattle.gptp_reached.proofs.AlikeLemmas.{distance, turned}
-use Rattle.gptp_reached.proofs.SettlingInvariantLemmas.{each_there}
+use Rattle.gptp_scenario.specs.Calm.{IsCalm, last_change}
+use Rattle.gptp_scenario.specs.Network.{NetworkState, pace_of}
+use Rattle.gptp_scenario.specs.SettlingTime.{settling_span_with}
+use Rattle.gptp_scenario.specs.SyncWait.{sync_paths}
+use Rattle.gptp_scenario.specs.declared.change.Timed.{Timed}
+use Rattle.gptp_scenario.specs.declared.sync_wait.SyncPaths.{SyncPaths}
+use Rattle.gptp_theorem.specs.AlikeLaws.{AreAlike}
+use Rattle.gptp_theorem.specs.PlayedLaws.{IsPlayable}
+use Rattle.gptp_theorem.proofs.AlikeLemmas.{distance, turned}
+use Rattle.gptp_theorem.proofs.SettlingInvariantLemmas.{each_there}
 use Rattle.gptp_report.specs.Transitions.{Courses, Unfolds}
 use Rattle.gptp_roles.specs.Selection.{clock_of}
 use Rattle.gptp_scaled.specs.Counts.{AreWithin}
@@ -47,10 +47,10 @@ use Rattle.gptp_setup.specs.Intervals.{IsLog}
 use Rattle.gptp_setup.specs.SettlingParams.{largest_interval, SettlingParams}
 use Rattle.gptp_setup.proofs.IntervalLemmas.{interval_positive}
 use Rattle.gptp_system.specs.State.{local_time, SystemState}
-use Rattle.gptp_time_error.specs.TimeErrors.{AreTimeErrors, exact_from, IsFrom}
-use Rattle.gptp_time_error.specs.TimeErrors as errors_of
-use Rattle.gptp_time_error.specs.Ways.{IsWay}
-use Rattle.gptp_time_error.specs.declared.errors.TimeErrors.{TimeErrors}
+use Rattle.gptp_accuracy.specs.TimeErrors.{AreTimeErrors, exact_from, IsFrom}
+use Rattle.gptp_accuracy.specs.TimeErrors as errors_of
+use Rattle.gptp_accuracy.specs.Ways.{IsWay}
+use Rattle.gptp_accuracy.specs.declared.errors.TimeErrors.{TimeErrors}
 use Rattle.gptp_timeline.specs.Laws.{AreErrorsWithin, ErrorIsWithin, SayBound}
 use Rattle.gptp_timeline.specs.Receipts.{offset_error}
 use Rattle.gptp_timeline.specs.Shown.{live_system}

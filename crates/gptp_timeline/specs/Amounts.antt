@@ -1,6 +1,6 @@
 -- Times in units of 2^-16 ns, in ns with three decimals (profile).
 use Rattle.std.specs.Prelude.{ℕ, ◌+◌, ◌*◌, ◌/◌, ◌&&◌, nat_lt, ℤ, pos, negsuc, unsigned_abs, Bool, true, false, if◌then◌else◌, List, [], ◌++◌, codes}
-use Rattle.gptp_time_error.specs.AccuracyText.{thousandths_text}
+use Rattle.gptp_accuracy.specs.AccuracyText.{thousandths_text}
 
 -- thousandths of a nanosecond, to the nearest_thousandth, half up
 abbrev pub nearest_thousandth : ℕ → ℕ

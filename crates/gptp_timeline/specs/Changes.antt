@@ -1,9 +1,9 @@
 -- The lines of what an act leaves another at a system (profile).
 use Rattle.std.specs.Prelude.{ℕ, ◌+◌, ◌&&◌, Bool, true, false, if◌then◌else◌, List, [], ◌∷◌, ◌++◌, codes, Option, Some, None}
 use Rattle.std.specs.Fmt.{decimal}
-use Rattle.gptp_spelling.specs.Digits.{clock_text, identity_text, or_none, yes_or_no}
-use Rattle.gptp_spelling.specs.Roles.{role_text}
-use Rattle.gptp_time_error.specs.TimeErrors.{root_is_capable}
+use Rattle.gptp_words.specs.Digits.{clock_text, identity_text, or_none, yes_or_no}
+use Rattle.gptp_words.specs.Roles.{role_text}
+use Rattle.gptp_accuracy.specs.TimeErrors.{root_is_capable}
 use Rattle.gptp_timeline.specs.Ports.{same_bool, shows_same_port}
 use Rattle.gptp_timeline.specs.Shown.{is_known, same_choice}
 use Rattle.gptp_timeline.specs.declared.ports.ShownPort.{ShownPort}

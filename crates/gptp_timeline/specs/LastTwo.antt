@@ -1,8 +1,8 @@
 -- The last two stretches of a run (profile).
 use Rattle.std.specs.Prelude.{◌≡◌, ℕ, List, [], ◌∷◌, map, Option, Some, None, false}
-use Rattle.gptp_acts.specs.Course.{Begun}
-use Rattle.gptp_acts.specs.Views.{rising_clocks}
-use Rattle.gptp_acts.specs.World.{WorldState}
+use Rattle.gptp_model.specs.Course.{Begun}
+use Rattle.gptp_model.specs.Views.{rising_clocks}
+use Rattle.gptp_model.specs.World.{WorldState}
 use Rattle.gptp_links.specs.declared.bounds.Bounds.{Bounds}
 use Rattle.gptp_network.specs.Document.{DocumentState}
 use Rattle.gptp_network.specs.Snapshot.{events_by}

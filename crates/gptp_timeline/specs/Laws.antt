@@ -1,24 +1,24 @@
 -- Laws of timelines.
 use Rattle.std.specs.Prelude.{◌≡◌, ◌≢◌, ◌≤◌, ◌+◌, ◌^◌, ℕ, ℤ, unsigned_abs, Bool, true, List, map, Option, Some, IfSome}
 use Rattle.std.specs.List.{flat_map}
-use Rattle.gptp_acts.specs.Advancing.{Told}
-use Rattle.gptp_acts.specs.Views.{rising_clocks}
-use Rattle.gptp_acts.specs.World.{WorldState}
+use Rattle.gptp_model.specs.Advancing.{Told}
+use Rattle.gptp_model.specs.Views.{rising_clocks}
+use Rattle.gptp_model.specs.World.{WorldState}
 use Rattle.gptp_graph.specs.Distance.{IsNear}
 use Rattle.gptp_graph.specs.SettledChoice.{IsBestIdentity}
 use Rattle.gptp_graph.specs.Snapshot.{Snapshot, clocks}
-use Rattle.gptp_kept.specs.Standing.{snapshot_of}
+use Rattle.gptp_invariants.specs.Standing.{snapshot_of}
 use Rattle.gptp_links.specs.declared.bounds.Bounds.{Bounds}
 use Rattle.gptp_lists.specs.Members.{In}
 use Rattle.gptp_network.specs.Document.{DocumentState}
 use Rattle.gptp_network.specs.Events.{AreEvents}
 use Rattle.gptp_network.specs.Snapshot.{IsSnapshot}
-use Rattle.gptp_reached.specs.PlayedLaws.{IsPlayable}
+use Rattle.gptp_theorem.specs.PlayedLaws.{IsPlayable}
 use Rattle.gptp_report.specs.Run.{PlaysRun}
 use Rattle.gptp_roles.specs.Selection.{clock_of}
-use Rattle.gptp_time_error.specs.TimeErrors.{AreTimeErrors}
-use Rattle.gptp_time_error.specs.declared.errors.SystemError.{SystemError}
-use Rattle.gptp_time_error.specs.declared.errors.TimeErrors.{TimeErrors}
+use Rattle.gptp_accuracy.specs.TimeErrors.{AreTimeErrors}
+use Rattle.gptp_accuracy.specs.declared.errors.SystemError.{SystemError}
+use Rattle.gptp_accuracy.specs.declared.errors.TimeErrors.{TimeErrors}
 use Rattle.gptp_world.specs.Transitions.{Transition}
 use Rattle.gptp_report.specs.Transitions.{Unfolds}
 use Rattle.gptp_timeline.specs.Changes.{change_lines}

@@ -2,11 +2,11 @@
 use Rattle.std.specs.Prelude.{ℕ, ◌==◌, ◌%◌, ℤ, ◌-ℤ◌, Bool, false, if◌then◌else◌, List, [], ◌∷◌, ◌++◌, codes, Option, Some, None}
 use Rattle.std.specs.Fmt.{decimal}
 use Rattle.std.specs.Option.{option_and_then, option_map}
-use Rattle.gptp_acts.specs.declared.done.Done.{Done}
-use Rattle.gptp_acts.specs.declared.done.Done.TheVariants.{Heard, Quiet}
-use Rattle.gptp_acts.specs.World.{WorldState}
+use Rattle.gptp_model.specs.declared.done.Done.{Done}
+use Rattle.gptp_model.specs.declared.done.Done.TheVariants.{Heard, Quiet}
+use Rattle.gptp_model.specs.World.{WorldState}
 use Rattle.gptp_roles.specs.Selection.{clock_of}
-use Rattle.gptp_spelling.specs.Digits.{clock_text, or_none}
+use Rattle.gptp_words.specs.Digits.{clock_text, or_none}
 use Rattle.gptp_system.specs.declared.answer.Answer.{Answer}
 use Rattle.gptp_system.specs.declared.answer.Answer.TheVariants as answers
 use Rattle.gptp_system.specs.State.{SystemState, local_time}

@@ -1,10 +1,10 @@
 -- What is shown of a system, and when it expects time (profile).
 use Rattle.std.specs.Prelude.{ℕ, ◌==◌, ◌&&◌, Bool, false, if◌then◌else◌, List, [], ◌∷◌, Option, Some, None, is_some, nat_eq}
 use Rattle.std.specs.Option.{option_eq, option_map, option_map_or}
-use Rattle.gptp_acts.specs.declared.station.Station.{Station}
-use Rattle.gptp_acts.specs.World.{WorldState}
+use Rattle.gptp_model.specs.declared.station.Station.{Station}
+use Rattle.gptp_model.specs.World.{WorldState}
 use Rattle.gptp_system.specs.State.{SystemState, clock}
-use Rattle.gptp_time_error.specs.TimeErrors.{root_is_capable}
+use Rattle.gptp_accuracy.specs.TimeErrors.{root_is_capable}
 use Rattle.gptp_timeline.specs.Ports.{same_ports, shown_ports}
 use Rattle.gptp_timeline.specs.declared.shown.Shown.{Shown}
 

@@ -3,8 +3,8 @@
 use Rattle.std.specs.Prelude.{ℕ, ◌+◌, ◌-◌, ◌==◌, ◌&&◌, ◌||◌, nat_le, nat_lt, not, Bool, true, false, if◌then◌else◌, List, [], ◌∷◌, ◌++◌, drop, get_or, map, Option, Some, None, is_some, ℤ, unsigned_abs}
 use Rattle.std.specs.List.{count_by, filter, filter_map, list_any}
 use Rattle.std.specs.Option.{option_and_then, option_map, option_map_or, option_or}
-use Rattle.gptp_plan.specs.declared.change.Act.{Act}
-use Rattle.gptp_plan.specs.declared.change.Act.TheVariants.{Change as Changing, Deliver, Expire}
+use Rattle.gptp_scenario.specs.declared.change.Act.{Act}
+use Rattle.gptp_scenario.specs.declared.change.Act.TheVariants.{Change as Changing, Deliver, Expire}
 use Rattle.gptp_world.specs.Transitions.{Transition}
 use Rattle.gptp_timeline.specs.Measures.{ended_by, greatest, one_at, since_after}
 use Rattle.gptp_timeline.specs.Ports.{same_bool}
@@ -15,7 +15,7 @@ use Rattle.gptp_timeline.specs.declared.measures.Greatest.{Greatest}
 use Rattle.gptp_timeline.specs.declared.measures.Measures.{Measures}
 use Rattle.gptp_timeline.specs.declared.shown.Shown.{Shown}
 use Rattle.gptp_timeline.specs.declared.watched.Watched.{Watched}
-use Rattle.gptp_time_error.specs.TimeErrors.{root_is_capable}
+use Rattle.gptp_accuracy.specs.TimeErrors.{root_is_capable}
 
 -- ---- an act
 

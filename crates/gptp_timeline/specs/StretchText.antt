@@ -4,9 +4,9 @@ use Rattle.std.specs.Fmt.{decimal}
 use Rattle.std.specs.List.{filter_map}
 use Rattle.std.specs.Option.{option_map}
 use Rattle.gptp_roles.specs.Selection.{clock_of}
-use Rattle.gptp_spelling.specs.Digits.{clock_text, or_none}
-use Rattle.gptp_time_error.specs.AccuracyText.{error_text}
-use Rattle.gptp_time_error.specs.declared.errors.SystemError.{SystemError}
+use Rattle.gptp_words.specs.Digits.{clock_text, or_none}
+use Rattle.gptp_accuracy.specs.AccuracyText.{error_text}
+use Rattle.gptp_accuracy.specs.declared.errors.SystemError.{SystemError}
 use Rattle.gptp_timeline.specs.Amounts.{near_text}
 use Rattle.gptp_timeline.specs.Measures.{greatest_from, one_at}
 use Rattle.gptp_timeline.specs.Stretch.{counted, shown_of_all}

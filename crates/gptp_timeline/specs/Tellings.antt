@@ -2,7 +2,7 @@
 use Rattle.std.specs.Prelude.{◌≡◌, ◌≢◌, ◌==◌, ◌+◌, ℕ, if◌then◌else◌, List, [], ◌∷◌, ◌++◌, Option, Some, None, slice_get}
 use Rattle.std.specs.List.{flat_map}
 use Rattle.std.specs.Option.{option_or}
-use Rattle.gptp_acts.specs.World.{WorldState}
+use Rattle.gptp_model.specs.World.{WorldState}
 use Rattle.gptp_world.specs.Transitions.{Transition}
 use Rattle.gptp_timeline.specs.Changes.{changed_failed_line, is_same, changed_port_line, same_line, changed_system_line}
 use Rattle.gptp_timeline.specs.Shown.{shown}

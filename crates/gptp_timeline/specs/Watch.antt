@@ -3,13 +3,13 @@
 use Rattle.std.specs.Prelude.{◌≡◌, ℕ, ◌+◌, ◌==◌, ◌&&◌, ◌||◌, nat_le, nat_lt, not, Bool, true, false, if◌then◌else◌, List, [], ◌∷◌, ◌++◌, length, map, Option, Some, None, is_none, is_some, slice_get, slice_set, ℤ, unsigned_abs}
 use Rattle.std.specs.List.{range_with_len}
 use Rattle.std.specs.Option.{option_map, option_map_or}
-use Rattle.gptp_acts.specs.Advancing.{Told}
-use Rattle.gptp_acts.specs.World.{WorldState}
-use Rattle.gptp_acts.specs.declared.done.Done.{Done}
-use Rattle.gptp_acts.specs.declared.done.Done.TheVariants.{Heard, Quiet}
+use Rattle.gptp_model.specs.Advancing.{Told}
+use Rattle.gptp_model.specs.World.{WorldState}
+use Rattle.gptp_model.specs.declared.done.Done.{Done}
+use Rattle.gptp_model.specs.declared.done.Done.TheVariants.{Heard, Quiet}
 use Rattle.gptp_graph.specs.Order.{IsRising}
-use Rattle.gptp_plan.specs.declared.change.Act.{Act}
-use Rattle.gptp_plan.specs.declared.change.Act.TheVariants.{Change as Changing, Deliver, Expire}
+use Rattle.gptp_scenario.specs.declared.change.Act.{Act}
+use Rattle.gptp_scenario.specs.declared.change.Act.TheVariants.{Change as Changing, Deliver, Expire}
 use Rattle.gptp_system.specs.State.{SystemState}
 use Rattle.gptp_timeline.specs.Changes.{change_lines}
 use Rattle.gptp_timeline.specs.EventLine.{event_line}

@@ -4,7 +4,7 @@ ghost use Rattle.std.specs.Prelude.{◌≡◌, ◌*◌};
 ghost use Rattle.gptp_pdelay.specs.GoodLink.{ceil_div};
 ghost use Rattle.gptp_timeline.specs.Amounts.{nearest_thousandth, sign_text};
 
-use gptp_time_error::Thousandths;
+use gptp_accuracy::Thousandths;
 use std::fmt;
 
 /// Such a time in thousandths of a nanosecond, to the nearest, half up.
@@ -44,7 +44,7 @@ pub(crate) struct Up(pub u128);
 
 impl fmt::Display for Up {
     ghost use Rattle.std.specs.Prelude.{Some};
-    ghost use Rattle.gptp_time_error.specs.AccuracyText.{error_text};
+    ghost use Rattle.gptp_accuracy.specs.AccuracyText.{error_text};
 
     ghost output = { λ amount. Some (error_text amount.0) };
 
@@ -85,7 +85,7 @@ pub(crate) struct SignedOrNone(pub Option<i128>);
 
 impl fmt::Display for SignedOrNone {
     ghost use Rattle.std.specs.Prelude.{Some};
-    ghost use Rattle.gptp_spelling.specs.Digits.{or_none};
+    ghost use Rattle.gptp_words.specs.Digits.{or_none};
     ghost use Rattle.gptp_timeline.specs.Amounts.{signed_text};
 
     ghost output = { λ amount. Some (or_none signed_text amount.0) };
@@ -104,7 +104,7 @@ pub(crate) struct NearOrNone(pub Option<u128>);
 
 impl fmt::Display for NearOrNone {
     ghost use Rattle.std.specs.Prelude.{Some};
-    ghost use Rattle.gptp_spelling.specs.Digits.{or_none};
+    ghost use Rattle.gptp_words.specs.Digits.{or_none};
     ghost use Rattle.gptp_timeline.specs.Amounts.{near_text};
 
     ghost output = { λ amount. Some (or_none near_text amount.0) };

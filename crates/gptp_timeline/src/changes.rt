@@ -1,12 +1,12 @@
 //! The lines of what an act leaves another at a system.
 
 ghost use Rattle.std.specs.Prelude.{◌≡◌, ◌<◌, ◌≤◌, ◌+◌, slice_get, ◌++◌, ◌∷◌, [], OnOk, Some, length, string_bytes};
-ghost use Rattle.gptp_spelling.specs.Lines.{text_of};
+ghost use Rattle.gptp_words.specs.Lines.{text_of};
 ghost use Rattle.gptp_timeline.specs.Changes.{change_lines, changed_lines, changed_failed_line, is_same, known_text, new_lines, changed_port_line, port_lines, port_lines_if, same_line, changed_system_line, system_lines_if};
 
 use crate::ports::{ShownPort, same_bool, same_port};
 use crate::shown::{Shown, is_known, same_choice};
-use gptp_spelling::{ClockDigits, IdentityDigits, OrNone, RoleWord, yes_or_no};
+use gptp_words::{ClockDigits, IdentityDigits, OrNone, RoleWord, yes_or_no};
 use gptp_vector::ClockId;
 use std::alloc::AllocError;
 

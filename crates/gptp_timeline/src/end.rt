@@ -1,13 +1,13 @@
 //! When the run of a document ends by default.
 
 ghost use Rattle.std.specs.Prelude.{◌≡◌, ◌≤◌, IfOk};
-ghost use Rattle.gptp_plan.specs.Allowed.{AreAllowed};
-ghost use Rattle.gptp_plan.specs.Calm.{last_change};
+ghost use Rattle.gptp_scenario.specs.Allowed.{AreAllowed};
+ghost use Rattle.gptp_scenario.specs.Calm.{last_change};
 ghost use Rattle.gptp_network.specs.Snapshot.{StandsAfter};
 ghost use Rattle.gptp_timeline.specs.End.{end_behind, IsDefaultEnd};
 
 use gptp_network::{Document, Snapshot};
-use gptp_plan::{Network, Timed};
+use gptp_scenario::{Network, Timed};
 use gptp_setup::interval_of;
 use std::alloc::{AllocError, Global};
 

@@ -3,8 +3,8 @@
 ghost use Rattle.std.specs.Prelude.{◌≡◌, ◌++◌, ◌∷◌, [], OnOk, string_bytes};
 ghost use Rattle.gptp_timeline.specs.EventLine.{at_port, at_system, event_line, inject_words, priority_words, set_words, words_of};
 
-use gptp_plan::Change;
-use gptp_spelling::{ClockDigits, OctetDigits};
+use gptp_scenario::Change;
+use gptp_words::{ClockDigits, OctetDigits};
 use gptp_vector::ClockId;
 use std::alloc::AllocError;
 

@@ -1,7 +1,7 @@
 //! What is asked of each stretch, and whether it keeps to it.
 
 ghost use Rattle.std.specs.Prelude.{◌≡◌, ◌<◌, ◌++◌, ◌∷◌, [], IfOk, OnOk, is_some, string_bytes};
-ghost use Rattle.gptp_spelling.specs.Lines.{text_of};
+ghost use Rattle.gptp_words.specs.Lines.{text_of};
 ghost use Rattle.gptp_timeline.specs.Limits.{amount_in, earlier, exceeded_after, exceeds, first_exceeded, is_above, is_asked, is_exceeded, is_some_given, most_of, option_name, limit_number, unit_of, verdict_line, verdict_lines};
 
 use crate::stretch::Stretch;

@@ -3,7 +3,7 @@
 ghost use Rattle.std.specs.Prelude.{◌≡◌, ◌≢◌, ◌++◌, ◌∷◌, ◌-◌, [], IfOk, OnOk, Some, None, is_some, map, option_map, slice_get, string_bytes};
 ghost use Rattle.std.specs.List.{filter_map, flat_map};
 ghost use Rattle.std.specs.Option.{option_map};
-ghost use Rattle.gptp_spelling.specs.Lines.{text_of};
+ghost use Rattle.gptp_words.specs.Lines.{text_of};
 ghost use Rattle.gptp_timeline.specs.Limits.{amount_of};
 ghost use Rattle.gptp_timeline.specs.Measures.{greatest_from};
 ghost use Rattle.gptp_timeline.specs.Stretch.{shown_of_all};
@@ -15,8 +15,8 @@ use crate::counts::{Counts, counts_of};
 use crate::limits::Limit;
 use crate::measures::{Greatest, Measures, better_if};
 use crate::watched::Watched;
-use gptp_spelling::ClockDigits;
-use gptp_time_error::SystemError;
+use gptp_words::ClockDigits;
+use gptp_accuracy::SystemError;
 use gptp_vector::ClockId;
 use std::alloc::{AllocError, Global};
 use std::fmt;
@@ -149,7 +149,7 @@ pub struct TimeOrNone(pub Option<u64>);
 impl fmt::Display for TimeOrNone {
     ghost use Rattle.std.specs.Prelude.{Some};
     ghost use Rattle.std.specs.Fmt.{decimal};
-    ghost use Rattle.gptp_spelling.specs.Digits.{or_none};
+    ghost use Rattle.gptp_words.specs.Digits.{or_none};
 
     ghost output = { λ time. Some (or_none decimal time.0) };
 

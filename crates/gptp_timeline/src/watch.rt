@@ -1,8 +1,8 @@
 //! An observer that tells what changes at which system when.
 
 ghost use Rattle.std.specs.Prelude.{◌≡◌, ◌≤◌, ◌<◌, ◌+◌, ◌++◌, true, IfOk, OnOk, length, map, option_map, string_bytes, take, unsigned_abs};
-ghost use Rattle.gptp_acts.specs.Views.{rising_clocks};
-ghost use Rattle.gptp_spelling.specs.Lines.{text_of};
+ghost use Rattle.gptp_model.specs.Views.{rising_clocks};
+ghost use Rattle.gptp_words.specs.Lines.{text_of};
 ghost use Rattle.gptp_timeline.specs.Measures.{one_at};
 ghost use Rattle.gptp_timeline.specs.Shown.{live_system, shown};
 ghost use Rattle.gptp_timeline.specs.Watch.{counts_from, receipt_lines_of, unseen, without_error};
@@ -14,7 +14,7 @@ use crate::receipts::{error_of, received_by, write_offset};
 use crate::shown::{Shown, shown_of, shows};
 use crate::watched::{ActView, Watched, error_after, leaves_wait, measures_after, since_behind};
 use gptp_links::Fate;
-use gptp_plan::Change;
+use gptp_scenario::Change;
 use gptp_report::sink::Sink;
 use gptp_report::{Cut, Observer, write_whole};
 use gptp_vector::ClockId;
@@ -161,8 +161,8 @@ fn clear_errors(systems: &mut Vec<Watched>)
 
 impl Watch {
     ghost use Rattle.std.specs.Prelude.{◌≡◌, ◌≤◌, ◌<◌, ◌++◌, ◌∷◌, [], None, false, true, IfOk, IfSome, OnOk, length, map, slice_get, Some, string_bytes};
-    ghost use Rattle.gptp_acts.specs.Views.{rising_clocks};
-    ghost use Rattle.gptp_spelling.specs.Lines.{text_of};
+    ghost use Rattle.gptp_model.specs.Views.{rising_clocks};
+    ghost use Rattle.gptp_words.specs.Lines.{text_of};
     ghost use Rattle.gptp_timeline.specs.Changes.{change_lines};
     ghost use Rattle.gptp_timeline.specs.EventLine.{event_line};
     ghost use Rattle.gptp_timeline.specs.Watch.{WatchedRise, StaysSo, watch_begun, delivery_lines, event_look, lines_all, lines_at, nothing, place_of, placed_lines, receipt_lines, receipt_lines_if, see_act, see_all, see_at, see_delivery, see_placed, see_receipt, see_receipt_if, see_system, seen_lines, watched_lines, take_error, taken, unless, unseen};

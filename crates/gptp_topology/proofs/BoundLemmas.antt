@@ -9,21 +9,21 @@ use Rattle.gptp_lists.proofs.MappedLemmas.{mapped_there}
 use Rattle.gptp_lists.proofs.SystemSpecLemmas.{In-map, In-slice_get, from_map, slice_get-In}
 use Rattle.gptp_roles.specs.Selection.{clock_of}
 use Rattle.gptp_vector.specs.declared.port.PortId.{PortId}
-use Rattle.gptp_plan.specs.Allowed.{AreAllowed}
-use Rattle.gptp_plan.specs.Calm.{AllRest, IsCalm, Rests}
-use Rattle.gptp_plan.specs.Change.{link_after, system_after}
-use Rattle.gptp_plan.specs.InUse.{any_differ, far_clock, greatest_delay, lives, neighbour, neighbours, path_systems}
-use Rattle.gptp_plan.specs.InUse as plans
-use Rattle.gptp_plan.specs.Network.{IsNetwork, IsPort, NetworkState, pace_of}
-use Rattle.gptp_plan.specs.SettlingTime.{settling_span, settling_span_with}
-use Rattle.gptp_plan.specs.SyncWait.{sync_paths}
-use Rattle.gptp_plan.specs.declared.change.Timed.{Timed}
-use Rattle.gptp_plan.specs.declared.network.SystemSpec.{SystemSpec}
-use Rattle.gptp_plan.specs.declared.network.LinkSpec.{LinkSpec}
-use Rattle.gptp_plan.specs.declared.sync_wait.SyncPaths.{SyncPaths}
-use Rattle.gptp_plan.proofs.AfterLemmas.{after_keeps}
-use Rattle.gptp_plan.proofs.InUseLemmas.{short_delay}
-use Rattle.gptp_plan.proofs.SyncWaitLemmas.{never_longer}
+use Rattle.gptp_scenario.specs.Allowed.{AreAllowed}
+use Rattle.gptp_scenario.specs.Calm.{AllRest, IsCalm, Rests}
+use Rattle.gptp_scenario.specs.Change.{link_after, system_after}
+use Rattle.gptp_scenario.specs.InUse.{any_differ, far_clock, greatest_delay, lives, neighbour, neighbours, path_systems}
+use Rattle.gptp_scenario.specs.InUse as plans
+use Rattle.gptp_scenario.specs.Network.{IsNetwork, IsPort, NetworkState, pace_of}
+use Rattle.gptp_scenario.specs.SettlingTime.{settling_span, settling_span_with}
+use Rattle.gptp_scenario.specs.SyncWait.{sync_paths}
+use Rattle.gptp_scenario.specs.declared.change.Timed.{Timed}
+use Rattle.gptp_scenario.specs.declared.network.SystemSpec.{SystemSpec}
+use Rattle.gptp_scenario.specs.declared.network.LinkSpec.{LinkSpec}
+use Rattle.gptp_scenario.specs.declared.sync_wait.SyncPaths.{SyncPaths}
+use Rattle.gptp_scenario.proofs.AfterLemmas.{after_keeps}
+use Rattle.gptp_scenario.proofs.InUseLemmas.{short_delay}
+use Rattle.gptp_scenario.proofs.SyncWaitLemmas.{never_longer}
 use Rattle.gptp_network.specs.Document.{DocumentState}
 use Rattle.gptp_network.specs.Snapshot.{events_by}
 use Rattle.gptp_network.specs.Span.{IsBound}

@@ -2,15 +2,15 @@
 use Rattle.std.proofs.Common.{◌≡◌, ℕ, Bool, true, false, ◌==◌, cond, List, [], ◌∷◌, refl, sym, ap, ◌∙◌}
 use Rattle.gptp_roles.specs.Selection.{clock_of}
 use Rattle.gptp_vector.specs.declared.port.PortId.{PortId}
-use Rattle.gptp_plan.specs.Calm.{IsLive}
-use Rattle.gptp_plan.specs.Change.{standing, system_acted, system_after, system_changed, system_stands, with_live, with_priority1}
-use Rattle.gptp_plan.specs.Network.{IsPort}
-use Rattle.gptp_plan.specs.declared.change.Act.{Act}
-use Rattle.gptp_plan.specs.declared.change.Act.TheVariants as acts
-use Rattle.gptp_plan.specs.declared.change.Change.{Change}
-use Rattle.gptp_plan.specs.declared.change.Change.TheVariants as changes
-use Rattle.gptp_plan.specs.declared.change.Timed.{Timed}
-use Rattle.gptp_plan.specs.declared.network.SystemSpec.{SystemSpec}
+use Rattle.gptp_scenario.specs.Calm.{IsLive}
+use Rattle.gptp_scenario.specs.Change.{standing, system_acted, system_after, system_changed, system_stands, with_live, with_priority1}
+use Rattle.gptp_scenario.specs.Network.{IsPort}
+use Rattle.gptp_scenario.specs.declared.change.Act.{Act}
+use Rattle.gptp_scenario.specs.declared.change.Act.TheVariants as acts
+use Rattle.gptp_scenario.specs.declared.change.Change.{Change}
+use Rattle.gptp_scenario.specs.declared.change.Change.TheVariants as changes
+use Rattle.gptp_scenario.specs.declared.change.Timed.{Timed}
+use Rattle.gptp_scenario.specs.declared.network.SystemSpec.{SystemSpec}
 use Rattle.gptp_topology.specs.Course.{lives_acted}
 
 -- whether a system lives after a change stands by whether it lived before, whatever its identity

@@ -1,13 +1,13 @@
 -- An act changes nothing at a link at none of whose ends it names a system.
 use Rattle.std.proofs.Common.{◌≡◌, ◌≢◌, ℕ, Bool, true, false, ◌==◌, cond, refl, sym, ap}
 use Rattle.std.proofs.lemmas.Bool.{and_left, ne_eqb, or_from}
-use Rattle.gptp_plan.specs.Change.{is_at, link_acted, link_changed, system_changed, member_with_bounds, with_up}
-use Rattle.gptp_plan.specs.Network.{same_port}
-use Rattle.gptp_plan.specs.declared.change.Act.{Act}
-use Rattle.gptp_plan.specs.declared.change.Act.TheVariants as acts
-use Rattle.gptp_plan.specs.declared.change.Change.{Change}
-use Rattle.gptp_plan.specs.declared.change.Change.TheVariants as changes
-use Rattle.gptp_plan.specs.declared.network.LinkSpec.{LinkSpec}
+use Rattle.gptp_scenario.specs.Change.{is_at, link_acted, link_changed, system_changed, member_with_bounds, with_up}
+use Rattle.gptp_scenario.specs.Network.{same_port}
+use Rattle.gptp_scenario.specs.declared.change.Act.{Act}
+use Rattle.gptp_scenario.specs.declared.change.Act.TheVariants as acts
+use Rattle.gptp_scenario.specs.declared.change.Change.{Change}
+use Rattle.gptp_scenario.specs.declared.change.Change.TheVariants as changes
+use Rattle.gptp_scenario.specs.declared.network.LinkSpec.{LinkSpec}
 use Rattle.gptp_topology.specs.Course.{acted, cable_of, lives_acted, named, named_by, cable_wire}
 use Rattle.gptp_topology.specs.declared.course.Standing.{Standing}
 

@@ -9,14 +9,14 @@ use Rattle.gptp_lists.proofs.SystemSpecLemmas.{In-slice_get, slice_get-In}
 use Rattle.gptp_vector.specs.declared.port.PortId.{PortId}
 use Rattle.gptp_setup.specs.SettlingParams.{lapse_span}
 use Rattle.gptp_setup.specs.declared.setup.Params.{Params}
-use Rattle.gptp_plan.specs.Calm.{IsLive, IsUsed, Rests, SyncsComeInTime}
-use Rattle.gptp_plan.specs.Change.{link_after}
-use Rattle.gptp_plan.specs.Network.{IsPort}
-use Rattle.gptp_plan.specs.SyncWait.{sync_wait}
-use Rattle.gptp_plan.specs.declared.change.Timed.{Timed}
-use Rattle.gptp_plan.specs.declared.network.SystemSpec.{SystemSpec}
-use Rattle.gptp_plan.specs.declared.network.LinkSpec.{LinkSpec}
-use Rattle.gptp_plan.specs.declared.sync_wait.SyncPaths.{SyncPaths}
+use Rattle.gptp_scenario.specs.Calm.{IsLive, IsUsed, Rests, SyncsComeInTime}
+use Rattle.gptp_scenario.specs.Change.{link_after}
+use Rattle.gptp_scenario.specs.Network.{IsPort}
+use Rattle.gptp_scenario.specs.SyncWait.{sync_wait}
+use Rattle.gptp_scenario.specs.declared.change.Timed.{Timed}
+use Rattle.gptp_scenario.specs.declared.network.SystemSpec.{SystemSpec}
+use Rattle.gptp_scenario.specs.declared.network.LinkSpec.{LinkSpec}
+use Rattle.gptp_scenario.specs.declared.sync_wait.SyncPaths.{SyncPaths}
 use Rattle.gptp_topology.specs.Course.{first, cable_is_used}
 use Rattle.gptp_topology.specs.Tables.{late_of, may_lapse}
 use Rattle.gptp_topology.specs.Trouble.{is_long, loss_in_use, needed}

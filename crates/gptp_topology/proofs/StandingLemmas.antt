@@ -8,11 +8,11 @@ use Rattle.gptp_lists.specs.Members.{In}
 use Rattle.gptp_lists.proofs.SystemSpecLemmas.{In-map, In-slice_get, slice_get-In}
 use Rattle.gptp_vector.specs.declared.port.PortId.{PortId}
 use Rattle.gptp_roles.specs.Selection.{clock_of}
-use Rattle.gptp_plan.specs.Network.{IsNetwork, IsPort, NetworkState}
-use Rattle.gptp_plan.specs.declared.change.Act.{Act}
-use Rattle.gptp_plan.specs.declared.change.Timed.{Timed}
-use Rattle.gptp_plan.specs.declared.network.SystemSpec.{SystemSpec}
-use Rattle.gptp_plan.specs.declared.network.LinkSpec.{LinkSpec}
+use Rattle.gptp_scenario.specs.Network.{IsNetwork, IsPort, NetworkState}
+use Rattle.gptp_scenario.specs.declared.change.Act.{Act}
+use Rattle.gptp_scenario.specs.declared.change.Timed.{Timed}
+use Rattle.gptp_scenario.specs.declared.network.SystemSpec.{SystemSpec}
+use Rattle.gptp_scenario.specs.declared.network.LinkSpec.{LinkSpec}
 use Rattle.gptp_topology.specs.Course.{acted, cable_of, first, lives_acted, named, cable_wire}
 use Rattle.gptp_topology.specs.Tables.{TablesActed, AreFirstTables, AreMarked, NodeState, acted_along, acted_at, cables_of, clocks_of, led, neighbours_at, neighbours_of, node_acted, tables_seen}
 use Rattle.gptp_topology.specs.declared.course.Cable.{Cable}

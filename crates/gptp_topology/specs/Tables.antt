@@ -5,12 +5,12 @@ use Rattle.std.specs.Option.{is_some}
 use Rattle.gptp_roles.specs.Selection.{clock_of}
 use Rattle.gptp_setup.specs.SettlingParams.{lapse_span}
 use Rattle.gptp_setup.specs.declared.setup.Params.{Params}
-use Rattle.gptp_plan.specs.Network.{NetworkState, pace_of}
-use Rattle.gptp_plan.specs.SettlingTime.{settling_span_with}
-use Rattle.gptp_plan.specs.SyncWait.{sync_wait}
-use Rattle.gptp_plan.specs.declared.change.Act.{Act}
-use Rattle.gptp_plan.specs.declared.network.SystemSpec.{SystemSpec}
-use Rattle.gptp_plan.specs.declared.sync_wait.SyncPaths.{SyncPaths}
+use Rattle.gptp_scenario.specs.Network.{NetworkState, pace_of}
+use Rattle.gptp_scenario.specs.SettlingTime.{settling_span_with}
+use Rattle.gptp_scenario.specs.SyncWait.{sync_wait}
+use Rattle.gptp_scenario.specs.declared.change.Act.{Act}
+use Rattle.gptp_scenario.specs.declared.network.SystemSpec.{SystemSpec}
+use Rattle.gptp_scenario.specs.declared.sync_wait.SyncPaths.{SyncPaths}
 use Rattle.gptp_topology.specs.Course.{acted, cable_of, first, cable_is_used, lives_acted, named}
 use Rattle.gptp_topology.specs.Trouble.{is_long, loss_in_use}
 use Rattle.gptp_topology.specs.declared.course.Cable.{Cable}

@@ -1,11 +1,11 @@
 //! How one link stands at each time.
 
 ghost use Rattle.std.specs.Prelude.{◌≡◌, ◌++◌, ◌∷◌, ◌<◌, ◌+◌, [], IfOk, OnOk, drop, length, map, take};
-ghost use Rattle.gptp_plan.specs.Change.{link_acted, link_changed, system_acted, system_changed};
+ghost use Rattle.gptp_scenario.specs.Change.{link_acted, link_changed, system_acted, system_changed};
 ghost use Rattle.gptp_topology.specs.Course.{acted, course_at_time, cable_of, course_from, first, is_cable_end, cable_is_used, lives_acted, named, named_by, names_of, naming, past, cable_wire};
 
 use gptp_links::Bounds;
-use gptp_plan::{Act, Change, Network, Timed};
+use gptp_scenario::{Act, Change, Network, Timed};
 use gptp_vector::{ClockId, PortId};
 use std::alloc::{AllocError, Global};
 

@@ -3,11 +3,11 @@
 ghost use Rattle.std.specs.Prelude.{◌≡◌, ◌++◌, ◌∷◌, [], ◌<◌, ◌≤◌, ◌+◌, length, map, take, IfOk, OnOk};
 ghost use Rattle.std.specs.List.{count_by};
 ghost use Rattle.gptp_roles.specs.Selection.{clock_of};
-ghost use Rattle.gptp_plan.specs.declared.network.SystemSpec.{SystemSpec};
+ghost use Rattle.gptp_scenario.specs.declared.network.SystemSpec.{SystemSpec};
 ghost use Rattle.gptp_topology.specs.Tables.{clocks_of, led, neighbours_at, neighbours_of, node_acted, node_of, tables_seen};
 
 use crate::course::{Cable, lives_acted};
-use gptp_plan::{Act, Network};
+use gptp_scenario::{Act, Network};
 use gptp_vector::ClockId;
 use std::alloc::{AllocError, Global};
 

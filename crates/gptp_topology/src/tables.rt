@@ -2,14 +2,14 @@
 
 ghost use Rattle.std.specs.Prelude.{◌≡◌, ◌≤◌, ◌+◌, map, length, IfOk, OnOk};
 ghost use Rattle.std.specs.List.{count_by, list_any};
-ghost use Rattle.gptp_plan.specs.Network.{NetworkState};
+ghost use Rattle.gptp_scenario.specs.Network.{NetworkState};
 ghost use Rattle.gptp_topology.specs.Course.{first, cable_wire};
 ghost use Rattle.gptp_topology.specs.Tables.{TablesActed, AreFirstTables, AreMarked, acted_along, acted_at, bound_of, cables_of, delay_in_use, crossing_delay, first_used, greatest_used, late_of, marked_elsewhere, leads_to_two, marked_between, mark_of, may_lapse, marked_path_bound, paths_of, used_at};
 
 use crate::course::{Cable, Standing, act, first, is_used, named};
 use crate::nodes::{Neighbour, Node, act_on_nodes, live_nodes, neighbours_at, nodes_of};
 use crate::trouble::{is_long, loss_in_use};
-use gptp_plan::{Act, Network, Params, SyncPaths};
+use gptp_scenario::{Act, Network, Params, SyncPaths};
 use gptp_setup::lapse_span;
 use gptp_vector::ClockId;
 use std::alloc::{AllocError, Global};

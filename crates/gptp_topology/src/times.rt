@@ -8,7 +8,7 @@ ghost use Rattle.gptp_topology.specs.Times.{AreCalmTimes};
 use crate::course::{Cable, cables_of};
 use crate::tables::{Tables, late_of};
 use gptp_network::Document;
-use gptp_plan::Network;
+use gptp_scenario::Network;
 use std::alloc::{AllocError, Global};
 
 /// A time of a document.

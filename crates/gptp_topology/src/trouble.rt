@@ -4,7 +4,7 @@ ghost use Rattle.std.specs.Prelude.{◌≡◌};
 ghost use Rattle.gptp_topology.specs.Trouble.{is_long, loss_in_use, needed};
 
 use crate::course::{Standing, is_used};
-use gptp_plan::Params;
+use gptp_scenario::Params;
 
 /// The least threshold at which a link of this greatest delay is good, in ns.
 pub fn needed(params: &Params, max: u64) -> u128

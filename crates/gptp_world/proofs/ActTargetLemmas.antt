@@ -11,25 +11,25 @@ use Rattle.gptp_vector.specs.declared.port.PortId.{PortId}
 use Rattle.gptp_world.specs.declared.joined_link.Lane.{Lane}
 use Rattle.gptp_world.specs.declared.net.Net.{Net as Between}
 use Rattle.gptp_world.specs.declared.stage.Stage.{Stage}
-use Rattle.gptp_acts.specs.declared.station.Station.{Station}
-use Rattle.gptp_plan.specs.declared.change.Act.{Act}
-use Rattle.gptp_acts.specs.declared.item.Item.{Item}
-use Rattle.gptp_acts.specs.declared.item.Item.TheVariants.{Expiry, Arrival}
-use Rattle.gptp_acts.specs.Agrees.{Agrees}
-use Rattle.gptp_acts.specs.Pending.{IsNext}
-use Rattle.gptp_acts.specs.Sound.{IsSound}
-use Rattle.gptp_acts.specs.Views.{IsActOf}
-use Rattle.gptp_acts.specs.Acts.{AnyLink, AnySystem, AtLink, AtSystem, IsOldestDue}
+use Rattle.gptp_model.specs.declared.station.Station.{Station}
+use Rattle.gptp_scenario.specs.declared.change.Act.{Act}
+use Rattle.gptp_model.specs.declared.item.Item.{Item}
+use Rattle.gptp_model.specs.declared.item.Item.TheVariants.{Expiry, Arrival}
+use Rattle.gptp_model.specs.Agrees.{Agrees}
+use Rattle.gptp_model.specs.Pending.{IsNext}
+use Rattle.gptp_model.specs.Sound.{IsSound}
+use Rattle.gptp_model.specs.Views.{IsActOf}
+use Rattle.gptp_model.specs.Acts.{AnyLink, AnySystem, AtLink, AtSystem, IsOldestDue}
 use Rattle.gptp_world.specs.ActTarget.{aim_of, IsTargetOf, IsLaneAt, PlaceHasClock, IsTimerAt}
 use Rattle.gptp_world.specs.JoinedLink.{channel_of}
-use Rattle.gptp_acts.specs.Changing.{IsChannel}
+use Rattle.gptp_model.specs.Changing.{IsChannel}
 use Rattle.gptp_world.specs.Directory.{direction_start, BeginsAt, DirectoryState, IsDirectory, PortIsPlaced}
 use Rattle.gptp_world.specs.Net.{between, IsNet}
 use Rattle.gptp_world.specs.Stage.{clock_at_place, world_of, IsStage}
-use Rattle.gptp_acts.specs.World.{Channel, WorldState, world_queue, sender}
+use Rattle.gptp_model.specs.World.{Channel, WorldState, world_queue, sender}
 use Rattle.gptp_world.proofs.EndLemmas.{station_at}
 use Rattle.gptp_world.proofs.NetLemmas.{known_cable, known_lane}
-use Rattle.gptp_acts.proofs.NextDueLemmas.{next_comes, next_runs_out}
+use Rattle.gptp_model.proofs.NextDueLemmas.{next_comes, next_runs_out}
 use Rattle.gptp_lists.proofs.MappedLemmas.{mapped_there}
 
 -- ---- links

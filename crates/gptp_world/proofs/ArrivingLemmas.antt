@@ -6,12 +6,12 @@ use Rattle.gptp_vector.specs.declared.port.PortId.{PortId}
 use Rattle.gptp_world.specs.declared.joined_link.JoinedLink.{JoinedLink}
 use Rattle.gptp_world.specs.declared.joined_link.Lane.{Lane}
 use Rattle.gptp_world.specs.Directory.{Join}
-use Rattle.gptp_acts.specs.declared.item.Item.TheVariants.{Arrival}
-use Rattle.gptp_acts.specs.Act.{TakesFrame}
+use Rattle.gptp_model.specs.declared.item.Item.TheVariants.{Arrival}
+use Rattle.gptp_model.specs.Act.{TakesFrame}
 use Rattle.gptp_world.specs.JoinedLink.{join_of, channel_of, net_of}
 use Rattle.gptp_world.specs.Pending.{PendingView}
-use Rattle.gptp_acts.specs.Pending.{without_first_entry}
-use Rattle.gptp_acts.specs.World.{with_queue}
+use Rattle.gptp_model.specs.Pending.{without_first_entry}
+use Rattle.gptp_model.specs.World.{with_queue}
 use Rattle.gptp_lists.proofs.MappedLemmas.{mapped_there}
 use Rattle.gptp_lists.proofs.PlaceLemmas.{map-set, map-set_same}
 use Rattle.gptp_world.proofs.SendingLemmas.{channel_sent, queue_same}

@@ -6,8 +6,8 @@ use Rattle.gptp_world.specs.declared.net.Net.{Net as Between}
 use Rattle.gptp_world.specs.JoinedLink.{join_of, channel_of, net_of}
 use Rattle.gptp_world.specs.Net.{IsNet}
 use Rattle.gptp_world.specs.Pending.{PendingView}
-use Rattle.gptp_acts.specs.Pending.{Entry}
-use Rattle.gptp_acts.specs.World.{Channel, Net}
+use Rattle.gptp_model.specs.Pending.{Entry}
+use Rattle.gptp_model.specs.World.{Channel, Net}
 use Rattle.gptp_lists.proofs.PlaceLemmas.{map-set}
 use Rattle.gptp_world.proofs.ArrivingLemmas.{joins_kept}
 

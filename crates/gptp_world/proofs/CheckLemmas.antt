@@ -5,19 +5,19 @@ use Rattle.gptp_setup.specs.declared.timer.Timer.{Timer}
 use Rattle.gptp_world.specs.declared.target.ActTarget.{ActTarget}
 use Rattle.gptp_world.specs.declared.target.ActTarget.TheVariants as aims
 use Rattle.gptp_world.specs.declared.joined_link.Lane.{Lane}
-use Rattle.gptp_plan.specs.declared.change.Act.{Act}
-use Rattle.gptp_plan.specs.declared.change.Act.TheVariants.{Deliver, Expire, Change as Changing}
-use Rattle.gptp_plan.specs.declared.change.Change.{Change}
-use Rattle.gptp_plan.specs.declared.change.Change.TheVariants as changes
-use Rattle.gptp_acts.specs.declared.item.Item.{Item}
+use Rattle.gptp_scenario.specs.declared.change.Act.{Act}
+use Rattle.gptp_scenario.specs.declared.change.Act.TheVariants.{Deliver, Expire, Change as Changing}
+use Rattle.gptp_scenario.specs.declared.change.Change.{Change}
+use Rattle.gptp_scenario.specs.declared.change.Change.TheVariants as changes
+use Rattle.gptp_model.specs.declared.item.Item.{Item}
 use Rattle.gptp_world.specs.declared.stage.Stage.{Stage}
-use Rattle.gptp_acts.specs.declared.station.Station.{Station}
-use Rattle.gptp_acts.specs.Acts.{IsDueThen, IsEarlier, IsOldestDue, IsThere}
+use Rattle.gptp_model.specs.declared.station.Station.{Station}
+use Rattle.gptp_model.specs.Acts.{IsDueThen, IsEarlier, IsOldestDue, IsThere}
 use Rattle.gptp_world.specs.ActTarget.{IsTargetOf, IsAimOfChange}
 use Rattle.gptp_world.specs.Directory.{IsDirectory}
-use Rattle.gptp_acts.specs.Pending.{Entry, pending_entry, IsNext}
+use Rattle.gptp_model.specs.Pending.{Entry, pending_entry, IsNext}
 use Rattle.gptp_world.specs.Stage.{world_of, IsStage}
-use Rattle.gptp_acts.specs.World.{Channel, WorldState, port_id, station_due}
+use Rattle.gptp_model.specs.World.{Channel, WorldState, port_id, station_due}
 use Rattle.gptp_world.proofs.ActTargetLemmas.{lane_joins, system_clock}
 
 -- ---- something is due earlier

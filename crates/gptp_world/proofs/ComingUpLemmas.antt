@@ -13,20 +13,20 @@ use Rattle.gptp_system.specs.State.{SystemState, clock}
 use Rattle.gptp_world.specs.declared.joined_link.Lane.{Lane}
 use Rattle.gptp_world.specs.declared.net.Net.{Net as Between}
 use Rattle.gptp_world.specs.declared.stage.Stage.{Stage}
-use Rattle.gptp_acts.specs.declared.station.Station.{Station}
-use Rattle.gptp_acts.specs.Act.{in_state, Calls}
-use Rattle.gptp_acts.specs.Changing.{is_up_at, CallsAll}
+use Rattle.gptp_model.specs.declared.station.Station.{Station}
+use Rattle.gptp_model.specs.Act.{in_state, Calls}
+use Rattle.gptp_model.specs.Changing.{is_up_at, CallsAll}
 use Rattle.gptp_world.specs.Net.{between, IsUpLane}
-use Rattle.gptp_acts.specs.World.{port_id}
-use Rattle.gptp_acts.specs.Sends.{IsUnlinkedPort}
+use Rattle.gptp_model.specs.World.{port_id}
+use Rattle.gptp_model.specs.Sends.{IsUnlinkedPort}
 use Rattle.gptp_world.specs.Room.{both, for_call, no_room, repeated, WorldHasRoom, Need, Uses}
 use Rattle.gptp_world.specs.Stage.{clock_at_place, world_of, Called, CallUses, HasRoomToCall, IsStage}
 use Rattle.gptp_world.specs.Starting.{CameUp, HasRoomForPorts}
-use Rattle.gptp_acts.specs.World.{WorldState}
+use Rattle.gptp_model.specs.World.{WorldState}
 use Rattle.gptp_world.proofs.NeedLemmas.{covered, left_of, unsent, uses_both, uses_less, Covers}
 use Rattle.gptp_lists.proofs.MappedLemmas.{mapped_there}
 use Rattle.gptp_lists.proofs.PlaceLemmas.{get-set_same}
-use Rattle.gptp_acts.proofs.SteadyLemmas.{same_clock, same_ports}
+use Rattle.gptp_model.proofs.SteadyLemmas.{same_clock, same_ports}
 use Rattle.gptp_world.proofs.UpPortLemmas.{calls_all_up, up_tells}
 
 -- ---- calls one after another

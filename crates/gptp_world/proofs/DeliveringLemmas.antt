@@ -6,8 +6,8 @@ use Rattle.gptp_links.specs.Queue.{frame}
 use Rattle.gptp_world.specs.declared.joined_link.Lane.{Lane}
 use Rattle.gptp_world.specs.declared.net.Net.{Net as Between}
 use Rattle.gptp_world.specs.declared.stage.Stage.{Stage}
-use Rattle.gptp_acts.specs.Act.{TakesFrame}
-use Rattle.gptp_acts.specs.World.{WorldState, world_queue}
+use Rattle.gptp_model.specs.Act.{TakesFrame}
+use Rattle.gptp_model.specs.World.{WorldState, world_queue}
 use Rattle.gptp_world.specs.JoinedLink.{channel_of, join_of}
 use Rattle.gptp_world.specs.Directory.{direction_end, DirectoryState, IsDirectory, Join}
 use Rattle.gptp_world.specs.Net.{between, IsFrameDue, IsOldest}

@@ -10,9 +10,9 @@ use Rattle.gptp_links.specs.declared.link.Direction.TheVariants.{FromA, FromB}
 use Rattle.gptp_roles.specs.Selection.{clock_of}
 use Rattle.gptp_world.specs.declared.joined_link.Lane.{Lane}
 use Rattle.gptp_world.specs.declared.directory.Ends.{Ends}
-use Rattle.gptp_plan.specs.declared.network.SystemSpec.{SystemSpec}
-use Rattle.gptp_plan.specs.declared.network.LinkSpec.{LinkSpec}
-use Rattle.gptp_plan.specs.Network.{NetworkState, IsNetwork, IsPort, IsEnd}
+use Rattle.gptp_scenario.specs.declared.network.SystemSpec.{SystemSpec}
+use Rattle.gptp_scenario.specs.declared.network.LinkSpec.{LinkSpec}
+use Rattle.gptp_scenario.specs.Network.{NetworkState, IsNetwork, IsPort, IsEnd}
 use Rattle.gptp_world.specs.Directory.{Join, directory_clocks, joins_of, direction_start, BeginsAt, PortIsPlaced, IsPlan, AreRising, ArePlacesOfClocks, AreEndPlaces, AreOuts, AreDirectoryTables, AreNamed}
 use Rattle.gptp_lists.proofs.MappedLemmas.{same_there, mapped, mapped_there, contains_there, there_contains}
 

@@ -6,12 +6,12 @@ use Rattle.gptp_links.specs.declared.link.Direction.TheVariants.{FromA, FromB}
 use Rattle.gptp_world.specs.declared.joined_link.JoinedLink.{JoinedLink}
 use Rattle.gptp_world.specs.declared.net.Net.{Net as Between}
 use Rattle.gptp_world.specs.declared.stage.Stage.{Stage}
-use Rattle.gptp_acts.specs.declared.station.Station.{Station}
+use Rattle.gptp_model.specs.declared.station.Station.{Station}
 use Rattle.gptp_world.specs.JoinedLink.{channel_of, join_of}
 use Rattle.gptp_world.specs.Directory.{direction_end, DirectoryState, IsDirectory, PortIsPlaced, Join}
 use Rattle.gptp_world.specs.Net.{IsNet}
 use Rattle.gptp_world.specs.Stage.{clock_at_place, IsStage}
-use Rattle.gptp_acts.specs.World.{receiver}
+use Rattle.gptp_model.specs.World.{receiver}
 use Rattle.gptp_world.proofs.NetLemmas.{from_map}
 use Rattle.gptp_lists.proofs.MappedLemmas.{mapped_there}
 

@@ -8,17 +8,17 @@ use Rattle.gptp_setup.specs.declared.timer.Timer.TheVariants as timers
 use Rattle.gptp_system.specs.Input.{Expires as TimerExpires}
 use Rattle.gptp_system.specs.State.{SystemState}
 use Rattle.gptp_system.specs.Steps.{IsTimerOf}
-use Rattle.gptp_acts.specs.declared.item.Item.TheVariants.{Expiry}
+use Rattle.gptp_model.specs.declared.item.Item.TheVariants.{Expiry}
 use Rattle.gptp_world.specs.declared.net.Net.{Net as Between}
 use Rattle.gptp_world.specs.declared.stage.Stage.{Stage}
-use Rattle.gptp_acts.specs.Act.{Calls}
+use Rattle.gptp_model.specs.Act.{Calls}
 use Rattle.gptp_world.specs.ActTarget.{IsTimerDue}
-use Rattle.gptp_acts.specs.Item.{timer_port}
+use Rattle.gptp_model.specs.Item.{timer_port}
 use Rattle.gptp_world.specs.Net.{between}
-use Rattle.gptp_acts.specs.Pending.{without_first_entry, IsKnownItem}
+use Rattle.gptp_model.specs.Pending.{without_first_entry, IsKnownItem}
 use Rattle.gptp_world.specs.Performing.{Expired}
 use Rattle.gptp_world.specs.Stage.{world_of, Called, IsStage}
-use Rattle.gptp_acts.proofs.NextDueLemmas.{runs_out}
+use Rattle.gptp_model.proofs.NextDueLemmas.{runs_out}
 
 -- the ports of timers are numbered as those of their system
 timer_few : (s : SystemState) (timer : Timer) → length s.ports ≤ 16 → IsTimerOf s timer → timer_port timer ≤ 16

@@ -2,19 +2,19 @@
 use Rattle.std.proofs.Common.{◌≡◌, ◌<◌, ◌≤◌, ◌+◌, ℕ, List, [], ◌∷◌, ◌++◌, map, Option, Some, None, IfSome, IfNone, refl, ap, sym, subst, ◌∙◌, append_assoc, append-nil, arith}
 use Rattle.std.proofs.lemmas.List.Concat.{flat_map-append}
 use Rattle.gptp_links.specs.declared.bounds.Bounds.{Bounds}
-use Rattle.gptp_plan.specs.declared.change.Timed.{Timed}
-use Rattle.gptp_acts.specs.declared.done.Done.{Done}
-use Rattle.gptp_acts.specs.Acts.{at}
-use Rattle.gptp_acts.specs.Advancing.{Advances, Advanced, Happens, Stopped, Told}
-use Rattle.gptp_acts.specs.declared.item.Item.{Item}
-use Rattle.gptp_acts.specs.Pending.{Entry, IsNext, NothingBefore}
-use Rattle.gptp_acts.proofs.AdvanceLemmas.{nothing_sooner}
-use Rattle.gptp_acts.proofs.MomentLemmas.{nothing_before-next}
-use Rattle.gptp_acts.specs.World.{WorldState}
+use Rattle.gptp_scenario.specs.declared.change.Timed.{Timed}
+use Rattle.gptp_model.specs.declared.done.Done.{Done}
+use Rattle.gptp_model.specs.Acts.{at}
+use Rattle.gptp_model.specs.Advancing.{Advances, Advanced, Happens, Stopped, Told}
+use Rattle.gptp_model.specs.declared.item.Item.{Item}
+use Rattle.gptp_model.specs.Pending.{Entry, IsNext, NothingBefore}
+use Rattle.gptp_model.proofs.AdvanceLemmas.{nothing_sooner}
+use Rattle.gptp_model.proofs.MomentLemmas.{nothing_before-next}
+use Rattle.gptp_model.specs.World.{WorldState}
 use Rattle.gptp_world.specs.Following.{Follows, IsUpcoming, PassesSeen}
 use Rattle.gptp_world.specs.Observing.{Observed, Tells, TellsAct}
 use Rattle.gptp_world.specs.Transitions.{Passes, Transition, transition}
-use Rattle.gptp_spelling.specs.Lines.{text_of}
+use Rattle.gptp_words.specs.Lines.{text_of}
 
 -- ---- texts
 

@@ -9,8 +9,8 @@ use Rattle.gptp_system.specs.declared.reach.Reach.{Reach}
 use Rattle.gptp_system.specs.declared.reach.Reach.TheVariants as reaches
 use Rattle.gptp_system.specs.Reach.{frame_reach, timer_reach}
 use Rattle.gptp_system.specs.State.{clock}
-use Rattle.gptp_acts.specs.World.{port_id}
-use Rattle.gptp_acts.specs.declared.station.Station.{Station}
+use Rattle.gptp_model.specs.World.{port_id}
+use Rattle.gptp_model.specs.declared.station.Station.{Station}
 use Rattle.gptp_world.specs.declared.target.ActTarget.{ActTarget}
 use Rattle.gptp_world.specs.declared.target.ActTarget.TheVariants as aims
 use Rattle.gptp_world.specs.declared.joined_link.Lane.{Lane}

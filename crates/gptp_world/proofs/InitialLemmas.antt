@@ -19,25 +19,25 @@ use Rattle.gptp_vector.specs.declared.port.PortId.{PortId}
 use Rattle.gptp_world.specs.declared.joined_link.JoinedLink.{JoinedLink}
 use Rattle.gptp_world.specs.declared.joined_link.Lane.{Lane}
 use Rattle.gptp_world.specs.declared.net.Net.{Net as Between}
-use Rattle.gptp_plan.specs.declared.network.SystemSpec.{SystemSpec}
-use Rattle.gptp_plan.specs.declared.network.LinkSpec.{LinkSpec}
+use Rattle.gptp_scenario.specs.declared.network.SystemSpec.{SystemSpec}
+use Rattle.gptp_scenario.specs.declared.network.LinkSpec.{LinkSpec}
 use Rattle.gptp_world.specs.declared.stage.Stage.{Stage}
-use Rattle.gptp_acts.specs.declared.station.Station.{Station}
-use Rattle.gptp_acts.specs.Agrees.{Agrees}
-use Rattle.gptp_acts.specs.Ahead.{IsOnTime, IsWorldOnTime}
+use Rattle.gptp_model.specs.declared.station.Station.{Station}
+use Rattle.gptp_model.specs.Agrees.{Agrees}
+use Rattle.gptp_model.specs.Ahead.{IsOnTime, IsWorldOnTime}
 use Rattle.gptp_world.specs.JoinedLink.{channel_of, join_of}
 use Rattle.gptp_world.specs.Directory.{Join, directory_clocks, joins_of, direction_start, BeginsAt}
-use Rattle.gptp_acts.specs.Initial.{channel_from, channels_of, initial, setup_of, station_of, stations_of}
+use Rattle.gptp_model.specs.Initial.{channel_from, channels_of, initial, setup_of, station_of, stations_of}
 use Rattle.gptp_world.specs.Net.{IsNet}
-use Rattle.gptp_acts.specs.World.{port_id}
-use Rattle.gptp_plan.specs.Network.{largest_of, member, pace_of, NetworkState, IsEnd, IsNetwork, IsPort, IsWire}
-use Rattle.gptp_plan.proofs.LogLemmas.{largest_log, logs_up_to}
-use Rattle.gptp_acts.specs.Sound.{AllFlow, AreApart, AreLinked, Flows, HaveOwnClocks, HaveTheirSetups, IsItsSetup, IsSound, JoinPorts}
+use Rattle.gptp_model.specs.World.{port_id}
+use Rattle.gptp_scenario.specs.Network.{largest_of, member, pace_of, NetworkState, IsEnd, IsNetwork, IsPort, IsWire}
+use Rattle.gptp_scenario.proofs.LogLemmas.{largest_log, logs_up_to}
+use Rattle.gptp_model.specs.Sound.{AllFlow, AreApart, AreLinked, Flows, HaveOwnClocks, HaveTheirSetups, IsItsSetup, IsSound, JoinPorts}
 use Rattle.gptp_world.specs.Stage.{clock_at_place, IsStage}
-use Rattle.gptp_acts.specs.World.{Channel, world_queue, sender}
-use Rattle.gptp_acts.proofs.ChangeAgreeLemmas.{silent_agrees}
+use Rattle.gptp_model.specs.World.{Channel, world_queue, sender}
+use Rattle.gptp_model.proofs.ChangeAgreeLemmas.{silent_agrees}
 use Rattle.gptp_lists.proofs.MappedLemmas.{mapped, same_there}
-use Rattle.gptp_acts.proofs.SteadyLemmas.{started_none_late, started_steady}
+use Rattle.gptp_model.proofs.SteadyLemmas.{started_none_late, started_steady}
 
 -- ---- systems and links of a network
 

@@ -2,12 +2,12 @@
 use Rattle.std.proofs.Common.{ℕ, ◌≤◌}
 use Rattle.gptp_world.specs.declared.target.ActTarget.{ActTarget}
 use Rattle.gptp_world.specs.declared.target.ActTarget.TheVariants as aims
-use Rattle.gptp_plan.specs.declared.change.Act.{Act}
-use Rattle.gptp_plan.specs.declared.change.Act.TheVariants.{Deliver, Expire, Change as Changing}
-use Rattle.gptp_plan.specs.declared.change.Change.{Change}
-use Rattle.gptp_plan.specs.declared.change.Change.TheVariants as changes
+use Rattle.gptp_scenario.specs.declared.change.Act.{Act}
+use Rattle.gptp_scenario.specs.declared.change.Act.TheVariants.{Deliver, Expire, Change as Changing}
+use Rattle.gptp_scenario.specs.declared.change.Change.{Change}
+use Rattle.gptp_scenario.specs.declared.change.Change.TheVariants as changes
 use Rattle.gptp_world.specs.declared.stage.Stage.{Stage}
-use Rattle.gptp_acts.specs.Acts.{at}
+use Rattle.gptp_model.specs.Acts.{at}
 use Rattle.gptp_world.specs.ActTarget.{IsTargetOf, IsAimOfChange}
 use Rattle.gptp_system.specs.declared.reach.Reach.{Reach}
 use Rattle.gptp_system.specs.declared.reach.Reach.TheVariants as reaches
@@ -16,7 +16,7 @@ use Rattle.gptp_world.specs.Performing.{HasRoomForAim}
 use Rattle.gptp_world.specs.Stage.{HasRoomWithin, IsStage}
 use Rattle.gptp_world.specs.Starting.{HasRoomToStart}
 use Rattle.gptp_world.specs.Telling.{HasRoomAtEnds}
-use Rattle.gptp_acts.specs.World.{WorldState}
+use Rattle.gptp_model.specs.World.{WorldState}
 
 change_later : (c : Change) (w : WorldState) (time : ℕ) (target : ActTarget) → IsAimOfChange c w target
     → IsAimOfChange c (at time w) target

@@ -14,7 +14,7 @@ use Rattle.gptp_world.specs.declared.net.Net.{Net as Between}
 use Rattle.gptp_world.specs.JoinedLink.{HasRoomOn}
 use Rattle.gptp_world.specs.Directory.{direction_start, BeginsAt}
 use Rattle.gptp_world.specs.Net.{IsUpLane, OnlyEntries}
-use Rattle.gptp_acts.specs.World.{port_id}
+use Rattle.gptp_model.specs.World.{port_id}
 use Rattle.gptp_world.specs.Room.{both, for_sends, for_timers, no_room, repeated, sends_from, WorldHasRoom, KeepsRoomOn, Need, Uses}
 use Rattle.gptp_world.proofs.SendingLemmas.{same_lane}
 

@@ -10,8 +10,8 @@ use Rattle.gptp_world.specs.declared.net.Net.{Net as Between}
 use Rattle.gptp_world.specs.JoinedLink.{join_of, channel_of}
 use Rattle.gptp_world.specs.Directory.{direction_start, BeginsAt}
 use Rattle.gptp_world.specs.Net.{between, IsNet}
-use Rattle.gptp_acts.specs.Sends.{IsUnlinkedPort}
-use Rattle.gptp_acts.specs.World.{Channel, sender}
+use Rattle.gptp_model.specs.Sends.{IsUnlinkedPort}
+use Rattle.gptp_model.specs.World.{Channel, sender}
 use Rattle.std.specs.Prelude.{Vec}
 use Rattle.std.specs.Vec.{with_items}
 use Rattle.std.proofs.lemmas.List.{with_items_is, length-map}

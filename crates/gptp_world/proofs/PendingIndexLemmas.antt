@@ -9,13 +9,13 @@ use Rattle.gptp_links.specs.declared.link.Direction.TheVariants.{FromA, FromB}
 use Rattle.gptp_scheduler.specs.Pending.{AgendaEntry as Numbered, entry as numbered, without_number, RiseFrom}
 use Rattle.gptp_setup.specs.declared.timer.Timer.{Timer}
 use Rattle.gptp_world.specs.declared.pending_index.ArmedTimer.{ArmedTimer}
-use Rattle.gptp_acts.specs.declared.item.Item.{Item}
-use Rattle.gptp_acts.specs.declared.item.Item.TheVariants.{Expiry, Arrival}
-use Rattle.gptp_acts.proofs.PendingLemmas.{without_first-none}
-use Rattle.gptp_acts.proofs.TimerLemmas.{kind_below}
+use Rattle.gptp_model.specs.declared.item.Item.{Item}
+use Rattle.gptp_model.specs.declared.item.Item.TheVariants.{Expiry, Arrival}
+use Rattle.gptp_model.proofs.PendingLemmas.{without_first-none}
+use Rattle.gptp_model.proofs.TimerLemmas.{kind_below}
 use Rattle.gptp_world.proofs.SlotLemmas.{cut, length-cut, in_slot-push_same, in_slot-push_other, in_slot-cut_same, in_slot-cut_other, all-cut, removed, times-plain, plain-cut}
 use Rattle.gptp_world.proofs.QueueLemmas.{queue-same, queue-other, length-plain}
-use Rattle.gptp_acts.specs.Pending.{Entry, plain, times_of_item, without_first_entry, IsKnownItem, arrival_place}
+use Rattle.gptp_model.specs.Pending.{Entry, plain, times_of_item, without_first_entry, IsKnownItem, arrival_place}
 use Rattle.gptp_world.specs.Chain.{rest_of}
 use Rattle.gptp_world.specs.PendingIndex.{FiledState, queue_at, filed_with_queue, slot_of, timer_place, filed_in_slot, running, timer_number, one_or_none, PendingIsFiled}
 

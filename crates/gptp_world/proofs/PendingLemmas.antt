@@ -1,7 +1,7 @@
 -- States of what is pending.
 use Rattle.std.proofs.Common.{◌≡◌, ℕ, ◌≤◌, List, ap, ◌∙◌}
-use Rattle.gptp_acts.specs.declared.item.Item.{Item}
-use Rattle.gptp_acts.specs.Pending.{Entry, without}
+use Rattle.gptp_model.specs.declared.item.Item.{Item}
+use Rattle.gptp_model.specs.Pending.{Entry, without}
 use Rattle.gptp_world.specs.Pending.{PendingView}
 
 abbrev made : ℕ → ℕ → List Entry → ℕ → PendingView

@@ -20,29 +20,29 @@ use Rattle.gptp_world.specs.declared.target.ActTarget.{ActTarget}
 use Rattle.gptp_world.specs.declared.target.ActTarget.TheVariants as aims
 use Rattle.gptp_world.specs.declared.joined_link.JoinedLink.{JoinedLink}
 use Rattle.gptp_world.specs.declared.joined_link.Lane.{Lane}
-use Rattle.gptp_plan.specs.declared.change.Act.{Act}
-use Rattle.gptp_plan.specs.declared.change.Act.TheVariants.{Deliver, Expire, Change as Changing}
-use Rattle.gptp_plan.specs.declared.change.Change.{Change}
-use Rattle.gptp_plan.specs.declared.change.Change.TheVariants as changes
-use Rattle.gptp_acts.specs.declared.done.Done.{Done}
-use Rattle.gptp_acts.specs.declared.done.Done.TheVariants.{Quiet}
+use Rattle.gptp_scenario.specs.declared.change.Act.{Act}
+use Rattle.gptp_scenario.specs.declared.change.Act.TheVariants.{Deliver, Expire, Change as Changing}
+use Rattle.gptp_scenario.specs.declared.change.Change.{Change}
+use Rattle.gptp_scenario.specs.declared.change.Change.TheVariants as changes
+use Rattle.gptp_model.specs.declared.done.Done.{Done}
+use Rattle.gptp_model.specs.declared.done.Done.TheVariants.{Quiet}
 use Rattle.gptp_world.specs.declared.net.Net.{Net as Between}
 use Rattle.gptp_world.specs.declared.stage.Stage.{Stage}
-use Rattle.gptp_acts.specs.declared.station.Station.{Station}
-use Rattle.gptp_acts.specs.Acts.{Acts, AtPlace, Changes, IsOldestDue, TellsHearing}
-use Rattle.gptp_plan.specs.Allowed.{IsFitAct}
+use Rattle.gptp_model.specs.declared.station.Station.{Station}
+use Rattle.gptp_model.specs.Acts.{Acts, AtPlace, Changes, IsOldestDue, TellsHearing}
+use Rattle.gptp_scenario.specs.Allowed.{IsFitAct}
 use Rattle.gptp_world.specs.ActTarget.{IsTargetOf, IsAimOfChange}
 use Rattle.gptp_world.specs.JoinedLink.{channel_of, join_of, SentOne}
-use Rattle.gptp_acts.specs.Changing.{with_bounds, with_setup, with_station, CallsIfLive, InjectsIf}
+use Rattle.gptp_model.specs.Changing.{with_bounds, with_setup, with_station, CallsIfLive, InjectsIf}
 use Rattle.gptp_world.specs.Delivering.{Delivered, MayHear}
 use Rattle.gptp_world.specs.Directory.{direction_end, Join}
 use Rattle.gptp_world.specs.Memory.{AsksForNoMemory, ChangesWithoutMemory}
 use Rattle.gptp_world.specs.Net.{between, IsFrameDue, LinkIs}
 use Rattle.gptp_world.specs.Performing.{octets_of, ActIsDone, CanChange, HasRoomForAim, Injected, OfLink, OfSystem, Turned, TurnsOver}
-use Rattle.gptp_acts.specs.Sound.{AreLinked, Flows, IsSound, IsWired}
+use Rattle.gptp_model.specs.Sound.{AreLinked, Flows, IsSound, IsWired}
 use Rattle.gptp_world.specs.Stage.{clock_at_place, world_of, HasRoomWithin, HasTimerAt, IsStage, SystemIs}
 use Rattle.gptp_world.specs.Telling.{HasRoomAtEnds}
-use Rattle.gptp_acts.specs.World.{Channel, WorldState, port_id, world_queue, receiver, sender}
+use Rattle.gptp_model.specs.World.{Channel, WorldState, port_id, world_queue, receiver, sender}
 use Rattle.gptp_world.proofs.ActTargetLemmas.{lane_joins}
 use Rattle.gptp_world.proofs.EndLemmas.{end_same, known_join}
 use Rattle.gptp_world.proofs.NetLemmas.{from_map}

@@ -5,8 +5,8 @@ use Rattle.std.proofs.lemmas.List.{get_or-set_same, get_or-set_other, length-map
 use Rattle.std.proofs.lemmas.Option.{slice_get-get_or}
 use Rattle.gptp_lists.proofs.PlaceLemmas.{read}
 use Rattle.gptp_scheduler.specs.Pending.{AgendaEntry as Numbered}
-use Rattle.gptp_acts.specs.declared.item.Item.{Item}
-use Rattle.gptp_acts.specs.Pending.{plain}
+use Rattle.gptp_model.specs.declared.item.Item.{Item}
+use Rattle.gptp_model.specs.Pending.{plain}
 use Rattle.slab.specs.Slab.{Slab, get, slab_len}
 use Rattle.gptp_world.specs.declared.chain.Chain.{Chain}
 use Rattle.gptp_world.specs.declared.chain.Node.{Node}

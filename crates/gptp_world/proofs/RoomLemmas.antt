@@ -13,15 +13,15 @@ use Rattle.gptp_world.specs.declared.joined_link.JoinedLink.{JoinedLink}
 use Rattle.gptp_world.specs.declared.joined_link.Lane.{Lane}
 use Rattle.gptp_world.specs.declared.net.Net.{Net as Between}
 use Rattle.gptp_world.specs.declared.stage.Stage.{Stage}
-use Rattle.gptp_acts.specs.declared.station.Station.{Station}
+use Rattle.gptp_model.specs.declared.station.Station.{Station}
 use Rattle.gptp_world.specs.JoinedLink.{channel_of, join_of, HasRoomOn}
 use Rattle.gptp_world.specs.Directory.{BeginsAt, IsDirectory, Join}
 use Rattle.gptp_world.specs.Net.{IsNet}
-use Rattle.gptp_acts.specs.World.{port_id}
+use Rattle.gptp_model.specs.World.{port_id}
 use Rattle.gptp_world.specs.Room.{both, for_call, for_timers, repeated, HasRoomAtPorts, HasRoomBothWays, HasRoomFrom, KeepsRoomOn, Need, OnlyRoom}
 use Rattle.gptp_world.specs.Stage.{clock_at_place, HasRoomToCall, HasRoomToCallBoth, IsStage}
 use Rattle.gptp_world.specs.Starting.{for_start, HasRoomToStart}
-use Rattle.gptp_acts.specs.World.{Channel, Net}
+use Rattle.gptp_model.specs.World.{Channel, Net}
 use Rattle.gptp_world.proofs.NeedLemmas.{covered, repeated-covered, Covers}
 use Rattle.gptp_world.proofs.NetLemmas.{known_cable}
 use Rattle.gptp_lists.proofs.MappedLemmas.{mapped_there}

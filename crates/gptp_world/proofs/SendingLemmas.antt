@@ -9,10 +9,10 @@ use Rattle.gptp_links.specs.Queue.{Frame, Queue, frame, due_after, with_sent, Is
 use Rattle.gptp_links.specs.State as links
 use Rattle.gptp_world.specs.declared.joined_link.JoinedLink.{JoinedLink}
 use Rattle.gptp_world.specs.declared.joined_link.Lane.{Lane}
-use Rattle.gptp_acts.specs.declared.item.Item.TheVariants.{Arrival}
-use Rattle.gptp_acts.specs.Pending.{put_if}
-use Rattle.gptp_acts.specs.World.{Channel, sender, world_queue, with_queue}
-use Rattle.gptp_acts.specs.Sends.{entered}
+use Rattle.gptp_model.specs.declared.item.Item.TheVariants.{Arrival}
+use Rattle.gptp_model.specs.Pending.{put_if}
+use Rattle.gptp_model.specs.World.{Channel, sender, world_queue, with_queue}
+use Rattle.gptp_model.specs.Sends.{entered}
 use Rattle.gptp_world.specs.JoinedLink.{net_of, channel_of, HasRoomOn, SentOne}
 use Rattle.gptp_world.specs.Pending.{PendingView}
 use Rattle.gptp_lists.proofs.MappedLemmas.{mapped_there}

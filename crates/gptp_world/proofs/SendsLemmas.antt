@@ -7,8 +7,8 @@ use Rattle.gptp_system.specs.declared.sending.Sending.{Sending}
 use Rattle.gptp_system.specs.State.{SystemState, own}
 use Rattle.gptp_world.specs.JoinedLink.{SentAll}
 use Rattle.gptp_world.specs.Net.{SentNext}
-use Rattle.gptp_acts.specs.Sends.{IsUnlinkedPort, SendsOne, SendsAll, written}
-use Rattle.gptp_acts.specs.World.{Net}
+use Rattle.gptp_model.specs.Sends.{IsUnlinkedPort, SendsOne, SendsAll, written}
+use Rattle.gptp_model.specs.World.{Net}
 
 -- one more send behind others, which goes onto a link
 sends_more : (now : ℕ) (s : SystemState) (xs : List Sending) (x : Sending) (ds : List Draw) (d : Draw)

@@ -3,26 +3,26 @@ use Rattle.std.proofs.Common.{◌≡◌, ◌≤◌, ℕ, List, [], ◌∷◌, le
 use Rattle.std.proofs.lemmas.List.{length-map}
 use Rattle.gptp_links.specs.declared.bounds.Bounds.{Bounds}
 use Rattle.gptp_links.specs.Fate.{Draw, Draws}
-use Rattle.gptp_plan.specs.declared.change.Act.{Act}
-use Rattle.gptp_plan.specs.declared.change.Timed.{Timed}
-use Rattle.gptp_acts.specs.declared.done.Done.{Done}
-use Rattle.gptp_acts.specs.declared.item.Item.{Item}
-use Rattle.gptp_acts.specs.declared.item.Item.TheVariants.{Expiry, Arrival}
-use Rattle.gptp_acts.specs.Acts.{Acts, IsReadyAct, at}
-use Rattle.gptp_plan.specs.Allowed.{IsFitAct}
-use Rattle.gptp_acts.specs.Advancing.{Advances, Stopped, Told}
-use Rattle.gptp_acts.specs.Course.{Begun}
-use Rattle.gptp_acts.specs.Initial.{initial, station_of}
-use Rattle.gptp_plan.specs.Network.{pace_of, IsNetwork, NetworkState}
-use Rattle.gptp_acts.specs.Prompt.{DelaysFitIntervals}
-use Rattle.gptp_acts.specs.Sound.{IsSound}
-use Rattle.gptp_acts.specs.Views.{IsActOf}
-use Rattle.gptp_acts.specs.World.{WorldState}
-use Rattle.gptp_acts.proofs.AdvanceLemmas.{leaves_less, next_fits}
-use Rattle.gptp_acts.proofs.SoundLemmas.{acts_sound, later_sound}
-use Rattle.gptp_kept.specs.EncodableLaws.{SetsAnOctet}
-use Rattle.gptp_kept.specs.TimedClaim.{WorldInvariant}
-use Rattle.gptp_kept.proofs.ExactLemmas.{all_begins, all_kept}
+use Rattle.gptp_scenario.specs.declared.change.Act.{Act}
+use Rattle.gptp_scenario.specs.declared.change.Timed.{Timed}
+use Rattle.gptp_model.specs.declared.done.Done.{Done}
+use Rattle.gptp_model.specs.declared.item.Item.{Item}
+use Rattle.gptp_model.specs.declared.item.Item.TheVariants.{Expiry, Arrival}
+use Rattle.gptp_model.specs.Acts.{Acts, IsReadyAct, at}
+use Rattle.gptp_scenario.specs.Allowed.{IsFitAct}
+use Rattle.gptp_model.specs.Advancing.{Advances, Stopped, Told}
+use Rattle.gptp_model.specs.Course.{Begun}
+use Rattle.gptp_model.specs.Initial.{initial, station_of}
+use Rattle.gptp_scenario.specs.Network.{pace_of, IsNetwork, NetworkState}
+use Rattle.gptp_model.specs.Prompt.{DelaysFitIntervals}
+use Rattle.gptp_model.specs.Sound.{IsSound}
+use Rattle.gptp_model.specs.Views.{IsActOf}
+use Rattle.gptp_model.specs.World.{WorldState}
+use Rattle.gptp_model.proofs.AdvanceLemmas.{leaves_less, next_fits}
+use Rattle.gptp_model.proofs.SoundLemmas.{acts_sound, later_sound}
+use Rattle.gptp_invariants.specs.EncodableLaws.{SetsAnOctet}
+use Rattle.gptp_invariants.specs.TimedClaim.{WorldInvariant}
+use Rattle.gptp_invariants.proofs.ExactLemmas.{all_begins, all_kept}
 use Rattle.gptp_world.specs.declared.stage.Stage.{Stage}
 use Rattle.gptp_world.specs.WorldCore.{SystemsStarted}
 use Rattle.gptp_world.specs.Stage.{world_of}

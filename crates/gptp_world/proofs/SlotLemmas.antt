@@ -5,12 +5,12 @@ use Rattle.std.proofs.lemmas.Bool.Decides.{nat_tests}
 use Rattle.gptp_links.specs.declared.link.Direction.TheVariants.{FromA, FromB}
 use Rattle.gptp_scheduler.specs.Pending.{AgendaEntry as Numbered, without_number, RiseFrom}
 use Rattle.gptp_scheduler.proofs.EntryLemmas.{without-other_head}
-use Rattle.gptp_acts.specs.declared.item.Item.{Item}
-use Rattle.gptp_acts.specs.declared.item.Item.TheVariants.{Expiry, Arrival}
-use Rattle.gptp_acts.specs.Item.{timer_kind, timer_port, same_item}
-use Rattle.gptp_acts.specs.Pending.{plain, times_of_item, without_first_entry, IsKnownItem}
+use Rattle.gptp_model.specs.declared.item.Item.{Item}
+use Rattle.gptp_model.specs.declared.item.Item.TheVariants.{Expiry, Arrival}
+use Rattle.gptp_model.specs.Item.{timer_kind, timer_port, same_item}
+use Rattle.gptp_model.specs.Pending.{plain, times_of_item, without_first_entry, IsKnownItem}
 use Rattle.gptp_world.specs.PendingIndex.{slot_of, filed_in_slot}
-use Rattle.gptp_acts.proofs.TimerLemmas.{kind_below}
+use Rattle.gptp_model.proofs.TimerLemmas.{kind_below}
 
 -- ---- slots
 

@@ -16,12 +16,12 @@ use Rattle.gptp_system.specs.State.{SystemState, clock}
 use Rattle.gptp_vector.specs.declared.port.PortId.{PortId}
 use Rattle.gptp_world.specs.declared.joined_link.Lane.{Lane}
 use Rattle.gptp_world.specs.declared.net.Net.{Net as Between}
-use Rattle.gptp_acts.specs.declared.station.Station.{Station}
-use Rattle.gptp_acts.specs.Act.{set_timers, all_timers, in_state}
+use Rattle.gptp_model.specs.declared.station.Station.{Station}
+use Rattle.gptp_model.specs.Act.{set_timers, all_timers, in_state}
 use Rattle.gptp_world.specs.JoinedLink.{SentAll}
 use Rattle.gptp_world.specs.Directory.{BeginsAt}
 use Rattle.gptp_world.specs.Net.{between, IsNet, OnlyEntries}
-use Rattle.gptp_acts.specs.World.{port_id}
+use Rattle.gptp_model.specs.World.{port_id}
 use Rattle.gptp_world.specs.Room.{both, for_call, for_reach, is_reached, no_room, sends_from, WorldHasRoom, Uses}
 use Rattle.gptp_system.specs.Reach.{may_select, reach, timer_reach}
 use Rattle.gptp_setup.specs.declared.timer.Timer.{Timer}
@@ -31,9 +31,9 @@ use Rattle.gptp_system.proofs.ReachLemmas.{steps_reach}
 use Rattle.gptp_system.proofs.TimelyLemmas.{timely_timer}
 use Rattle.gptp_world.specs.declared.stage.Stage.{Stage}
 use Rattle.gptp_world.specs.Stage.{clock_at_place, for_left, Called, CallUses, CarriesOut, GiveUses, HasRoomToCall, HasRoomToGive, HasRoomWithin, HasStepped, IsLiveAt, IsStage, IsTimelyAt}
-use Rattle.gptp_acts.specs.World.{timers_from}
+use Rattle.gptp_model.specs.World.{timers_from}
 use Rattle.gptp_world.proofs.NeedLemmas.{covered, nothing_with, uses_less, Covers}
-use Rattle.gptp_acts.proofs.SteadyLemmas.{same_clock, same_ports}
+use Rattle.gptp_model.proofs.SteadyLemmas.{same_clock, same_ports}
 use Rattle.gptp_lists.proofs.PlaceLemmas.{read, get-set_same, get-set_other, map-set_same, same_place}
 
 -- ---- the timers are set

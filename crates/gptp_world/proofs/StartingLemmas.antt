@@ -10,15 +10,15 @@ use Rattle.gptp_system.specs.State.{clock}
 use Rattle.gptp_system.proofs.StartLemmas.{length-new_ports}
 use Rattle.gptp_world.specs.declared.net.Net.{Net as Between}
 use Rattle.gptp_world.specs.declared.stage.Stage.{Stage}
-use Rattle.gptp_acts.specs.declared.station.Station.{Station}
-use Rattle.gptp_acts.specs.Changing.{failed, fresh, is_up_at, with_setup, with_station, CallsAll}
+use Rattle.gptp_model.specs.declared.station.Station.{Station}
+use Rattle.gptp_model.specs.Changing.{failed, fresh, is_up_at, with_setup, with_station, CallsAll}
 use Rattle.gptp_world.specs.Net.{OnlyEntries}
 use Rattle.gptp_world.specs.Room.{both, for_call, for_timers, repeated, WorldHasRoom, Need}
-use Rattle.gptp_acts.specs.Sound.{IsItsSetup}
+use Rattle.gptp_model.specs.Sound.{IsItsSetup}
 use Rattle.gptp_world.specs.Stage.{world_of, Called, HasRoomToCall, IsStage}
 use Rattle.gptp_world.specs.Starting.{for_all_timers, for_start, CameUp, CanSetTimers, CanStart, HasRoomForPorts, HasRoomToStart, HasSetTimers, Prioritized, StandsReplaced, Started}
-use Rattle.gptp_acts.specs.World.{WorldState}
-use Rattle.gptp_acts.proofs.AgreeLemmas.{replaced}
+use Rattle.gptp_model.specs.World.{WorldState}
+use Rattle.gptp_model.proofs.AgreeLemmas.{replaced}
 use Rattle.gptp_world.proofs.NeedLemmas.{covered, left_of, uses_timers}
 use Rattle.gptp_world.proofs.ComingUpLemmas.{same_call}
 use Rattle.gptp_lists.proofs.PlaceLemmas.{get-set_same}

@@ -3,7 +3,7 @@ use Rattle.std.proofs.Common.{◌≡◌, ℕ, List, Option, Some, None, ap, ◌�
 use Rattle.std.specs.Prelude.{IfSome, IfNone}
 use Rattle.gptp_scheduler.specs.Pending.{AgendaEntry as Numbered, IsFirst, NothingDue, without_number}
 use Rattle.gptp_scheduler.proofs.FirstLemmas.{first-due, first-one}
-use Rattle.gptp_acts.specs.declared.item.Item.{Item}
+use Rattle.gptp_model.specs.declared.item.Item.{Item}
 
 pub least-taken : (o : Option (ℕ × ℕ × Item)) (es new : List (Numbered Item)) (time number : ℕ)
     → IsFirst {T = Item} es time number

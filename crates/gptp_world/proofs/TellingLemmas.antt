@@ -14,19 +14,19 @@ use Rattle.gptp_vector.specs.declared.port.PortId.{PortId}
 use Rattle.gptp_world.specs.declared.joined_link.JoinedLink.{JoinedLink}
 use Rattle.gptp_world.specs.declared.net.Net.{Net as Between}
 use Rattle.gptp_world.specs.declared.stage.Stage.{Stage}
-use Rattle.gptp_acts.specs.declared.station.Station.{Station}
+use Rattle.gptp_model.specs.declared.station.Station.{Station}
 use Rattle.gptp_world.specs.declared.telling.End.{End}
-use Rattle.gptp_acts.specs.Act.{in_state}
+use Rattle.gptp_model.specs.Act.{in_state}
 use Rattle.gptp_world.specs.JoinedLink.{channel_of, join_of}
-use Rattle.gptp_acts.specs.Changing.{CallsIfLive, TellsEnds}
+use Rattle.gptp_model.specs.Changing.{CallsIfLive, TellsEnds}
 use Rattle.gptp_world.specs.Directory.{direction_end, direction_start, DirectoryState, IsDirectory, IsPlan, Join}
 use Rattle.gptp_world.specs.Net.{IsNet}
-use Rattle.gptp_acts.specs.World.{port_id}
+use Rattle.gptp_model.specs.World.{port_id}
 use Rattle.gptp_world.specs.Room.{both, for_call, no_room, WorldHasRoom, Need, Uses}
 use Rattle.gptp_world.specs.Stage.{clock_at_place, world_of, Called, CallUses, HasRoomToCall, HasRoomToCallBoth, IsPortAt, IsStage, IsTimelyAt}
 use Rattle.gptp_world.specs.Telling.{link_input, AreEndsOf, HasRoomAtEnds, IsEndAt, WasTold}
 use Rattle.gptp_world.specs.Timing.{AreSetFor}
-use Rattle.gptp_acts.specs.World.{Channel, Net, WorldState}
+use Rattle.gptp_model.specs.World.{Channel, Net, WorldState}
 use Rattle.gptp_world.proofs.NeedLemmas.{covered, left_of}
 use Rattle.gptp_world.proofs.NetLemmas.{from_map, lane_of, MadeOf}
 use Rattle.gptp_lists.proofs.MappedLemmas.{mapped_there}

@@ -14,26 +14,26 @@ use Rattle.gptp_system.specs.State.{SystemState, due}
 use Rattle.gptp_system.specs.Steps.{IsTimerOf}
 use Rattle.gptp_system.specs.TimersChanged.{IsTouchedOf, Touches}
 use Rattle.gptp_world.specs.declared.joined_link.Lane.{Lane}
-use Rattle.gptp_acts.specs.declared.item.Item.TheVariants.{Expiry, Arrival}
+use Rattle.gptp_model.specs.declared.item.Item.TheVariants.{Expiry, Arrival}
 use Rattle.gptp_world.specs.declared.net.Net.{Net as Between}
 use Rattle.gptp_world.specs.declared.stage.Stage.{Stage}
-use Rattle.gptp_acts.specs.declared.station.Station.{Station}
+use Rattle.gptp_model.specs.declared.station.Station.{Station}
 use Rattle.gptp_system.specs.declared.touched.TimersChanged.{TimersChanged}
 use Rattle.gptp_system.specs.declared.touched.TimersChanged.TheVariants as touches
-use Rattle.gptp_acts.specs.Act.{in_state, set_timers, TakesFrame}
-use Rattle.gptp_acts.specs.Agrees.{Agrees}
-use Rattle.gptp_acts.specs.Item.{same_item}
-use Rattle.gptp_acts.specs.Pending.{Entry, set_due, times_of_item, without_first_entry}
+use Rattle.gptp_model.specs.Act.{in_state, set_timers, TakesFrame}
+use Rattle.gptp_model.specs.Agrees.{Agrees}
+use Rattle.gptp_model.specs.Item.{same_item}
+use Rattle.gptp_model.specs.Pending.{Entry, set_due, times_of_item, without_first_entry}
 use Rattle.gptp_world.specs.Net.{between, OnlyEntries}
 use Rattle.gptp_world.specs.Stage.{world_of, HasStepped}
 use Rattle.gptp_world.specs.Timing.{selected_from, AreSetAt, AreSetBut, AreSetFor, HasTouched}
-use Rattle.gptp_acts.specs.World.{station_due, timers_from, Channel, Net}
-use Rattle.gptp_acts.proofs.AgreeLemmas.{no_arrival, running}
-use Rattle.gptp_acts.proofs.OwnTimerLemmas.{set_timers_is}
-use Rattle.gptp_acts.proofs.PendingLemmas.{set_due-kept, times-set_due_same, times-without_first_other}
+use Rattle.gptp_model.specs.World.{station_due, timers_from, Channel, Net}
+use Rattle.gptp_model.proofs.AgreeLemmas.{no_arrival, running}
+use Rattle.gptp_model.proofs.OwnTimerLemmas.{set_timers_is}
+use Rattle.gptp_model.proofs.PendingLemmas.{set_due-kept, times-set_due_same, times-without_first_other}
 use Rattle.gptp_lists.proofs.PlaceLemmas.{get-set_same}
-use Rattle.gptp_acts.proofs.SteadyLemmas.{same_ports}
-use Rattle.gptp_acts.proofs.TimerLemmas.{same_timer as same_expiry, set_all, set_all-kept, stays_set, IsSet}
+use Rattle.gptp_model.proofs.SteadyLemmas.{same_ports}
+use Rattle.gptp_model.proofs.TimerLemmas.{same_timer as same_expiry, set_all, set_all-kept, stays_set, IsSet}
 
 -- ---- one after another
 

@@ -14,13 +14,13 @@ use Rattle.gptp_system.specs.State.{SystemState}
 use Rattle.gptp_vector.specs.declared.port.PortId.{PortId}
 use Rattle.gptp_world.specs.declared.joined_link.Lane.{Lane}
 use Rattle.gptp_world.specs.declared.net.Net.{Net as Between}
-use Rattle.gptp_acts.specs.Act.{all_timers, in_state, Calls}
+use Rattle.gptp_model.specs.Act.{all_timers, in_state, Calls}
 use Rattle.gptp_world.specs.JoinedLink.{channel_of}
-use Rattle.gptp_acts.specs.Changing.{is_link_end, is_up_at, CallsAll}
+use Rattle.gptp_model.specs.Changing.{is_link_end, is_up_at, CallsAll}
 use Rattle.gptp_world.specs.Net.{between, IsNet, IsUpLane}
-use Rattle.gptp_acts.specs.World.{port_id}
-use Rattle.gptp_acts.specs.Sends.{entered, IsUnlinkedPort, SendsAll, SendsOne}
-use Rattle.gptp_acts.specs.World.{Channel, Net, WorldState, sender, with_queue}
+use Rattle.gptp_model.specs.World.{port_id}
+use Rattle.gptp_model.specs.Sends.{entered, IsUnlinkedPort, SendsAll, SendsOne}
+use Rattle.gptp_model.specs.World.{Channel, Net, WorldState, sender, with_queue}
 use Rattle.gptp_world.proofs.NetLemmas.{known_cable}
 use Rattle.gptp_lists.proofs.MappedLemmas.{mapped_there}
 

@@ -6,11 +6,11 @@ use Rattle.gptp_vector.specs.declared.port.PortId.{PortId}
 use Rattle.std.proofs.lemmas.List.{length-map, take_all}
 use Rattle.gptp_lists.proofs.MappedLemmas.{mapped_there, taken}
 use Rattle.gptp_lists.proofs.SystemSpecLemmas.{In-map}
-use Rattle.gptp_acts.specs.World.{Channel, receiver}
-use Rattle.gptp_acts.specs.declared.station.Station.{Station}
+use Rattle.gptp_model.specs.World.{Channel, receiver}
+use Rattle.gptp_model.specs.declared.station.Station.{Station}
 use Rattle.gptp_system.specs.State.{clock}
-use Rattle.gptp_kept.specs.Standing.{stations_have_clock, channel_is_used, standing_link, live_stations, standing_system, used_channels}
-use Rattle.gptp_kept.proofs.SystemLemmas.{OwnClocks, clock_in, clock_lives, clock_there, live_from, live_there}
+use Rattle.gptp_invariants.specs.Standing.{stations_have_clock, channel_is_used, standing_link, live_stations, standing_system, used_channels}
+use Rattle.gptp_invariants.proofs.SystemLemmas.{OwnClocks, clock_in, clock_lives, clock_there, live_from, live_there}
 use Rattle.gptp_world.specs.declared.joined_link.JoinedLink.{JoinedLink}
 use Rattle.gptp_world.specs.declared.joined_link.Lane.{Lane}
 use Rattle.gptp_world.specs.declared.stage.Stage.{Stage}

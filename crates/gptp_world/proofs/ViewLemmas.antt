@@ -5,19 +5,19 @@ use Rattle.gptp_roles.specs.declared.role.Role.{Role}
 use Rattle.gptp_system.specs.Start.{role_at}
 use Rattle.gptp_system.specs.State.{SystemState}
 use Rattle.gptp_system.specs.Steps.{HasPortNumber}
-use Rattle.gptp_acts.specs.declared.item.Item.{Item}
-use Rattle.gptp_acts.specs.declared.item.Item.TheVariants.{Expiry, Arrival}
+use Rattle.gptp_model.specs.declared.item.Item.{Item}
+use Rattle.gptp_model.specs.declared.item.Item.TheVariants.{Expiry, Arrival}
 use Rattle.gptp_world.specs.declared.stage.Stage.{Stage}
-use Rattle.gptp_acts.specs.declared.station.Station.{Station}
-use Rattle.gptp_acts.specs.Acts.{AtSystem}
-use Rattle.gptp_acts.specs.Agrees.{Agrees}
-use Rattle.gptp_acts.specs.Pending.{IsNext}
+use Rattle.gptp_model.specs.declared.station.Station.{Station}
+use Rattle.gptp_model.specs.Acts.{AtSystem}
+use Rattle.gptp_model.specs.Agrees.{Agrees}
+use Rattle.gptp_model.specs.Pending.{IsNext}
 use Rattle.gptp_world.specs.Stage.{world_of}
-use Rattle.gptp_acts.specs.Sound.{IsSound}
+use Rattle.gptp_model.specs.Sound.{IsSound}
 use Rattle.gptp_world.specs.Stage.{IsPlacedItem}
-use Rattle.gptp_acts.specs.Views.{FollowsRoot, HasPort, HasRole, ShowsLive}
-use Rattle.gptp_acts.specs.World.{WorldState}
-use Rattle.gptp_acts.proofs.NextDueLemmas.{next_runs_out}
+use Rattle.gptp_model.specs.Views.{FollowsRoot, HasPort, HasRole, ShowsLive}
+use Rattle.gptp_model.specs.World.{WorldState}
+use Rattle.gptp_model.proofs.NextDueLemmas.{next_runs_out}
 
 -- the system of what is next is there
 pub next_placed : (stage : Stage) (time : ℕ) (item : Item) → Agrees (world_of stage)

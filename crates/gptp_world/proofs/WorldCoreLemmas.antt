@@ -6,18 +6,18 @@ use Rattle.gptp_links.specs.declared.bounds.Bounds.{Bounds}
 use Rattle.gptp_links.specs.Fate.{Draw}
 use Rattle.gptp_links.proofs.DrawLemmas as draws
 use Rattle.gptp_system.specs.Input.{Input}
-use Rattle.gptp_plan.specs.declared.change.Act.{Act}
+use Rattle.gptp_scenario.specs.declared.change.Act.{Act}
 use Rattle.gptp_world.specs.declared.stage.Stage.{Stage}
-use Rattle.gptp_acts.specs.Acts.{at, IsReadyAct}
-use Rattle.gptp_acts.specs.Changing.{fresh, CallsAll, Starts, StartsAll}
+use Rattle.gptp_model.specs.Acts.{at, IsReadyAct}
+use Rattle.gptp_model.specs.Changing.{fresh, CallsAll, Starts, StartsAll}
 use Rattle.gptp_world.specs.WorldCore.{SystemsStarted}
-use Rattle.gptp_acts.specs.Sound.{IsSound}
+use Rattle.gptp_model.specs.Sound.{IsSound}
 use Rattle.gptp_world.specs.Stage.{world_of}
 use Rattle.gptp_world.specs.Starting.{CanStart, Started}
-use Rattle.gptp_acts.specs.World.{WorldState}
+use Rattle.gptp_model.specs.World.{WorldState}
 use Rattle.gptp_world.proofs.ComingUpLemmas.{range-more}
 use Rattle.gptp_lists.proofs.PlaceLemmas.{member_there}
-use Rattle.gptp_acts.proofs.SoundLemmas.{later_sound, starts_sound}
+use Rattle.gptp_model.proofs.SoundLemmas.{later_sound, starts_sound}
 
 -- ---- one system
 

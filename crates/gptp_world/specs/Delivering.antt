@@ -8,8 +8,8 @@ use Rattle.gptp_system.specs.Steps.{IsUp}
 use Rattle.gptp_vector.specs.declared.port.PortId.{PortId}
 use Rattle.gptp_world.specs.declared.joined_link.Lane.{Lane}
 use Rattle.gptp_world.specs.declared.stage.Stage.{Stage}
-use Rattle.gptp_acts.specs.declared.station.Station.{Station}
-use Rattle.gptp_acts.specs.Act.{Delivers, Hears}
+use Rattle.gptp_model.specs.declared.station.Station.{Station}
+use Rattle.gptp_model.specs.Act.{Delivers, Hears}
 use Rattle.gptp_world.specs.Directory.{direction_end, Join}
 use Rattle.gptp_world.specs.Net.{IsOldest}
 use Rattle.gptp_world.specs.Stage.{world_of, HasRoomWithin}

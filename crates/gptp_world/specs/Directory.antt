@@ -8,8 +8,8 @@ use Rattle.gptp_roles.specs.Selection.{clock_of}
 use Rattle.gptp_world.specs.declared.joined_link.Lane.{Lane}
 use Rattle.gptp_world.specs.declared.directory.Ends.{Ends}
 pub use Rattle.gptp_world.specs.declared.directory.Join.{Join}
-use Rattle.gptp_plan.specs.declared.network.SystemSpec.{SystemSpec}
-use Rattle.gptp_plan.specs.declared.network.LinkSpec.{LinkSpec}
+use Rattle.gptp_scenario.specs.declared.network.SystemSpec.{SystemSpec}
+use Rattle.gptp_scenario.specs.declared.network.LinkSpec.{LinkSpec}
 
 -- the clock of each system and the ports of each link, by place
 pub record DirectoryState : Type 0 where

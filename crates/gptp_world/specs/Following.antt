@@ -1,10 +1,10 @@
 -- A world that goes on before an observer, and what is told meanwhile.
 use Rattle.std.specs.Prelude.{◌≡◌, ℕ, List, [], Option, Some, None}
 use Rattle.gptp_links.specs.declared.bounds.Bounds.{Bounds}
-use Rattle.gptp_acts.specs.Advancing.{Told}
-use Rattle.gptp_acts.specs.declared.item.Item.{Item}
-use Rattle.gptp_acts.specs.Pending.{Entry, IsNext}
-use Rattle.gptp_acts.specs.World.{WorldState}
+use Rattle.gptp_model.specs.Advancing.{Told}
+use Rattle.gptp_model.specs.declared.item.Item.{Item}
+use Rattle.gptp_model.specs.Pending.{Entry, IsNext}
+use Rattle.gptp_model.specs.World.{WorldState}
 use Rattle.gptp_world.specs.Observing.{Observed}
 use Rattle.gptp_world.specs.Transitions.{Passes, PassesTo, Transition}
 

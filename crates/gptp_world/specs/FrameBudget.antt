@@ -4,7 +4,7 @@ use Rattle.gptp_system.specs.declared.reach.Reach.{Reach}
 use Rattle.gptp_system.specs.Reach.{frame_reach, timer_reach}
 use Rattle.gptp_setup.specs.declared.timer.Timer.{Timer}
 use Rattle.gptp_vector.specs.declared.port.PortId.{PortId}
-use Rattle.gptp_acts.specs.declared.station.Station.{Station}
+use Rattle.gptp_model.specs.declared.station.Station.{Station}
 use Rattle.gptp_world.specs.declared.target.ActTarget.{ActTarget}
 use Rattle.gptp_world.specs.declared.target.ActTarget.TheVariants as aims
 use Rattle.gptp_world.specs.declared.joined_link.Lane.{Lane}

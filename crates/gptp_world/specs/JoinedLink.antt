@@ -9,9 +9,9 @@ use Rattle.gptp_vector.specs.declared.port.PortId.{PortId}
 use Rattle.gptp_world.specs.declared.joined_link.JoinedLink.{JoinedLink}
 use Rattle.gptp_world.specs.declared.joined_link.Lane.{Lane}
 use Rattle.gptp_world.specs.Directory.{Join}
-use Rattle.gptp_acts.specs.World.{Channel, Net}
+use Rattle.gptp_model.specs.World.{Channel, Net}
 use Rattle.gptp_world.specs.Pending.{PendingView}
-use Rattle.gptp_acts.specs.Sends.{SendsOne, SendsAll}
+use Rattle.gptp_model.specs.Sends.{SendsOne, SendsAll}
 
 -- a link without the room that it has
 abbrev pub channel_of : JoinedLink → Channel

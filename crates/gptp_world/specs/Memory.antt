@@ -1,12 +1,12 @@
 -- Acts that ask for no memory in the world that they find.
 use Rattle.std.specs.Prelude.{◌≡◌, ℕ, ⊤, Bool, true, false}
-use Rattle.gptp_acts.specs.declared.station.Station.{Station}
-use Rattle.gptp_acts.specs.Changing.{IsChannel, IsStation}
-use Rattle.gptp_acts.specs.World.{Channel, WorldState, port_id}
-use Rattle.gptp_plan.specs.declared.change.Act.{Act}
-use Rattle.gptp_plan.specs.declared.change.Act.TheVariants.{Change as Changing}
-use Rattle.gptp_plan.specs.declared.change.Change.{Change}
-use Rattle.gptp_plan.specs.declared.change.Change.TheVariants.{LinkDown, LinkUp, LinkSet, Fail, Recover, Inject}
+use Rattle.gptp_model.specs.declared.station.Station.{Station}
+use Rattle.gptp_model.specs.Changing.{IsChannel, IsStation}
+use Rattle.gptp_model.specs.World.{Channel, WorldState, port_id}
+use Rattle.gptp_scenario.specs.declared.change.Act.{Act}
+use Rattle.gptp_scenario.specs.declared.change.Act.TheVariants.{Change as Changing}
+use Rattle.gptp_scenario.specs.declared.change.Change.{Change}
+use Rattle.gptp_scenario.specs.declared.change.Change.TheVariants.{LinkDown, LinkUp, LinkSet, Fail, Recover, Inject}
 use Rattle.gptp_vector.specs.declared.port.PortId.{PortId}
 
 -- the link at a port is up already, or down

@@ -9,8 +9,8 @@ use Rattle.gptp_world.specs.declared.joined_link.Lane.{Lane}
 use Rattle.gptp_world.specs.declared.net.Net.{Net as Between}
 use Rattle.gptp_world.specs.JoinedLink.{join_of, net_of, SentOne}
 use Rattle.gptp_world.specs.Directory.{BeginsAt}
-use Rattle.gptp_acts.specs.Sends.{IsUnlinkedPort}
-use Rattle.gptp_acts.specs.World.{Net}
+use Rattle.gptp_model.specs.Sends.{IsUnlinkedPort}
+use Rattle.gptp_model.specs.World.{Net}
 
 -- the links and what is pending
 abbrev pub between : Between → Net

@@ -1,10 +1,10 @@
 -- What an observer tells of acts, one after another.
 use Rattle.std.specs.Prelude.{◌≡◌, ℕ, List, [], ◌∷◌, ◌++◌}
-use Rattle.gptp_plan.specs.declared.change.Timed.{Timed}
-use Rattle.gptp_acts.specs.declared.done.Done.{Done}
-use Rattle.gptp_acts.specs.Advancing.{Told}
-use Rattle.gptp_acts.specs.World.{WorldState}
-use Rattle.gptp_spelling.specs.Lines.{text_of}
+use Rattle.gptp_scenario.specs.declared.change.Timed.{Timed}
+use Rattle.gptp_model.specs.declared.done.Done.{Done}
+use Rattle.gptp_model.specs.Advancing.{Told}
+use Rattle.gptp_model.specs.World.{WorldState}
+use Rattle.gptp_words.specs.Lines.{text_of}
 use Rattle.gptp_world.specs.Transitions.{Transition}
 
 abbrev pub told_of : Timed → Done → Told

@@ -4,10 +4,10 @@ use Rattle.std.specs.List.{AllByRecursion, filter}
 use Rattle.gptp_scheduler.specs.Pending.{AgendaEntry as Numbered}
 use Rattle.gptp_setup.specs.declared.timer.Timer.{Timer}
 use Rattle.gptp_world.specs.declared.pending_index.ArmedTimer.{ArmedTimer}
-use Rattle.gptp_acts.specs.declared.item.Item.{Item}
-use Rattle.gptp_acts.specs.declared.item.Item.TheVariants.{Expiry, Arrival}
-use Rattle.gptp_acts.specs.Item.{timer_kind, timer_port}
-use Rattle.gptp_acts.specs.Pending.{IsKnownItem, arrival_place}
+use Rattle.gptp_model.specs.declared.item.Item.{Item}
+use Rattle.gptp_model.specs.declared.item.Item.TheVariants.{Expiry, Arrival}
+use Rattle.gptp_model.specs.Item.{timer_kind, timer_port}
+use Rattle.gptp_model.specs.Pending.{IsKnownItem, arrival_place}
 
 -- the table: timers, the numbers of the entries of each direction of a link, in order of putting, and room for more
 pub record FiledState : Type 0 where

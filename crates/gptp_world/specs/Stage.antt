@@ -12,17 +12,17 @@ use Rattle.gptp_system.specs.Reach.{reach}
 use Rattle.gptp_system.specs.State.{SystemState, clock}
 use Rattle.gptp_system.specs.Steps.{HasPortNumber, IsTimerOf}
 use Rattle.gptp_world.specs.declared.joined_link.Lane.{Lane}
-use Rattle.gptp_acts.specs.declared.item.Item.{Item}
-use Rattle.gptp_acts.specs.declared.item.Item.TheVariants.{Expiry, Arrival}
+use Rattle.gptp_model.specs.declared.item.Item.{Item}
+use Rattle.gptp_model.specs.declared.item.Item.TheVariants.{Expiry, Arrival}
 use Rattle.gptp_world.specs.declared.net.Net.{Net as Between}
 use Rattle.gptp_world.specs.declared.stage.Stage.{Stage}
-use Rattle.gptp_acts.specs.declared.station.Station.{Station}
-use Rattle.gptp_acts.specs.Act.{in_state, Calls}
+use Rattle.gptp_model.specs.declared.station.Station.{Station}
+use Rattle.gptp_model.specs.Act.{in_state, Calls}
 use Rattle.gptp_world.specs.Directory.{BeginsAt}
 use Rattle.gptp_world.specs.Net.{between, IsNet}
-use Rattle.gptp_acts.specs.World.{port_id}
+use Rattle.gptp_model.specs.World.{port_id}
 use Rattle.gptp_world.specs.Room.{both, for_call, for_reach, for_sends, for_timers, WorldHasRoom, Need, Uses}
-use Rattle.gptp_acts.specs.World.{WorldState}
+use Rattle.gptp_model.specs.World.{WorldState}
 
 -- the state of the world
 abbrev pub world_of : Stage → WorldState

@@ -7,12 +7,12 @@ use Rattle.gptp_system.specs.Input.{PortUp, Priority}
 use Rattle.gptp_setup.specs.Intervals.{AreParams}
 use Rattle.gptp_system.specs.State.{SystemState, clock}
 use Rattle.gptp_world.specs.declared.stage.Stage.{Stage}
-use Rattle.gptp_acts.specs.declared.station.Station.{Station}
-use Rattle.gptp_acts.specs.Act.{all_timers}
-use Rattle.gptp_acts.specs.Changing.{is_up_at, with_setup, with_station, CallsAll, CallsIfLive, Starts}
+use Rattle.gptp_model.specs.declared.station.Station.{Station}
+use Rattle.gptp_model.specs.Act.{all_timers}
+use Rattle.gptp_model.specs.Changing.{is_up_at, with_setup, with_station, CallsAll, CallsIfLive, Starts}
 use Rattle.gptp_world.specs.Net.{between, OnlyEntries}
 use Rattle.gptp_world.specs.Room.{both, for_call, for_timers, repeated, WorldHasRoom, Need}
-use Rattle.gptp_acts.specs.Sound.{IsItsSetup}
+use Rattle.gptp_model.specs.Sound.{IsItsSetup}
 use Rattle.gptp_world.specs.Stage.{world_of}
 
 -- ---- one stands for the system at a place

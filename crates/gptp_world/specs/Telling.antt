@@ -6,10 +6,10 @@ use Rattle.gptp_system.specs.Input.{Input, PortUp, PortDown}
 use Rattle.gptp_vector.specs.declared.port.PortId.{PortId}
 use Rattle.gptp_world.specs.declared.stage.Stage.{Stage}
 use Rattle.gptp_world.specs.declared.telling.End.{End}
-use Rattle.gptp_acts.specs.Changing.{CallsIfLive, ComesUpIf, GoesDownIf}
+use Rattle.gptp_model.specs.Changing.{CallsIfLive, ComesUpIf, GoesDownIf}
 use Rattle.gptp_world.specs.Directory.{DirectoryState, Join}
 use Rattle.gptp_world.specs.Stage.{world_of, HasRoomToCallBoth}
-use Rattle.gptp_acts.specs.World.{Channel}
+use Rattle.gptp_model.specs.World.{Channel}
 
 -- ---- the ends of a link
 

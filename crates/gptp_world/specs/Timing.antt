@@ -6,11 +6,11 @@ use Rattle.gptp_setup.specs.declared.timer.Timer.TheVariants as timers
 use Rattle.gptp_system.specs.declared.touched.TimersChanged.{TimersChanged}
 use Rattle.gptp_system.specs.Input.{Input}
 use Rattle.gptp_system.specs.TimersChanged.{holds, is_always_touched, IsTouchedOf}
-use Rattle.gptp_acts.specs.declared.item.Item.TheVariants.{Expiry}
+use Rattle.gptp_model.specs.declared.item.Item.TheVariants.{Expiry}
 use Rattle.gptp_world.specs.declared.stage.Stage.{Stage}
-use Rattle.gptp_acts.specs.declared.station.Station.{Station}
-use Rattle.gptp_acts.specs.Pending.{Entry, timer_time, times_of_item}
-use Rattle.gptp_acts.specs.World.{station_due}
+use Rattle.gptp_model.specs.declared.station.Station.{Station}
+use Rattle.gptp_model.specs.Pending.{Entry, timer_time, times_of_item}
+use Rattle.gptp_model.specs.World.{station_due}
 
 -- those that selection can change, of ports the first of which has this number: in the order in which they are put
 abbrev pub selected_from : ℕ → List Port → List Timer

@@ -1,12 +1,12 @@
 -- What happens in a world, act by act: each act with the world before it and behind it.
 use Rattle.std.specs.Prelude.{◌≡◌, ◌≤◌, ◌+◌, ℕ, List, [], ◌∷◌, Option}
 use Rattle.gptp_links.specs.declared.bounds.Bounds.{Bounds}
-use Rattle.gptp_plan.specs.declared.change.Timed.{Timed}
-use Rattle.gptp_acts.specs.declared.done.Done.{Done}
-use Rattle.gptp_acts.specs.Acts.{at}
-use Rattle.gptp_acts.specs.Advancing.{Happens, Told}
-use Rattle.gptp_acts.specs.Pending.{NothingBefore}
-use Rattle.gptp_acts.specs.World.{WorldState}
+use Rattle.gptp_scenario.specs.declared.change.Timed.{Timed}
+use Rattle.gptp_model.specs.declared.done.Done.{Done}
+use Rattle.gptp_model.specs.Acts.{at}
+use Rattle.gptp_model.specs.Advancing.{Happens, Told}
+use Rattle.gptp_model.specs.Pending.{NothingBefore}
+use Rattle.gptp_model.specs.World.{WorldState}
 
 -- an act that was done and what was told of it, the world before it, and the world behind it
 pub record Transition : Type 0 where

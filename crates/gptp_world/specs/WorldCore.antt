@@ -4,11 +4,11 @@ use Rattle.std.specs.List.{range_with_len}
 use Rattle.gptp_links.specs.declared.bounds.Bounds.{Bounds}
 use Rattle.gptp_links.specs.Fate.{Draw, Draws}
 use Rattle.gptp_world.specs.declared.stage.Stage.{Stage}
-use Rattle.gptp_acts.specs.Changing.{StartsAll}
-use Rattle.gptp_acts.specs.Sound.{IsSound}
+use Rattle.gptp_model.specs.Changing.{StartsAll}
+use Rattle.gptp_model.specs.Sound.{IsSound}
 use Rattle.gptp_world.specs.FrameBudget.{IsCovered}
 use Rattle.gptp_world.specs.Stage.{world_of, IsStage}
-use Rattle.gptp_kept.specs.TimedClaim.{WorldInvariant}
+use Rattle.gptp_invariants.specs.TimedClaim.{WorldInvariant}
 
 -- what the code keeps of a world while its systems start
 pub record IsFounded (stage : Stage) : Type 0 where

@@ -9,7 +9,7 @@ use crate::observer::Observer;
 use crate::world_core::WorldCore;
 use crate::views::act_of;
 use crate::world::World;
-use gptp_acts::{Done, Item, Timed};
+use gptp_model::{Done, Item, Timed};
 use gptp_links::Fate;
 use gptp_sink::Cut;
 use gptp_sink::sink::Sink;
@@ -33,9 +33,9 @@ fn aim_of(item: Item) -> ActTarget
 
 impl WorldCore {
     ghost use Rattle.std.specs.Prelude.{◌≡◌, ◌+◌, ◌≤◌, IfNone, IfSome};
-    ghost use Rattle.gptp_acts.specs.Acts.{at};
-    ghost use Rattle.gptp_acts.specs.Pending.{IsNext, NothingBefore};
-    ghost use Rattle.gptp_acts.specs.Views.{IsActOf};
+    ghost use Rattle.gptp_model.specs.Acts.{at};
+    ghost use Rattle.gptp_model.specs.Pending.{IsNext, NothingBefore};
+    ghost use Rattle.gptp_model.specs.Views.{IsActOf};
     ghost use Rattle.gptp_world.specs.Following.{IsUpcoming};
 
     /// What is next, and its time.
@@ -103,8 +103,8 @@ impl WorldCore {
 impl<F: Fate + Drop> World<F> {
     ghost use Rattle.std.specs.Prelude.{◌≡◌, ◌≢◌, ◌+◌, ◌<◌, ◌≤◌, IfOk, OnErr, OnOk};
     ghost use Rattle.std.specs.Io.KnownBytes.{Appends};
-    ghost use Rattle.gptp_acts.specs.Ahead.{due_by};
-    ghost use Rattle.gptp_acts.specs.Pending.{IsNext, NothingBefore};
+    ghost use Rattle.gptp_model.specs.Ahead.{due_by};
+    ghost use Rattle.gptp_model.specs.Pending.{IsNext, NothingBefore};
     ghost use Rattle.gptp_sink.specs.Sink.{AppendsSome};
     ghost use Rattle.gptp_world.specs.Following.{Follows, IsUpcoming, PassesSeen};
 

@@ -24,7 +24,7 @@ impl Net {
     ghost use Rattle.std.specs.Prelude.{◌≡◌, ◌≤◌, ℕ, Some, slice_get};
     ghost use Rattle.gptp_world.specs.declared.joined_link.JoinedLink.{JoinedLink};
     ghost use Rattle.gptp_world.specs.declared.joined_link.Lane.{Lane};
-    ghost use Rattle.gptp_acts.specs.Act.{TakesFrame};
+    ghost use Rattle.gptp_model.specs.Act.{TakesFrame};
     ghost use Rattle.gptp_world.specs.JoinedLink.{channel_of};
     ghost use Rattle.gptp_world.specs.Room.{no_room, Uses};
     ghost use Rattle.gptp_world.specs.Net.{between, IsNet, IsFrameDue};

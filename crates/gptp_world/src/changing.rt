@@ -8,7 +8,7 @@ impl Net {
     ghost use Rattle.gptp_links.specs.Bounds.{Fit};
     ghost use Rattle.gptp_world.specs.declared.joined_link.JoinedLink.{JoinedLink};
     ghost use Rattle.gptp_world.specs.JoinedLink.{channel_of};
-    ghost use Rattle.gptp_acts.specs.Changing.{taken_down, brought_up, with_bounds};
+    ghost use Rattle.gptp_model.specs.Changing.{taken_down, brought_up, with_bounds};
     ghost use Rattle.gptp_world.specs.Net.{between, IsNet};
     ghost use Rattle.gptp_world.specs.Room.{no_room, Uses};
 

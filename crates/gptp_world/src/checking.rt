@@ -1,10 +1,10 @@
 //! Whether an act can be done.
 
-ghost use Rattle.gptp_kept.specs.EncodableLaws.{SetsAnOctet};
+ghost use Rattle.gptp_invariants.specs.EncodableLaws.{SetsAnOctet};
 
 use crate::target::ActTarget;
 use crate::stage::Stage;
-use gptp_acts::{Act, Change, Refused, Timed};
+use gptp_model::{Act, Change, Refused, Timed};
 
 /// A priority1 that a change sets is an octet, and so is each that it injects.
 fn change_sets_an_octet(change: &Change)
@@ -34,10 +34,10 @@ pub(crate) fn sets_an_octet(act: &Act)
 
 impl Stage {
     ghost use Rattle.std.specs.Prelude.{◌≡◌, ◌≢◌, ◌↔◌, IsTrue, IfOk, IfErr, true, false};
-    ghost use Rattle.gptp_acts.specs.declared.done.Refused.TheVariants.{OutOfMemory};
-    ghost use Rattle.gptp_acts.specs.Acts.{IsDueThen, IsEarlier, IsReadyAct, Refuses};
+    ghost use Rattle.gptp_model.specs.declared.done.Refused.TheVariants.{OutOfMemory};
+    ghost use Rattle.gptp_model.specs.Acts.{IsDueThen, IsEarlier, IsReadyAct, Refuses};
     ghost use Rattle.gptp_world.specs.ActTarget.{IsTargetOf};
-    ghost use Rattle.gptp_acts.specs.Pending.{NothingBefore};
+    ghost use Rattle.gptp_model.specs.Pending.{NothingBefore};
     ghost use Rattle.gptp_world.specs.Stage.{world_of, IsStage};
 
     /// Whether nothing is due before a time.

@@ -28,7 +28,7 @@ pub(crate) fn narrowed(port: u16) -> u8
 
 impl Stage {
     ghost use Rattle.std.specs.Prelude.{◌≡◌, ℕ, List, length, ◌<◌, OnOk};
-    ghost use Rattle.gptp_acts.specs.Agrees.{Agrees};
+    ghost use Rattle.gptp_model.specs.Agrees.{Agrees};
     ghost use Rattle.gptp_system.specs.Input.{Frame};
     ghost use Rattle.gptp_system.specs.Reach.{frame_reach};
     ghost use Rattle.gptp_world.specs.Net.{IsFrameDue, IsOldest};

@@ -4,10 +4,10 @@ ghost use Rattle.std.specs.Prelude.{◌≡◌, ℕ, ◌+◌, ◌*◌, ◌<◌, �
 ghost use Rattle.std.specs.List.{All};
 ghost use Rattle.std.specs.List.Sorted.{IsNonDecreasing};
 ghost use Rattle.gptp_world.specs.Directory.{directory_clocks, joins_of, direction_end, lanes_entered, BeginsAt, IsPlan, IsDirectory, AreRising, ArePlacesOfClocks, AreEndPlaces, AreOuts, AreNamed};
-ghost use Rattle.gptp_acts.specs.Views.{rising};
+ghost use Rattle.gptp_model.specs.Views.{rising};
 
 use crate::joined_link::Lane;
-use gptp_acts::Network;
+use gptp_model::Network;
 use gptp_links::Direction;
 use gptp_vector::{ClockId, PortId};
 use std::alloc::{AllocError, Global};

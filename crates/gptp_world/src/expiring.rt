@@ -9,9 +9,9 @@ use std::alloc::AllocError;
 
 impl Net {
     ghost use Rattle.std.specs.Prelude.{◌≡◌};
-    ghost use Rattle.gptp_acts.specs.declared.item.Item.TheVariants.{Expiry};
+    ghost use Rattle.gptp_model.specs.declared.item.Item.TheVariants.{Expiry};
     ghost use Rattle.gptp_world.specs.Net.{between, IsNet};
-    ghost use Rattle.gptp_acts.specs.Pending.{without_first_entry, IsKnownItem};
+    ghost use Rattle.gptp_model.specs.Pending.{without_first_entry, IsKnownItem};
     ghost use Rattle.gptp_world.specs.Room.{no_room, Uses};
 
     /// A timer of the system at a place, which expires, is no longer pending.
@@ -28,7 +28,7 @@ impl Net {
 
 impl Stage {
     ghost use Rattle.std.specs.Prelude.{◌≡◌, OnOk};
-    ghost use Rattle.gptp_acts.specs.Agrees.{Agrees};
+    ghost use Rattle.gptp_model.specs.Agrees.{Agrees};
     ghost use Rattle.gptp_system.specs.Input.{Expires};
     ghost use Rattle.gptp_world.specs.ActTarget.{IsTimerDue};
     ghost use Rattle.gptp_world.specs.FrameBudget.{ExpiresBeyond, ExpiryUses, IsCovered};

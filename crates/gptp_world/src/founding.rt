@@ -3,7 +3,7 @@
 ghost use Rattle.std.specs.Prelude.{◌≡◌, ◌≤◌, ◌<◌, [], length, map, IfOk, Some, slice_get};
 ghost use Rattle.gptp_links.specs.Bounds.{Fit};
 ghost use Rattle.gptp_world.specs.JoinedLink.{channel_of};
-ghost use Rattle.gptp_acts.specs.Initial.{channels_of, stations_of};
+ghost use Rattle.gptp_model.specs.Initial.{channels_of, stations_of};
 
 use crate::buffers::Buffers;
 use crate::joined_link::JoinedLink;
@@ -11,14 +11,14 @@ use crate::directory::Directory;
 use crate::net::Net;
 use crate::pending::Pending;
 use crate::stage::Stage;
-use gptp_acts::{Network, Station};
+use gptp_model::{Network, Station};
 use gptp_links::{Bounds, Link};
 use gptp_system::{Outbox, Setup, System};
 use std::alloc::{AllocError, Global};
 
 impl Stage {
     ghost use Rattle.std.specs.Prelude.{◌≡◌, IfOk};
-    ghost use Rattle.gptp_acts.specs.Initial.{initial};
+    ghost use Rattle.gptp_model.specs.Initial.{initial};
     ghost use Rattle.gptp_world.specs.Stage.{world_of, IsStage};
 
     /// The world of a network at time 0, before its systems start. Refused for want of memory alone.
@@ -42,7 +42,7 @@ impl Stage {
 impl Net {
     ghost use Rattle.std.specs.Prelude.{◌≡◌, length, IfOk};
     ghost use Rattle.gptp_world.specs.Directory.{directory_clocks, joins_of};
-    ghost use Rattle.gptp_acts.specs.Initial.{idle};
+    ghost use Rattle.gptp_model.specs.Initial.{idle};
     ghost use Rattle.gptp_world.specs.Net.{between, IsNet};
 
     /// The links of a network, with nothing in flight or pending. Refused for want of memory alone.

@@ -22,11 +22,11 @@ impl Net {
     ghost use Rattle.std.specs.Prelude.{◌≡◌, ℕ, ◌+◌, ◌*◌, ◌^◌, ◌<◌, ◌≤◌, List, [], ◌∷◌, length, Some, slice_get, IfSome, IfNone, true};
     ghost use Rattle.gptp_system.specs.State.{clock, own};
     ghost use Rattle.gptp_world.specs.declared.joined_link.JoinedLink.{JoinedLink};
-    ghost use Rattle.gptp_acts.specs.Sends.{written, IsUnlinkedPort};
-    ghost use Rattle.gptp_acts.specs.World.{sender};
+    ghost use Rattle.gptp_model.specs.Sends.{written, IsUnlinkedPort};
+    ghost use Rattle.gptp_model.specs.World.{sender};
     ghost use Rattle.gptp_world.specs.JoinedLink.{channel_of, SentAll, SentOne};
     ghost use Rattle.gptp_world.specs.Net.{between, IsNet, IsUpLane, SentNext};
-    ghost use Rattle.gptp_acts.specs.World.{port_id};
+    ghost use Rattle.gptp_model.specs.World.{port_id};
     ghost use Rattle.gptp_world.specs.Room.{for_sends, WorldHasRoom, HasRoomToInject, Uses};
 
     /// The lane that begins at a port of the system at a place, where that link is up.

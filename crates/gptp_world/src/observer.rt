@@ -2,13 +2,13 @@
 
 ghost use Rattle.std.specs.Prelude.{◌≡◌, ◌≢◌, ◌≤◌, ℕ, List, OnOk};
 ghost use Rattle.std.specs.Io.KnownBytes.{Appends};
-ghost use Rattle.gptp_acts.specs.Advancing.{Told};
-ghost use Rattle.gptp_acts.specs.World.{WorldState};
+ghost use Rattle.gptp_model.specs.Advancing.{Told};
+ghost use Rattle.gptp_model.specs.World.{WorldState};
 ghost use Rattle.gptp_world.specs.Observing.{told_of, TellsAct};
 ghost use Rattle.gptp_sink.specs.Sink.{AppendsSome};
 
 use crate::world::World;
-use gptp_acts::{Done, Timed};
+use gptp_model::{Done, Timed};
 use gptp_links::Fate;
 use gptp_sink::Cut;
 use gptp_sink::sink::Sink;

@@ -2,14 +2,14 @@
 
 ghost use Rattle.std.specs.Prelude.{◌≡◌, ℕ, ◌+◌, ◌<◌, ◌≤◌, [], length, not, true, false, Option, IsOk, IfOk, OnOk, IfSome, IfNone, IsTrue};
 ghost use Rattle.std.specs.List.{AllByRecursion};
-ghost use Rattle.gptp_acts.specs.Item.{timer_port};
-ghost use Rattle.gptp_acts.specs.Pending.{timer_time, put, set_due, times_of_item, without, without_first_entry, IsKnownItem, IsNext};
-ghost use Rattle.gptp_acts.specs.declared.item.Item.TheVariants.{Expiry, Arrival};
+ghost use Rattle.gptp_model.specs.Item.{timer_port};
+ghost use Rattle.gptp_model.specs.Pending.{timer_time, put, set_due, times_of_item, without, without_first_entry, IsKnownItem, IsNext};
+ghost use Rattle.gptp_model.specs.declared.item.Item.TheVariants.{Expiry, Arrival};
 ghost use Rattle.gptp_links.specs.declared.link.Direction.TheVariants.{FromA, FromB};
 ghost use Rattle.gptp_scheduler.specs.Pending.{without_number};
 
 use crate::pending_index::{PendingIndex, ArmedTimer, arrival_place, timer_place};
-use gptp_acts::Item;
+use gptp_model::Item;
 use gptp_links::Direction;
 use gptp_scheduler::Agenda;
 use gptp_system::Timer;
@@ -51,7 +51,7 @@ impl Model for Pending {
     ghost Value = { PendingView };
 
     ghost use Rattle.std.specs.Prelude.{min};
-    ghost use Rattle.gptp_acts.specs.Pending.{plain};
+    ghost use Rattle.gptp_model.specs.Pending.{plain};
     ghost use Rattle.gptp_world.specs.PendingIndex.{PendingIsFiled};
 
     ghost view = { λ p. record {

@@ -1,8 +1,8 @@
 //! What is pending, filed by item.
 
 ghost use Rattle.std.specs.Prelude.{◌≡◌, ℕ, ◌+◌, ◌-◌, ◌*◌, ◌<◌, ◌≤◌, [], ◌∷◌, ◌++◌, length, IsOk, IfOk, OnOk, None, slice_index_or, slice_set};
-ghost use Rattle.gptp_acts.specs.Item.{timer_kind, timer_port};
-ghost use Rattle.gptp_acts.specs.Pending.{arrival_place};
+ghost use Rattle.gptp_model.specs.Item.{timer_kind, timer_port};
+ghost use Rattle.gptp_model.specs.Pending.{arrival_place};
 ghost use Rattle.gptp_world.specs.Chain.{chain_head, rest_of};
 ghost use Rattle.gptp_world.specs.PendingIndex.{queue_at, timer_place, filed_with_queue};
 

@@ -8,7 +8,7 @@ use crate::joined_link::Lane;
 use crate::frame_budget::FrameBudget;
 use crate::delivering::Reached;
 use crate::stage::Stage;
-use gptp_acts::{Act, Change, Done};
+use gptp_model::{Act, Change, Done};
 use gptp_links::{Bounds, Fate};
 use std::alloc::AllocError;
 
@@ -33,14 +33,14 @@ impl Stage {
     ghost use Rattle.std.specs.Prelude.{◌≡◌, ◌<◌, ◌≤◌, [], length, true, false};
     ghost use Rattle.gptp_links.specs.Bounds.{Fit};
     ghost use Rattle.gptp_world.specs.declared.target.ActTarget.TheVariants.{LinkDown, LinkUp, LinkSet, Fail, Recover};
-    ghost use Rattle.gptp_plan.specs.declared.change.Act.TheVariants.{Deliver};
-    ghost use Rattle.gptp_acts.specs.Acts.{AtPlace, IsOldestDue};
-    ghost use Rattle.gptp_acts.specs.Agrees.{Agrees};
+    ghost use Rattle.gptp_scenario.specs.declared.change.Act.TheVariants.{Deliver};
+    ghost use Rattle.gptp_model.specs.Acts.{AtPlace, IsOldestDue};
+    ghost use Rattle.gptp_model.specs.Agrees.{Agrees};
     ghost use Rattle.gptp_world.specs.FrameBudget.{HearUses};
     ghost use Rattle.gptp_world.specs.Delivering.{HasRoomToHear};
     ghost use Rattle.gptp_world.specs.Net.{LinkIs};
     ghost use Rattle.gptp_world.specs.Performing.{ActIsDone, CanChange, HasRoomForAim, Injected, Turned, TurnsOver};
-    ghost use Rattle.gptp_acts.specs.Sound.{IsWired};
+    ghost use Rattle.gptp_model.specs.Sound.{IsWired};
     ghost use Rattle.gptp_world.specs.Room.{HasRoomToInject};
     ghost use Rattle.gptp_world.specs.Stage.{world_of, IsStage, SystemIs};
     ghost use Rattle.gptp_world.specs.Starting.{CanStart, HasRoomToStart};
@@ -166,13 +166,13 @@ impl Stage {
 
 impl Stage {
     ghost use Rattle.std.specs.Prelude.{◌≡◌, IsOk, OnOk};
-    ghost use Rattle.gptp_acts.specs.Acts.{IsDueThen};
-    ghost use Rattle.gptp_plan.specs.Allowed.{IsFitAct};
+    ghost use Rattle.gptp_model.specs.Acts.{IsDueThen};
+    ghost use Rattle.gptp_scenario.specs.Allowed.{IsFitAct};
     ghost use Rattle.gptp_world.specs.ActTarget.{IsTargetOf};
     ghost use Rattle.gptp_world.specs.FrameBudget.{IsChange, IsCovered, LeavesCredit, UsesForAim};
     ghost use Rattle.gptp_world.specs.Memory.{AsksForNoMemory};
     ghost use Rattle.gptp_world.specs.Performing.{ActIsDone, HasRoomForAim};
-    ghost use Rattle.gptp_acts.specs.Sound.{IsSound};
+    ghost use Rattle.gptp_model.specs.Sound.{IsSound};
     ghost use Rattle.gptp_world.specs.Stage.{world_of, IsStage};
 
     /// Makes room for whatever a change can leave: none for a failure, or where nothing will change. Refused where there is no

@@ -24,7 +24,7 @@ fn make_room_on(cables: &mut [JoinedLink], link: usize, frames: usize) -> Result
 impl Net {
     ghost use Rattle.std.specs.Prelude.{◌≡◌, ◌≤◌, ◌<◌, ◌+◌, ◌*◌, ℕ, length, Some, slice_get, OnOk};
     ghost use Rattle.gptp_world.specs.Net.{IsNet};
-    ghost use Rattle.gptp_acts.specs.World.{port_id};
+    ghost use Rattle.gptp_model.specs.World.{port_id};
     ghost use Rattle.gptp_world.specs.Room.{HasRoomAtPorts, HasRoomBothWays, HasRoomFrom, OnlyRoom};
 
     /// Makes room for so many more frames that a port of the system at a place sends. Refused where there is no memory for

@@ -3,13 +3,13 @@
 ghost use Rattle.std.specs.Prelude.{◌≡◌, ◌≢◌, ℕ, ◌<◌, ◌≤◌, ◌+◌, ◌^◌, map, length, Some, None, true, slice_get};
 ghost use Rattle.gptp_links.specs.Queue.{IsSent};
 ghost use Rattle.gptp_links.specs.State.{queue, ChangesOnly};
-ghost use Rattle.gptp_acts.specs.Pending.{put_if};
+ghost use Rattle.gptp_model.specs.Pending.{put_if};
 ghost use Rattle.gptp_world.specs.JoinedLink.{join_of, net_of, channel_of, HasRoomOn, SentOne};
-ghost use Rattle.gptp_acts.specs.World.{sender};
+ghost use Rattle.gptp_model.specs.World.{sender};
 
 use crate::joined_link::{JoinedLink, Lane};
 use crate::pending::Pending;
-use gptp_acts::Item;
+use gptp_model::Item;
 use gptp_links::{Direction, Fate};
 
 /// Sends one frame on a link that is up, for which it has room, and answers when the frame is due; `None` where it is lost.

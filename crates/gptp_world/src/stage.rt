@@ -1,7 +1,7 @@
 //! The systems of a world and what is between them.
 
 use crate::net::Net;
-use gptp_acts::Station;
+use gptp_model::Station;
 use gptp_links::Fate;
 use gptp_system::{Answer, Input, Outbox, Stepped, TimersChanged};
 

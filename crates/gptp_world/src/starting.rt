@@ -7,8 +7,8 @@ use gptp_system::{Input, System};
 impl Stage {
     ghost use Rattle.std.specs.Prelude.{◌≡◌, ◌≤◌, ◌<◌, ◌^◌, [], ◌∷◌, Some, false, length, slice_get};
     ghost use Rattle.std.specs.List.{range_with_len};
-    ghost use Rattle.gptp_acts.specs.declared.station.Station.{Station};
-    ghost use Rattle.gptp_acts.specs.Changing.{failed, fresh, with_setup};
+    ghost use Rattle.gptp_model.specs.declared.station.Station.{Station};
+    ghost use Rattle.gptp_model.specs.Changing.{failed, fresh, with_setup};
     ghost use Rattle.gptp_world.specs.Stage.{world_of, CallUses, HasRoomToCall, IsLiveAt, IsPortAt, IsStage};
     ghost use Rattle.gptp_world.specs.Starting.{CameUp, CanSetTimers, CanStart, HasRoomForPorts, HasRoomToStart, HasSetTimers, Prioritized, StandsReplaced, Started};
 

@@ -5,7 +5,7 @@ ghost use Rattle.std.specs.Prelude.{◌≡◌, ◌↔◌, ◌≤◌, IsTrue, Som
 use crate::joined_link::Lane;
 use crate::delivering::narrowed;
 use crate::stage::Stage;
-use gptp_acts::{Act, Change};
+use gptp_model::{Act, Change};
 use gptp_links::{Bounds, Direction};
 use gptp_system::Timer;
 use gptp_vector::ClockId;
@@ -36,12 +36,12 @@ pub(crate) enum ActTarget {
 impl Stage {
     ghost use Rattle.std.specs.Prelude.{◌≡◌, ◌↔◌, ◌<◌, IfSome, IfNone, IsTrue, length, Some, slice_get};
     ghost use Rattle.gptp_system.specs.Steps.{IsTimerOf};
-    ghost use Rattle.gptp_plan.specs.declared.change.Act.TheVariants.{Deliver, Expire};
-    ghost use Rattle.gptp_acts.specs.declared.station.Station.{Station};
-    ghost use Rattle.gptp_acts.specs.World.{Channel};
-    ghost use Rattle.gptp_acts.specs.Acts.{set_to, AtLink, AnyLink, AtSystem, AnySystem, IsThere, IsThereToChange};
+    ghost use Rattle.gptp_scenario.specs.declared.change.Act.TheVariants.{Deliver, Expire};
+    ghost use Rattle.gptp_model.specs.declared.station.Station.{Station};
+    ghost use Rattle.gptp_model.specs.World.{Channel};
+    ghost use Rattle.gptp_model.specs.Acts.{set_to, AtLink, AnyLink, AtSystem, AnySystem, IsThere, IsThereToChange};
     ghost use Rattle.gptp_world.specs.ActTarget.{IsTargetOf, IsAimOfChange, IsLaneAt, IsLinkAt, PlaceHasClock};
-    ghost use Rattle.gptp_acts.specs.World.{port_id};
+    ghost use Rattle.gptp_model.specs.World.{port_id};
     ghost use Rattle.gptp_world.specs.Stage.{world_of, IsStage};
 
     /// The lane that begins at a port, if there is a link at it.
@@ -212,11 +212,11 @@ impl Stage {
 impl Stage {
     ghost use Rattle.std.specs.Prelude.{◌≡◌, ◌↔◌, ◌<◌, IsTrue, length, Some, slice_get};
     ghost use Rattle.gptp_system.specs.Steps.{IsTimerOf};
-    ghost use Rattle.gptp_acts.specs.declared.station.Station.{Station};
-    ghost use Rattle.gptp_acts.specs.Acts.{IsDueThen, IsOldestDue};
+    ghost use Rattle.gptp_model.specs.declared.station.Station.{Station};
+    ghost use Rattle.gptp_model.specs.Acts.{IsDueThen, IsOldestDue};
     ghost use Rattle.gptp_world.specs.ActTarget.{IsTargetOf};
     ghost use Rattle.gptp_world.specs.Stage.{world_of, IsStage};
-    ghost use Rattle.gptp_acts.specs.World.{station_due, Channel};
+    ghost use Rattle.gptp_model.specs.World.{station_due, Channel};
 
     /// Whether the oldest frame of a lane is due at a time.
     pub(crate) fn is_frame_due(&self, lane: Lane, time: u64) -> bool

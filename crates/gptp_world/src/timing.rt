@@ -2,10 +2,10 @@
 
 ghost use Rattle.std.specs.Prelude.{◌≡◌};
 ghost use Rattle.gptp_system.specs.Steps.{IsTimerOf};
-ghost use Rattle.gptp_acts.specs.World.{station_due};
+ghost use Rattle.gptp_model.specs.World.{station_due};
 
 use crate::net::Net;
-use gptp_acts::Station;
+use gptp_model::Station;
 use gptp_system::{Timer, TimersChanged};
 
 /// When a timer runs out, in ns, where it runs. None does where the system has failed.
@@ -23,12 +23,12 @@ impl Net {
     ghost use Rattle.std.specs.Prelude.{◌≡◌, ◌≤◌, ◌<◌, ◌+◌, ◌*◌, ◌∷◌, [], length, true};
     ghost use Rattle.gptp_system.specs.Steps.{HasPortNumber, IsTimerOf};
     ghost use Rattle.gptp_setup.specs.declared.timer.Timer.TheVariants as timers;
-    ghost use Rattle.gptp_acts.specs.Item.{timer_port};
-    ghost use Rattle.gptp_acts.specs.Act.{set_timers};
+    ghost use Rattle.gptp_model.specs.Item.{timer_port};
+    ghost use Rattle.gptp_model.specs.Act.{set_timers};
     ghost use Rattle.gptp_world.specs.Net.{OnlyEntries};
     ghost use Rattle.gptp_system.specs.TimersChanged.{holds, IsTouchedOf};
     ghost use Rattle.gptp_world.specs.Timing.{selected_from, AreSetBut};
-    ghost use Rattle.gptp_acts.specs.World.{timers_from};
+    ghost use Rattle.gptp_model.specs.World.{timers_from};
 
     /// A timer of the system at a place is pending when it is due, and isn't where it doesn't run. That takes room only where
     /// the system lives.

@@ -2,7 +2,7 @@
 
 use crate::observer::Observer;
 use crate::world::World;
-use gptp_acts::{Done, Timed};
+use gptp_model::{Done, Timed};
 use gptp_links::Fate;
 use gptp_sink::Cut;
 use gptp_sink::sink::{Sink, WriteFailed};

@@ -3,14 +3,14 @@
 ghost use Rattle.std.specs.Prelude.{◌≡◌, IfNone, IfSome};
 ghost use Rattle.gptp_system.specs.Start.{role_at};
 ghost use Rattle.gptp_system.specs.Steps.{HasPortNumber};
-ghost use Rattle.gptp_plan.specs.Allowed.{IsFitAct};
+ghost use Rattle.gptp_scenario.specs.Allowed.{IsFitAct};
 ghost use Rattle.gptp_world.specs.Stage.{world_of, IsStage};
 ghost use Rattle.gptp_world.specs.Stage.{IsPlacedItem};
-ghost use Rattle.gptp_acts.specs.Views.{IsActOf};
+ghost use Rattle.gptp_model.specs.Views.{IsActOf};
 
 use crate::world_core::WorldCore;
 use crate::stage::Stage;
-use gptp_acts::{Act, Item, Timed};
+use gptp_model::{Act, Item, Timed};
 use gptp_roles::Role;
 use gptp_system::System;
 use gptp_vector::{ClockId, Identity};
@@ -18,17 +18,17 @@ use std::alloc::Global;
 
 impl WorldCore {
     ghost use Rattle.std.specs.Prelude.{◌≡◌, ◌≤◌, ◌↔◌, [], IfNone, IfSome, IsTrue, length, slice_get, true};
-    ghost use Rattle.gptp_acts.specs.Acts.{AtSystem};
-    ghost use Rattle.gptp_plan.specs.Allowed.{IsFitAct};
-    ghost use Rattle.gptp_acts.specs.Prompt.{DelaysFitIntervals};
-    ghost use Rattle.gptp_acts.specs.Sound.{IsSound};
-    ghost use Rattle.gptp_acts.specs.Views.{FollowsRoot, HasPort, HasRole, IsLiveSystem, IsNextAct, ShowsLive, rising_clocks};
-    ghost use Rattle.gptp_kept.specs.SettlingInvariant.{SettlingInvariant};
-    ghost use Rattle.gptp_kept.specs.Shown.{FollowsAtOnce, FollowsByDistance, FollowsByPaths, FollowsInTime};
-    ghost use Rattle.gptp_kept.specs.Shown.{IsCapableInTime, IsEnabledInTime};
-    ghost use Rattle.gptp_kept.specs.Shown.{PlaysAtOnce, PlaysByDistance, PlaysByPaths, PlaysInTime};
-    ghost use Rattle.gptp_kept.specs.TimedClaim.{WorldInvariant};
-    ghost use Rattle.gptp_kept.specs.Traces.{AreHeldCleanInTime, AreHeldWholeInTime, AreHeldWholeSooner, IsCleanInTime};
+    ghost use Rattle.gptp_model.specs.Acts.{AtSystem};
+    ghost use Rattle.gptp_scenario.specs.Allowed.{IsFitAct};
+    ghost use Rattle.gptp_model.specs.Prompt.{DelaysFitIntervals};
+    ghost use Rattle.gptp_model.specs.Sound.{IsSound};
+    ghost use Rattle.gptp_model.specs.Views.{FollowsRoot, HasPort, HasRole, IsLiveSystem, IsNextAct, ShowsLive, rising_clocks};
+    ghost use Rattle.gptp_invariants.specs.SettlingInvariant.{SettlingInvariant};
+    ghost use Rattle.gptp_invariants.specs.Shown.{FollowsAtOnce, FollowsByDistance, FollowsByPaths, FollowsInTime};
+    ghost use Rattle.gptp_invariants.specs.Shown.{IsCapableInTime, IsEnabledInTime};
+    ghost use Rattle.gptp_invariants.specs.Shown.{PlaysAtOnce, PlaysByDistance, PlaysByPaths, PlaysInTime};
+    ghost use Rattle.gptp_invariants.specs.TimedClaim.{WorldInvariant};
+    ghost use Rattle.gptp_invariants.specs.Traces.{AreHeldCleanInTime, AreHeldWholeInTime, AreHeldWholeSooner, IsCleanInTime};
 
     /// The time, in ns.
     pub(crate) fn now(&self) -> u64

@@ -2,7 +2,7 @@
 
 use crate::world_core::WorldCore;
 use crate::unseen::{Nowhere, Unseen};
-use gptp_acts::{Done, Network, Refused, Timed};
+use gptp_model::{Done, Network, Refused, Timed};
 use gptp_links::Fate;
 use gptp_roles::Role;
 use gptp_system::System;
@@ -19,24 +19,24 @@ pub struct World<F> {
 
 impl<F: Fate + Drop> World<F> {
     ghost use Rattle.std.specs.Prelude.{◌≡◌, ◌≢◌, ◌≤◌, ◌↔◌, IsTrue, IfErr, IfNone, IfOk, IfSome, List, OnErr, OnOk, length, map, option_map, slice_get, []};
-    ghost use Rattle.gptp_acts.specs.Acts.{AtSystem, Refuses};
-    ghost use Rattle.gptp_acts.specs.declared.done.Refused.TheVariants.{OutOfMemory};
-    ghost use Rattle.gptp_plan.specs.Allowed.{IsFitAct};
-    ghost use Rattle.gptp_plan.specs.Allowed.{AreAllowed, IsAllowed};
-    ghost use Rattle.gptp_acts.specs.Playing.{IsPlayed, Plays, StopsAt};
-    ghost use Rattle.gptp_acts.specs.Prompt.{AllDelaysFitIntervals, DelaysFitIntervals};
-    ghost use Rattle.gptp_acts.specs.Advancing.{Advanced, StopsShort, Told};
-    ghost use Rattle.gptp_acts.specs.Course.{Begun, WasDone};
-    ghost use Rattle.gptp_acts.specs.Sound.{IsSound};
-    ghost use Rattle.gptp_kept.specs.SettlingInvariant.{SettlingInvariant};
-    ghost use Rattle.gptp_kept.specs.Standing.{snapshot_of};
-    ghost use Rattle.gptp_kept.specs.Shown.{FollowsAtOnce, FollowsByDistance, FollowsByPaths, FollowsInTime};
-    ghost use Rattle.gptp_kept.specs.Shown.{IsCapableInTime, IsEnabledInTime};
-    ghost use Rattle.gptp_kept.specs.Shown.{PlaysAtOnce, PlaysByDistance, PlaysByPaths, PlaysInTime};
-    ghost use Rattle.gptp_kept.specs.Exact.{IsHeardExact};
-    ghost use Rattle.gptp_kept.specs.TimedClaim.{WorldInvariant};
-    ghost use Rattle.gptp_kept.specs.Traces.{AreHeldCleanInTime, AreHeldWholeInTime, AreHeldWholeSooner, IsCleanInTime, IsHeardClean};
-    ghost use Rattle.gptp_acts.specs.Views.{FollowsRoot, HasPort, HasRole, IsLiveSystem, IsNextAct, ShowsLive, rising_clocks};
+    ghost use Rattle.gptp_model.specs.Acts.{AtSystem, Refuses};
+    ghost use Rattle.gptp_model.specs.declared.done.Refused.TheVariants.{OutOfMemory};
+    ghost use Rattle.gptp_scenario.specs.Allowed.{IsFitAct};
+    ghost use Rattle.gptp_scenario.specs.Allowed.{AreAllowed, IsAllowed};
+    ghost use Rattle.gptp_model.specs.Playing.{IsPlayed, Plays, StopsAt};
+    ghost use Rattle.gptp_model.specs.Prompt.{AllDelaysFitIntervals, DelaysFitIntervals};
+    ghost use Rattle.gptp_model.specs.Advancing.{Advanced, StopsShort, Told};
+    ghost use Rattle.gptp_model.specs.Course.{Begun, WasDone};
+    ghost use Rattle.gptp_model.specs.Sound.{IsSound};
+    ghost use Rattle.gptp_invariants.specs.SettlingInvariant.{SettlingInvariant};
+    ghost use Rattle.gptp_invariants.specs.Standing.{snapshot_of};
+    ghost use Rattle.gptp_invariants.specs.Shown.{FollowsAtOnce, FollowsByDistance, FollowsByPaths, FollowsInTime};
+    ghost use Rattle.gptp_invariants.specs.Shown.{IsCapableInTime, IsEnabledInTime};
+    ghost use Rattle.gptp_invariants.specs.Shown.{PlaysAtOnce, PlaysByDistance, PlaysByPaths, PlaysInTime};
+    ghost use Rattle.gptp_invariants.specs.Exact.{IsHeardExact};
+    ghost use Rattle.gptp_invariants.specs.TimedClaim.{WorldInvariant};
+    ghost use Rattle.gptp_invariants.specs.Traces.{AreHeldCleanInTime, AreHeldWholeInTime, AreHeldWholeSooner, IsCleanInTime, IsHeardClean};
+    ghost use Rattle.gptp_model.specs.Views.{FollowsRoot, HasPort, HasRole, IsLiveSystem, IsNextAct, ShowsLive, rising_clocks};
     ghost use Rattle.gptp_world.specs.Memory.{AsksForNoMemory};
     ghost use Rattle.gptp_world.specs.Used.{snapshot_link};
 

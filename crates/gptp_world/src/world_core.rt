@@ -8,7 +8,7 @@ use crate::target::ActTarget;
 use crate::checking::sets_an_octet;
 use crate::frame_budget::FrameBudget;
 use crate::stage::Stage;
-use gptp_acts::{Done, Network, Refused, Timed};
+use gptp_model::{Done, Network, Refused, Timed};
 use gptp_links::Fate;
 use std::alloc::{AllocError, Global};
 use std::marker::Model;
@@ -21,7 +21,7 @@ pub(crate) struct WorldCore {
 }
 
 impl Model for WorldCore {
-    ghost use Rattle.gptp_acts.specs.World.{WorldState};
+    ghost use Rattle.gptp_model.specs.World.{WorldState};
 
     ghost Value = { WorldState };
 
@@ -60,16 +60,16 @@ fn start_all<F: Fate>(stage: &mut Stage, fate: &mut F) -> Result<(), AllocError>
 
 impl WorldCore {
     ghost use Rattle.std.specs.Prelude.{◌≡◌, ◌≢◌, ◌≤◌, IfErr, IfOk, IsOk, OnErr};
-    ghost use Rattle.gptp_acts.specs.declared.done.Refused.TheVariants.{OutOfMemory};
-    ghost use Rattle.gptp_plan.specs.Allowed.{IsFitAct};
-    ghost use Rattle.gptp_acts.specs.Acts.{IsReadyAct, Refuses};
-    ghost use Rattle.gptp_acts.specs.Prompt.{DelaysFitIntervals};
-    ghost use Rattle.gptp_kept.specs.EncodableLaws.{SetsAnOctet};
-    ghost use Rattle.gptp_kept.specs.Exact.{IsHeardExact};
-    ghost use Rattle.gptp_kept.specs.Traces.{IsHeardClean};
+    ghost use Rattle.gptp_model.specs.declared.done.Refused.TheVariants.{OutOfMemory};
+    ghost use Rattle.gptp_scenario.specs.Allowed.{IsFitAct};
+    ghost use Rattle.gptp_model.specs.Acts.{IsReadyAct, Refuses};
+    ghost use Rattle.gptp_model.specs.Prompt.{DelaysFitIntervals};
+    ghost use Rattle.gptp_invariants.specs.EncodableLaws.{SetsAnOctet};
+    ghost use Rattle.gptp_invariants.specs.Exact.{IsHeardExact};
+    ghost use Rattle.gptp_invariants.specs.Traces.{IsHeardClean};
     ghost use Rattle.gptp_world.specs.ActTarget.{IsTargetOf};
     ghost use Rattle.gptp_world.specs.Memory.{AsksForNoMemory};
-    ghost use Rattle.gptp_acts.specs.Course.{Begun, WasDone};
+    ghost use Rattle.gptp_model.specs.Course.{Begun, WasDone};
 
     /// The world of a network at time 0, whose systems have all started, in their order. Refused for want of memory alone.
     pub(crate) fn new<F: Fate>(

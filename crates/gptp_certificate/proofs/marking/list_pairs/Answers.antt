@@ -1,7 +1,7 @@
 use Rattle.std.proofs.Common.{◌≡◌, map, IfOk, subst, sym}
 use Rattle.std.specs.List.{All}
-use Rattle.gptp_kept.specs.Standing.{snapshot_of}
-use Rattle.gptp_kept.proofs.StandsLemmas.{stands_well}
+use Rattle.gptp_invariants.specs.Standing.{snapshot_of}
+use Rattle.gptp_invariants.proofs.StandsLemmas.{stands_well}
 use Rattle.gptp_certificate.specs.Marking.{AreAmong, clocks_in, port_clocks}
 use Rattle.gptp_certificate.proofs.MarkingLemmas.{ends_among, ends_are, rises}
 use Rattle.gptp_certificate.proofs.marking.list_pairs.Goals as goal

@@ -5,8 +5,8 @@ use Rattle.gptp_graph.specs.Order.{IsRising}
 use Rattle.gptp_lists.specs.Members.{In}
 use Rattle.gptp_certificate_text.specs.Certificate.{line_of, lines_of}
 use Rattle.gptp_certificate_text.specs.declared.certificate.SystemLine.{SystemLine as Line}
-use Rattle.gptp_kept.specs.Standing.{snapshot_of}
-use Rattle.gptp_kept.proofs.StandsLemmas.{stands_well}
+use Rattle.gptp_invariants.specs.Standing.{snapshot_of}
+use Rattle.gptp_invariants.proofs.StandsLemmas.{stands_well}
 use Rattle.gptp_certificate.specs.Marking.{LinesAreMarked, ArePairs, AreStarts, line_roots}
 use Rattle.gptp_certificate.specs.Rounds.{AreLeast, value}
 use Rattle.gptp_certificate.proofs.MarkedLemmas.{marked_states, pairs_within, said_all, starts_few}

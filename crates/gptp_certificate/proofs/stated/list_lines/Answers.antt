@@ -1,7 +1,7 @@
 use Rattle.std.proofs.Common.{subst, arith}
 use Rattle.std.proofs.lemmas.List.{drop_all}
-use Rattle.gptp_acts.specs.Views.{rising_clocks}
-use Rattle.gptp_acts.proofs.RisingLemmas.{rising_clocks-count}
+use Rattle.gptp_model.specs.Views.{rising_clocks}
+use Rattle.gptp_model.proofs.RisingLemmas.{rising_clocks-count}
 use Rattle.gptp_certificate_text.specs.Certificate.{lines_of}
 use Rattle.gptp_certificate.proofs.StatedLemmas.{stated_all, stated_next, StatedSoFar}
 use Rattle.gptp_certificate.proofs.stated.list_lines.Goals as goal

@@ -1,5 +1,5 @@
 use Rattle.std.specs.Prelude.{drop}
-use Rattle.gptp_acts.specs.Views.{rising_clocks}
+use Rattle.gptp_model.specs.Views.{rising_clocks}
 use Rattle.gptp_certificate_text.specs.Certificate.{lines_of}
 use Rattle.gptp_certificate.proofs.StatedLemmas.{StatedSoFar}
 use Rattle.gptp_certificate.proofs.stated.list_lines.Given as goal

@@ -1,5 +1,5 @@
 use Rattle.std.proofs.Common.{sym}
-use Rattle.gptp_acts.proofs.RisingLemmas.{rising_clocks-at}
+use Rattle.gptp_model.proofs.RisingLemmas.{rising_clocks-at}
 use Rattle.gptp_certificate.proofs.stated.state_at.Goals as goal
 
 pub state_clock-requires : goal.state_clock-requires

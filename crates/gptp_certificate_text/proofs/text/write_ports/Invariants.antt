@@ -1,5 +1,5 @@
 use Rattle.std.proofs.Common.{◌≡◌, ◌++◌, drop, map, string_bytes}
-use Rattle.gptp_spelling.specs.Lines.{text_of}
+use Rattle.gptp_words.specs.Lines.{text_of}
 use Rattle.gptp_certificate_text.specs.Certificate.{port_line_of}
 use Rattle.gptp_certificate_text.specs.CertificateText.{entry_text}
 use Rattle.gptp_certificate_text.specs.Entries.{PortEntry}

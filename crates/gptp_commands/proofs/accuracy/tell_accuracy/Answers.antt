@@ -1,6 +1,6 @@
 use Rattle.std.proofs.Common.{refl}
 use Rattle.std.proofs.lemmas.Result.{IfOk-weaker}
-use Rattle.gptp_time_error.specs.AccuracyText.{accuracy_lines, error_is_exceeded}
+use Rattle.gptp_accuracy.specs.AccuracyText.{accuracy_lines, error_is_exceeded}
 use Rattle.gptp_commands.proofs.accuracy.tell_accuracy.Goals as goal
 
 pub returns-clause-tells : goal.returns-clause-tells

@@ -2,7 +2,7 @@ use Rattle.std.proofs.Common.{◌≡◌, ◌∙◌, ℕ, List, Option, Some, Non
 use Rattle.std.proofs.lemmas.Result.{IfOk-weaker}
 use Rattle.gptp_network.specs.Document.{DocumentState}
 use Rattle.gptp_network.specs.declared.fault.DocumentFault.TheVariants.{NoSuchPort}
-use Rattle.gptp_spelling.specs.Lines.{text_of}
+use Rattle.gptp_words.specs.Lines.{text_of}
 use Rattle.gptp_explain.specs.Explained.{Explains, IsAbsent}
 use Rattle.gptp_commands.specs.declared.failure.SimError.{SimError}
 use Rattle.gptp_commands.specs.declared.failure.Status.TheVariants.{Done}

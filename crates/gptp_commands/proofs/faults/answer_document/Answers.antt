@@ -3,7 +3,7 @@ use Rattle.std.proofs.lemmas.Result.{IfOk-weaker}
 use Rattle.gptp_faults.specs.Faults.{AnswersFaultsOf}
 use Rattle.gptp_faults.specs.Refusals.{RefusesFaults}
 use Rattle.gptp_faults.specs.declared.faults.Answer.TheVariants.{Table}
-use Rattle.gptp_reached.proofs.OctetLemmas.{documents_playable}
+use Rattle.gptp_theorem.proofs.OctetLemmas.{documents_playable}
 use Rattle.gptp_commands.proofs.faults.answer_document.Goals as goal
 
 pub returns-in-Ok-Refused-clause-tells : goal.returns-in-Ok-Refused-clause-tells

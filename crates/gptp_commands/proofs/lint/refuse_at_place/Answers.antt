@@ -1,5 +1,5 @@
 use Rattle.std.proofs.Common.{[], ◌∷◌, ◌++◌, ◌∙◌, ap, refl}
-use Rattle.gptp_spelling.specs.Lines.{text_of}
+use Rattle.gptp_words.specs.Lines.{text_of}
 use Rattle.gptp_lint.specs.LintText.{refused_line}
 use Rattle.gptp_commands.proofs.lint.refuse_at_place.Goals as goal
 

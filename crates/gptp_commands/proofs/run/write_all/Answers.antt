@@ -1,6 +1,6 @@
 use Rattle.std.proofs.Common.{◌≡◌, [], ◌++◌, inl, inr, refl, ap, subst, ◌∙◌}
 use Rattle.std.specs.Io.KnownBytes.{Appends}
-use Rattle.gptp_spelling.specs.Lines.{text_of}
+use Rattle.gptp_words.specs.Lines.{text_of}
 use Rattle.gptp_sink.specs.Sink.{AppendsSome}
 use Rattle.gptp_sink.proofs.SinkLemmas.{after_error, front_of, none_of}
 use Rattle.gptp_commands.proofs.run.write_all.Goals as goal

@@ -3,7 +3,7 @@ use native.Mathlib.Decide.{dec_lt}
 use Rattle.std.proofs.Common.{arith}
 use Rattle.std.proofs.lemmas.Option.{slice_get_within}
 use Rattle.gptp_network.specs.Snapshot.{events_by}
-use Rattle.gptp_plan.specs.Network.{NetworkState}
+use Rattle.gptp_scenario.specs.Network.{NetworkState}
 use Rattle.gptp_explain.proofs.PortLemmas.{known_there, none_known}
 use Rattle.gptp_explain.proofs.disabled.known_of.Goals as goal
 

@@ -1,6 +1,6 @@
 use Rattle.std.proofs.Common.{◌≡◌, ◌++◌, codes, drop, string_bytes}
 use Rattle.std.specs.List.{flat_map}
-use Rattle.gptp_spelling.specs.Digits.{clock_text}
+use Rattle.gptp_words.specs.Digits.{clock_text}
 use Rattle.gptp_explain.proofs.path.write_clocks.Given as goal
 
 -- what is written and the clocks that are left are all that should be written

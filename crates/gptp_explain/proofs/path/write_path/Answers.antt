@@ -1,6 +1,6 @@
 use Rattle.std.proofs.Common.{◌≡◌, ℕ, List, ◌++◌, ◌∷◌, ◌∙◌, [], ap, append_assoc, codes, reverse, string_bytes}
 use Rattle.std.specs.List.{flat_map}
-use Rattle.gptp_spelling.specs.Digits.{clock_text}
+use Rattle.gptp_words.specs.Digits.{clock_text}
 use Rattle.gptp_explain.proofs.path.write_path.Goals as goal
 
 pub returns : goal.returns

@@ -1,5 +1,5 @@
 use Rattle.std.proofs.Common.{◌≡◌, ◌++◌, drop, string_bytes, None}
-use Rattle.gptp_spelling.specs.Lines.{text_of}
+use Rattle.gptp_words.specs.Lines.{text_of}
 use Rattle.gptp_explain.specs.Ranks.{rank_lines}
 use Rattle.gptp_explain.proofs.ranks.write_ranked.Given as goal
 

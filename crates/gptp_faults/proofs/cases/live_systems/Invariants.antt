@@ -1,6 +1,6 @@
 -- The cases so far are those of the first systems that live.
 use Rattle.std.proofs.Common.{◌≡◌, filter_map, map, take}
-use Rattle.gptp_plan.specs.Change.{live_after}
+use Rattle.gptp_scenario.specs.Change.{live_after}
 use Rattle.gptp_faults.specs.Cases.{system_case}
 use Rattle.gptp_faults.proofs.cases.live_systems.Given as goal
 

@@ -1,6 +1,6 @@
 use Rattle.std.proofs.Common.{◌≡◌, ◌++◌, ◌∷◌, [], List, None, Some, option_and_then, slice_get, sym, ap, ◌∙◌}
 use Rattle.std.proofs.lemmas.Result.{on_ok_weaker}
-use Rattle.gptp_plan.specs.Change.{live_after}
+use Rattle.gptp_scenario.specs.Change.{live_after}
 use Rattle.gptp_faults.specs.Cases.{system_case}
 use Rattle.gptp_faults.specs.declared.cases.Case.{Case}
 use Rattle.gptp_faults.proofs.CaseLemmas.{none_through, some_through}

@@ -8,7 +8,7 @@ use Rattle.gptp_faults.specs.Progress.{part_begun}
 use Rattle.gptp_faults.specs.Times.{ArePlanned, IsPlanned}
 use Rattle.gptp_faults.specs.declared.cases.Case.{Case}
 use Rattle.gptp_faults.specs.declared.cases.Planned.{Planned}
-use Rattle.gptp_spelling.specs.Lines.{text_of}
+use Rattle.gptp_words.specs.Lines.{text_of}
 use Rattle.gptp_timeline.proofs.PassLemmas.{if_ok_both}
 use Rattle.gptp_faults.proofs.AnswerLemmas.{answered}
 use Rattle.gptp_faults.proofs.ProgressLemmas.{each_length, tells}

@@ -3,7 +3,7 @@ use Rattle.std.specs.Io.KnownBytes.{Appends}
 use Rattle.std.proofs.lemmas.List.{length-append}
 use Rattle.std.proofs.lemmas.Option.{slice_get-get_or}
 use Rattle.gptp_network.specs.Document.{DocumentState}
-use Rattle.gptp_spelling.specs.Lines.{text_of}
+use Rattle.gptp_words.specs.Lines.{text_of}
 use Rattle.gptp_faults.specs.Progress.{all_begun, begun, part_count}
 use Rattle.gptp_faults.specs.Outcomes.{IsOutcome, IsOutcomeAt, case_numbers, OutcomeState}
 use Rattle.gptp_timeline.specs.Each.{Each}

@@ -1,7 +1,7 @@
 -- The cases so far were tried, as far as they belong to the part, each was told of, and the document is as it was.
 use Rattle.std.proofs.Common.{◌≡◌, ◌≤◌, length}
 use Rattle.std.specs.Io.KnownBytes.{Appends}
-use Rattle.gptp_spelling.specs.Lines.{text_of}
+use Rattle.gptp_words.specs.Lines.{text_of}
 use Rattle.gptp_timeline.specs.Each.{Each}
 use Rattle.gptp_faults.specs.Progress.{all_begun}
 use Rattle.gptp_faults.specs.Outcomes.{IsOutcomeAt, case_numbers}

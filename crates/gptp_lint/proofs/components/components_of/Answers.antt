@@ -1,6 +1,6 @@
 -- What is told is told of the moments and of the network after all events.
 use Rattle.std.proofs.Common.{[], ap, subst, ◌∙◌}
-use Rattle.gptp_plan.specs.Network.{IsNetwork, NetworkState}
+use Rattle.gptp_scenario.specs.Network.{IsNetwork, NetworkState}
 use Rattle.gptp_lint.specs.Components.{apart_from, nobody_from}
 use Rattle.gptp_lint.specs.Graph.{IsFirstGraph}
 use Rattle.gptp_lint.proofs.GraphLemmas.{stands_first}

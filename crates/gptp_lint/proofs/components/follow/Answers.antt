@@ -1,7 +1,7 @@
 -- One event more is passed, and in the end all are.
 use Rattle.std.proofs.Common.{◌≡◌, ◌++◌, ◌∷◌, ◌+◌, [], drop, take, ap, sym, subst, ◌∙◌}
 use Rattle.std.proofs.lemmas.List.{drop_all, drop_more, take_all, take_more}
-use Rattle.gptp_plan.specs.Network.{IsNetwork}
+use Rattle.gptp_scenario.specs.Network.{IsNetwork}
 use Rattle.gptp_lint.specs.Moments.{Stands}
 use Rattle.gptp_lint.proofs.GraphLemmas.{stands_more}
 use Rattle.gptp_lint.proofs.MomentLemmas.{MomentsPassed, passed_all, passed_more}

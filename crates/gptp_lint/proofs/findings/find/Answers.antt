@@ -3,8 +3,8 @@ use Rattle.std.proofs.Common.{◌≡◌, ◌++◌, ◌∷◌, ◌+◌, drop, map
 use Rattle.std.specs.Option.{option_to_list}
 use Rattle.std.proofs.lemmas.List.{append-nil, drop_all, drop_more}
 use Rattle.gptp_setup.specs.SettlingParams.{lapse_span}
-use Rattle.gptp_plan.specs.Network.{IsNetwork, NetworkState}
-use Rattle.gptp_plan.specs.declared.network.LinkSpec.{LinkSpec}
+use Rattle.gptp_scenario.specs.Network.{IsNetwork, NetworkState}
+use Rattle.gptp_scenario.specs.declared.network.LinkSpec.{LinkSpec}
 use Rattle.gptp_topology.specs.Course.{cable_of, course_of, cable_wire}
 use Rattle.gptp_lint.specs.Trouble.{long_of, longs_of, lossies_of, stretches}
 use Rattle.gptp_lint.specs.Unlinked.{AreUnlinked}

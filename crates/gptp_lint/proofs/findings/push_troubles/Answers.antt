@@ -3,7 +3,7 @@ use Rattle.std.proofs.Common.{◌++◌, ap, ap₂, sym, ◌∙◌}
 use Rattle.std.specs.Option.{option_to_list}
 use Rattle.std.proofs.lemmas.List.{append-nil}
 use Rattle.std.proofs.lemmas.Result.{on_ok_weaker}
-use Rattle.gptp_plan.specs.Network.{NetworkState}
+use Rattle.gptp_scenario.specs.Network.{NetworkState}
 use Rattle.gptp_topology.specs.Course.{course_from, course_of, first, naming, cable_wire}
 use Rattle.gptp_lint.specs.Trouble.{long_of, stretches}
 use Rattle.gptp_lint.proofs.ThinLemmas.{long_is, lossy_is}

@@ -1,6 +1,6 @@
 -- The first systems, so far.
 use Rattle.std.proofs.Common.{◌≡◌, map, take}
-use Rattle.gptp_plan.specs.declared.network.SystemSpec.{SystemSpec}
+use Rattle.gptp_scenario.specs.declared.network.SystemSpec.{SystemSpec}
 use Rattle.gptp_lint.specs.Graph.{first_node}
 use Rattle.gptp_lint.proofs.graph.nodes_of.Given as goal
 

@@ -1,7 +1,7 @@
 -- The system at the place is put behind those before it; there is one.
 use Rattle.std.proofs.Common.{◌++◌, ◌∷◌, [], ap, ◌∙◌, refl}
 use Rattle.std.proofs.lemmas.Result.{on_ok_weaker}
-use Rattle.gptp_plan.specs.declared.network.SystemSpec.{SystemSpec}
+use Rattle.gptp_scenario.specs.declared.network.SystemSpec.{SystemSpec}
 use Rattle.gptp_lint.specs.Graph.{first_node}
 use Rattle.gptp_topology.proofs.SystemSpecLemmas.{mapped_more}
 use Rattle.gptp_topology.proofs.PlaceLemmas.{none_there, system_there}

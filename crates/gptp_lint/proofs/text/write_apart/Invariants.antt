@@ -1,7 +1,7 @@
 -- The lines so far are those of the first times.
 use Rattle.std.proofs.Common.{◌≡◌, ◌++◌, map, take}
 use Rattle.std.specs.Prelude.{string_bytes}
-use Rattle.gptp_spelling.specs.Lines.{text_of}
+use Rattle.gptp_words.specs.Lines.{text_of}
 use Rattle.gptp_lint.specs.LintText.{apart_line}
 use Rattle.gptp_lint.proofs.text.write_apart.Given as goal
 

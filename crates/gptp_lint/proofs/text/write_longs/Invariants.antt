@@ -1,7 +1,7 @@
 -- The lines so far are those of the first links.
 use Rattle.std.proofs.Common.{◌≡◌, ◌++◌, map, take, slice_get}
 use Rattle.std.specs.Prelude.{string_bytes}
-use Rattle.gptp_spelling.specs.Lines.{text_of}
+use Rattle.gptp_words.specs.Lines.{text_of}
 use Rattle.gptp_lint.specs.LintText.{long_line}
 use Rattle.gptp_lint.specs.declared.trouble.Long.{Long}
 use Rattle.gptp_lint.proofs.text.write_longs.Given as goal

@@ -2,7 +2,7 @@
 use Rattle.std.proofs.Common.{◌++◌, ◌∷◌, [], ap, ◌∙◌, refl}
 use Rattle.std.proofs.lemmas.Result.{on_ok_weaker}
 use Rattle.gptp_roles.specs.Selection.{clock_of}
-use Rattle.gptp_plan.specs.declared.network.SystemSpec.{SystemSpec}
+use Rattle.gptp_scenario.specs.declared.network.SystemSpec.{SystemSpec}
 use Rattle.gptp_lint.specs.Unlinked.{unlinked_in}
 use Rattle.gptp_topology.proofs.PlaceLemmas.{none_there, system_there}
 use Rattle.gptp_lint.proofs.UnlinkedLemmas.{unlinked_more}

@@ -2,7 +2,7 @@
 use Rattle.std.proofs.Common.{◌≡◌, map, take, ap, ◌∙◌, arith}
 use Rattle.std.proofs.lemmas.List.{take_all}
 use Rattle.gptp_roles.specs.Selection.{clock_of}
-use Rattle.gptp_plan.specs.declared.network.SystemSpec.{SystemSpec}
+use Rattle.gptp_scenario.specs.declared.network.SystemSpec.{SystemSpec}
 use Rattle.gptp_lint.specs.Unlinked.{unlinked_in}
 use Rattle.gptp_lint.proofs.UnlinkedLemmas.{are_unlinked, few_unlinked}
 use Rattle.gptp_lint.proofs.unlinked.unlinked_clocks.Goals as goal

@@ -1,7 +1,7 @@
 -- The clocks so far are those of the first systems that no link names.
 use Rattle.std.proofs.Common.{◌≡◌, map, take}
 use Rattle.gptp_roles.specs.Selection.{clock_of}
-use Rattle.gptp_plan.specs.declared.network.SystemSpec.{SystemSpec}
+use Rattle.gptp_scenario.specs.declared.network.SystemSpec.{SystemSpec}
 use Rattle.gptp_lint.specs.Unlinked.{unlinked_in}
 use Rattle.gptp_lint.proofs.unlinked.unlinked_clocks.Given as goal
 

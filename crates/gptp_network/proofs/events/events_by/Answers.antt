@@ -1,7 +1,7 @@
 -- The closure tests an event's time, and the events are in order.
 use Rattle.std.proofs.Common.{rules, Bool, nat_le}
 use Rattle.std.proofs.lemmas.List.Sorted.{IsPartitionPoint-from_clause, IsPartitionedBy-leb}
-use Rattle.gptp_plan.specs.declared.change.Timed.{Timed}
+use Rattle.gptp_scenario.specs.declared.change.Timed.{Timed}
 use Rattle.gptp_network.proofs.TakingLemmas.{front, in_time}
 use Rattle.gptp_network.proofs.events.events_by.Goals as goal
 

@@ -1,6 +1,6 @@
 -- What is told of the link at the place is the link's.
 use Rattle.std.proofs.Common.{slice_get, ◌∙◌}
-use Rattle.gptp_plan.specs.declared.network.LinkSpec.{LinkSpec}
+use Rattle.gptp_scenario.specs.declared.network.LinkSpec.{LinkSpec}
 use Rattle.gptp_network.proofs.FoundLemmas.{ends_told, no_ends}
 use Rattle.gptp_network.proofs.found.joins.Goals as goal
 

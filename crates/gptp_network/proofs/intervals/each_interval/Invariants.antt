@@ -2,7 +2,7 @@
 use Rattle.std.proofs.Common.{◌≡◌, true, drop, length}
 use Rattle.std.specs.List.{list_all}
 use Rattle.toml.specs.View.{items_view}
-use Rattle.gptp_plan.specs.Params.{is_log}
+use Rattle.gptp_scenario.specs.Params.{is_log}
 use Rattle.gptp_network.specs.Intervals.{whole_numbers}
 use Rattle.gptp_network.proofs.IntervalLemmas.{behind}
 use Rattle.gptp_network.proofs.intervals.each_interval.Given as goal

@@ -1,8 +1,8 @@
 -- Why the network refuses the system is told of the network as it was.
 use Rattle.std.proofs.Common.{◌≡◌, refl, subst, sym, ◌⊎◌, Err}
 use Rattle.gptp_roles.specs.Selection.{clock_of}
-use Rattle.gptp_plan.specs.Network.{system_fault, with_system}
-use Rattle.gptp_plan.specs.declared.fault.NetworkFault.{NetworkFault}
+use Rattle.gptp_scenario.specs.Network.{system_fault, with_system}
+use Rattle.gptp_scenario.specs.declared.fault.NetworkFault.{NetworkFault}
 use Rattle.gptp_network.specs.ReadSystems.{first_shorter, put_system, system_why}
 use Rattle.gptp_network.specs.Systems.{member_of}
 use Rattle.gptp_network.specs.declared.why.Why.{Why}

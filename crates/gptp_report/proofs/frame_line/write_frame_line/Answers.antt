@@ -1,6 +1,6 @@
 use Rattle.std.proofs.Common.{◌≡◌, ◌∷◌, [], subst, ◌∙◌}
 use Rattle.std.specs.Io.KnownBytes.{Appends}
-use Rattle.gptp_spelling.specs.Lines.{text_of}
+use Rattle.gptp_words.specs.Lines.{text_of}
 use Rattle.gptp_report.specs.FrameLine.{frame_line}
 use Rattle.gptp_sink.specs.Sink.{AppendsSome}
 use Rattle.gptp_report.proofs.LineLemmas.{line_alone}

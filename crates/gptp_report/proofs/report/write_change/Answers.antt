@@ -1,6 +1,6 @@
 use Rattle.std.proofs.Common.{◌≡◌, true, false, inl, inr, refl}
 use Rattle.std.proofs.lemmas.Result.{on_ok_weaker}
-use Rattle.gptp_plan.specs.Calm.{IsCalm}
+use Rattle.gptp_scenario.specs.Calm.{IsCalm}
 use Rattle.gptp_report.specs.Report.{calm_line, restless_line}
 use Rattle.gptp_report.proofs.report.write_change.Goals as goal
 

@@ -1,5 +1,5 @@
 use Rattle.std.proofs.Common.{sym}
-use Rattle.gptp_acts.proofs.RisingLemmas.{rising_clocks-at}
+use Rattle.gptp_model.proofs.RisingLemmas.{rising_clocks-at}
 use Rattle.gptp_report.proofs.report.write_system_at.Goals as goal
 
 pub write_system_of-requires : goal.write_system_of-requires

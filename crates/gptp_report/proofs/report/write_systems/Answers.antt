@@ -1,8 +1,8 @@
 use Rattle.std.specs.Prelude.{string_bytes}
 use Rattle.std.proofs.Common.{subst, arith}
 use Rattle.std.proofs.lemmas.List.{drop_all}
-use Rattle.gptp_acts.specs.Views.{rising_clocks}
-use Rattle.gptp_acts.proofs.RisingLemmas.{rising_clocks-count}
+use Rattle.gptp_model.specs.Views.{rising_clocks}
+use Rattle.gptp_model.proofs.RisingLemmas.{rising_clocks-count}
 use Rattle.gptp_report.proofs.ReportLemmas.{shown_all, shown_next, ShownSoFar}
 use Rattle.gptp_report.proofs.report.write_systems.Goals as goal
 

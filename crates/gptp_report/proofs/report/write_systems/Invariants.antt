@@ -1,5 +1,5 @@
 use Rattle.std.specs.Prelude.{string_bytes, drop}
-use Rattle.gptp_acts.specs.Views.{rising_clocks}
+use Rattle.gptp_model.specs.Views.{rising_clocks}
 use Rattle.gptp_report.proofs.ReportLemmas.{ShownSoFar}
 use Rattle.gptp_report.proofs.report.write_systems.Given as goal
 

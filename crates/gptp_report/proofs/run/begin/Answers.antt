@@ -1,7 +1,7 @@
 use Rattle.std.proofs.lemmas.Result.{IfOk-weaker}
 use Rattle.gptp_setup.specs.Intervals.{interval_of}
-use Rattle.gptp_plan.specs.Network.{smallest_of}
-use Rattle.gptp_acts.proofs.PromptLemmas.{all_prompt, begun_none_faster}
+use Rattle.gptp_scenario.specs.Network.{smallest_of}
+use Rattle.gptp_model.proofs.PromptLemmas.{all_prompt, begun_none_faster}
 use Rattle.gptp_world.proofs.InitialLemmas.{initial_sound}
 use Rattle.gptp_report.proofs.run.begin.Goals as goal
 

@@ -1,7 +1,7 @@
 use Rattle.std.proofs.Common.{inl, inr}
 use Rattle.std.specs.Io.KnownBytes.{Appends}
 use Rattle.std.proofs.lemmas.Result.{on_ok_weaker}
-use Rattle.gptp_acts.proofs.PromptLemmas.{stays_prompt}
+use Rattle.gptp_model.proofs.PromptLemmas.{stays_prompt}
 use Rattle.gptp_sink.specs.Sink.{AppendsSome}
 use Rattle.gptp_world.proofs.FollowLemmas.{observed_so}
 use Rattle.gptp_report.proofs.RunLemmas.{makes_seen, passed_stays}

@@ -3,7 +3,7 @@ use Rattle.std.specs.Io.KnownBytes.{Appends}
 use Rattle.std.proofs.lemmas.List.{drop_all, drop_more}
 use Rattle.std.proofs.lemmas.Option.{slice_get-get_or}
 use Rattle.std.proofs.lemmas.Result.{on_err_weaker, on_ok_weaker}
-use Rattle.gptp_acts.proofs.PromptLemmas.{stay_prompt}
+use Rattle.gptp_model.proofs.PromptLemmas.{stay_prompt}
 use Rattle.gptp_sink.specs.Sink.{AppendsSome}
 use Rattle.gptp_report.proofs.RunLemmas.{made_if_stays, went_all, went_more, went_none, went_to_end, went_to_event, WentSoFar}
 use Rattle.gptp_sink.proofs.SinkLemmas.{after_error, appends_both, appends_none, some_behind}

@@ -1,6 +1,6 @@
 use Rattle.std.specs.Prelude.{◌≡◌, drop}
 use Rattle.std.specs.Io.KnownBytes.{Appends}
-use Rattle.gptp_acts.specs.Prompt.{AllDelaysFitIntervals}
+use Rattle.gptp_model.specs.Prompt.{AllDelaysFitIntervals}
 use Rattle.gptp_report.proofs.RunLemmas.{WentSoFar}
 use Rattle.gptp_report.proofs.run.play.Given as goal
 

@@ -1,6 +1,6 @@
 use Rattle.std.proofs.Common.{ap, append_assoc, ◌∙◌}
 use Rattle.std.proofs.lemmas.Result.{on_ok_weaker}
-use Rattle.gptp_spelling.specs.Digits.{yes_or_no}
+use Rattle.gptp_words.specs.Digits.{yes_or_no}
 use Rattle.gptp_report.proofs.system_lines.write_live.Goals as goal
 
 -- what is written, word by word, is the line

@@ -1,6 +1,6 @@
 use Rattle.std.proofs.Common.{◌≡◌, ◌+◌, ◌-◌, ◌≤◌, ◌++◌, map, string_bytes}
 use Rattle.std.specs.List.{range_with_len}
-use Rattle.gptp_spelling.specs.Lines.{text_of}
+use Rattle.gptp_words.specs.Lines.{text_of}
 use Rattle.gptp_report.specs.SystemLines.{port_line}
 use Rattle.gptp_report.proofs.system_lines.write_ports.Given as goal
 

@@ -2,7 +2,7 @@ use Rattle.std.proofs.Common.{◌≡◌, ◌+◌, ◌∷◌, ◌++◌, drop, ap,
 use Rattle.std.specs.Prelude.{string_bytes}
 use Rattle.std.proofs.lemmas.List.{drop_all}
 use Rattle.gptp_report.proofs.ReportLemmas.{drop_here}
-use Rattle.gptp_spelling.specs.Lines.{text_of}
+use Rattle.gptp_words.specs.Lines.{text_of}
 use Rattle.gptp_timeline.specs.Changes.{port_lines, port_lines_if}
 use Rattle.gptp_timeline.proofs.LineLemmas.{written_all, written_more, written_none, WrittenSoFar}
 use Rattle.gptp_timeline.proofs.PortLemmas.{ports_next}

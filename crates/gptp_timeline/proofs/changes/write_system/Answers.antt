@@ -1,8 +1,8 @@
 use Rattle.std.proofs.Common.{◌≡◌, append_assoc, ap, arith, ◌∙◌}
 use Rattle.std.proofs.lemmas.Bool.Decides.{nat_tests}
 use Rattle.std.proofs.lemmas.Result.{on_ok_weaker}
-use Rattle.gptp_spelling.specs.Digits.{yes_or_no}
-use Rattle.gptp_time_error.specs.TimeErrors.{root_is_capable}
+use Rattle.gptp_words.specs.Digits.{yes_or_no}
+use Rattle.gptp_accuracy.specs.TimeErrors.{root_is_capable}
 use Rattle.gptp_timeline.proofs.changes.write_system.Goals as goal
 
 -- what is written, word by word, is the line

@@ -1,8 +1,8 @@
 use Rattle.std.proofs.Common.{sym, subst, ap, ◌∙◌, ◌≤◌, arith}
 use Rattle.gptp_network.proofs.EventLemmas.{early_from}
 use Rattle.gptp_network.specs.Snapshot.{IsSnapshot, StandsAfter}
-use Rattle.gptp_plan.specs.Calm.{last_change}
-use Rattle.gptp_reached.proofs.RestLemmas.{all_by}
+use Rattle.gptp_scenario.specs.Calm.{last_change}
+use Rattle.gptp_theorem.proofs.RestLemmas.{all_by}
 use Rattle.gptp_timeline.specs.End.{end_behind}
 use Rattle.gptp_timeline.proofs.end.end_by_default.Goals as goal
 

@@ -2,7 +2,7 @@ use Rattle.std.proofs.Common.{◌≡◌, ◌+◌, ◌∷◌, List, drop, ap, sym
 use Rattle.std.specs.List.{flat_map}
 use Rattle.std.specs.Prelude.{string_bytes}
 use Rattle.std.proofs.lemmas.List.{drop_more}
-use Rattle.gptp_time_error.specs.declared.errors.SystemError.{SystemError}
+use Rattle.gptp_accuracy.specs.declared.errors.SystemError.{SystemError}
 use Rattle.gptp_timeline.specs.StretchText.{error_among, system_accuracy}
 use Rattle.gptp_timeline.proofs.LineLemmas.{written_more, WrittenSoFar}
 use Rattle.gptp_timeline.proofs.stretch.write_accuracies.Goals as goal

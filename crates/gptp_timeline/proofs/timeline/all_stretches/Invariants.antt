@@ -1,6 +1,6 @@
 use Rattle.std.specs.Prelude.{◌≡◌, length}
 use Rattle.std.specs.Io.KnownBytes.{Appends}
-use Rattle.gptp_acts.specs.Views.{rising_clocks}
+use Rattle.gptp_model.specs.Views.{rising_clocks}
 use Rattle.gptp_network.specs.Snapshot.{events_by}
 use Rattle.gptp_timeline.specs.Timeline.{later_than}
 use Rattle.gptp_timeline.proofs.EventLemmas.{MayPass}

@@ -2,7 +2,7 @@
 use Rattle.std.proofs.Common.{rules, Bool, nat_le}
 use Rattle.std.proofs.lemmas.List.Sorted.{IsPartitionPoint-from_clause, IsPartitionedBy-leb}
 use Rattle.gptp_network.proofs.TakingLemmas.{front, in_time}
-use Rattle.gptp_plan.specs.declared.change.Timed.{Timed}
+use Rattle.gptp_scenario.specs.declared.change.Timed.{Timed}
 use Rattle.gptp_timeline.proofs.EventLemmas.{behind_front}
 use Rattle.gptp_timeline.proofs.timeline.count_by.Goals as goal
 

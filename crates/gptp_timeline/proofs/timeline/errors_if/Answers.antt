@@ -1,8 +1,8 @@
 use Rattle.std.proofs.Common.{◌≡◌, ◌<◌, ◌+◌, ℕ, List, min, sym, ap, ◌∙◌, arith}
 use Rattle.std.proofs.lemmas.Option.{same_Some}
 use Rattle.gptp_network.specs.Snapshot.{events_by}
-use Rattle.gptp_plan.specs.Calm.{last_change}
-use Rattle.gptp_plan.specs.declared.change.Timed.{Timed}
+use Rattle.gptp_scenario.specs.Calm.{last_change}
+use Rattle.gptp_scenario.specs.declared.change.Timed.{Timed}
 use Rattle.gptp_timeline.proofs.ExactLemmas.{none_before}
 use Rattle.gptp_timeline.proofs.timeline.errors_if.Goals as goal
 use Rattle.gptp_timeline.proofs.timeline.errors_if.Goals.{in_default-via-in-Some+else-saturating_add-to, in_default-via-in_default}

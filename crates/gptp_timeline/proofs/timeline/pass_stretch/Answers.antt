@@ -3,7 +3,7 @@ use Rattle.std.specs.Io.KnownBytes.{Appends}
 use Rattle.gptp_sink.specs.Sink.{AppendsSome}
 use Rattle.gptp_world.proofs.FollowLemmas.{text_append}
 use Rattle.gptp_sink.proofs.SinkLemmas.{after_error, appends_both, some_behind}
-use Rattle.gptp_spelling.specs.Lines.{text_of}
+use Rattle.gptp_words.specs.Lines.{text_of}
 use Rattle.gptp_timeline.specs.Timeline.{end_lines}
 use Rattle.gptp_timeline.specs.Watch.{watch_begun}
 use Rattle.gptp_timeline.proofs.PassLemmas.{if_ok_both, sees_all, sees_some}

@@ -4,8 +4,8 @@ use Rattle.gptp_sink.specs.declared.cut.Cut.TheVariants.{Write}
 use Rattle.std.specs.Io.KnownBytes.{Appends}
 use Rattle.gptp_sink.specs.Sink.{AppendsSome}
 use Rattle.gptp_sink.proofs.SinkLemmas.{after_error}
-use Rattle.gptp_spelling.specs.Lines.{text_of}
-use Rattle.gptp_acts.specs.Views.{rising_clocks}
+use Rattle.gptp_words.specs.Lines.{text_of}
+use Rattle.gptp_model.specs.Views.{rising_clocks}
 use Rattle.gptp_timeline.specs.Watch.{event_look, see_all}
 use Rattle.gptp_timeline.proofs.KeptLemmas.{exceeded_is}
 use Rattle.gptp_timeline.proofs.ObservedLemmas.{start_told}

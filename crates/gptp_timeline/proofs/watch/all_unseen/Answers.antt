@@ -1,7 +1,7 @@
 use Rattle.std.proofs.Common.{◌≤◌, length, map, ap, ◌∙◌, arith}
 use Rattle.std.proofs.lemmas.List.{take_all}
-use Rattle.gptp_acts.specs.Views.{rising_clocks}
-use Rattle.gptp_acts.proofs.RisingLemmas.{rising_clocks-count}
+use Rattle.gptp_model.specs.Views.{rising_clocks}
+use Rattle.gptp_model.proofs.RisingLemmas.{rising_clocks-count}
 use Rattle.gptp_timeline.specs.Watch.{unseen}
 use Rattle.gptp_timeline.proofs.watch.all_unseen.Goals as goal
 

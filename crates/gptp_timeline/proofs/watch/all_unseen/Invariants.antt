@@ -1,6 +1,6 @@
 -- The systems so far are those of the first clocks.
 use Rattle.std.proofs.Common.{◌≡◌, map, take}
-use Rattle.gptp_acts.specs.Views.{rising_clocks}
+use Rattle.gptp_model.specs.Views.{rising_clocks}
 use Rattle.gptp_timeline.specs.Watch.{unseen}
 use Rattle.gptp_timeline.proofs.watch.all_unseen.Given as goal
 

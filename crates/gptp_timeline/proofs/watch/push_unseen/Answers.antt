@@ -1,6 +1,6 @@
 use Rattle.std.proofs.Common.{◌≡◌, ◌+◌, ◌++◌, ◌∷◌, [], ℕ, zero, suc, List, None, map, take, slice_get, refl, sym, ap, ◌∙◌, arith}
 use Rattle.std.proofs.lemmas.List.{map-append}
-use Rattle.gptp_acts.specs.Views.{rising_clocks}
+use Rattle.gptp_model.specs.Views.{rising_clocks}
 use Rattle.gptp_lists.proofs.MappedLemmas.{taken}
 use Rattle.gptp_timeline.specs.Watch.{unseen}
 use Rattle.gptp_timeline.specs.declared.watched.Watched.{Watched}

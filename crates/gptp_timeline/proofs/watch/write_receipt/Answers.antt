@@ -1,6 +1,6 @@
 use Rattle.std.proofs.Common.{◌≡◌, ◌++◌, ◌∷◌, [], List, ℕ, append-nil, sym, subst, ap, ◌∙◌}
 use Rattle.std.specs.Prelude.{OnOk, string_bytes}
-use Rattle.gptp_spelling.specs.Lines.{text_of}
+use Rattle.gptp_words.specs.Lines.{text_of}
 use Rattle.gptp_timeline.specs.Receipts.{offset_error, offset_line}
 use Rattle.gptp_timeline.specs.Shown.{live_system}
 use Rattle.gptp_timeline.specs.Watch.{receipt_lines_of}

@@ -1,7 +1,7 @@
 -- The link at the place is put behind those before it; there is one.
 use Rattle.std.proofs.Common.{◌++◌, ◌∷◌, [], ap, sym, ◌∙◌}
 use Rattle.std.proofs.lemmas.Result.{on_ok_weaker}
-use Rattle.gptp_plan.specs.declared.network.LinkSpec.{LinkSpec}
+use Rattle.gptp_scenario.specs.declared.network.LinkSpec.{LinkSpec}
 use Rattle.gptp_topology.specs.Course.{cable_of}
 use Rattle.gptp_topology.proofs.PlaceLemmas.{link_there, none_there}
 use Rattle.gptp_topology.proofs.SystemSpecLemmas.{mapped_more}

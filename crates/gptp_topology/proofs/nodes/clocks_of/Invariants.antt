@@ -1,7 +1,7 @@
 -- The first clocks, so far.
 use Rattle.std.proofs.Common.{◌≡◌, map, take}
 use Rattle.gptp_roles.specs.Selection.{clock_of}
-use Rattle.gptp_plan.specs.declared.network.SystemSpec.{SystemSpec}
+use Rattle.gptp_scenario.specs.declared.network.SystemSpec.{SystemSpec}
 use Rattle.gptp_topology.proofs.nodes.clocks_of.Given as goal
 
 abbrev pub invariant-loop-place : goal.invariant-loop-place

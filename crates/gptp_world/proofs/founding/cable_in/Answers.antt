@@ -1,4 +1,4 @@
-use Rattle.gptp_acts.specs.Initial.{channel_from}
+use Rattle.gptp_model.specs.Initial.{channel_from}
 use Rattle.gptp_world.proofs.InitialLemmas.{wire_told}
 use Rattle.gptp_lists.proofs.MappedLemmas.{mapped_there}
 use Rattle.gptp_world.proofs.founding.cable_in.Goals as goal

@@ -1,7 +1,7 @@
 use Rattle.std.proofs.Common.{◌∙◌, ap, sym, map, ◌++◌, ◌∷◌, []}
 use Rattle.std.proofs.lemmas.List.{map-append}
 use Rattle.gptp_world.specs.JoinedLink.{channel_of}
-use Rattle.gptp_acts.specs.Initial.{channels_of}
+use Rattle.gptp_model.specs.Initial.{channels_of}
 use Rattle.gptp_lists.proofs.MappedLemmas.{taken}
 use Rattle.gptp_world.proofs.founding.list_cables.Goals as goal
 

@@ -1,6 +1,6 @@
 use Rattle.std.proofs.Common.{◌≡◌, map, take}
 use Rattle.gptp_world.specs.JoinedLink.{channel_of}
-use Rattle.gptp_acts.specs.Initial.{channels_of}
+use Rattle.gptp_model.specs.Initial.{channels_of}
 use Rattle.gptp_world.proofs.founding.list_cables.Given as goal
 
 abbrev pub invariant-loop-place : goal.invariant-loop-place

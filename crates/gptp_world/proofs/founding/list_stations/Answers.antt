@@ -1,5 +1,5 @@
 use Rattle.std.proofs.Common.{◌∙◌, ap, sym, ◌++◌, ◌∷◌, []}
-use Rattle.gptp_acts.specs.Initial.{stations_of}
+use Rattle.gptp_model.specs.Initial.{stations_of}
 use Rattle.gptp_lists.proofs.MappedLemmas.{taken}
 use Rattle.gptp_world.proofs.founding.list_stations.Goals as goal
 

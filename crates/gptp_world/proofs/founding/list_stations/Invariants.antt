@@ -1,5 +1,5 @@
 use Rattle.std.proofs.Common.{◌≡◌, take}
-use Rattle.gptp_acts.specs.Initial.{stations_of}
+use Rattle.gptp_model.specs.Initial.{stations_of}
 use Rattle.gptp_world.proofs.founding.list_stations.Given as goal
 
 abbrev pub invariant-loop-place : goal.invariant-loop-place

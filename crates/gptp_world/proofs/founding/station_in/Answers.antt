@@ -3,10 +3,10 @@ use Rattle.std.proofs.Common.{false, Some, ap, sym, ◌∙◌}
 use Rattle.gptp_setup.specs.declared.setup.Setup.{Setup}
 use Rattle.gptp_system.specs.Start.{started}
 use Rattle.gptp_system.specs.State.{SystemState}
-use Rattle.gptp_plan.specs.Network.{member, pace_of}
-use Rattle.gptp_plan.specs.declared.network.SystemSpec.{SystemSpec}
-use Rattle.gptp_acts.specs.declared.station.Station.{Station}
-use Rattle.gptp_acts.specs.Initial.{setup_of, station_of}
+use Rattle.gptp_scenario.specs.Network.{member, pace_of}
+use Rattle.gptp_scenario.specs.declared.network.SystemSpec.{SystemSpec}
+use Rattle.gptp_model.specs.declared.station.Station.{Station}
+use Rattle.gptp_model.specs.Initial.{setup_of, station_of}
 use Rattle.gptp_world.proofs.InitialLemmas.{intervals_within, member_told, set_up}
 use Rattle.gptp_lists.proofs.MappedLemmas.{mapped_there}
 use Rattle.gptp_world.proofs.founding.station_in.Goals as goal

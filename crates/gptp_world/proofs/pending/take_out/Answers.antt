@@ -1,6 +1,6 @@
 use Rattle.std.proofs.Common.{subst}
 use Rattle.gptp_scheduler.specs.Pending.{IsFirst}
-use Rattle.gptp_acts.specs.declared.item.Item.{Item}
+use Rattle.gptp_model.specs.declared.item.Item.{Item}
 use Rattle.gptp_world.proofs.TakenLemmas.{least-taken}
 use Rattle.gptp_world.proofs.pending.take_out.Goals as goal
 

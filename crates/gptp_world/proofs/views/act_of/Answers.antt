@@ -1,5 +1,5 @@
 use Rattle.std.proofs.Common.{ap, sym}
-use Rattle.gptp_plan.specs.declared.change.Act.TheVariants.{Expire}
+use Rattle.gptp_scenario.specs.declared.change.Act.TheVariants.{Expire}
 use Rattle.gptp_world.proofs.EndLemmas.{station_at}
 use Rattle.gptp_world.proofs.views.act_of.Goals as goal
 

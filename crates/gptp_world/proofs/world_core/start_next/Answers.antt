@@ -1,6 +1,6 @@
 use Rattle.std.proofs.Common.{◌≡◌, ◌<◌, length, ap, ◌∙◌}
 use Rattle.gptp_world.specs.Stage.{world_of}
-use Rattle.gptp_acts.specs.World.{WorldState}
+use Rattle.gptp_model.specs.World.{WorldState}
 use Rattle.gptp_world.proofs.WorldCoreLemmas.{can_start, same_sound, start_count, start_sound}
 use Rattle.gptp_world.proofs.world_core.start_next.Goals as goal
 

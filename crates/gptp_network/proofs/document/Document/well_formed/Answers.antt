@@ -1,8 +1,8 @@
 use Rattle.std.proofs.Common.{subst}
-use Rattle.gptp_plan.specs.Allowed.{AreAllowed}
-use Rattle.gptp_plan.specs.Network.{smallest_of}
-use Rattle.gptp_plan.specs.Prompt.{ArePromptActs}
-use Rattle.gptp_plan.proofs.LogLemmas.{smallest_log}
+use Rattle.gptp_scenario.specs.Allowed.{AreAllowed}
+use Rattle.gptp_scenario.specs.Network.{smallest_of}
+use Rattle.gptp_scenario.specs.Prompt.{ArePromptActs}
+use Rattle.gptp_scenario.proofs.LogLemmas.{smallest_log}
 use Rattle.gptp_setup.specs.Intervals.{interval_of}
 use Rattle.gptp_network.specs.Document.{DocumentState}
 use Rattle.gptp_network.proofs.EventLemmas.{events_allowed, events_prompt}

@@ -1,6 +1,6 @@
 use Rattle.std.proofs.Common.{◌++◌, sym, ap, ◌∙◌, append-nil}
 use Rattle.std.specs.Prelude.{string_bytes}
-use Rattle.gptp_spelling.specs.Lines.{text_of}
+use Rattle.gptp_words.specs.Lines.{text_of}
 use Rattle.gptp_timeline.proofs.PlaceLemmas.{at_place}
 use Rattle.gptp_timeline.proofs.StillLemmas.{sees_same, tells_none}
 use Rattle.gptp_timeline.proofs.watch.Watch.see_at.Goals as goal

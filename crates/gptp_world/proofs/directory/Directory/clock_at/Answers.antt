@@ -1,7 +1,7 @@
 use Rattle.std.proofs.Common.{◌≡◌, ap, List, ℕ, slice_get, subst, ◌∙◌}
 use Rattle.gptp_world.specs.Directory.{DirectoryState}
-use Rattle.gptp_acts.specs.Views.{rising}
-use Rattle.gptp_acts.proofs.RisingLemmas.{rising-is}
+use Rattle.gptp_model.specs.Views.{rising}
+use Rattle.gptp_model.proofs.RisingLemmas.{rising-is}
 use Rattle.gptp_world.proofs.directory.Directory.clock_at.Goals as goal
 
 pub returns : goal.returns

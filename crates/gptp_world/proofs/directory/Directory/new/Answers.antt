@@ -1,6 +1,6 @@
 use Rattle.std.proofs.Common.{◌≡◌, ℕ, List, sym, subst, ◌∙◌}
 use Rattle.gptp_world.specs.Directory.{Join, directory_clocks, joins_of, IsPlan, AreRising}
-use Rattle.gptp_plan.specs.Network.{NetworkState, IsNetwork}
+use Rattle.gptp_scenario.specs.Network.{NetworkState, IsNetwork}
 use Rattle.gptp_world.proofs.DirectoryLemmas.{plan_of, all_named, all_rising, tables_of}
 use Rattle.gptp_world.proofs.directory.Directory.new.Goals as goal
 

@@ -2,7 +2,7 @@ use Rattle.std.proofs.Common.{◌≡◌, [], ◌∷◌, slice_get, refl, ap, sym
 use Rattle.std.proofs.lemmas.Option.{same_Some}
 use Rattle.gptp_system.specs.State.{clock}
 use Rattle.gptp_world.specs.declared.joined_link.JoinedLink.{JoinedLink}
-use Rattle.gptp_acts.specs.World.{port_id}
+use Rattle.gptp_model.specs.World.{port_id}
 use Rattle.gptp_world.specs.Room.{for_sends}
 use Rattle.gptp_world.proofs.NeedLemmas.{room_first, sent_uses, unsent}
 use Rattle.gptp_world.proofs.NetLemmas.{known_cable, written_back}

@@ -1,5 +1,5 @@
 use Rattle.std.proofs.Common.{◌≡◌, ◌+◌, ◌-◌, ◌*◌, ◌≤◌, length, drop}
-use Rattle.gptp_acts.specs.Act.{set_timers}
+use Rattle.gptp_model.specs.Act.{set_timers}
 use Rattle.gptp_world.specs.Net.{OnlyEntries}
 use Rattle.gptp_world.specs.Timing.{selected_from}
 use Rattle.gptp_world.proofs.net.Net.set_selected.Given as goal

@@ -1,7 +1,7 @@
 use Rattle.std.proofs.Common.{◌≡◌, ◌+◌, ◌*◌, ◌<◌, length, ap, sym, ◌∙◌, subst, arith}
-use Rattle.gptp_acts.specs.Act.{set_timers}
+use Rattle.gptp_model.specs.Act.{set_timers}
 use Rattle.gptp_world.specs.Net.{OnlyEntries}
-use Rattle.gptp_acts.specs.World.{timers_from}
+use Rattle.gptp_model.specs.World.{timers_from}
 use Rattle.gptp_world.proofs.TimingLemmas.{only_more, drop_here}
 use Rattle.gptp_world.proofs.net.Net.set_timers.Goals as goal
 

@@ -1,7 +1,7 @@
 use Rattle.std.proofs.Common.{◌≡◌, ◌+◌, ◌-◌, ◌*◌, ◌≤◌, length, drop}
-use Rattle.gptp_acts.specs.Act.{set_timers}
+use Rattle.gptp_model.specs.Act.{set_timers}
 use Rattle.gptp_world.specs.Net.{OnlyEntries}
-use Rattle.gptp_acts.specs.World.{timers_from}
+use Rattle.gptp_model.specs.World.{timers_from}
 use Rattle.gptp_world.proofs.net.Net.set_timers.Given as goal
 
 -- the timers of the ports so far are set, and those that are left make the same of it as all of what there was

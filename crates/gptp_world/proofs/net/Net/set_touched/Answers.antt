@@ -1,8 +1,8 @@
 use Rattle.std.proofs.Common.{◌∙◌, subst}
 use Rattle.gptp_system.specs.TimersChanged.{holds, IsTouchedOf}
 use Rattle.gptp_world.specs.Timing.{AreSetBut}
-use Rattle.gptp_acts.specs.World.{timers_from}
-use Rattle.gptp_acts.proofs.OwnTimerLemmas.{own_timer}
+use Rattle.gptp_model.specs.World.{timers_from}
+use Rattle.gptp_model.proofs.OwnTimerLemmas.{own_timer}
 use Rattle.gptp_world.proofs.TimingLemmas.{nothing_touched, one_touched, selection_touched, time_touched}
 use Rattle.gptp_world.proofs.net.Net.set_touched.Goals as goal
 

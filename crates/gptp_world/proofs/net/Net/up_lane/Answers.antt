@@ -1,6 +1,6 @@
 use Rattle.std.proofs.Common.{sym, ◌∙◌}
 use Rattle.std.proofs.lemmas.Option.{none-some, same_Some, slice_get-get_or, slice_get_within}
-use Rattle.gptp_acts.specs.World.{port_id}
+use Rattle.gptp_model.specs.World.{port_id}
 use Rattle.gptp_world.proofs.NetLemmas.{known_cable, unlinked_none, unlinked_down}
 use Rattle.gptp_world.proofs.net.Net.up_lane.Goals as goal
 

@@ -1,9 +1,9 @@
 use Rattle.std.proofs.Common.{refl, sym, ap, ◌∙◌, arith}
-use Rattle.gptp_acts.specs.declared.item.Item.TheVariants.{Arrival}
-use Rattle.gptp_acts.specs.Pending.{without}
+use Rattle.gptp_model.specs.declared.item.Item.TheVariants.{Arrival}
+use Rattle.gptp_model.specs.Pending.{without}
 use Rattle.gptp_world.specs.Pending.{PendingView}
 use Rattle.gptp_world.proofs.PendingLemmas.{same_state}
-use Rattle.gptp_acts.proofs.PendingLemmas.{without-first, without-none, without_first-none}
+use Rattle.gptp_model.proofs.PendingLemmas.{without-first, without-none, without_first-none}
 use Rattle.gptp_world.proofs.pending.Pending.cancel_direction.Goals as goal
 
 pub loop-direction-preserved : goal.loop-direction-preserved

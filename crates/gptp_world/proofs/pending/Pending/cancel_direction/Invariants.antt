@@ -1,5 +1,5 @@
 use Rattle.std.proofs.Common.{length}
-use Rattle.gptp_acts.specs.declared.item.Item.TheVariants.{Arrival}
+use Rattle.gptp_model.specs.declared.item.Item.TheVariants.{Arrival}
 use Rattle.gptp_world.proofs.PendingLemmas.{Cancels}
 use Rattle.gptp_world.proofs.pending.Pending.cancel_direction.Given as goal
 

@@ -1,8 +1,8 @@
 use Rattle.std.proofs.Common.{ap}
 use Rattle.std.specs.Option.{option_map}
-use Rattle.gptp_acts.specs.declared.item.Item.{Item}
+use Rattle.gptp_model.specs.declared.item.Item.{Item}
 use Rattle.gptp_scheduler.specs.Pending.{AgendaEntry}
-use Rattle.gptp_acts.proofs.NextLemmas.{next_is, next_known}
+use Rattle.gptp_model.proofs.NextLemmas.{next_is, next_known}
 use Rattle.gptp_world.proofs.pending.Pending.next.Goals as goal
 
 pub returns-clause-next : goal.returns-clause-next

@@ -1,7 +1,7 @@
 use Rattle.std.proofs.Common.{◌≡◌, refl, sym, ap, ◌∙◌}
-use Rattle.gptp_acts.specs.declared.item.Item.TheVariants.{Expiry}
-use Rattle.gptp_acts.specs.Pending.{put, put_if, set_due, times_of_item, without_first_entry}
-use Rattle.gptp_acts.proofs.PendingLemmas.{not_listed, set_due-replaced, times-stopped}
+use Rattle.gptp_model.specs.declared.item.Item.TheVariants.{Expiry}
+use Rattle.gptp_model.specs.Pending.{put, put_if, set_due, times_of_item, without_first_entry}
+use Rattle.gptp_model.proofs.PendingLemmas.{not_listed, set_due-replaced, times-stopped}
 use Rattle.gptp_world.specs.Pending.{PendingView}
 use Rattle.gptp_world.proofs.PendingLemmas.{same_state}
 use Rattle.gptp_world.proofs.pending.Pending.set_due.Goals as goal

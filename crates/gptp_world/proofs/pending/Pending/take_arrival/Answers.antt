@@ -1,8 +1,8 @@
 use Rattle.std.proofs.Common.{refl, sym, ◌∙◌}
-use Rattle.gptp_acts.specs.Pending.{arrival_place, plain}
+use Rattle.gptp_model.specs.Pending.{arrival_place, plain}
 use Rattle.gptp_world.specs.PendingIndex.{queue_at}
-use Rattle.gptp_acts.specs.declared.item.Item.TheVariants.{Arrival}
-use Rattle.gptp_acts.proofs.PendingLemmas.{without_first-none}
+use Rattle.gptp_model.specs.declared.item.Item.TheVariants.{Arrival}
+use Rattle.gptp_model.proofs.PendingLemmas.{without_first-none}
 use Rattle.gptp_world.proofs.PendingLemmas.{same_state}
 use Rattle.gptp_world.proofs.QueueLemmas.{front_is, no_front}
 use Rattle.gptp_world.proofs.PendingIndexLemmas.{pending_index-taken, plain-taken, shrinks-taken, times-no_arrival}

@@ -1,6 +1,6 @@
 use Rattle.std.proofs.Common.{◌≡◌, ◌+◌, [], ◌∷◌, ◌++◌, length, ap, subst, sym, ◌∙◌, arith}
 use Rattle.std.specs.List.{range_with_len}
-use Rattle.gptp_acts.specs.declared.station.Station.{Station}
+use Rattle.gptp_model.specs.declared.station.Station.{Station}
 use Rattle.gptp_world.specs.Starting.{CameUp}
 use Rattle.gptp_world.proofs.ComingUpLemmas.{came_more, came_remains, more_use, none_came, none_use, range-more, room_for_next}
 use Rattle.gptp_lists.proofs.PlaceLemmas.{read}

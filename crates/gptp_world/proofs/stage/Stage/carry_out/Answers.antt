@@ -1,8 +1,8 @@
 use Rattle.std.proofs.Common.{◌≡◌, ◌+◌, ◌*◌, length, Some, slice_get, refl, ap, ◌∙◌}
 use Rattle.gptp_system.specs.State.{clock}
-use Rattle.gptp_acts.specs.Act.{all_timers, in_state}
+use Rattle.gptp_model.specs.Act.{all_timers, in_state}
 use Rattle.gptp_world.specs.JoinedLink.{SentAll}
-use Rattle.gptp_acts.specs.declared.station.Station.{Station}
+use Rattle.gptp_model.specs.declared.station.Station.{Station}
 use Rattle.gptp_world.specs.Net.{between}
 use Rattle.gptp_world.specs.Room.{for_sends, for_timers, WorldHasRoom, Uses}
 use Rattle.gptp_world.specs.Stage.{for_left}

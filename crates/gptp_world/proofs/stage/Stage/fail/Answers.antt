@@ -1,5 +1,5 @@
 use Rattle.std.proofs.Common.{false, refl}
-use Rattle.gptp_acts.specs.declared.station.Station.{Station}
+use Rattle.gptp_model.specs.declared.station.Station.{Station}
 use Rattle.gptp_lists.proofs.PlaceLemmas.{member_there}
 use Rattle.gptp_world.proofs.StartingLemmas.{can_set_timers, replaced_stage, replaced_world, stands_there, timers_stage}
 use Rattle.gptp_world.proofs.stage.Stage.fail.Goals as goal

@@ -1,5 +1,5 @@
 use Rattle.std.proofs.Common.{true, false, [], refl}
-use Rattle.gptp_acts.specs.Changing.{FailsIf}
+use Rattle.gptp_model.specs.Changing.{FailsIf}
 use Rattle.gptp_world.specs.Stage.{world_of}
 use Rattle.gptp_world.proofs.PerformingLemmas.{of_system}
 use Rattle.gptp_world.proofs.stage.Stage.fail_if_live.Goals as goal

@@ -2,7 +2,7 @@ use Rattle.std.proofs.Common.{◌≡◌, ap, sym, ◌∙◌}
 use Rattle.std.specs.Option.{option_map}
 use Rattle.gptp_links.specs.Queue.{first_frame, Frame}
 use Rattle.gptp_world.specs.JoinedLink.{channel_of}
-use Rattle.gptp_acts.specs.World.{Channel, world_queue}
+use Rattle.gptp_model.specs.World.{Channel, world_queue}
 use Rattle.gptp_world.proofs.ActTargetLemmas.{due_oldest, oldest_due}
 use Rattle.gptp_world.proofs.NetLemmas.{from_map}
 use Rattle.gptp_lists.proofs.PlaceLemmas.{read}

@@ -1,4 +1,4 @@
-use Rattle.gptp_acts.specs.World.{port_id}
+use Rattle.gptp_model.specs.World.{port_id}
 use Rattle.gptp_world.specs.Stage.{world_of}
 use Rattle.gptp_world.proofs.ActTargetLemmas.{lane_joins}
 use Rattle.gptp_world.proofs.stage.Stage.link_at.Goals as goal

@@ -1,5 +1,5 @@
 use Rattle.std.proofs.Common.{false}
-use Rattle.gptp_acts.specs.Changing.{taken_down}
+use Rattle.gptp_model.specs.Changing.{taken_down}
 use Rattle.gptp_world.specs.Net.{between}
 use Rattle.gptp_world.specs.Telling.{link_input}
 use Rattle.gptp_world.proofs.TellingLemmas.{both_told, can_tell, can_tell_second, net_changes, room_first}

@@ -1,5 +1,5 @@
 use Rattle.std.proofs.Common.{true}
-use Rattle.gptp_acts.specs.Changing.{brought_up}
+use Rattle.gptp_model.specs.Changing.{brought_up}
 use Rattle.gptp_world.specs.Net.{between}
 use Rattle.gptp_world.specs.Telling.{link_input}
 use Rattle.gptp_world.proofs.TellingLemmas.{both_told, can_tell, can_tell_second, net_changes, room_first}

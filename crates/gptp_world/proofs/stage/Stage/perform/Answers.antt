@@ -1,5 +1,5 @@
 use Rattle.std.proofs.Common.{subst, sym}
-use Rattle.gptp_plan.specs.Allowed.{IsFitAct}
+use Rattle.gptp_scenario.specs.Allowed.{IsFitAct}
 use Rattle.gptp_world.specs.ActTarget.{IsTargetOf}
 use Rattle.gptp_world.specs.FrameBudget.{UsesForAim}
 use Rattle.gptp_world.specs.Performing.{HasRoomForAim}

@@ -1,5 +1,5 @@
 use Rattle.std.proofs.Common.{sym, ap, ◌∙◌}
-use Rattle.gptp_acts.specs.declared.station.Station.{Station}
+use Rattle.gptp_model.specs.declared.station.Station.{Station}
 use Rattle.gptp_lists.proofs.PlaceLemmas.{read}
 use Rattle.gptp_world.proofs.stage.Stage.recover.Goals as goal
 

@@ -2,12 +2,12 @@ use Rattle.std.proofs.Common.{sym, subst, ◌∙◌, arith}
 use Rattle.std.proofs.lemmas.Option.{same_Some}
 use Rattle.gptp_system.specs.Reach.{timer_reach}
 use Rattle.gptp_system.specs.Steps.{IsDue}
-use Rattle.gptp_acts.specs.declared.station.Station.{Station}
+use Rattle.gptp_model.specs.declared.station.Station.{Station}
 use Rattle.gptp_world.specs.Stage.{world_of}
 use Rattle.gptp_world.specs.Room.{for_reach}
 use Rattle.gptp_world.proofs.FrameBudgetLemmas.{after_nothing}
 use Rattle.gptp_world.proofs.ExpiringLemmas.{expired, known_timer}
-use Rattle.gptp_acts.proofs.NextDueLemmas.{runs_out}
+use Rattle.gptp_model.proofs.NextDueLemmas.{runs_out}
 use Rattle.gptp_world.proofs.StageLemmas.{room_kept}
 use Rattle.gptp_world.proofs.TellingLemmas.{net_changes}
 use Rattle.gptp_world.proofs.TimingLemmas.{set_for_timer}

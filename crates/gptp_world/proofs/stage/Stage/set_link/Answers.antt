@@ -1,8 +1,8 @@
 use Rattle.std.proofs.Common.{◌≡◌, refl, ap, sym, ◌∙◌}
 use Rattle.gptp_world.specs.JoinedLink.{channel_of}
-use Rattle.gptp_acts.specs.Changing.{with_bounds}
+use Rattle.gptp_model.specs.Changing.{with_bounds}
 use Rattle.gptp_world.specs.Net.{between}
-use Rattle.gptp_acts.specs.World.{Net}
+use Rattle.gptp_model.specs.World.{Net}
 use Rattle.gptp_world.specs.Stage.{world_of}
 use Rattle.gptp_world.proofs.NetLemmas.{from_map}
 use Rattle.gptp_world.proofs.TellingLemmas.{net_changes}

@@ -1,6 +1,6 @@
 use Rattle.std.proofs.Common.{slice_get, refl, ap, ◌∙◌}
-use Rattle.gptp_acts.specs.declared.station.Station.{Station}
-use Rattle.gptp_acts.specs.Changing.{fresh}
+use Rattle.gptp_model.specs.declared.station.Station.{Station}
+use Rattle.gptp_model.specs.Changing.{fresh}
 use Rattle.gptp_world.proofs.StartingLemmas.{ports_room, renewed_room, renewed_stage, renewed_timers, stands_there, started, timers_stage}
 use Rattle.gptp_world.proofs.stage.Stage.start.Goals as goal
 

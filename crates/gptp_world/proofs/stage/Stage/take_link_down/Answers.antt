@@ -1,5 +1,5 @@
 use Rattle.std.proofs.Common.{true, false, [], refl, sym, ◌∙◌}
-use Rattle.gptp_acts.specs.Changing.{GoesDownIf}
+use Rattle.gptp_model.specs.Changing.{GoesDownIf}
 use Rattle.gptp_world.specs.Stage.{world_of}
 use Rattle.gptp_world.proofs.PerformingLemmas.{of_link, of_this}
 use Rattle.gptp_world.proofs.stage.Stage.take_link_down.Goals as goal

@@ -1,6 +1,6 @@
 use Rattle.std.proofs.Common.{◌≡◌, Some, ap, sym, ◌∙◌}
 use Rattle.gptp_lists.proofs.PlaceLemmas.{read}
-use Rattle.gptp_kept.specs.Standing.{live_stations}
+use Rattle.gptp_invariants.specs.Standing.{live_stations}
 use Rattle.gptp_world.specs.declared.joined_link.JoinedLink.{JoinedLink}
 use Rattle.gptp_world.specs.JoinedLink.{channel_of}
 use Rattle.gptp_world.specs.Used.{snapshot_link}

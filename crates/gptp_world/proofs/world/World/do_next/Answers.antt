@@ -1,10 +1,10 @@
 use Rattle.std.proofs.Common.{◌<◌, [], subst, arith}
 use Rattle.std.specs.Io.KnownBytes.{Appends}
 use Rattle.std.proofs.lemmas.Result.{on_ok_weaker}
-use Rattle.gptp_acts.specs.Ahead.{due_by}
-use Rattle.gptp_acts.specs.Pending.{NothingBefore}
-use Rattle.gptp_acts.proofs.AdvanceLemmas.{can_happen, happened}
-use Rattle.gptp_acts.proofs.PromptLemmas.{next_prompt}
+use Rattle.gptp_model.specs.Ahead.{due_by}
+use Rattle.gptp_model.specs.Pending.{NothingBefore}
+use Rattle.gptp_model.proofs.AdvanceLemmas.{can_happen, happened}
+use Rattle.gptp_model.proofs.PromptLemmas.{next_prompt}
 use Rattle.gptp_sink.specs.Sink.{AppendsSome}
 use Rattle.gptp_sink.proofs.SinkLemmas.{none_of}
 use Rattle.gptp_world.proofs.ActTargetLemmas.{next_aimed}

@@ -1,8 +1,8 @@
 use Rattle.std.proofs.Common.{◌≡◌, ◌<◌, ◌∙◌, refl, subst, arith}
 use Rattle.std.specs.Io.KnownBytes.{Appends}
-use Rattle.gptp_acts.specs.Ahead.{due_by}
-use Rattle.gptp_acts.specs.Pending.{NothingBefore}
-use Rattle.gptp_acts.proofs.AdvanceLemmas.{next_not_before}
+use Rattle.gptp_model.specs.Ahead.{due_by}
+use Rattle.gptp_model.specs.Pending.{NothingBefore}
+use Rattle.gptp_model.proofs.AdvanceLemmas.{next_not_before}
 use Rattle.gptp_world.specs.Following.{Follows}
 use Rattle.gptp_sink.specs.Sink.{AppendsSome}
 use Rattle.gptp_world.proofs.FollowLemmas.{follows_more, follows_none, follows_so}

@@ -1,7 +1,7 @@
 use Rattle.std.specs.Prelude.{◌≡◌}
 use Rattle.std.specs.Io.KnownBytes.{Appends}
-use Rattle.gptp_acts.specs.Ahead.{due_by}
-use Rattle.gptp_acts.specs.Pending.{NothingBefore}
+use Rattle.gptp_model.specs.Ahead.{due_by}
+use Rattle.gptp_model.specs.Pending.{NothingBefore}
 use Rattle.gptp_world.specs.Following.{Follows, IsUpcoming}
 use Rattle.gptp_world.proofs.world.World.finish.Given as goal
 

@@ -1,6 +1,6 @@
 use Rattle.std.specs.Prelude.{◌≡◌, ◌+◌, ◌-◌}
 use Rattle.std.specs.Io.KnownBytes.{Appends}
-use Rattle.gptp_acts.specs.Pending.{NothingBefore}
+use Rattle.gptp_model.specs.Pending.{NothingBefore}
 use Rattle.gptp_world.specs.Following.{Follows, IsUpcoming}
 use Rattle.gptp_world.proofs.world.World.finish_by.Given as goal
 

@@ -1,6 +1,6 @@
 use Rattle.std.proofs.Common.{[], arith}
 use Rattle.std.specs.Io.KnownBytes.{Appends}
-use Rattle.gptp_acts.proofs.AdvanceLemmas.{next_not_before}
+use Rattle.gptp_model.proofs.AdvanceLemmas.{next_not_before}
 use Rattle.gptp_sink.specs.Sink.{AppendsSome}
 use Rattle.gptp_world.proofs.FollowLemmas.{follows_later, follows_none}
 use Rattle.gptp_sink.proofs.SinkLemmas.{appends_none, none_of}

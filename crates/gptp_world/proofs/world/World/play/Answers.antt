@@ -2,11 +2,11 @@ use Rattle.std.proofs.Common.{◌≡◌, ◌+◌, [], ◌∷◌, ◌++◌, ℕ, 
 use Rattle.std.proofs.lemmas.List.{take_more}
 use Rattle.std.proofs.lemmas.Option.{slice_get-get_or}
 use Rattle.std.proofs.lemmas.Result.{err_from_is_err_and}
-use Rattle.gptp_acts.specs.declared.done.Refused.{Refused}
-use Rattle.gptp_acts.specs.Playing.{StopsAt}
-use Rattle.gptp_acts.proofs.PlayLemmas.{plays_more}
-use Rattle.gptp_acts.proofs.PromptLemmas.{stay_prompt}
-use Rattle.gptp_acts.proofs.StayLemmas.{done_stays}
+use Rattle.gptp_model.specs.declared.done.Refused.{Refused}
+use Rattle.gptp_model.specs.Playing.{StopsAt}
+use Rattle.gptp_model.proofs.PlayLemmas.{plays_more}
+use Rattle.gptp_model.proofs.PromptLemmas.{stay_prompt}
+use Rattle.gptp_model.proofs.StayLemmas.{done_stays}
 use Rattle.gptp_world.proofs.world.World.play.Goals as goal
 
 pub play_next-requires-clause-prompt : goal.play_next-requires-clause-prompt

@@ -1,6 +1,6 @@
 use Rattle.std.proofs.Common.{take}
-use Rattle.gptp_acts.specs.Playing.{Plays}
-use Rattle.gptp_acts.specs.Prompt.{AllDelaysFitIntervals}
+use Rattle.gptp_model.specs.Playing.{Plays}
+use Rattle.gptp_model.specs.Prompt.{AllDelaysFitIntervals}
 use Rattle.gptp_world.proofs.world.World.play.Given as goal
 
 -- those before this place were done, and all are as prompt as they were

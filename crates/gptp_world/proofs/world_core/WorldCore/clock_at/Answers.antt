@@ -1,6 +1,6 @@
 use Rattle.std.proofs.Common.{◌≡◌, ap, List, ℕ, slice_get, subst, sym, ◌∙◌}
-use Rattle.gptp_acts.specs.Views.{rising, rising_clocks}
-use Rattle.gptp_acts.specs.World.{WorldState}
+use Rattle.gptp_model.specs.Views.{rising, rising_clocks}
+use Rattle.gptp_model.specs.World.{WorldState}
 use Rattle.gptp_world.proofs.world_core.WorldCore.clock_at.Goals as goal
 
 pub returns : goal.returns

@@ -1,8 +1,8 @@
 use Rattle.std.proofs.Common.{subst, sym}
 use Rattle.std.proofs.lemmas.Option.{none-some}
-use Rattle.gptp_acts.specs.Acts.{AtSystem}
+use Rattle.gptp_model.specs.Acts.{AtSystem}
 use Rattle.gptp_world.specs.Stage.{world_of}
-use Rattle.gptp_acts.specs.Views.{IsLiveSystem}
+use Rattle.gptp_model.specs.Views.{IsLiveSystem}
 use Rattle.gptp_world.proofs.ActTargetLemmas.{no_system}
 use Rattle.gptp_world.proofs.world_core.WorldCore.live_system.Goals as goal
 

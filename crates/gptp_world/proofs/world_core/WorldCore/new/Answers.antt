@@ -1,4 +1,4 @@
-use Rattle.gptp_acts.specs.Initial.{initial}
+use Rattle.gptp_model.specs.Initial.{initial}
 use Rattle.gptp_world.specs.Stage.{world_of}
 use Rattle.gptp_world.proofs.SettlingInvariantLemmas.{begun_claimed, begun_from}
 use Rattle.gptp_world.proofs.FrameBudgetLemmas.{none_covered}

@@ -1,7 +1,7 @@
 use Rattle.std.proofs.Common.{subst, sym}
-use Rattle.gptp_acts.specs.Pending.{IsNext}
-use Rattle.gptp_acts.specs.Views.{IsActOf}
-use Rattle.gptp_acts.specs.World.{WorldState}
+use Rattle.gptp_model.specs.Pending.{IsNext}
+use Rattle.gptp_model.specs.Views.{IsActOf}
+use Rattle.gptp_model.specs.World.{WorldState}
 use Rattle.gptp_world.proofs.ViewLemmas.{next_placed}
 use Rattle.gptp_world.proofs.world_core.WorldCore.next_act.Goals as goal
 

@@ -1,15 +1,15 @@
 use Rattle.std.proofs.Common.{◌≡◌, subst, sym, ◌∙◌}
-use Rattle.gptp_acts.specs.Acts.{at}
+use Rattle.gptp_model.specs.Acts.{at}
 use Rattle.gptp_world.specs.ActTarget.{IsTargetOf}
 use Rattle.gptp_world.specs.Memory.{AsksForNoMemory}
-use Rattle.gptp_acts.specs.Sound.{IsSound}
+use Rattle.gptp_model.specs.Sound.{IsSound}
 use Rattle.gptp_world.specs.Stage.{world_of}
-use Rattle.gptp_kept.specs.TimedClaim.{WorldInvariant}
+use Rattle.gptp_invariants.specs.TimedClaim.{WorldInvariant}
 use Rattle.gptp_world.proofs.SettlingInvariantLemmas.{acted_claimed}
 use Rattle.gptp_world.proofs.FrameBudgetLemmas.{covered_after, leaves_later}
 use Rattle.gptp_world.proofs.LaterLemmas.{aim_later, at_time, room_later}
 use Rattle.gptp_world.proofs.WorldCoreLemmas.{ready_sound}
-use Rattle.gptp_acts.proofs.SoundLemmas.{acts_sound}
+use Rattle.gptp_model.proofs.SoundLemmas.{acts_sound}
 use Rattle.gptp_world.proofs.world_core.WorldCore.perform.Goals as goal
 
 pub perform-requires-clause-sound : goal.perform-requires-clause-sound

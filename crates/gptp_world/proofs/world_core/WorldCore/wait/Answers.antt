@@ -1,9 +1,9 @@
 use Rattle.std.proofs.Common.{◌+◌, ◌≤◌, subst, sym, arith}
-use Rattle.gptp_acts.specs.Pending.{NothingBefore}
-use Rattle.gptp_acts.specs.World.{WorldState}
-use Rattle.gptp_acts.proofs.AdvanceLemmas.{nothing_sooner}
-use Rattle.gptp_acts.proofs.SoundLemmas.{later_sound}
-use Rattle.gptp_kept.proofs.ExactLemmas.{all_later}
+use Rattle.gptp_model.specs.Pending.{NothingBefore}
+use Rattle.gptp_model.specs.World.{WorldState}
+use Rattle.gptp_model.proofs.AdvanceLemmas.{nothing_sooner}
+use Rattle.gptp_model.proofs.SoundLemmas.{later_sound}
+use Rattle.gptp_invariants.proofs.ExactLemmas.{all_later}
 use Rattle.gptp_world.specs.Stage.{world_of}
 use Rattle.gptp_world.proofs.LaterLemmas.{stage_later}
 use Rattle.gptp_world.proofs.world_core.WorldCore.wait.Goals as goal

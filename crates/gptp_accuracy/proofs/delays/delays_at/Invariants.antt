@@ -1,0 +1,10 @@
+-- None of the links so far is at the port.
+use Rattle.std.proofs.Common.{◌≡◌, ◌<◌, ℕ, Some, slice_get}
+use Rattle.gptp_scenario.specs.Network.{IsEnd}
+use Rattle.gptp_scenario.specs.declared.network.LinkSpec.{LinkSpec}
+use Rattle.gptp_accuracy.proofs.delays.delays_at.Given as goal
+
+abbrev pub invariant-loop-place : goal.invariant-loop-place
+invariant-loop-place l =
+    (k : ℕ) (w : LinkSpec) → k < l.place → slice_get l.network.links k ≡ Some w
+    → IsEnd (record { clock = l.clock; port = l.port }) w → ⊥

@@ -1,5 +1,0 @@
-use Rattle.gptp_accuracy.proofs.WayLemmas.{carry_is_within}
-use Rattle.gptp_accuracy.proofs.laws.carry_is_within.Goals as goal
-
-pub returns : goal.returns
-returns c = carry_is_within

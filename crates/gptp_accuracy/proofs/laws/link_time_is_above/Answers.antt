@@ -1,5 +1,0 @@
-use Rattle.gptp_accuracy.proofs.LinkLemmas.{link_time_is_above}
-use Rattle.gptp_accuracy.proofs.laws.link_time_is_above.Goals as goal
-
-pub returns : goal.returns
-returns c = link_time_is_above

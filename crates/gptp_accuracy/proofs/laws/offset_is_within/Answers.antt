@@ -1,5 +1,0 @@
-use Rattle.gptp_accuracy.proofs.HopLemmas.{offset_is_within}
-use Rattle.gptp_accuracy.proofs.laws.offset_is_within.Goals as goal
-
-pub returns : goal.returns
-returns c = offset_is_within

@@ -1,5 +1,0 @@
-use Rattle.gptp_accuracy.proofs.LinkLemmas.{stay_is_below}
-use Rattle.gptp_accuracy.proofs.laws.stay_is_below.Goals as goal
-
-pub returns : goal.returns
-returns c = stay_is_below

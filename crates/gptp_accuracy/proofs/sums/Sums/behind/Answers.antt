@@ -1,0 +1,40 @@
+use Rattle.gptp_accuracy.specs.Sums.{way_link}
+use Rattle.gptp_accuracy.proofs.MachineLemmas.{IsMade, given_within, is_behind, log_back}
+use Rattle.gptp_accuracy.proofs.SumLemmas.{interval_long, sums_behind}
+use Rattle.gptp_accuracy.proofs.sums.Sums.behind.Goals as goal
+
+pub rate_error-requires-clause-interval : goal.rate_error-requires-clause-interval
+rate_error-requires-clause-interval c =
+    let log = c.requires.params.pdelay in
+    rw (c.interval_of.ensures.interval, log_back c.args.params.now.pdelay log)
+    (interval_long c.args.params.now.pdelay log)
+
+pub returns : goal.returns
+returns c = λ w links summed.
+    let p = c.args.params.now in
+    let s = c.args.self.now in
+    let l = way_link c.args.link.now in
+    let made : IsMade p s l c.interval_of.result c.rate_error.result c.link_error.result c.rates_error.result
+    c.wait_error.result c.steady_rate.result c.from.result =
+    record {
+      interval_is = c.interval_of.ensures.interval;
+      rate_error_is = c.rate_error.ensures.error;
+      steady_is = c.steady_rate.ensures.rate;
+      near = c.steady_rate.ensures.within;
+      rate_is = c.from.ensures;
+      hop_is = c.link_error.ensures.error;
+      rates_is = c.rates_error.ensures.error;
+      wait_is = c.wait_error.ensures.error;
+    } in
+    let behind = is_behind p s l _ _ _ _ _ _ _ c.requires.params.pdelay c.requires.sums c.requires.link made in
+    record {
+      timed = record {
+        interval = summed.timed.interval;
+        turnaround = summed.timed.turnaround;
+        residence = summed.timed.residence;
+      };
+      sums = sums_behind p w l s summed.timed summed.sums _ behind;
+      within =
+          given_within p s l _ _ _ _ _ _ _ c.requires.params.pdelay c.requires.sums c.requires.link made links
+          summed.within c.rate_error.ensures.bound c.link_error.ensures.bound c.wait_error.ensures.bound;
+    }

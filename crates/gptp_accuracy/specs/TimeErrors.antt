@@ -1,0 +1,94 @@
+-- How exact the time is that each live system gets, after the events of a document up to a time (profile).
+use Rattle.std.specs.Prelude.{◌≡◌, ◌⊎◌, ◌<◌, ◌≤◌, ℕ, ◌+◌, ◌*◌, ◌/◌, ◌^◌, Bool, true, false, not, ◌&&◌, nat_lt, if◌then◌else◌, List, take, Option, Some, None, map, slice_get}
+use Rattle.gptp_lists.specs.Members.{In}
+use Rattle.gptp_graph.specs.Distance.{IsDistance}
+use Rattle.gptp_graph.specs.Labelling.{SystemLine, line_clocks}
+use Rattle.gptp_graph.specs.PathBound.{path_bound}
+use Rattle.gptp_graph.specs.SettledChoice.{IsBestIdentity}
+use Rattle.gptp_graph.specs.Snapshot.{Snapshot, IsWellFormed, clocks}
+use Rattle.gptp_scenario.specs.Calm.{IsCalm, last_change}
+use Rattle.gptp_scenario.specs.Network.{NetworkState, pace_of}
+use Rattle.gptp_scenario.specs.SettlingTime.{settling_span_with}
+use Rattle.gptp_scenario.specs.SyncWait.{sync_paths}
+use Rattle.gptp_scenario.specs.declared.change.Timed.{Timed}
+use Rattle.gptp_network.specs.Document.{DocumentState}
+use Rattle.gptp_network.specs.Snapshot.{IsSnapshot, events_by}
+use Rattle.gptp_error_laws.specs.TimeError.{Way, time_error}
+use Rattle.gptp_accuracy.specs.Ways.{IsWay}
+use Rattle.gptp_accuracy.specs.declared.errors.SystemError.{SystemError}
+use Rattle.gptp_accuracy.specs.declared.errors.TimeErrors.{TimeErrors}
+use Rattle.gptp_accuracy.specs.declared.sums.Sums.{Sums}
+
+-- a root can be grandmaster where its priority1 is below 255 (IEEE 802.1AS-2020, 8.6.2.1)
+abbrev pub root_is_capable : ℕ → Bool
+root_is_capable root = nat_lt (root / 2 ^ 104) 255
+
+-- From when on the errors hold after these events, where the network is calm then: it has settled, and what each system
+-- uses has come down the settled tree, at most a threshold and a residence for each system of a path.
+abbrev pub exact_from : NetworkState → List Timed → Snapshot → ℕ
+exact_from n events g =
+    last_change events + settling_span_with (pace_of n) (sync_paths n events) (path_bound g)
+    + path_bound g * (n.params.threshold + n.params.residence)
+
+-- that time, or none where the network isn't calm
+abbrev pub IsFrom : NetworkState → List Timed → Snapshot → Option ℕ → Type 0
+IsFrom n events g from =
+    (IsCalm n events × (from ≡ Some (exact_from n events g))) ⊎ ((IsCalm n events → ⊥) × (from ≡ None))
+
+-- The time error of a system that follows this root over so many steps: that of its way. There is none where the
+-- network isn't calm, the system is far, or its root can't be grandmaster.
+abbrev pub IsErrorOf : NetworkState → List Timed → Snapshot → SystemError → Option ℕ → Type 0
+IsErrorOf n events g s (Some error) = IsCalm n events × (s.steps < 255) × (root_is_capable s.root ≡ true)
+    × ((w : Way) × IsWay n events g s.steps s.clock w × (error ≡ time_error w))
+IsErrorOf n events g s None =
+    (IsCalm n events → ⊥) ⊎ ((255 ≤ s.steps) ⊎ (root_is_capable s.root ≡ false))
+
+-- the same, as it is worked out
+abbrev pub system_error : Bool → Bool → ℕ → ℕ → Option ℕ
+system_error calm far root error = if calm && (not far && root_is_capable root) then Some error else None
+
+-- the system of a line, with the error that its sums give
+pub record IsSystemOf (calm : Bool) (line : SystemLine) (to : Sums) (s : SystemError) : Type 0 where
+  pub clock : s.clock ≡ line.clock
+  pub root : s.root ≡ line.root
+  pub steps : s.steps ≡ line.steps
+  pub far : s.far ≡ line.far
+  pub error : s.error ≡ system_error calm line.far line.root to.error
+
+-- an entry is that of some line and the sums at its place
+pub record IsEntry (calm : Bool) (lines : List SystemLine) (sums : List Sums) (s : SystemError) : Type 0 where
+  pub place : ℕ
+  pub line : SystemLine
+  pub there : slice_get lines place ≡ Some line
+  pub to : Sums
+  pub summed : slice_get sums place ≡ Some to
+  pub is : IsSystemOf calm line to s
+
+-- the systems of the first lines, so many
+pub record AreEntries (calm : Bool) (lines : List SystemLine) (sums : List Sums) (count : ℕ)
+    (systems : List SystemError) : Type 0 where
+  pub clocks : map (λ (s : SystemError). s.clock) systems ≡ take count (line_clocks lines)
+  pub each : (s : SystemError) → In s systems → IsEntry calm lines sums s
+
+-- a system with the best of its component, its distance from that, whether it is far, and its time error
+pub record IsExact (n : NetworkState) (events : List Timed) (g : Snapshot) (s : SystemError) : Type 0 where
+  pub root : IsBestIdentity g s.clock s.root
+  pub steps : IsDistance g s.clock s.steps
+  pub near : s.far ≡ false → s.steps < 255
+  pub far : s.far ≡ true → 255 ≤ s.steps
+  pub error : IsErrorOf n events g s s.error
+
+-- all live systems, by rising clock
+pub record AreExact (n : NetworkState) (events : List Timed) (g : Snapshot) (systems : List SystemError) : Type 0 where
+  pub clocks : map (λ (s : SystemError). s.clock) systems ≡ clocks g
+  pub each : (s : SystemError) → In s systems → IsExact n events g s
+
+-- What is said of a document at a time: the last time of its events until then, from when on the errors hold, and the
+-- errors of all systems that live then.
+pub record AreTimeErrors (d : DocumentState) (until : ℕ) (t : TimeErrors) : Type 0 where
+  pub snapshot : Snapshot
+  pub is : IsSnapshot d until snapshot
+  pub network : IsWellFormed snapshot
+  pub time : t.time ≡ last_change (events_by until d.events)
+  pub from : IsFrom d.network (events_by until d.events) snapshot t.from
+  pub systems : AreExact d.network (events_by until d.events) snapshot t.systems.items

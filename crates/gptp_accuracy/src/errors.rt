@@ -1,0 +1,178 @@
+//! The time errors of all systems of a document.
+
+ghost use Rattle.std.specs.Prelude.{◌≡◌, ◌+◌, ◌≤◌, ◌<◌, ℕ, length, IfOk, OnOk, map};
+ghost use Rattle.gptp_lists.specs.Members.{In};
+ghost use Rattle.gptp_graph.specs.Labelling.{line_clocks};
+ghost use Rattle.gptp_scenario.specs.Allowed.{AreAllowed};
+ghost use Rattle.gptp_scenario.specs.Calm.{last_change};
+ghost use Rattle.gptp_network.specs.Events.{AreInOrder};
+ghost use Rattle.gptp_network.specs.Snapshot.{StandsAfter, events_by};
+ghost use Rattle.gptp_certificate_text.specs.Certificate.{line_of};
+ghost use Rattle.gptp_accuracy.specs.TimeErrors.{AreEntries, AreTimeErrors, IsFrom, IsSystemOf, system_error, exact_from};
+
+use crate::sums::Sums;
+use crate::ways::sums_of_all;
+use gptp_certificate_text::{Certificate, SystemLine};
+use gptp_choice::settled_choice;
+use gptp_network::{Document, Snapshot};
+use gptp_scenario::{Network, Timed};
+use gptp_vector::{ClockId, Identity};
+use std::alloc::{AllocError, Global};
+
+/// How exact the time is that a live system gets.
+#[derive(Clone, Copy, Debug, PartialEq, Eq)]
+pub struct SystemError {
+    /// Its clock.
+    pub clock: ClockId,
+    /// The best system of its component: its root, where it isn't far.
+    pub root: Identity,
+    /// Its distance from that.
+    pub steps: u16,
+    /// Whether that is 255 or more, so that it can't follow it.
+    pub far: bool,
+    /// The time error, in units of 2^-16 ns; `None` where the network isn't calm, the system is far, or its root's
+    /// priority1 is 255.
+    pub error: Option<u128>,
+}
+
+/// How exact the time is that each live system of a document gets, from a time on.
+#[derive(Debug, Drop)]
+pub struct TimeErrors {
+    /// The last time of the events that were made, in ns; 0 where there is none.
+    pub time: u64,
+    /// The time from which on the errors hold, in ns; `None` where the network isn't calm.
+    pub from: Option<u64>,
+    /// The live systems, by rising clock.
+    pub systems: Vec<SystemError>,
+}
+
+/// The events with time up to a time.
+fn events_by(events: &[Timed], until: u64) -> &[Timed]
+    requires { AreInOrder events.now }
+    ensures { result.now ≡ events_by until events.now }
+{
+    let count = events.partition_point(|event| event.at <= until);
+    &events[..count]
+}
+
+/// The time of the last of these events, or 0.
+#[tactic(auto, using(crate::proofs::EventLemmas::last_change_early, gptp_network::proofs::EventLemmas::last_from))]
+fn last_change(events: &[Timed]) -> u64
+    requires { AreAllowed events.now }
+    ensures time { result ≡ last_change events.now }
+    ensures early { result ≤ 1000000000000000 }
+{
+    match events.last() {
+        Some(event) => event.at,
+        None => 0,
+    }
+}
+
+/// The time from which on a network that is calm after these events is as exact as is said.
+fn holds_from(network: &Network, events: &[Timed], snapshot: &Snapshot) -> u64
+    requires allowed { AreAllowed events.now }
+    requires stands { StandsAfter network.now events.now snapshot.now }
+    ensures { result ≡ exact_from network.now events.now snapshot.now }
+{
+    network.well_formed();
+    let systems = snapshot.path_bound();
+    let params = network.params();
+    last_change(events)
+        + snapshot.settling_span(network, events)
+        + systems as u64 * (params.threshold + params.residence)
+}
+
+/// From when on time errors hold, if the network is calm.
+fn holds_from_if_calm(network: &Network, events: &[Timed], snapshot: &Snapshot) -> Option<u64>
+    requires allowed { AreAllowed events.now }
+    requires stands { StandsAfter network.now events.now snapshot.now }
+    ensures { IsFrom network.now events.now snapshot.now result }
+{
+    if network.is_calm(events) {
+        Some(holds_from(network, events, snapshot))
+    } else {
+        None
+    }
+}
+
+/// The time error of the system of a line, by what was summed up on the way to it.
+fn error_of(calm: bool, line: &SystemLine, to: &Sums) -> Option<u128>
+    ensures { result ≡ system_error calm line.now.far line.now.root to.now.error }
+{
+    if calm && !line.far && line.root.capable() {
+        Some(to.error)
+    } else {
+        None
+    }
+}
+
+/// The system of a line, with its time error.
+fn system_of(calm: bool, line: &SystemLine, to: &Sums) -> SystemError
+    ensures { IsSystemOf calm (line_of line.now) to.now result }
+{
+    SystemError {
+        clock: line.clock,
+        root: line.root,
+        steps: line.steps,
+        far: line.far,
+        error: error_of(calm, line, to),
+    }
+}
+
+/// Puts the system of a line behind those of the lines before, with its time error.
+fn push_system(
+    systems: &mut Vec<SystemError>,
+    calm: bool,
+    certificate: &Certificate,
+    sums: &[Sums],
+    place: usize,
+) -> Result<(), AllocError>
+    requires place { place < length certificate.now.lines }
+    requires sums { length sums.now ≡ length certificate.now.lines }
+    requires before { AreEntries calm certificate.now.lines sums.now place systems.old.items }
+    ensures { OnOk result (AreEntries calm certificate.now.lines sums.now (place + 1) systems.new.items) }
+{
+    if let Some(line) = certificate.line(place) {
+        systems.push(system_of(calm, line, &sums[place]))?;
+    }
+    Ok(())
+}
+
+/// The systems of a certificate, with their time errors.
+fn systems_of(
+    alloc: Global,
+    calm: bool,
+    certificate: &Certificate,
+    sums: &[Sums],
+) -> Result<Vec<SystemError>, AllocError>
+    requires { length sums.now ≡ length certificate.now.lines }
+    ensures { IfOk result (λ v. AreEntries calm certificate.now.lines sums.now (length certificate.now.lines) v.items) }
+{
+    let mut systems = Vec::new(alloc);
+    for place in 0..certificate.len() {
+        push_system(&mut systems, calm, certificate, sums, place)?;
+    }
+    Ok(systems)
+}
+
+/// How exact the time is that each live system gets, of the network of a document as it stands after all events with
+/// time up to `until`, in ns. The only error is that memory ran out.
+pub fn time_errors(alloc: Global, document: &Document, until: u64) -> Result<TimeErrors, AllocError>
+    ensures { IfOk result (AreTimeErrors document.now until) }
+{
+    document.well_formed();
+    let network = document.network();
+    let events = events_by(document.events(), until);
+    let snapshot = document.snapshot(alloc, until)?;
+    let certificate = settled_choice(alloc, &snapshot)?;
+    snapshot.well_formed();
+    certificate.well_formed();
+    let from = holds_from_if_calm(network, events, &snapshot);
+    let sums = sums_of_all(alloc, network, events, &snapshot, &certificate)?;
+    let systems = systems_of(alloc, from.is_some(), &certificate, &sums)?;
+    Ok(TimeErrors {
+        time: last_change(events),
+        from,
+        systems,
+    })
+}

@@ -1,0 +1,5 @@
+pub mod LinkLemmas
+pub mod HopLemmas
+pub mod WayLemmas
+pub mod LongerLemmas
+mod ExampleLemmas

@@ -1,0 +1,302 @@
+use Rattle.std.proofs.Common.{◌≡◌, ℕ, zero, suc, ◌*◌, ◌+◌, ◌-◌, ◌/◌, ◌<◌, ◌≤◌, ℤ, pos, negsuc, ◌+ℤ◌, ◌-ℤ◌, ◌*ℤ◌, ◌≤ℤ◌, unsigned_abs, List, length, ap, ◌∙◌, sym, refl, arith}
+use Rattle.std.proofs.lemmas.Int.{ints}
+use Rattle.std.proofs.Math.Nat.{mul-le-mul_left}
+use Rattle.gptp_scaled.specs.Floor.{floor_div}
+use Rattle.gptp_scaled.specs.Rate.{FitsRate, IsNeighborRate, unit, scaled_by}
+use Rattle.gptp_scaled.specs.Counts.{AreWithin}
+use Rattle.gptp_scaled.proofs.CountLemmas.{IsQuotient, quotient_is, gain_is, rate_is_bounded}
+use Rattle.gptp_pdelay.specs.GoodLink.{ceil_div}
+use Rattle.gptp_pdelay.specs.Measured.{AreMeasured, IsMeasuredWithin}
+use Rattle.gptp_pdelay.proofs.MeasurementLemmas.{clock_counts, counts_between, measurement_is_within}
+use Rattle.gptp_correction.specs.declared.correction.Hop.{Hop}
+use Rattle.gptp_correction.specs.Sum.{sum_below}
+use Rattle.gptp_correction.specs.Carry.{added_at, carry_of, hop_at, link_time_at, neighbour_at, rate_at, residence_at, CarryFits}
+use Rattle.gptp_correction.proofs.CarryLemmas.{carry_of-last}
+use Rattle.gptp_error_laws.specs.TimeError.{Way, clock_at, drift_at, hop_error_at, jitter_at, link_at, rate_error_at, rates_error_at, steady_rate_at, time_error, time_error_at, total_below, wait_error_at}
+use Rattle.gptp_error_laws.specs.HopLaws.{IsOverLink, IsRateBehind, IsRateWithin}
+use Rattle.gptp_error_laws.specs.WayLaws.{CarryIsWithin, GoesOver, IsDocumented, OffsetOfWayIsWithin, TimeErrorGoesByHops, shown_at}
+use Rattle.gptp_error_laws.proofs.HopLemmas.{added_within, received_within}
+
+-- a quotient rounded up is enough
+pub ceil_reaches : (x d : ℕ) → 0 < d → x ≤ ceil_div x d * d
+ceil_reaches x d h =
+    let q = quotient_is (x + (d - 1)) d h in omega (arith, q.passed, h)
+
+-- what is measured on the link at a place
+measured_at : (w : Way) (hops : List Hop) (phase sent came : ℕ → ℕ) → IsDocumented w → GoesOver w hops phase sent came →
+    (i : ℕ) → i < length hops → let l = link_at w i in
+    IsMeasuredWithin l.least l.most w.turnaround (ceil_div (2202000000000 * jitter_at w i) w.interval) (clock_at w i)
+    (clock_at w (suc i)) (neighbour_at hops i) (hop_at hops i).delay
+measured_at w hops phase sent came k g i h =
+    let l = link_at w i in
+    measurement_is_within l.least l.most w.turnaround w.interval (ceil_div (2202000000000 * jitter_at w i) w.interval)
+    (phase (suc i)) (phase i) (drift_at w (suc i)) (drift_at w i) (neighbour_at hops i) (hop_at hops i).delay
+    (k.drifts (suc i) (omega (arith, h, g.as_long))) (k.drifts i (omega (arith, h, g.as_long)))
+    (omega (arith, g.carried_long i h, g.carried_short i h)) k.waits k.long
+    (ceil_reaches (2202000000000 * jitter_at w i) w.interval (omega (arith, k.long))) (g.measured i h)
+
+-- the rates so far are nearer to those without jitter than their errors add up to, one unit a link
+record AreNearer (n total : ℕ) (x y : ℤ) : Type 0 where
+  low : (y +ℤ pos n) ≤ℤ (x +ℤ pos total)
+  high : (x +ℤ pos n) ≤ℤ (y +ℤ pos total)
+
+rates_nearer : (w : Way) (hops : List Hop) (phase sent came : ℕ → ℕ) → IsDocumented w → GoesOver w hops phase sent
+    came →
+    (n : ℕ) → n ≤ length hops → AreNearer n (total_below n (rate_error_at w)) (sum_below n (neighbour_at hops))
+    (sum_below n (steady_rate_at w))
+rates_nearer w hops phase sent came k g zero h = record { low = omega (arith, ints); high = omega (arith, ints) }
+rates_nearer w hops phase sent came k g (suc n) h =
+    let before = rates_nearer w hops phase sent came k g n (omega (arith, h)) in
+    let here = (measured_at w hops phase sent came k g n (omega (arith, h))).rate_within in
+    record {
+      low = omega (arith, ints, before.low, here.low);
+      high = omega (arith, ints, before.high, here.high);
+    }
+
+-- the error of the rate before the link at a place
+abbrev pub error_before : Way → ℕ → ℕ
+error_before w zero = 0
+error_before w (suc i) = rates_error_at w i
+
+-- a whole number is so far from 0 as its absolute value
+pub record IsSize (z : ℤ) (n : ℕ) : Type 0 where
+  pub low : (pos 0 -ℤ pos n) ≤ℤ z
+  pub high : z ≤ℤ pos n
+
+pub size_is : (z : ℤ) → IsSize z (unsigned_abs z)
+size_is (pos n) = record { low = omega (arith, ints); high = omega (arith, ints) }
+size_is (negsuc n) = record { low = omega (arith, ints); high = omega (arith, ints) }
+
+-- the rate of a quotient
+pub rate_near : (root own rate quotient e : ℕ) → IsQuotient (root * 2199023255552) own quotient →
+    rate + 1 ≤ quotient + e → quotient + 1 ≤ rate + e → IsRateWithin e root own rate
+rate_near root own rate quotient e q high low =
+    let a : own * (rate + 1) ≤ own * (quotient + e) = mul-le-mul_left own high in
+    let b : own * (quotient + 1) ≤ own * (rate + e) = mul-le-mul_left own low in
+    record { low = omega (arith, q.passed, b); high = omega (arith, q.reached, a) }
+
+-- the rate so far, as a natural number within its error
+rate_so_far : (w : Way) (hops : List Hop) (phase sent came : ℕ → ℕ) → IsDocumented w → GoesOver w hops phase sent came →
+    (n : ℕ) → n ≤ length hops → (rate : ℕ) → unit +ℤ sum_below n (neighbour_at hops) ≡ pos rate →
+    IsRateWithin (error_before w n) (clock_at w 0) (clock_at w n) rate
+rate_so_far w hops phase sent came k g zero h rate e =
+    let f : rate ≡ 2199023255552 = omega (arith, ints, e) in
+    rw f (record { low = omega arith; high = omega arith })
+rate_so_far w hops phase sent came k g (suc n) h rate e =
+    let root = clock_at w 0 in
+    let own = clock_at w (suc n) in
+    let some : 0 < own =
+    omega (arith, (clock_counts.rate (drift_at w (suc n)) (k.drifts (suc n) (omega (arith, h, g.as_long)))).low) in
+    let quotient = root * 2199023255552 / own in
+    let q = quotient_is (root * 2199023255552) own some in
+    let gain = gain_is root own quotient some q in
+    let near = rates_nearer w hops phase sent came k g (suc n) h in
+    let unlike =
+    size_is (sum_below (suc n) (steady_rate_at w) -ℤ floor_div ((pos root -ℤ pos own) *ℤ unit) (pos own)) in
+    rate_near root own rate quotient (rates_error_at w n) q
+    (omega (arith, ints, e, gain, near.high, unlike.high)) (omega (arith, ints, e, gain, near.low, unlike.low))
+
+-- the rate before the link at a place has 32 bits
+rate_fits : (hops : List Hop) (origin : ℤ) → CarryFits origin hops → (n : ℕ) → n < length hops →
+    FitsRate (sum_below n (neighbour_at hops))
+rate_fits hops origin f zero h = omega (arith, ints)
+rate_fits hops origin f (suc n) h = (f.bridges n h).rate
+
+-- a rate of 32 bits as a natural number
+pub natural : (z : ℤ) → pos 0 ≤ℤ z → (n : ℕ) × (z ≡ pos n)
+natural (pos n) h = (n, refl)
+natural (negsuc n) h = absurd (omega (arith, ints, h))
+
+-- what is known of the hop at a place
+over_link : (w : Way) (hops : List Hop) (phase sent came : ℕ → ℕ) (origin : ℤ) → IsDocumented w →
+    GoesOver w hops phase sent came → CarryFits origin hops → (n : ℕ) → n < length hops → let l = link_at w n in
+    IsOverLink l.least l.most w.turnaround (clock_at w 0) (clock_at w n) (error_before w n)
+    (sum_below n (neighbour_at hops)) (neighbour_at hops n) (hop_at hops n).delay
+over_link w hops phase sent came origin k g f n h =
+    let measured = measured_at w hops phase sent came k g n h in
+    let fits = rate_fits hops origin f n h in
+    let (rate, e) = natural (unit +ℤ sum_below n (neighbour_at hops)) (omega (arith, ints, fits)) in
+    record {
+      order = omega (arith, g.carried_long n h, g.carried_short n h);
+      root_rate = clock_counts.rate (drift_at w 0) (k.drifts 0 (omega arith));
+      up_rate = clock_counts.rate (drift_at w n) (k.drifts n (omega (arith, h, g.as_long)));
+      before = rate;
+      before_is = e;
+      within = rate_so_far w hops phase sent came k g n (omega (arith, h)) rate e;
+      fits = fits;
+      near = bounded (shown_at w phase (suc n)) (shown_at w phase n) (neighbour_at hops n) (g.measured n h);
+      measured = measured.delay_within;
+    }
+  where
+    bounded : (mine yours : ℕ → ℤ) (rate : ℤ) → let l = link_at w n in
+        AreMeasured l.least l.most w.turnaround w.interval mine yours rate (hop_at hops n).delay → IsNeighborRate rate
+    bounded mine yours rate a =
+        rw a.rate_is (rate_is_bounded (yours (a.later.heard + w.turnaround) -ℤ yours (a.earlier.heard + w.turnaround))
+        (mine a.later.came -ℤ mine a.earlier.came))
+
+-- and of the rate behind it, where a bridge is there
+rate_behind : (w : Way) (hops : List Hop) (phase sent came : ℕ → ℕ) (origin : ℤ) → IsDocumented w →
+    GoesOver w hops phase sent came → CarryFits origin hops → (n : ℕ) → suc n < length hops →
+    IsRateBehind (clock_at w 0) (clock_at w (suc n)) (rates_error_at w n)
+    (sum_below n (neighbour_at hops) +ℤ neighbour_at hops n)
+rate_behind w hops phase sent came origin k g f n h =
+    let fits = rate_fits hops origin f (suc n) h in
+    let (rate, e) = natural (unit +ℤ sum_below (suc n) (neighbour_at hops)) (omega (arith, ints, fits)) in
+    record {
+      after = rate;
+      after_is = e;
+      within = rate_so_far w hops phase sent came k g (suc n) (omega (arith, h))
+          rate e;
+    }
+
+-- the error of the time at the egress to the link at a place, in parts of 33550000 to a unit
+abbrev pub error_sent : Way → ℕ → ℕ
+error_sent w zero = 0
+error_sent w (suc i) =
+    33550000 * (total_below (suc i) (hop_error_at w) + total_below i (wait_error_at w))
+    + rates_error_at w i * (w.residence + jitter_at w i)
+
+-- the part of a wait that the link behind it takes
+wait_is : (w : Way) (i : ℕ) →
+    rates_error_at w i * (w.residence + jitter_at w i) + rates_error_at w i * (link_at w (suc i)).most ≤
+    33550000 * wait_error_at w i
+wait_is w i =
+    let c =
+    ceil_reaches ((w.residence + jitter_at w i + (link_at w (suc i)).most) * rates_error_at w i) 33550000
+    (omega arith) in
+    omega (arith, c)
+
+-- the error at the end of a link
+pub link_grows : (w : Way) (n : ℕ) →
+    error_sent w n + (33550000 * hop_error_at w n + error_before w n * (link_at w n).most) ≤
+    33550000 * (total_below (suc n) (hop_error_at w) + total_below n (wait_error_at w))
+link_grows w zero = omega arith
+link_grows w (suc i) = omega (arith, wait_is w i)
+
+-- and at the end of the stay behind it
+pub stay_grows : (w : Way) (n stay : ℕ) → stay ≤ w.residence + jitter_at w n →
+    error_sent w n + (33550000 * hop_error_at w n + error_before w n * (link_at w n).most + rates_error_at w n * stay) ≤
+    error_sent w (suc n)
+stay_grows w n stay h =
+    let a : rates_error_at w n * stay ≤ rates_error_at w n * (w.residence + jitter_at w n) =
+    mul-le-mul_left (rates_error_at w n) h in
+    omega (arith, a, link_grows w n)
+
+-- errors add up
+pub adds : (m n total : ℕ) (origin sum added before after : ℤ) (passed : ℕ) → m + n ≤ total →
+    after -ℤ before ≡ pos passed →
+    AreWithin m (pos 33550000 *ℤ (origin +ℤ sum)) (pos 33550000 *ℤ before) →
+    AreWithin n (pos 33550000 *ℤ added) (pos (33550000 * passed)) →
+    AreWithin total (pos 33550000 *ℤ (origin +ℤ (sum +ℤ added))) (pos 33550000 *ℤ after)
+adds m n total origin sum added before after passed h e a b =
+    record { low = omega (arith, ints, h, e, a.low, b.low); high = omega (arith, ints, h, e, a.high, b.high) }
+
+-- the time at each egress is within its error of the root's clock
+egress_within : (w : Way) (hops : List Hop) (phase sent came : ℕ → ℕ) → IsDocumented w → GoesOver w hops phase sent
+    came →
+    let origin = shown_at w phase 0 (sent 0) in CarryFits origin hops → (n : ℕ) → n < length hops →
+    AreWithin (error_sent w n) (pos 33550000 *ℤ (origin +ℤ sum_below n (added_at hops)))
+    (pos 33550000 *ℤ shown_at w phase 0 (sent n))
+egress_within w hops phase sent came k g f zero h = record { low = omega (arith, ints); high = omega (arith, ints) }
+egress_within w hops phase sent came k g f (suc n) h =
+    let origin = shown_at w phase 0 (sent 0) in
+    let near : n < length hops = omega (arith, h) in
+    let before = egress_within w hops phase sent came k g f n near in
+    let l = link_at w n in
+    let delay = came n - sent n in
+    let stay = sent (suc n) - came n in
+    let long = g.carried_long n near in
+    let kept = g.kept_long n h in
+    let own = clock_counts.rate (drift_at w (suc n)) (k.drifts (suc n) (omega (arith, h, g.as_long))) in
+    let count = counts_between (phase (suc n)) (drift_at w (suc n)) (came n) (sent (suc n))
+    (k.drifts (suc n) (omega (arith, h, g.as_long))) kept in
+    let passed = counts_between (phase 0) (drift_at w 0) (sent n) (sent (suc n)) (k.drifts 0 (omega arith))
+    (omega (arith, long, kept)) in
+    let parts : sent (suc n) - sent n ≡ delay + stay = omega (arith, long, kept) in
+    let time : residence_at hops n ≡ pos count.count =
+    omega (arith, ints, g.ingress n h, g.egress n h, count.is) in
+    let added =
+    added_within l.least l.most w.turnaround (clock_at w 0) (clock_at w n) (clock_at w (suc n)) (error_before w n)
+    (rates_error_at w n) delay stay count.count passed.count (sum_below n (neighbour_at hops)) (neighbour_at hops n)
+    (hop_at hops n).delay (link_time_at hops n +ℤ residence_at hops n)
+    (over_link w hops phase sent came origin k g f n near)
+    (rate_behind w hops phase sent came origin k g f n h) own (omega (arith, long))
+    (omega (arith, g.carried_short n near))
+    count.counted (ap (λ t. link_time_at hops n +ℤ t) time) (rw parts at passed.counted) in
+    adds (error_sent w n) _ (error_sent w (suc n)) origin (sum_below n (added_at hops)) (added_at hops n)
+    (shown_at w phase 0 (sent n)) (shown_at w phase 0 (sent (suc n))) passed.count
+    (stay_grows w n stay (omega (arith, g.kept_short n h, kept))) passed.is before added
+
+-- the time error behind a link
+pub error_behind : (w : Way) (i : ℕ) →
+    time_error_at w (suc i) ≡ total_below (suc i) (hop_error_at w) + total_below i (wait_error_at w)
+error_behind w i =
+    let p : suc i - 1 ≡ i =
+    omega arith in ap (λ n. total_below (suc i) (hop_error_at w) + total_below n (wait_error_at w)) p
+
+pub time_error_goes_by_hops : TimeErrorGoesByHops
+time_error_goes_by_hops =
+    record {
+      root = λ w. refl;
+      first = λ w. omega (arith, error_behind w 0);
+      next = λ w i. omega (arith, error_behind w (suc i), error_behind w i);
+    }
+
+-- the time error of a way that isn't empty
+time_error_is : (w : Way) (last : ℕ) → length w.links ≡ suc last →
+    time_error w ≡ total_below (suc last) (hop_error_at w) + total_below last (wait_error_at w)
+time_error_is w last e =
+    ap (time_error_at w) e ∙ error_behind w last
+
+-- the time that was carried, and what the last clock counts from there to a moment, is the root's time then
+arrives : (w : Way) (hops : List Hop) (phase sent came : ℕ → ℕ) (last now : ℕ) → length hops ≡ suc last → IsDocumented
+    w →
+    GoesOver w hops phase sent came → let origin = shown_at w phase 0 (sent 0) in CarryFits origin hops → came last ≤
+    now →
+    now ≤ came last + jitter_at w last →
+    AreWithin (33550000 * time_error w)
+    (pos 33550000 *ℤ (carry_of origin hops +ℤ
+    (shown_at w phase (suc last) now -ℤ shown_at w phase (suc last) (came last))))
+    (pos 33550000 *ℤ shown_at w phase 0 now)
+arrives w hops phase sent came last now e k g f later soon =
+    let origin = shown_at w phase 0 (sent 0) in
+    let near : last < length hops = omega (arith, e) in
+    let before = egress_within w hops phase sent came k g f last near in
+    let l = link_at w last in
+    let delay = came last - sent last in
+    let wait = now - came last in
+    let long = g.carried_long last near in
+    let drifts = k.drifts (suc last) (omega (arith, e, g.as_long)) in
+    let count = counts_between (phase (suc last)) (drift_at w (suc last)) (came last) now drifts later in
+    let passed =
+    counts_between (phase 0) (drift_at w 0) (sent last) now (k.drifts 0 (omega arith)) (omega (arith, long, later)) in
+    let parts : now - sent last ≡ delay + wait = omega (arith, long, later) in
+    let within = received_within l.least l.most w.turnaround (clock_at w 0) (clock_at w last) (clock_at w (suc last))
+    (error_before w last) delay wait count.count passed.count (sum_below last (neighbour_at hops))
+    (neighbour_at hops last)
+    (hop_at hops last).delay (over_link w hops phase sent came origin k g f last near)
+    (clock_counts.rate (drift_at w (suc last)) drifts) (omega (arith, long)) (omega (arith, g.carried_short last near))
+    (omega (arith, soon)) count.counted (rw parts at passed.counted) in
+    let total = time_error_is w last (sym g.as_long ∙ e) in
+    let received = scaled_by (rate_at hops last) (link_time_at hops last) in
+    let sum = adds (error_sent w last) _ (33550000 * time_error w) origin (sum_below last (added_at hops))
+    (received +ℤ pos count.count) (shown_at w phase 0 (sent last)) (shown_at w phase 0 now) passed.count
+    (omega (arith, total, link_grows w last)) passed.is before within in
+    let whole = carry_of-last origin hops last e in
+    record {
+      low = omega (arith, ints, sum.low, whole, count.is);
+      high = omega
+          (arith, ints, sum.high, whole, count.is);
+    }
+
+-- over the whole way
+pub carry_is_within : CarryIsWithin
+carry_is_within w hops phase sent came last e k g f =
+    let a = arrives w hops phase sent came last (came last) e k g f (omega arith) (omega arith) in
+    record { low = omega (arith, ints, a.low); high = omega (arith, ints, a.high) }
+
+-- and to the Follow_Up
+pub offset_of_way_is_within : OffsetOfWayIsWithin
+offset_of_way_is_within w hops phase sent came last now e k g f later soon =
+    let a = arrives w hops phase sent came last now e k g f later soon in
+    record { low = omega (arith, ints, a.high); high = omega (arith, ints, a.low) }

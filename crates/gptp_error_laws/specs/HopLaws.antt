@@ -1,0 +1,98 @@
+-- What one hop adds to the error of the time that is carried. Rates are in units of 2^-41, where 2^41 stands for 1,
+-- times of clocks in units of 2^-16 ns, and delays and residences in ns.
+use Rattle.std.specs.Prelude.{◌≡◌, ℕ, ◌+◌, ◌-◌, ◌*◌, ◌^◌, ◌<◌, ◌≤◌, ℤ, pos, ◌+ℤ◌, ◌-ℤ◌, ◌*ℤ◌}
+use Rattle.gptp_scaled.specs.Rate.{FitsRate, IsNeighborRate, unit}
+use Rattle.gptp_scaled.specs.Stamp.{scaled_of}
+use Rattle.gptp_scaled.specs.Counts.{AreWithin, IsClockRate, IsCounted}
+use Rattle.gptp_pdelay.specs.Measured.{IsDelayAbove, IsDelayBelow, IsDelayWithin}
+use Rattle.gptp_correction.specs.declared.correction.Hop.{Hop}
+use Rattle.gptp_correction.specs.declared.sync_in.SyncInfo.{SyncInfo}
+use Rattle.gptp_correction.specs.Correction.{relayed, sync_received}
+use Rattle.gptp_error_laws.specs.TimeError.{hop_error}
+
+-- a rate is within e of that of the root's clock against this clock: 2^41 root / clock
+pub record IsRateWithin (e root clock rate : ℕ) : Type 0 where
+  pub low : 2 ^ 41 * root ≤ (rate + e) * clock
+  pub high : rate * clock ≤ 2 ^ 41 * root + e * clock
+
+-- what comes to a hop: the rate that a Follow_Up carries is a number of 32 bits, the rate of the neighbour within 200
+-- parts in a million, and the rate behind the hop is that of their sum
+pub record AreRates (before neighbour after : ℕ) : Type 0 where
+  pub before_low : 2 ^ 41 ≤ before + 2 ^ 31
+  pub before_high : before ≤ 2 ^ 41 + 2 ^ 31
+  pub neighbour_low : 2 ^ 41 ≤ neighbour + 439804651
+  pub neighbour_high : neighbour ≤ 2 ^ 41 + 439804651
+  pub after_is : after + 2 ^ 41 ≡ before + neighbour
+
+-- The link time by the own clock, which is the delay divided by the neighbour's rate and rounded down, at the rate
+-- behind the hop: the neighbour's rate cancels out, and so it needs the rate from above alone. It isn't above what
+-- the root's clock counts in the greatest delay, but for e / 33550000 of that delay in units, where e is the error of
+-- the rate from above, for (20 most + turnaround) / 1500 units and for 5 units of rounding.
+abbrev pub LinkTimeIsBelow : Type 0
+LinkTimeIsBelow = (most turnaround root up e delay before neighbour after time : ℕ) → IsClockRate root →
+    IsClockRate up → IsRateWithin e root up before → AreRates before neighbour after →
+    time * neighbour ≤ delay * 2 ^ 41 → IsDelayBelow most turnaround up delay →
+    50325000000 * time * after ≤
+    50325000000 * 65536 * most * root + 2 ^ 41 * (1500 * e * most + 33550000 * (20 * most + turnaround + 7530))
+
+-- It isn't below what the root's clock counts in the least delay, but for the same.
+abbrev pub LinkTimeIsAbove : Type 0
+LinkTimeIsAbove = (least most turnaround root up e delay before neighbour after time : ℕ) → least ≤ most →
+    IsClockRate root → IsClockRate up → IsRateWithin e root up before → AreRates before neighbour after →
+    delay * 2 ^ 41 < (time + 1) * neighbour → IsDelayBelow most turnaround up delay →
+    IsDelayAbove least most turnaround up delay →
+    50325000000 * 65536 * least * root ≤
+    50325000000 * time * after + 2 ^ 41 * (1500 * e * most + 33550000 * (20 * most + turnaround + 7530))
+
+-- What the own clock counts while a bridge keeps a Sync, at the rate behind the hop, isn't above what the root's clock
+-- counts, but for the error e of that rate times the stay and for the rounding of one count.
+abbrev pub StayIsBelow : Type 0
+StayIsBelow = (stay root own e rate count : ℕ) → IsRateWithin e root own rate → IsCounted own stay count →
+    2 ^ 41 * count * rate ≤ 65536 * stay * (2 ^ 41 * root + e * own) + 2 ^ 41 * rate
+
+-- It isn't below it, but for the same.
+abbrev pub StayIsAbove : Type 0
+StayIsAbove = (stay root own e rate count : ℕ) → IsRateWithin e root own rate → IsCounted own stay count →
+    65536 * stay * 2 ^ 41 * root ≤ 2 ^ 41 * (count + 1) * rate + 65536 * stay * e * own
+
+-- What is known of a hop over a link, where the rates of the root's clock and of the neighbour's are these: the rate
+-- from above is within `above` of the true one and has 32 bits, and the mean link delay lies where it is measured.
+pub record IsOverLink (least most turnaround root up above : ℕ) (rate neighbour delay : ℤ) : Type 0 where
+  pub order : least ≤ most
+  pub root_rate : IsClockRate root
+  pub up_rate : IsClockRate up
+  pub before : ℕ
+  pub before_is : unit +ℤ rate ≡ pos before
+  pub within : IsRateWithin above root up before
+  pub fits : FitsRate rate
+  pub near : IsNeighborRate neighbour
+  pub measured : IsDelayWithin least most turnaround up delay
+
+-- the rate behind a hop is within `behind` of that of the root's clock against the own one
+pub record IsRateBehind (root own behind : ℕ) (rate : ℤ) : Type 0 where
+  pub after : ℕ
+  pub after_is : unit +ℤ rate ≡ pos after
+  pub within : IsRateWithin behind root own after
+
+-- A bridge that keeps a Sync for a stay adds to the correction what passes on the root's clock from egress to egress:
+-- within the link's part of the time error, and within the error of the rate from above times the greatest delay and
+-- that of the rate behind the hop times the stay, both over 33550000 ns a unit.
+abbrev pub HopKeeps : Type 0
+HopKeeps = (least most turnaround root up own above behind delay stay count passed : ℕ) (s : SyncInfo) (h : Hop) →
+    IsOverLink least most turnaround root up above s.rate h.neighbour h.delay →
+    IsRateBehind root own behind (s.rate +ℤ h.neighbour) → IsClockRate own → least ≤ delay → delay ≤ most →
+    IsCounted own stay count → h.egress -ℤ h.ingress ≡ pos count → IsCounted root (delay + stay) passed →
+    AreWithin (33550000 * hop_error (most - least) most turnaround + above * most + behind * stay)
+    (pos 33550000 *ℤ ((relayed s h).correction -ℤ s.correction)) (pos (33550000 * passed))
+
+-- What a system computes from a Sync and its Follow_Up is the root's time when the Sync came. With what its own clock
+-- counts from there to the Follow_Up, at most the jitter later, it is the root's time then: within the link's part of
+-- the time error, and within the error of the rate from above times the greatest delay.
+abbrev pub OffsetIsWithin : Type 0
+OffsetIsWithin = (least most turnaround root up own above delay wait count passed : ℕ) (s : SyncInfo)
+    (link_delay neighbour : ℤ) → IsOverLink least most turnaround root up above s.rate neighbour link_delay →
+    IsClockRate own → least ≤ delay → delay ≤ most → wait ≤ most - least → IsCounted own wait count →
+    IsCounted root (delay + wait) passed →
+    AreWithin (33550000 * hop_error (most - least) most turnaround + above * most)
+    (pos 33550000 *ℤ (sync_received s link_delay neighbour -ℤ (scaled_of s.origin +ℤ s.correction) +ℤ pos count))
+    (pos (33550000 * passed))

@@ -1,5 +1,0 @@
-use Rattle.gptp_kept.proofs.StandsLemmas.{stands_well}
-use Rattle.gptp_kept.proofs.calm.stands_well.Goals as goal
-
-pub returns : goal.returns
-returns c = stands_well

@@ -1,5 +1,0 @@
-use Rattle.gptp_measuring.proofs.CapabilityLemmas.{capability_settles}
-use Rattle.gptp_measuring.proofs.capability.capability_settles.Goals as goal
-
-pub returns : goal.returns
-returns g c = λ k. capability_settles k g.C.Coding.asks g.C.Coding.replies

@@ -1,5 +1,0 @@
-use Rattle.gptp_measuring.proofs.CapabilityLemmas.{no_exchange_is_bad}
-use Rattle.gptp_measuring.proofs.capability.no_exchange_is_bad.Goals as goal
-
-pub returns : goal.returns
-returns g c = λ k. no_exchange_is_bad k g.C.Coding.asks g.C.Coding.replies

@@ -1,5 +1,0 @@
-use Rattle.gptp_measuring.proofs.CapabilityLemmas.{no_request_is_lost}
-use Rattle.gptp_measuring.proofs.capability.no_request_is_lost.Goals as goal
-
-pub returns : goal.returns
-returns g c = λ k. no_request_is_lost k g.C.Coding.asks g.C.Coding.replies

@@ -1,5 +1,0 @@
-use Rattle.gptp_measuring.proofs.ExchangeLemmas
-use Rattle.gptp_measuring.proofs.exchange.exchanges_show_neighbor.Goals as goal
-
-pub returns : goal.returns
-returns c = ExchangeLemmas.exchanges_show_neighbor

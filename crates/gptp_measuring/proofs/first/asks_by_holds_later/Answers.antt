@@ -1,5 +1,0 @@
-use Rattle.gptp_measuring.proofs.FirstLemmas.{asks_by_later}
-use Rattle.gptp_measuring.proofs.first.asks_by_holds_later.Goals as goal
-
-pub returns : goal.returns
-returns g c = λ k least. asks_by_later k least g.C.Coding.asks g.C.Coding.replies

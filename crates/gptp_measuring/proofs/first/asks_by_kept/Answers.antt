@@ -1,5 +1,0 @@
-use Rattle.gptp_measuring.proofs.FirstLemmas.{asks_by_kept}
-use Rattle.gptp_measuring.proofs.first.asks_by_kept.Goals as goal
-
-pub returns : goal.returns
-returns g c = λ k least. asks_by_kept k least g.C.Coding.asks g.C.Coding.replies

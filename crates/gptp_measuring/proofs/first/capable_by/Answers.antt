@@ -1,5 +1,0 @@
-use Rattle.gptp_measuring.proofs.FirstLemmas.{capable_by}
-use Rattle.gptp_measuring.proofs.first.capable_by.Goals as goal
-
-pub returns : goal.returns
-returns g c = λ k least. capable_by k least g.C.Coding.asks g.C.Coding.replies

@@ -1,5 +1,0 @@
-use Rattle.gptp_measuring.proofs.FirstLemmas.{first_begins}
-use Rattle.gptp_measuring.proofs.first.first_begins.Goals as goal
-
-pub returns : goal.returns
-returns g c = λ k least. first_begins k least g.C.Coding.asks g.C.Coding.replies

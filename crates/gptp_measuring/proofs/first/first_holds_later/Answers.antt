@@ -1,5 +1,0 @@
-use Rattle.gptp_measuring.proofs.FirstLemmas.{first_later}
-use Rattle.gptp_measuring.proofs.first.first_holds_later.Goals as goal
-
-pub returns : goal.returns
-returns g c = λ k least. first_later k least g.C.Coding.asks g.C.Coding.replies

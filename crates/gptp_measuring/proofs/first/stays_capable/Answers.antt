@@ -1,5 +1,0 @@
-use Rattle.gptp_measuring.proofs.FirstLemmas.{stays_capable}
-use Rattle.gptp_measuring.proofs.first.stays_capable.Goals as goal
-
-pub returns : goal.returns
-returns g c = λ k least. stays_capable k least g.C.Coding.asks g.C.Coding.replies

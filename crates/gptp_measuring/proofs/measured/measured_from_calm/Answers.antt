@@ -1,5 +1,0 @@
-use Rattle.gptp_measuring.proofs.MeasuredLemmas.{measured_from_calm}
-use Rattle.gptp_measuring.proofs.measured.measured_from_calm.Goals as goal
-
-pub returns : goal.returns
-returns g c = λ k least. measured_from_calm k least g.C.Coding.asks g.C.Coding.replies

@@ -1,5 +1,0 @@
-use Rattle.gptp_measuring.proofs.MeasuredLemmas.{measuring_settles}
-use Rattle.gptp_measuring.proofs.measured.measuring_settles.Goals as goal
-
-pub returns : goal.returns
-returns g c = λ k least. measuring_settles k least g.C.Coding.asks g.C.Coding.replies

@@ -1,5 +1,0 @@
-use Rattle.gptp_measuring.proofs.MeasuredLemmas.{meter_is_inv}
-use Rattle.gptp_measuring.proofs.measured.meter_is_invariant.Goals as goal
-
-pub returns : goal.returns
-returns g c = λ k least. meter_is_inv k least g.C.Coding.asks g.C.Coding.replies

@@ -1,5 +1,0 @@
-use Rattle.gptp_measuring.proofs.SilenceLemmas
-use Rattle.gptp_measuring.proofs.silence.runs_end_incapable.Goals as goal
-
-pub returns : goal.returns
-returns c = SilenceLemmas.runs_end_incapable

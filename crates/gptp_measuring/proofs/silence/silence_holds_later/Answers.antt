@@ -1,5 +1,0 @@
-use Rattle.gptp_measuring.proofs.SilenceLemmas.{unanswered_later}
-use Rattle.gptp_measuring.proofs.silence.silence_holds_later.Goals as goal
-
-pub returns : goal.returns
-returns c = unanswered_later

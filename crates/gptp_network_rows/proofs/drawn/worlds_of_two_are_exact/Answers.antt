@@ -1,5 +1,0 @@
-use Rattle.gptp_network_rows.proofs.ExactLemmas.{worlds_exact}
-use Rattle.gptp_network_rows.proofs.drawn.worlds_of_two_are_exact.Goals as goal
-
-pub returns : goal.returns
-returns g c = worlds_exact g.F.Fate.answers c.worlds_are_exact.ensures

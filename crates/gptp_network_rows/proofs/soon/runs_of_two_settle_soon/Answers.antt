@@ -1,5 +1,0 @@
-use Rattle.gptp_network_rows.proofs.SoonLemmas.{runs_settle_soon}
-use Rattle.gptp_network_rows.proofs.soon.runs_of_two_settle_soon.Goals as goal
-
-pub returns : goal.returns
-returns g c = runs_settle_soon g.F.Fate.answers c.documents_settle_soon.ensures.acts

@@ -1,0 +1,69 @@
+-- What the second of two systems reads 100 ms after a Follow_Up, by the theorem on time at any moment.
+use Rattle.std.proofs.Common.{◌≡◌, ◌≤◌, ◌+◌, ℕ, ℤ, pos, Option, refl, sym, ap, subst, ◌∙◌, arith}
+use Rattle.gptp_error_laws.specs.TimeError.{Way}
+use Rattle.gptp_model.specs.declared.done.Done.{Done}
+use Rattle.gptp_model.specs.Sound.{IsSound}
+use Rattle.gptp_model.specs.Views.{ShowsLive}
+use Rattle.gptp_model.specs.World.{WorldState}
+use Rattle.gptp_graph.specs.Best.{IsBest}
+use Rattle.gptp_graph.specs.Distance.{IsNear}
+use Rattle.gptp_graph.specs.SettledChoice.{IsBestIdentity}
+use Rattle.gptp_invariants.specs.SettlingInvariant.{SettlingInvariant}
+use Rattle.gptp_links.specs.declared.bounds.Bounds.{Bounds}
+use Rattle.gptp_pdelay.specs.Clock.{local_clock}
+use Rattle.gptp_reading.specs.Reading.{IsBestsTime, IsReadingErrorOf, reading_error_at}
+use Rattle.gptp_reading.specs.Readings.{HeadlineOnReadings, LeavesReading, RunsReadExactly, WorldsReadExactly}
+use Rattle.gptp_scaled.specs.Counts.{AreWithin}
+use Rattle.gptp_network_tests.specs.Pair.{IsPairSince, first_member, pair_document, pair_pace, pair_snapshot, params}
+use Rattle.gptp_network_tests.specs.Readings.{RunsOfTwoReadExactly, WorldsOfTwoReadExactly}
+use Rattle.gptp_network_tests.proofs.ExactLemmas.{calm_pair, few, first_is, found, late, leads, of_pair, phases, playable, short_way, shows, time_is, way, way_is}
+use Rattle.gptp_network_tests.proofs.PairLemmas.{follows, near}
+
+short_reading : reading_error_at short_way 0 100000000 ≡ 31
+short_reading = refl
+
+module _ (w : WorldState) (time : ℕ) (k : IsPairSince 27000000000 w) (sound : IsSound w) (claimed : SettlingInvariant w)
+    (passed : w.time ≤ time) where
+  error : IsReadingErrorOf params w 2 0 100000000 31
+  error = record {
+    way = way w time k sound claimed passed;
+    phase = phases w time k sound claimed passed;
+    leads = leads w time k sound claimed passed;
+    is = sym (ap (λ (v : Way). reading_error_at v 0 100000000) (way_is w time k sound claimed passed) ∙ short_reading);
+  }
+
+  shown : IsBestsTime w 2 (time + 100000000) (local_clock 0 (pos 0) (time + 100000000))
+  shown =
+      let (best, is_best, is) : IsBestIdentity pair_snapshot 2 first_member = follows.root in
+      let root = found w time k sound claimed passed 0 1 first_member refl refl in
+      record {
+        best = best;
+        is_best = of_pair w time k sound claimed passed (λ g. IsBest g 2 best) is_best;
+        root = root.0.system;
+        shows = subst (λ c. ShowsLive c w root.0.system)
+            (first_is w time k sound claimed passed best is_best.live is)
+            (shows w time k sound claimed passed 0 1 first_member refl refl);
+        is = sym (time_is w time k sound claimed passed 0 1 first_member refl refl (time + 100000000));
+      }
+
+  read_by_theorem : (w' : WorldState) (done : Done) (read : ℤ) → HeadlineOnReadings w time w' done
+      → LeavesReading 2 w' done (time + 100000000) read
+      → AreWithin 31 read (local_clock 0 (pos 0) (time + 100000000))
+  read_by_theorem w' done read promised left =
+      promised pair_pace 2 0 2 100000000 31 read (local_clock 0 (pos 0) (time + 100000000))
+      (calm_pair w time k sound claimed passed) (few w time k sound claimed passed)
+      (let come = late w time k sound claimed passed in omega (arith, come)) left
+      (of_pair w time k sound claimed passed (λ g. IsNear g 2) near) error shown
+
+pub worlds_read : {F : Type 0} (answers : Bounds → ℕ → F → Option ℕ → F → Type 0) → WorldsReadExactly answers
+    → WorldsOfTwoReadExactly answers
+worlds_read answers theorem timed fate fate_after w w' done read k all was early left =
+    read_by_theorem w timed.at k all.is.world.sound (record { pace = all.pace; is = all.is }) was.ready.timely.now w'
+    done read (theorem timed fate fate_after w w' done all was (omega (arith, early))) left
+
+pub runs_read : {F : Type 0} (answers : Bounds → ℕ → F → Option ℕ → F → Type 0) → RunsReadExactly answers
+    → RunsOfTwoReadExactly answers
+runs_read answers theorem until fate start w ts t read early unfolds member k all passed left =
+    read_by_theorem t.before t.told.timed.at k all.is.world.sound (record { pace = all.pace; is = all.is }) passed
+    t.after t.told.done read
+    (theorem pair_document until fate start w ts t (playable k.network) (omega (arith, early)) unfolds member) left

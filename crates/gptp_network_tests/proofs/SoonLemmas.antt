@@ -1,0 +1,119 @@
+-- The world of two systems has settled soon after they began.
+use Rattle.std.proofs.Common.{◌≡◌, ◌≤◌, ℕ, List, [], Option, Some, None, refl, sym, ap, subst, ◌∙◌, inl, arith}
+use Rattle.std.specs.Prelude.{IfNone, IfSome}
+use Rattle.gptp_model.specs.Acts.{AtSystem}
+use Rattle.gptp_model.specs.Advancing.{Advanced, Told}
+use Rattle.gptp_model.specs.Views.{FollowsRoot, IsLiveSystem}
+use Rattle.gptp_model.specs.World.{WorldState}
+use Rattle.gptp_graph.specs.Distance.{IsDistance, IsNear}
+use Rattle.gptp_graph.specs.PathBound.{BoundsPaths}
+use Rattle.gptp_graph.specs.SettledChoice.{IsBestIdentity}
+use Rattle.gptp_invariants.specs.Calm.{delay_in}
+use Rattle.gptp_invariants.specs.SettlingInvariant.{SettlingInvariant}
+use Rattle.gptp_invariants.specs.NewsCourse.{HasSettledBy, capable_from}
+use Rattle.gptp_invariants.specs.Standing.{snapshot_of}
+use Rattle.gptp_links.specs.declared.bounds.Bounds.{Bounds}
+use Rattle.gptp_lists.proofs.SystemSpecLemmas.{slice_get-In}
+use Rattle.gptp_scenario.specs.Network.{pace_of}
+use Rattle.gptp_scenario.specs.SyncWait.{sync_paths}
+use Rattle.gptp_scenario.specs.declared.sync_wait.SyncPaths.{SyncPaths}
+use Rattle.gptp_theorem.specs.Headline.{WorldIsCalm}
+use Rattle.gptp_theorem.specs.Soon.{StartsSettle}
+use Rattle.gptp_theorem.proofs.CalmLemmas.{pace_stands, quiet_stands}
+use Rattle.gptp_theorem.proofs.SyncPathLemmas.{paths_stand}
+use Rattle.gptp_bmca_machine.specs.Settled.{IsSlaveOf}
+use Rattle.gptp_setup.specs.SettlingParams.{SettlingParams}
+use Rattle.gptp_settling_time.specs.Documents.{ActsFindSettled, SettlesSoon}
+use Rattle.gptp_settling_time.specs.Exactly.{SettlesBy}
+use Rattle.gptp_settling_time.specs.Gains.{exchanged_from}
+use Rattle.gptp_system.specs.State.{clock}
+use Rattle.gptp_network_tests.specs.Pair.{HasBegun, IsPairAt, first_member, pair_document, pair_network, pair_pace, pair_snapshot}
+use Rattle.gptp_network_tests.specs.Soon.{IsPairSoon, RunsOfTwoSettleSoon}
+use Rattle.gptp_network_tests.proofs.ExactLemmas.{playable}
+use Rattle.gptp_network_tests.proofs.PairLemmas.{bounded, calm as is_calm, comes_to, lives, near, pace_is, paths_are, root_is, slave_is, steps_are}
+
+module _ {F : Type 0} (answers : Bounds → ℕ → F → Option ℕ → F → Type 0) (theorem : StartsSettle answers)
+    (fate fate_after : F) (told : List Told) (start w : WorldState) (k : HasBegun answers fate start)
+    (advanced : Advanced answers 2000002501 told fate fate_after start w) (claimed : SettlingInvariant w) where
+  there : IsPairAt 2000002501 w
+  there = comes_to answers fate fate_after told 2000002501 start w k advanced claimed
+
+  calm : WorldIsCalm (pace_of pair_network) w
+  calm =
+      let quiet = quiet_stands pair_network [] w k.network there.since.stands claimed.is.world.sound is_calm in
+      record {
+        of = pace_stands pair_network [] w there.since.stands;
+        links = λ link member used.
+            let (place, here) = slice_get-In link w.net.channels member in
+            let is = quiet.links place link here used in (is.lossless, is.good);
+        lapses = quiet.lapses;
+      }
+
+  delay : delay_in w ≡ 500
+  delay =
+      ap (λ (x : SyncPaths). x.delay)
+      (sym (paths_stand pair_network [] w k.network there.since.stands claimed.is.world.sound) ∙ paths_are)
+
+  time : w.time ≡ 2000002501
+  time = ap (λ (v : WorldState). v.time) advanced.is
+
+  late : HasSettledBy pair_pace 2 (capable_from pair_pace w 0) w
+  late = let one = delay in let now = time in inl (refl, omega (arith, one, now))
+
+  pub soon : IsPairSoon w
+  soon = record {
+    at = there;
+    settled = (theorem pair_network k.before fate fate_after 2000002501 2 told start w k.network k.begun advanced calm
+        (subst (λ g. BoundsPaths g 2) (sym there.snapshot) bounded)
+        (subst (λ p. HasSettledBy p 2 (capable_from p w 0) w) (sym pace_is) late)).tree.settled;
+  }
+
+-- the second is found, and follows the first_member
+pub followed_soon : (w : WorldState) (number : ℕ) (found : Option (ℕ × ℕ × Option ℕ)) → number ≡ 2 → IsPairSoon w
+    → IfSome found (λ f. AtSystem number w (FollowsRoot f.0 f.1 f.2))
+    → IfNone found (AtSystem number w IsLiveSystem → ⊥) → found ≡ Some (first_member, 1, Some 1)
+followed_soon w number None named k some none = absurd (none (lives 2000002501 w number named k.at))
+followed_soon w number (Some (root, steps, port)) named k some none =
+    let own : clock some.station.system ≡ 2 = some.is.named ∙ named in
+    let close : IsNear (snapshot_of w) (clock some.station.system) =
+    subst (λ g. IsNear g (clock some.station.system)) (sym k.at.snapshot)
+    (subst (IsNear pair_snapshot) (sym own) near) in
+    let is = k.settled some.place some.station some.is.here some.so.live close in
+    let root_same : root ≡ first_member =
+    some.so.root_is
+    ∙ root_is some.station.system.root
+    (subst (λ n. IsBestIdentity pair_snapshot n some.station.system.root) own
+    (subst (λ g. IsBestIdentity g (clock some.station.system) some.station.system.root) k.at.snapshot is.root)) in
+    let steps_same : steps ≡ 1 =
+    some.so.steps_are
+    ∙ steps_are some.station.system.steps
+    (subst (λ n. IsDistance pair_snapshot n some.station.system.steps) own
+    (subst (λ g. IsDistance g (clock some.station.system) some.station.system.steps) k.at.snapshot is.steps)) in
+    let port_same : port ≡ Some 1 =
+    some.so.slave_is
+    ∙ slave_is some.station.system.slave
+    (subst (λ n. IsSlaveOf pair_snapshot n some.station.system.slave) own
+    (subst (λ g. IsSlaveOf g (clock some.station.system) some.station.system.slave) k.at.snapshot is.slave)) in
+    rw (root_same, steps_same, port_same) refl
+
+-- ---- a run of their document
+
+-- it settles by then at each time
+settles : (until : ℕ) → SettlesSoon pair_document until 1000002001 2000002501
+settles until = record {
+  calm = is_calm;
+  gained = inl (record { nothing = tt; begun = 1000002001; first = first_by; capable = refl });
+  settles = subst (λ (p : SettlingParams). SettlesBy p (sync_paths pair_network []) 1000002001 2000002501) (sym pace_is)
+      (subst (λ paths. SettlesBy pair_pace paths 1000002001 2000002501) (sym paths_are) (inl (refl, omega arith)));
+}
+  where
+    first_by : exchanged_from (pace_of pair_network) (sync_paths pair_network []) 0 ≤ 1000002001
+    first_by =
+        subst (λ (p : SettlingParams). exchanged_from p (sync_paths pair_network []) 0 ≤ 1000002001) (sym pace_is)
+        (subst (λ paths. exchanged_from pair_pace paths 0 ≤ 1000002001) (sym paths_are) (omega arith))
+
+pub runs_settle_soon : {F : Type 0} (answers : Bounds → ℕ → F → Option ℕ → F → Type 0) → ActsFindSettled answers
+    → RunsOfTwoSettleSoon answers
+runs_settle_soon answers theorem until fate start w ts t network unfolds member on =
+    (theorem pair_document until 1000002001 2000002501 fate start w ts t (playable network) unfolds member
+    (settles t.told.timed.at) on (omega (arith, on))).settled

@@ -1,0 +1,31 @@
+-- What the second of two systems reads 100 ms after a Follow_Up that it uses.
+use Rattle.std.specs.Prelude.{◌≤◌, ◌+◌, ℕ, ℤ, pos, List, Option}
+use Rattle.gptp_lists.specs.Members.{In}
+use Rattle.gptp_links.specs.declared.bounds.Bounds.{Bounds}
+use Rattle.gptp_scaled.specs.Counts.{AreWithin}
+use Rattle.gptp_pdelay.specs.Clock.{local_clock}
+use Rattle.gptp_scenario.specs.declared.change.Timed.{Timed}
+use Rattle.gptp_model.specs.Course.{WasDone}
+use Rattle.gptp_model.specs.declared.done.Done.{Done}
+use Rattle.gptp_model.specs.World.{WorldState}
+use Rattle.gptp_report.specs.Transitions.{Transition, Unfolds}
+use Rattle.gptp_invariants.specs.TimedClaim.{WorldInvariant}
+use Rattle.gptp_reading.specs.Readings.{LeavesReading}
+use Rattle.gptp_network_tests.specs.Pair.{IsPairSince, pair_document}
+
+-- By an act in their world: what it reads then is what a clock shows that runs exactly, but for rounding, and for the
+-- 12 units that an error of the rate of 4 units makes of 100 ms.
+abbrev pub WorldsOfTwoReadExactly : {F : Type 0} → (Bounds → ℕ → F → Option ℕ → F → Type 0) → Type 0
+WorldsOfTwoReadExactly {F} answers = (timed : Timed) (fate fate_after : F) (w w' : WorldState) (done : Done) (read : ℤ)
+    → IsPairSince 27000000000 w → WorldInvariant w → WasDone answers timed fate fate_after w w' done
+    → timed.at ≤ 1000000000000000 → LeavesReading 2 w' done (timed.at + 100000000) read
+    → AreWithin 31 read (local_clock 0 (pos 0) (timed.at + 100000000))
+
+-- so it is by each act of a run of their document
+abbrev pub RunsOfTwoReadExactly : {F : Type 0} → (Bounds → ℕ → F → Option ℕ → F → Type 0) → Type 0
+RunsOfTwoReadExactly {F} answers = (until : ℕ) (fate : F) (start w : WorldState) (ts : List Transition) (t : Transition)
+    (read : ℤ)
+    → until ≤ 1000000000000000 → Unfolds answers pair_document until fate start ts w → In t ts
+    → IsPairSince 27000000000 t.before → WorldInvariant t.before → t.before.time ≤ t.told.timed.at
+    → LeavesReading 2 t.after t.told.done (t.told.timed.at + 100000000) read
+    → AreWithin 31 read (local_clock 0 (pos 0) (t.told.timed.at + 100000000))

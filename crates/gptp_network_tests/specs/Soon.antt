@@ -1,0 +1,23 @@
+-- The world of two systems soon after they began.
+use Rattle.std.specs.Prelude.{◌≤◌, ℕ, List, Option}
+use Rattle.gptp_model.specs.World.{WorldState}
+use Rattle.gptp_invariants.specs.Settled.{Settled}
+use Rattle.gptp_links.specs.declared.bounds.Bounds.{Bounds}
+use Rattle.gptp_lists.specs.Members.{In}
+use Rattle.gptp_scenario.specs.Network.{IsNetwork}
+use Rattle.gptp_theorem.specs.Headline.{IsSettled}
+use Rattle.gptp_report.specs.Transitions.{Transition, Unfolds}
+use Rattle.gptp_network_tests.specs.Pair.{IsPairAt, pair_document, pair_network}
+
+-- It has settled by this time: one interval between requests of 1 s, one exchange of 2 us and 1 ns, one announce
+-- interval of 1 s, and the 500 ns of the link after they began.
+pub record IsPairSoon (w : WorldState) : Type 0 where
+  pub at : IsPairAt 2000002501 w
+  pub settled : Settled w
+
+-- so each act of a run of their document leaves a settled world from then on
+abbrev pub RunsOfTwoSettleSoon : {F : Type 0} → (Bounds → ℕ → F → Option ℕ → F → Type 0) → Type 0
+RunsOfTwoSettleSoon {F} answers = (until : ℕ) (fate : F) (start w : WorldState) (ts : List Transition) (t : Transition)
+    → IsNetwork pair_network → Unfolds answers pair_document until fate start ts w → In t ts
+    → 2000002501 ≤ t.told.timed.at
+    → IsSettled t.after

@@ -1,0 +1,61 @@
+//! What two systems follow soon after they begin, as functions whose contracts follow from the law of a start. Times are
+//! in ns.
+
+ghost use Rattle.std.specs.Prelude.{◌≡◌, IfOk, OnOk, Some};
+ghost use Rattle.gptp_network_tests.specs.Pair.{HasBegun, first_member};
+ghost use Rattle.gptp_network_tests.specs.Soon.{IsPairSoon, RunsOfTwoSettleSoon};
+
+use crate::drawn::begun;
+use gptp_links::Fate;
+use gptp_theorem::starts_settle;
+use gptp_settling_time::documents_settle_soon;
+use gptp_vector::{ClockId, Identity};
+use gptp_world::{NetworkFault, World};
+use std::alloc::Global;
+
+/// When all has settled: one interval between requests, one exchange and 1 ns, one announce interval, and the delay of
+/// the link after they began.
+const SOON: u64 = 2_000_002_501;
+
+/// Their world goes on to that time.
+fn go_on<F: Fate + Drop>(world: &mut World<F>) -> Result<(), NetworkFault>
+    requires { HasBegun F.answers world.old.fate world.old.world_core }
+    ensures { OnOk result (IsPairSoon world.new.world_core) }
+{
+    starts_settle::<F>();
+    match world.advance(SOON) {
+        Ok(()) => {
+            world.well_formed();
+            Ok(())
+        }
+        Err(_) => Err(NetworkFault::OutOfMemory),
+    }
+}
+
+/// What the second system follows then.
+fn second_follows<F: Fate + Drop>(world: &World<F>) -> Option<(Identity, u16, Option<u8>)>
+    requires { IsPairSoon world.now.world_core }
+    ensures { result ≡ Some (first_member, 1, Some 1) }
+{
+    world.follows(ClockId::from(2))
+}
+
+/// So it follows the first 2 s after they began, whatever is drawn for frames, and not only when the settling span has
+/// passed. Refused for want of memory alone.
+pub fn follow_soon<F: Fate + Drop>(
+    alloc: Global,
+    fate: F,
+) -> Result<Option<(Identity, u16, Option<u8>)>, NetworkFault>
+    ensures { IfOk result (λ followed. followed ≡ Some (first_member, 1, Some 1)) }
+{
+    let mut world = begun(alloc, fate)?;
+    go_on(&mut world)?;
+    Ok(second_follows(&world))
+}
+
+/// And so each act of a run of their document finds them settled from then on.
+pub fn runs_of_two_settle_soon<F: Fate>()
+    ensures { RunsOfTwoSettleSoon F.answers }
+{
+    documents_settle_soon::<F>();
+}

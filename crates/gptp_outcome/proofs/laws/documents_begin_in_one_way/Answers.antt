@@ -1,5 +1,0 @@
-use Rattle.gptp_outcome.proofs.SoFarLemmas.{leads_begin_so}
-use Rattle.gptp_outcome.proofs.laws.documents_begin_in_one_way.Goals as goal
-
-pub returns : goal.returns
-returns g c = leads_begin_so g.F.Fate.answers

@@ -1,5 +1,0 @@
-use Rattle.gptp_outcome.proofs.StepExistLemmas.{steps_exist}
-use Rattle.gptp_outcome.proofs.laws.every_step_exists.Goals as goal
-
-pub returns : goal.returns
-returns c = steps_exist

@@ -1,5 +1,0 @@
-use Rattle.gptp_outcome.proofs.StepLemmas.{steps_once}
-use Rattle.gptp_outcome.proofs.laws.steps_have_one_outcome.Goals as goal
-
-pub returns : goal.returns
-returns c = steps_once

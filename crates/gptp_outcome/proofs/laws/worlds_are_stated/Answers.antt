@@ -1,5 +1,0 @@
-use Rattle.gptp_outcome.proofs.StatedExistLemmas.{states_exist}
-use Rattle.gptp_outcome.proofs.laws.worlds_are_stated.Goals as goal
-
-pub returns : goal.returns
-returns c = states_exist

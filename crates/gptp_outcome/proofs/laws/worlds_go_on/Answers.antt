@@ -1,5 +1,0 @@
-use Rattle.gptp_outcome.proofs.WayExistLemmas.{ways_exist}
-use Rattle.gptp_outcome.proofs.laws.worlds_go_on.Goals as goal
-
-pub returns : goal.returns
-returns g c = ways_exist g.F.Fate.answers

@@ -1,0 +1,49 @@
+//! Laws on a port on a good link from the first of its requests on that finds nothing old in flight.
+
+ghost use Rattle.gptp_pdelay_machine.specs.FirstLaws.{FirstBegins, FirstIsKept, FirstHoldsLater};
+ghost use Rattle.gptp_pdelay_machine.specs.FirstLaws.{AsksByIsKept, AsksByHoldsLater};
+ghost use Rattle.gptp_pdelay_machine.specs.FirstLaws.{ExchangeIsFull, CapableBy, StaysCapable};
+
+use crate::coding::Coding;
+
+/// Just behind the first request the invariant of what is measured since then holds, whatever was measured before.
+pub fn first_begins<C: Coding>()
+    ensures { FirstBegins C.asks C.replies }
+{}
+
+/// Every act keeps that invariant, where old frames were gone by the first request, and an answer is back before the
+/// next request.
+pub fn first_kept<C: Coding>()
+    ensures { FirstIsKept C.asks C.replies }
+{}
+
+/// The invariant holds as time passes.
+pub fn first_holds_later<C: Coding>()
+    ensures { FirstHoldsLater C.asks C.replies }
+{}
+
+/// Where nothing is pending the next request is a first one: that one is sent by a time is kept by every act.
+pub fn asks_by_kept<C: Coding>()
+    ensures { AsksByIsKept C.asks C.replies }
+{}
+
+/// It holds as time passes.
+pub fn asks_by_holds_later<C: Coding>()
+    ensures { AsksByHoldsLater C.asks C.replies }
+{}
+
+/// One interval between requests and one exchange after the first request the port is capable, and has measured the
+/// link by two exchanges.
+pub fn exchange_is_full<C: Coding>()
+    ensures { ExchangeIsFull C.asks C.replies }
+{}
+
+/// So it is, counted from the time by which a first request is sent.
+pub fn capable_by<C: Coding>()
+    ensures { CapableBy C.asks C.replies }
+{}
+
+/// From the third request on the port is capable at every time.
+pub fn stays_capable<C: Coding>()
+    ensures { StaysCapable C.asks C.replies }
+{}

@@ -1,5 +1,0 @@
-use Rattle.gptp_reached.proofs.HeadlineLemmas.{worlds_are_exact}
-use Rattle.gptp_reached.proofs.headline.worlds_are_exact.Goals as goal
-
-pub returns : goal.returns
-returns g c = worlds_are_exact g.F.Fate.answers

@@ -1,5 +1,0 @@
-use Rattle.gptp_reached.proofs.CalmKeptLemmas.{calm_is_kept}
-use Rattle.gptp_reached.proofs.laws.calm_is_kept.Goals as goal
-
-pub returns : goal.returns
-returns g c = calm_is_kept g.F.Fate.answers

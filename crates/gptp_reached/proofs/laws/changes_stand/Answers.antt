@@ -1,5 +1,0 @@
-use Rattle.gptp_reached.proofs.ChangeLemmas.{changes_stand}
-use Rattle.gptp_reached.proofs.laws.changes_stand.Goals as goal
-
-pub returns : goal.returns
-returns c = changes_stand

@@ -1,5 +1,0 @@
-use Rattle.gptp_reached.proofs.OctetLemmas.{documents_playable}
-use Rattle.gptp_reached.proofs.laws.documents_are_playable.Goals as goal
-
-pub returns : goal.returns
-returns c = documents_playable

@@ -1,5 +1,0 @@
-use Rattle.gptp_reached.proofs.SettlingInvariantLemmas.{events_made}
-use Rattle.gptp_reached.proofs.laws.events_are_made.Goals as goal
-
-pub returns : goal.returns
-returns c = events_made

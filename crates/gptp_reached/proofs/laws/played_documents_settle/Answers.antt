@@ -1,5 +1,0 @@
-use Rattle.gptp_reached.proofs.SettleLemmas.{played_settle}
-use Rattle.gptp_reached.proofs.laws.played_documents_settle.Goals as goal
-
-pub returns : goal.returns
-returns g c = played_settle g.F.Fate.answers

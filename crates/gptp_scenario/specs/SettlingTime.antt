@@ -1,0 +1,29 @@
+-- By when a calm network has settled after its last change (profile).
+use Rattle.std.specs.Prelude.{ℕ, ◌+◌, ◌*◌, List}
+use Rattle.gptp_setup.specs.SettlingParams.{largest_interval, SettlingParams}
+use Rattle.gptp_scenario.specs.Calm.{last_change}
+use Rattle.gptp_scenario.specs.InUse.{count_live}
+use Rattle.gptp_scenario.specs.Network.{NetworkState, pace_of}
+use Rattle.gptp_scenario.specs.SyncWait.{step_more, sync_paths}
+use Rattle.gptp_scenario.specs.declared.change.Timed.{Timed}
+use Rattle.gptp_scenario.specs.declared.sync_wait.SyncPaths.{SyncPaths}
+
+-- Links become capable, or not, after the requests that may be lost and five more. Intervals count as the largest
+-- announce interval of any port.
+abbrev pub capability_span : SettlingParams → ℕ
+capability_span p = (p.params.lost + 5) * largest_interval p
+
+-- With n live systems: what isn't of a live system ages within k + 1 announce intervals for each of them, what is left
+-- settles within two more for each, and links become capable in the rest. So it is where nothing lapses.
+abbrev pub settling_span : SettlingParams → ℕ → ℕ
+settling_span p n = ((p.params.timeout + 3) * n + p.params.lost + 5) * largest_interval p
+
+-- So it is with n systems where Sync has such paths to cross.
+abbrev pub settling_span_with : SettlingParams → SyncPaths → ℕ → ℕ
+settling_span_with p paths n = settling_span p n + n * step_more p paths
+
+-- the time from which on the network has settled
+abbrev pub settles : NetworkState → List Timed → ℕ
+settles n events =
+    last_change events
+    + settling_span_with (pace_of n) (sync_paths n events) (count_live n.systems events)

@@ -1,5 +1,0 @@
-use Rattle.gptp_settling.proofs.SelectedLemmas.{selection_kept}
-use Rattle.gptp_settling.proofs.held.ports_stay_selected.Goals as goal
-
-pub returns : goal.returns
-returns g c = selection_kept g.C.Coding.says

@@ -1,5 +1,0 @@
-use Rattle.gptp_settling.proofs.LinkLemmas.{link_settled}
-use Rattle.gptp_settling.proofs.link.link_becomes_settled.Goals as goal
-
-pub returns : goal.returns
-returns g c = link_settled g.C.Coding.says

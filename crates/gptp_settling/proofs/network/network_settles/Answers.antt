@@ -1,5 +1,0 @@
-use Rattle.gptp_settling.proofs.SettledLemmas.{network_settles}
-use Rattle.gptp_settling.proofs.network.network_settles.Goals as goal
-
-pub returns : goal.returns
-returns g c = network_settles g.C.Coding.says

@@ -1,5 +1,0 @@
-use Rattle.gptp_settling.proofs.SettledLemmas.{systems_bounded}
-use Rattle.gptp_settling.proofs.network.systems_are_bounded.Goals as goal
-
-pub returns : goal.returns
-returns g c = systems_bounded g.C.Coding.says

@@ -1,6 +1,0 @@
-use Rattle.gptp_settling.proofs.SyncRunLemmas.{sync_run_settles}
-use Rattle.gptp_settling.proofs.syncs.sync_run_settles.Goals as goal
-
-pub returns : goal.returns
-returns g c = λ n w ws net is_prompt late ready.
-    sync_run_settles g.C.Coding.says g.C.Coding.says_sync n net is_prompt late ready w ws

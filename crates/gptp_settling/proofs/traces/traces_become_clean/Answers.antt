@@ -1,5 +1,0 @@
-use Rattle.gptp_settling.proofs.CleanLemmas.{held_whole}
-use Rattle.gptp_settling.proofs.traces.traces_become_clean.Goals as goal
-
-pub returns : goal.returns
-returns g c = held_whole g.C.Coding.says

@@ -1,0 +1,149 @@
+-- What takes nothing away from a network takes nothing away from a world that stands so.
+use Rattle.std.proofs.Common.{◌≡◌, ◌∙◌, ◌≤◌, ◌+◌, ◌*◌, ◌^◌, ◌%◌, ℕ, Bool, true, false, List, Some, slice_get, refl, sym, ap, subst}
+use Rattle.std.specs.Prelude.{if◌then◌else◌}
+use Rattle.gptp_lists.proofs.MappedLemmas.{alike, same_there}
+use Rattle.gptp_vector.specs.declared.port.PortId.{PortId}
+use Rattle.gptp_roles.specs.Selection.{clock_of}
+use Rattle.gptp_scenario.specs.Calm.{IsLive}
+use Rattle.gptp_scenario.specs.Change.{link_after, system_after}
+use Rattle.gptp_scenario.specs.Network.{IsEnd, NetworkState, pace_of}
+use Rattle.gptp_scenario.specs.declared.change.Change.{Change}
+use Rattle.gptp_scenario.specs.declared.change.Change.TheVariants.{LinkDown, LinkUp, LinkSet, Fail, Recover, Priority1, Inject}
+use Rattle.gptp_scenario.specs.declared.change.Timed.{Timed}
+use Rattle.gptp_scenario.specs.declared.network.SystemSpec.{SystemSpec}
+use Rattle.gptp_scenario.specs.declared.network.LinkSpec.{LinkSpec}
+use Rattle.gptp_system.specs.State.{clock}
+use Rattle.gptp_model.specs.declared.station.Station.{Station}
+use Rattle.gptp_model.specs.Changing.{IsStation}
+use Rattle.gptp_model.specs.Sound.{IsItsSetup, IsSound}
+use Rattle.gptp_model.specs.World.{WorldState, port_id}
+use Rattle.gptp_network.proofs.SnapshotLemmas.{clock_after}
+use Rattle.gptp_invariants.specs.NewsWorld.{AllLive}
+use Rattle.gptp_invariants.specs.SoundWorld.{IsDownAt, IsGain}
+use Rattle.gptp_theorem.specs.Reached.{Shape, StandsAsPlanned, shape, shape_after, channel_wire}
+use Rattle.gptp_settling_time.specs.Gains.{AllLiveAfter, IsDownAfter, IsGainAfter, IsIdleAfter, IsNoWorse, IsUpAfter}
+use Rattle.gptp_settling_time.specs.Idle.{IsIdle, IsUpAt}
+
+-- the identity that a system has, or will start with, names its clock
+clock_shape : (station : Station) → IsItsSetup station → clock_of (shape station).identity ≡ clock station.system
+clock_shape station setup = by station.live
+  where
+    by : (live : Bool) → clock_of (if live then station.system.identity else station.setup.identity)
+        ≡ clock station.system
+    by true = refl
+    by false = setup.named
+
+-- what stands somewhere is one of the network's after the events
+record IsMemberAt (n : NetworkState) (events : List Timed) (place : ℕ) (station : Station) : Type 0 where
+  member : SystemSpec
+  there : slice_get n.systems place ≡ Some member
+  is : shape_after (pace_of n) events member ≡ shape station
+
+module _ (n : NetworkState) (events : List Timed) (w : WorldState) (so : StandsAsPlanned n events w) where
+  member_at : (place : ℕ) (station : Station) → slice_get w.stations place ≡ Some station
+      → IsMemberAt n events place station
+  member_at place station here =
+      let (m, there, is) = alike (shape_after (pace_of n) events) shape n.systems w.stations (sym so.systems) place
+      station here in
+      record { member = m; there = there; is = is }
+
+  lives_as : (place : ℕ) (station : Station) → (of : IsMemberAt n events place station)
+      → (system_after events of.member).live ≡ station.live
+  lives_as place station of = ap (λ (x : Shape). x.live) of.is
+
+  -- where all live in the network all live in the world
+  pub all_live : AllLiveAfter n events → AllLive w
+  all_live live place station here =
+      let of = member_at place station here in
+      sym (lives_as place station of) ∙ live place of.member of.there
+
+  -- a link that is down in the network is down in the world
+  down_so : (port : PortId) → IsDownAfter n events port → IsDownAt port w
+  down_so port down place channel is =
+      let (v, there, same) = alike (link_after events) channel_wire n.links w.net.channels (sym so.links) place channel
+      is.here in
+      let end : IsEnd port (channel_wire channel) = is.joined in
+      let off : (link_after events v).up ≡ false = down place v there (subst (IsEnd port) (sym same) end) in
+      sym (ap (λ (x : LinkSpec). x.up) same) ∙ off
+
+  up_so : (port : PortId) → IsUpAfter n events port → IsUpAt port w
+  up_so port up place channel is =
+      let (v, there, same) = alike (link_after events) channel_wire n.links w.net.channels (sym so.links) place channel
+      is.here in
+      let end : IsEnd port (channel_wire channel) = is.joined in
+      let on : (link_after events v).up ≡ true = up place v there (subst (IsEnd port) (sym same) end) in
+      sym (ap (λ (x : LinkSpec). x.up) same) ∙ on
+
+  module _ (sound : IsSound w) where
+    named_as : (place number : ℕ) (station : Station) → IsStation number place w station
+        → (of : IsMemberAt n events place station) → clock_of of.member.identity ≡ number
+    named_as place number station k of =
+        sym (clock_after events of.member)
+        ∙ ap (λ (x : Shape). clock_of x.identity) of.is
+        ∙ clock_shape station (sound.wired.setups place station k.here)
+        ∙ k.named
+
+    -- a system that lives in the network lives in the world
+    pub lives_so : (number : ℕ) → IsLive n.systems events number → (place : ℕ) (station : Station)
+        → IsStation number place w station → station.live ≡ true
+    lives_so number lives place station k =
+        let (other, here, same) = alike shape (shape_after (pace_of n) events) w.stations n.systems so.systems
+        lives.place lives.system lives.there in
+        let named : clock other.system ≡ number =
+        sym (clock_shape other (sound.wired.setups lives.place other here))
+        ∙ ap (λ (x : Shape). clock_of x.identity) same
+        ∙ clock_after events lives.system
+        ∙ lives.clock in
+        let one = sound.wired.clocks place lives.place station other k.here here (k.named ∙ sym named) in
+        let is = same_there w.stations lives.place station other
+        (subst (λ i. slice_get w.stations i ≡ Some station) one k.here) here in
+        ap (λ (x : Station). x.live) is ∙ ap (λ (x : Shape). x.live) same ∙ lives.live
+
+    -- so has a system failed
+    failed_so : (number : ℕ) → (IsLive n.systems events number → ⊥) → (place : ℕ) (station : Station)
+        → IsStation number place w station → station.live ≡ false
+    failed_so number none place station k = by station.live refl
+      where
+        by : (live : Bool) → station.live ≡ live → station.live ≡ false
+        by false off = off
+        by true on =
+            let of = member_at place station k.here in
+            absurd (none (record {
+              place = place;
+              system = of.member;
+              there = of.there;
+              clock = named_as place number station k of;
+              live = lives_as place station of ∙ on;
+            }))
+
+    -- and so is an identity no worse
+    no_worse_so : (number value : ℕ) → IsNoWorse n events number value → (place : ℕ) (station : Station)
+        → IsStation number place w station
+        → value * 2 ^ 104 + station.system.identity % 2 ^ 104 ≤ station.system.identity
+    no_worse_so number value better place station k =
+        let of = member_at place station k.here in
+        let (live, less) = better place of.member of.there (named_as place number station k of) in
+        let lives : station.live ≡ true = sym (lives_as place station of) ∙ live in
+        let given : (shape station).identity ≡ station.system.identity = rw lives refl in
+        let same : (system_after events of.member).identity ≡ station.system.identity =
+        ap (λ (x : Shape). x.identity) of.is ∙ given in
+        subst (λ identity. value * 2 ^ 104 + identity % 2 ^ 104 ≤ identity) same less
+
+    pub gain_so : (change : Change) → IsGainAfter n events change → IsGain change w
+    gain_so (LinkDown number port) gain = down_so (port_id number port) gain
+    gain_so (LinkUp number port) gain = tt
+    gain_so (LinkSet number port min max loss) gain = tt
+    gain_so (Fail number) gain = failed_so number gain
+    gain_so (Recover number) gain = tt
+    gain_so (Priority1 number value) gain = no_worse_so number value gain
+    gain_so (Inject number port octets) gain = down_so (port_id number port) gain
+
+    -- and what changes nothing there changes nothing here
+    pub idle_so : (change : Change) → IsIdleAfter n events change → IsIdle change w
+    idle_so (LinkDown number port) idle = down_so (port_id number port) idle
+    idle_so (LinkUp number port) idle = up_so (port_id number port) idle
+    idle_so (LinkSet number port min max loss) idle = absurd idle
+    idle_so (Fail number) idle = failed_so number idle
+    idle_so (Recover number) idle = λ place station k. lives_so number idle place station k
+    idle_so (Priority1 number value) idle = absurd idle
+    idle_so (Inject number port octets) idle = down_so (port_id number port) idle

@@ -1,0 +1,111 @@
+-- The worlds of a document: what they keep as they go on by themselves.
+use Rattle.std.proofs.Common.{◌≤◌, ◌+◌, ℕ, List, Option}
+use Rattle.gptp_links.specs.declared.bounds.Bounds.{Bounds}
+use Rattle.gptp_setup.specs.SettlingParams.{largest_interval}
+use Rattle.gptp_scenario.specs.Calm.{last_change}
+use Rattle.gptp_scenario.specs.Network.{pace_of}
+use Rattle.gptp_scenario.specs.declared.change.Timed.{Timed}
+use Rattle.gptp_model.specs.Acts.{at}
+use Rattle.gptp_model.specs.Course.{WasDone}
+use Rattle.gptp_model.specs.Pending.{NothingBefore}
+use Rattle.gptp_model.specs.Prompt.{NoneFaster}
+use Rattle.gptp_model.specs.Views.{IsNextAct}
+use Rattle.gptp_model.specs.World.{WorldState}
+use Rattle.gptp_model.proofs.AdvanceLemmas.{next_fits}
+use Rattle.gptp_model.proofs.PromptLemmas.{next_prompt, stays_none_faster}
+use Rattle.gptp_model.proofs.StayLemmas.{done_stays}
+use Rattle.gptp_world.specs.Transitions.{Transition}
+use Rattle.gptp_world.proofs.SettlingInvariantLemmas.{next_octet}
+use Rattle.gptp_network.specs.Document.{DocumentState}
+use Rattle.gptp_invariants.specs.SettlingInvariant.{KeepsAll}
+use Rattle.gptp_invariants.specs.NewsWorld.{IsNews}
+use Rattle.gptp_invariants.proofs.ClaimLemmas.{claim_kept, claim_later}
+use Rattle.gptp_invariants.proofs.NewsActLemmas.{news_done}
+use Rattle.gptp_invariants.proofs.NewsWorldLemmas.{news_go_on}
+use Rattle.gptp_theorem.specs.Reached.{StandsAsPlanned}
+use Rattle.gptp_theorem.proofs.SettlingInvariantLemmas.{least_of}
+use Rattle.gptp_theorem.proofs.KeptLemmas.{acts_stand, time_stands}
+use Rattle.gptp_theorem.proofs.PlayedLemmas.{no_change}
+use Rattle.gptp_settling_time.proofs.TimedNewsLemmas.{IsTimed, timed_act, timed_later}
+
+-- A world keeps what all do, and stands as the network of the document does after these events.
+pub record KeepsTo (d : DocumentState) (events : List Timed) (w : WorldState) : Type 0 where
+  pub claim : KeepsAll (pace_of d.network) w
+  pub stands : StandsAsPlanned d.network events w
+  pub slow : NoneFaster (least_of d) w
+
+-- and it is one since news, whose ports are capable from a start on
+pub record IsNewsTo (d : DocumentState) (start : ℕ) (events : List Timed) (w : WorldState) : Type 0 where
+  pub keeps : KeepsTo d events w
+  pub news : IsNews (pace_of d.network) start w
+
+-- where time is carried right from when it has settled, if that is an announce interval after the last event
+pub record IsLastTo (d : DocumentState) (m start settled : ℕ) (events : List Timed) (w : WorldState) : Type 0 where
+  pub keeps : KeepsTo d events w
+  pub news : IsNews (pace_of d.network) start w
+  pub timed : last_change events + largest_interval (pace_of d.network) ≤ settled
+      → IsTimed (pace_of d.network) m start settled w
+
+module _ (d : DocumentState) (events : List Timed) where
+  pub keeps_later : (w : WorldState) (time : ℕ) → w.time ≤ time → NothingBefore time w.net.pending → KeepsTo d events w
+      → KeepsTo d events (at time w)
+  keeps_later w time later first keeps = record {
+    claim = claim_later (pace_of d.network) w time later first keeps.claim;
+    stands = time_stands d.network events w time keeps.stands;
+    slow = keeps.slow;
+  }
+
+  pub news_later_to : (start : ℕ) (w : WorldState) (time : ℕ) → w.time ≤ time → NothingBefore time w.net.pending
+      → IsNewsTo d start events w → IsNewsTo d start events (at time w)
+  news_later_to start w time later first so = record {
+    keeps = keeps_later w time later first so.keeps;
+    news = news_go_on (pace_of d.network) start time w later first so.news;
+  }
+
+  pub last_later_to : (m start settled : ℕ) (w : WorldState) (time : ℕ) → w.time ≤ time
+      → NothingBefore time w.net.pending → IsLastTo d m start settled events w
+      → IsLastTo d m start settled events (at time w)
+  last_later_to m start settled w time later first so = record {
+    keeps = keeps_later w time later first so.keeps;
+    news = news_go_on (pace_of d.network) start time w later first so.news;
+    timed = λ old. timed_later (pace_of d.network) m start settled w time later first (so.timed old);
+  }
+
+  module _ {F : Type 0} (answers : Bounds → ℕ → F → Option ℕ → F → Type 0) (t : Transition) (fate drawn : F)
+      (w : WorldState) (next : IsNextAct w t.told.timed)
+      (was : WasDone answers t.told.timed fate drawn w t.after t.told.done) where
+    pub keeps_act : KeepsTo d events w → KeepsTo d events t.after
+    keeps_act keeps =
+        let timed = t.told.timed in record {
+          claim = claim_kept answers (pace_of d.network) timed fate drawn w t.after t.told.done (next_fits w timed next)
+              (next_prompt w timed next) (next_octet next.item timed.act w next.act) was keeps.claim;
+          stands = acts_stand d.network events timed.act (at timed.at w) was.draws t.told.done t.after
+              (no_change next.item timed.act w next.act) was.acts
+              (time_stands d.network events w timed.at keeps.stands);
+          slow = stays_none_faster (least_of d) w t.after
+              (done_stays answers timed fate drawn w t.after t.told.done keeps.claim.world.sound.wired.setups was)
+              keeps.slow;
+        }
+
+    pub news_act_to : (start : ℕ) → IsNewsTo d start events w → IsNewsTo d start events t.after
+    news_act_to start so =
+        let timed = t.told.timed in record {
+          keeps = keeps_act so.keeps;
+          news = news_done answers (pace_of d.network) start timed fate drawn w t.after t.told.done
+              (no_change next.item timed.act w next.act) (next_octet next.item timed.act w next.act) was so.news;
+        }
+
+    pub last_act_to : (m start settled : ℕ) → IsLastTo d m start settled events w
+        → IsLastTo d m start settled events t.after
+    last_act_to m start settled so =
+        let timed = t.told.timed in
+        let still = no_change next.item timed.act w next.act in
+        let octet = next_octet next.item timed.act w next.act in
+        record {
+          keeps = keeps_act so.keeps;
+          news = news_done answers (pace_of d.network) start timed fate drawn w t.after t.told.done still octet was
+              so.news;
+          timed = λ old.
+              timed_act (pace_of d.network) m start settled answers timed fate drawn w t.after t.told.done still octet
+              was (so.timed old);
+        }

@@ -1,0 +1,153 @@
+-- From their start on the ports of a world since news have measured the links of the snapshot.
+use Rattle.std.proofs.Common.{◌≡◌, ◌≤◌, ℕ, suc, true, Some, slice_get, sym, ap, subst, ◌∙◌, inl, inr, arith}
+use Rattle.gptp_lists.proofs.MappedLemmas.{same_there, some_same}
+use Rattle.gptp_graph.specs.Snapshot.{Joins, PortIdentity, System}
+use Rattle.gptp_vector.specs.declared.port.PortId.{PortId}
+use Rattle.gptp_links.specs.declared.link.Direction.{Direction}
+use Rattle.gptp_setup.specs.declared.setup.Params.{Params}
+use Rattle.gptp_setup.specs.Intervals.{interval_of}
+use Rattle.gptp_setup.specs.SettlingParams.{SettlingParams}
+use Rattle.gptp_system.specs.declared.port.Port.{Port}
+use Rattle.gptp_system.specs.State.{clock, number, own}
+use Rattle.gptp_model.specs.declared.station.Station.{Station}
+use Rattle.gptp_model.specs.World.{Channel, WorldState, receiver, sender}
+use Rattle.gptp_pdelay_machine.specs.Measured.{HasMeasured}
+use Rattle.gptp_invariants.specs.Calm.{HaveQuietLinks}
+use Rattle.gptp_invariants.specs.SettlesAsMachine.{IsWorld}
+use Rattle.gptp_invariants.specs.Known.{IsKnown}
+use Rattle.gptp_invariants.specs.LinkView.{IsLinkOf, LinkPlace, least_delay, other_direction, link_setting}
+use Rattle.gptp_invariants.specs.Measured.{StationIsLiveAt, LinkStandsAt}
+use Rattle.gptp_invariants.specs.MeasuredLinks.{HasMeasuredLink, HaveMeasuredLinks}
+use Rattle.gptp_invariants.specs.NewsWorld.{AreReadyBy, IsNews, IsReadyBy}
+use Rattle.gptp_invariants.specs.Standing.{stations_have_clock, channel_is_used, live_stations, snapshot_of}
+use Rattle.gptp_invariants.specs.View.{port_identity_number}
+use Rattle.gptp_invariants.proofs.ElsewhereLemmas.{watched_stay_capable}
+use Rattle.gptp_invariants.proofs.FirstAtLemmas.{first_full}
+use Rattle.gptp_invariants.proofs.LinkLemmas.{sender_opposite}
+use Rattle.gptp_invariants.proofs.StandsLemmas.{sender_lives, stands_well, used_up}
+use Rattle.gptp_invariants.proofs.SystemLemmas.{clock_lives, live_from}
+use Rattle.gptp_invariants.proofs.WayLemmas.{IsWay, way_of}
+
+-- ---- a link that is ready
+
+-- the port that asks has measured the link by two exchanges
+record HasMeasuredAt (at : LinkPlace) (w : WorldState) : Type 0 where
+  link : IsLinkOf at w
+  measured : HasMeasured (link_setting at w link) (least_delay at w link) link.asking.state.peer.last
+
+ready_measured : (p : SettlingParams) (start : ℕ) (at : LinkPlace) (w : WorldState) → IsKnown p w → IsReadyBy p start at w
+    → start ≤ w.time → HasMeasuredAt at w
+ready_measured p start at w known (inl (first, (l, by))) late =
+    record { link = l.link; measured = (first_full at first w l (omega (arith, by, late))).1 }
+ready_measured p start at w known (inr (gone, since, l, past, by)) late =
+    let asks = (known.set at.asking l.link.asking.station l.link.asking.here).starts.params in
+    let period : (link_setting at w l.link).period ≡ interval_of p.params.pdelay =
+    ap (λ (x : Params). interval_of x.pdelay) asks in
+    record {
+      link = l.link;
+      measured = (watched_stay_capable at gone since w l (omega (arith, by, late, period))).1;
+    }
+
+-- ---- where a link of the snapshot stands
+
+-- a live system with the clock stands somewhere
+record LivesSomewhere (number : ℕ) (w : WorldState) : Type 0 where
+  place : ℕ
+  at : StationIsLiveAt place number w
+
+-- so it is where a used link leads to
+receiver_lives : (w : WorldState) (direction : Direction) (channel : Channel)
+    → channel_is_used (live_stations w.stations) channel ≡ true → LivesSomewhere (receiver direction channel).clock w
+receiver_lives w direction channel used =
+    let has = subst (λ (q : PortId). stations_have_clock (live_stations w.stations) q.clock ≡ true)
+    (sender_opposite direction channel) (sender_lives (live_stations w.stations) (other_direction direction) channel used) in
+    let (s, member, same) = clock_lives w.stations (receiver direction channel).clock has in
+    let there = live_from w.stations s member in
+    record {
+      place = there.place;
+      at = record {
+        station = there.station;
+        here = there.here;
+        live = there.live;
+        named = ap (λ (x : System). x.clock) (sym there.is) ∙ same;
+      };
+    }
+
+module _ (p : SettlingParams) (start : ℕ) (w : WorldState) (is : IsWorld p w) (ready : AreReadyBy p start w)
+    (quiet : HaveQuietLinks p.params w) (late : start ≤ w.time) (place : ℕ) (station : Station)
+    (here : slice_get w.stations place ≡ Some station) (live : station.live ≡ true) where
+  -- where a way from a port of the system stands
+  abbrev place_of_way : (n : ℕ) (to : PortIdentity) → IsWay w (port_identity_number (own station.system n)) to → LinkPlace
+  place_of_way n to way = record {
+    link = way.link;
+    direction = way.direction;
+    asking = place;
+    answering = (receiver_lives w way.direction way.channel way.used).place;
+  }
+
+  -- it is good, and its ends are two live systems
+  way_stands : (n : ℕ) (to : PortIdentity) → Joins (snapshot_of w) (port_identity_number (own station.system n)) to
+      → (way : IsWay w (port_identity_number (own station.system n)) to) → LinkStandsAt (place_of_way n to way) w
+  way_stands n to joins way =
+      let links = quiet way.link way.channel way.here way.used in
+      let other = receiver_lives w way.direction way.channel way.used in
+      let asking = (is.known.set place station here).starts.params in
+      let answering = (is.known.set other.place other.at.station other.at.here).starts.params in
+      record {
+        channel = way.channel;
+        here = way.here;
+        up = used_up (live_stations w.stations) way.channel way.used;
+        lossless = links.lossless;
+        asking = record {
+          station = station;
+          here = here;
+          live = live;
+          named = ap (λ (x : PortIdentity). x.clock) (sym way.from);
+        };
+        answering = other.at;
+        apart = λ same.
+            let alike : station ≡ other.at.station =
+            same_there w.stations place station other.at.station here
+            (subst (λ at. slice_get w.stations at ≡ Some other.at.station) (sym same) other.at.here) in
+            (stands_well w is.sound is.between is.legible).apart (port_identity_number (own station.system n)) to joins
+            (ap (λ (x : Station). clock x.system) alike
+            ∙ other.at.named
+            ∙ ap (λ (x : PortIdentity). x.clock) way.to);
+        good = rw (answering, asking) links.good;
+      }
+
+  -- so it is measured, where the way from the port stands
+  way_measured : (i : ℕ) (q : Port) (to : PortIdentity) → slice_get station.system.ports i ≡ Some q
+      → Joins (snapshot_of w) (port_identity_number (own station.system (suc i))) to
+      → IsWay w (port_identity_number (own station.system (suc i))) to
+      → HasMeasuredLink w (port_identity_number (own station.system (suc i))) to q
+  way_measured i q to there joins way =
+      let at = place_of_way (suc i) to way in
+      let x = ready_measured p start at w is.known (ready at (way_stands (suc i) to joins way)) late in
+      let l = x.link in
+      let asking = l.asking in
+      let same_station = same_there w.stations place asking.station station asking.here here in
+      let same_channel = same_there w.net.channels way.link l.channel way.channel l.here way.here in
+      let port : (sender way.direction l.channel).port ≡ suc i =
+      ap (λ c. (sender way.direction c).port) same_channel ∙ ap (λ (x : PortIdentity). x.port) way.from in
+      let found : Some asking.state ≡ Some q =
+      sym asking.there
+      ∙ ap (number asking.station.system.ports) port
+      ∙ ap (λ (x : Station). slice_get x.system.ports i) same_station
+      ∙ there in
+      let state : asking.state ≡ q = some_same asking.state q found in
+      record {
+        at = at;
+        link = l;
+        from_is = ap (λ c. port_identity_number (sender way.direction c)) same_channel ∙ way.from;
+        to_is = ap (λ c. port_identity_number (receiver way.direction c)) same_channel ∙ way.to;
+        state = state;
+        measured = subst (λ (one : Port). HasMeasured (link_setting at w l) (least_delay at w l) one.peer.last) state
+            x.measured;
+      }
+
+pub news_measured : (p : SettlingParams) (start : ℕ) (w : WorldState) → IsNews p start w → HaveQuietLinks p.params w
+    → start ≤ w.time → HaveMeasuredLinks w
+news_measured p start w news quiet late place station here live i h q holds there to joins =
+    way_measured p start w news.world news.ready quiet late place station here live i q to there joins
+    (way_of w (port_identity_number (own station.system (suc i))) to joins)

@@ -1,0 +1,21 @@
+//! How soon and how exactly a network settles, sharply, where it is known what it came from: its start, or rest.
+//!
+//! The laws of gptp_theorem say how soon a world has settled after a start or a gain (its `specs/Soon.antt`). This
+//! crate goes on from there. Offsets are exact as soon as a Sync has come down a way in a world that has so settled
+//! (`specs/Exactly.antt`). And a document whose events take nothing away, since it began or since it had rested, is
+//! settled that soon after its last event, and so is the world after each act of its run from then on
+//! (`specs/Documents.antt`). `specs/Gains.antt` says what takes nothing away, when a network has rested, and from when
+//! on ports are capable.
+//!
+//! A change that finds all as it would make it leaves all that is claimed (`specs/Idle.antt`).
+//!
+//! Each function of this crate is a law: it does nothing, and its contract is a theorem about the definitions.
+#![tactic(auto)]
+
+mod documents;
+mod exactly;
+mod idle;
+
+pub use documents::{documents_settle_soon, runs_are_exact_soon, runs_begin_so};
+pub use exactly::news_are_exact;
+pub use idle::idle_changes_leave_settled;

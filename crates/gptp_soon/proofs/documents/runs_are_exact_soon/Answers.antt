@@ -1,5 +1,0 @@
-use Rattle.gptp_soon.proofs.DocumentLemmas.{runs_are_exact_soon}
-use Rattle.gptp_soon.proofs.documents.runs_are_exact_soon.Goals as goal
-
-pub returns : goal.returns
-returns g c = runs_are_exact_soon g.F.Fate.answers

@@ -1,0 +1,60 @@
+-- A system that follows its parent once the network has settled, and the lane of frames from the one to the other.
+use Rattle.std.specs.Prelude.{ℕ, suc, ◌+◌, ◌*◌, ◌<◌, ◌≤◌, ℤ, List, Option, length}
+use Rattle.gptp_graph.specs.Snapshot.{PortIdentity}
+use Rattle.gptp_correction.specs.declared.sync_in.SyncInfo.{SyncInfo}
+use Rattle.gptp_pdelay_machine.specs.Lanes.{LaneFrame}
+use Rattle.gptp_error_laws.specs.TimeError.{WayLink, Way, link_at}
+use Rattle.gptp_error_laws.specs.WayLaws.{IsDocumented, shown_at}
+
+-- The way to the system from its root, the phases of the clocks on it, in ns, and the place of its last link on it,
+-- counted from 0; the port of the parent on that link; the time from which the network is settled, and a delay that no
+-- link on which time is carried exceeds, in ns.
+pub record FollowerSetting : Type 0 where
+  pub way : Way
+  pub phase : ℕ → ℕ
+  pub place : ℕ
+  pub parent : PortIdentity
+  pub settled : ℕ
+  pub longest : ℕ
+
+-- the link to the parent
+abbrev pub parent_link : FollowerSetting → WayLink
+parent_link k = link_at k.way k.place
+
+-- the clock of the system
+abbrev pub own_clock : FollowerSetting → ℕ → ℤ
+own_clock k t = shown_at k.way k.phase (suc k.place) t
+
+-- the clock of its root
+abbrev pub root_clock : FollowerSetting → ℕ → ℤ
+root_clock k t = shown_at k.way k.phase 0 t
+
+-- From then on what comes left the root when the network was settled, even where each link up to here takes the longest
+-- delay, and each system keeps it for a residence.
+abbrev pub from : FollowerSetting → ℕ
+from k = k.settled + suc k.place * (k.longest + k.way.residence)
+
+-- what a setting has to be
+pub record IsSetting (k : FollowerSetting) : Type 0 where
+  pub documented : IsDocumented k.way
+  pub on_way : k.place < length k.way.links
+  pub short : (parent_link k).most ≤ k.longest
+
+-- The Sync that is kept: its source, its number, and its ingress by the own clock (IEEE 802.1AS-2020, 11.2.14).
+pub record FollowerSync : Type 0 where
+  pub source : PortIdentity
+  pub sequence : ℕ
+  pub ingress : ℤ
+
+-- The Sync that is kept, what is known since the last Follow_Up that belonged to a Sync, and when that is to be sent
+-- on; and the frames in flight from the parent, the oldest first.
+pub record Follower : Type 0 where
+  pub time : ℕ
+  pub kept : Option FollowerSync
+  pub known : Option SyncInfo
+  pub relay : Option ℕ
+  pub lane : List LaneFrame
+
+-- the same at another time
+abbrev pub follower_at_time : Follower → ℕ → Follower
+follower_at_time s time = record s { time = time }

@@ -1,0 +1,75 @@
+-- What a Follow_Up tells as it is sent, and what a port has measured, where both are as exact as the time error says.
+use Rattle.std.specs.Prelude.{◌≡◌, ◌⊎◌, ℕ, zero, suc, ◌+◌, ◌*◌, ◌≤◌, ℤ, pos, negsuc, ◌+ℤ◌, ◌*ℤ◌, ◌≤ℤ◌, unsigned_abs}
+use Rattle.gptp_scaled.specs.Rate.{FitsRate, IsNeighborRate}
+use Rattle.gptp_scaled.specs.Stamp.{Timestamp, scaled_of}
+use Rattle.gptp_scaled.specs.Counts.{AreWithin}
+use Rattle.gptp_pdelay.specs.GoodLink.{ceil_div}
+use Rattle.gptp_pdelay.specs.Measured.{IsDelayWithin}
+use Rattle.gptp_correction.specs.declared.correction.Relayed.{Relayed}
+use Rattle.gptp_correction.specs.declared.sync_in.SyncInfo.{SyncInfo}
+use Rattle.gptp_correction.specs.Sum.{sum_below}
+use Rattle.gptp_error_laws.specs.TimeError.{Way, clock_at, jitter_at, link_at, rates_error_at, steady_rate_at, time_error_at, total_below}
+use Rattle.gptp_error_laws.specs.WayLaws.{shown_at}
+
+-- how near the neighbour rate of the link at a place is measured, in units of 2^-41
+abbrev pub measured_error_at : Way → ℕ → ℕ
+measured_error_at w i = ceil_div (2202000000000 * jitter_at w i) w.interval + 3
+
+-- What a port has measured of the link at a place is right: the neighbour rate is near that of the two clocks, and the
+-- mean link delay lies between the least and the greatest delay of the link (IEEE 802.1AS-2020, 11.2.19.3).
+pub record IsMeasuredAt (w : Way) (i : ℕ) (rate delay : ℤ) : Type 0 where
+  pub limited : IsNeighborRate rate
+  pub rate_within : AreWithin (measured_error_at w i) rate (steady_rate_at w i)
+  pub delay_within : IsDelayWithin (link_at w i).least (link_at w i).most w.turnaround (clock_at w i) delay
+
+-- The error of the time that is sent over the link at a place, in parts of 33550000 to a unit of 2^-16 ns: none at the
+-- root; at a bridge its time error, and the error of the rate so far while it keeps the time.
+abbrev pub sent_error_at : Way → ℕ → ℕ
+sent_error_at w zero = 0
+sent_error_at w (suc i) =
+    33550000 * time_error_at w (suc i) + rates_error_at w i * (w.residence + jitter_at w i)
+
+-- The correction that is sent over the link at a place is at most this, in units of 2^-16 ns: a nanosecond from the
+-- root, and for each link and the bridge behind it twice the time that passes there at most, with a turnaround.
+abbrev pub most_correction_at : Way → ℕ → ℕ
+most_correction_at w i = 65536
+    + total_below i (λ j. 131072 * ((link_at w j).most + w.turnaround + w.residence + jitter_at w j + 1))
+
+-- What a Follow_Up tells is right, as its Sync is sent over the link at a place at that time, in ns: origin and
+-- correction are the root's clock then, and the correction is what passed since the origin; the rate is the sum of the
+-- neighbour rates up to there, and a number of 32 bits (IEEE 802.1AS-2020, 11.4.4).
+pub record FollowUpIsRight (w : Way) (phase : ℕ → ℕ) (i : ℕ) (told : Relayed) (sent : ℕ) : Type 0 where
+  pub time : AreWithin (sent_error_at w i) (pos 33550000 *ℤ (scaled_of told.origin +ℤ told.correction))
+      (pos 33550000 *ℤ shown_at w phase 0 sent)
+  pub later : pos 0 ≤ℤ told.correction
+  pub small : told.correction ≤ℤ pos (most_correction_at w i)
+  pub rate : AreWithin (total_below i (measured_error_at w)) told.rate (sum_below i (steady_rate_at w))
+  pub fits : FitsRate told.rate
+
+-- what a Follow_Up tells, and its Sync's ingress by the own clock
+abbrev pub info_of : Relayed → ℤ → SyncInfo
+info_of told ingress =
+    record { origin = told.origin; correction = told.correction; rate = told.rate; ingress = ingress }
+
+-- what it told
+abbrev pub follow_up_told : SyncInfo → Relayed
+follow_up_told info = record { origin = info.origin; correction = info.correction; rate = info.rate }
+
+-- what the root tells: its own clock as a timestamp and a rest, at its own rate
+abbrev pub root_time : Timestamp → ℕ → Relayed
+root_time stamp rest = record { origin = stamp; correction = pos rest; rate = pos 0 }
+
+-- the same told at another rate
+abbrev pub at_rate : Relayed → ℤ → Relayed
+at_rate told rate = record told { rate = rate }
+
+-- the sum of the rates up to the link at a place is far enough from the limits of 32 bits for a neighbour rate
+abbrev pub IsModest : Way → ℕ → Type 0
+IsModest w i = unsigned_abs (sum_below i (steady_rate_at w)) ≤ 1700000000
+
+-- The rate to which the neighbour rate is added has a sum of 32 bits with it. It is the one that was told; or where the
+-- sum of that hasn't, the one whose sum is held at the nearest limit (profile).
+pub record IsHeldAt (w : Way) (i : ℕ) (told neighbour held : ℤ) : Type 0 where
+  pub fits : FitsRate (held +ℤ neighbour)
+  pub nearest : (held ≡ told) ⊎ (IsModest w i × (((held +ℤ neighbour ≡ pos 2147483647) × (held ≤ℤ told))
+      ⊎ ((held +ℤ neighbour ≡ negsuc 2147483647) × (told ≤ℤ held))))

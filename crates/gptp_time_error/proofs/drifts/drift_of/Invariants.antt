@@ -1,9 +1,0 @@
--- None of the systems so far has the clock.
-use Rattle.std.proofs.Common.{◌≡◌, ◌<◌, ℕ, Some, slice_get}
-use Rattle.gptp_roles.specs.Selection.{clock_of}
-use Rattle.gptp_plan.specs.declared.network.SystemSpec.{SystemSpec}
-use Rattle.gptp_time_error.proofs.drifts.drift_of.Given as goal
-
-abbrev pub invariant-loop-place : goal.invariant-loop-place
-invariant-loop-place l =
-    (k : ℕ) (m : SystemSpec) → k < l.place → slice_get l.network.systems k ≡ Some m → clock_of m.identity ≡ l.clock → ⊥

@@ -1,5 +1,0 @@
-use Rattle.gptp_time_error.proofs.OneLemmas.{one_accuracy}
-use Rattle.gptp_time_error.proofs.laws.a_document_has_one_accuracy.Goals as goal
-
-pub returns : goal.returns
-returns c = one_accuracy

@@ -1,7 +1,0 @@
--- The first of those that are left is the first of all.
-use Rattle.std.proofs.Common.{◌≡◌, drop}
-use Rattle.gptp_time_error.specs.AccuracyText.{first_above}
-use Rattle.gptp_time_error.proofs.text.first_above.Given as goal
-
-abbrev pub invariant-loop-system : goal.invariant-loop-system
-invariant-loop-system l = first_above l.most (drop l.system-index l.systems) ≡ first_above l.most l.systems

@@ -1,6 +1,0 @@
--- The places so far are those of the first lines.
-use Rattle.gptp_time_error.specs.Passing.{ArePlaces}
-use Rattle.gptp_time_error.proofs.ways.places_of.Given as goal
-
-abbrev pub invariant-loop-place : goal.invariant-loop-place
-invariant-loop-place l = ArePlaces l.certificate.lines l.place l.places.items

@@ -1,6 +1,0 @@
-pub mod Ways
-pub mod Sums
-pub mod Passing
-pub mod TimeErrors
-pub mod AccuracyText
-pub mod Laws

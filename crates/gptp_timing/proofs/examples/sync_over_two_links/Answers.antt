@@ -1,5 +1,0 @@
-use Rattle.gptp_timing.proofs.ExampleLemmas
-use Rattle.gptp_timing.proofs.examples.sync_over_two_links.Goals as goal
-
-pub returns : goal.returns
-returns c = ExampleLemmas.sync_over_two_links

@@ -1,5 +1,0 @@
-use Rattle.gptp_timing.proofs.FollowerLemmas.{inv_kept}
-use Rattle.gptp_timing.proofs.follower.invariant_kept.Goals as goal
-
-pub returns : goal.returns
-returns g c = λ k. inv_kept k g.C.Coding.says

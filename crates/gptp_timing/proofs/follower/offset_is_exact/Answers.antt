@@ -1,5 +1,0 @@
-use Rattle.gptp_timing.proofs.TellingLemmas.{offset_is_exact}
-use Rattle.gptp_timing.proofs.follower.offset_is_exact.Goals as goal
-
-pub returns : goal.returns
-returns g c = λ k. offset_is_exact k g.C.Coding.says

@@ -1,5 +1,0 @@
-use Rattle.gptp_timing.proofs.RightLemmas.{bridge_numbers_fit}
-use Rattle.gptp_timing.proofs.right.bridge_numbers_fit.Goals as goal
-
-pub returns : goal.returns
-returns c = bridge_numbers_fit

@@ -1,5 +1,0 @@
-use Rattle.gptp_timing.proofs.RightLemmas.{bridge_tells_right}
-use Rattle.gptp_timing.proofs.right.bridge_tells_right.Goals as goal
-
-pub returns : goal.returns
-returns c = bridge_tells_right

@@ -1,5 +1,0 @@
-use Rattle.gptp_timing.proofs.RightLemmas.{exchanges_measure_right}
-use Rattle.gptp_timing.proofs.right.exchanges_measure_right.Goals as goal
-
-pub returns : goal.returns
-returns c = exchanges_measure_right

@@ -1,5 +1,0 @@
-use Rattle.gptp_timing.proofs.RightLemmas.{root_tells_right}
-use Rattle.gptp_timing.proofs.right.root_tells_right.Goals as goal
-
-pub returns : goal.returns
-returns c = root_tells_right

@@ -1,5 +1,0 @@
-use Rattle.gptp_timing.proofs.ModestLemmas.{ways_are_modest}
-use Rattle.gptp_timing.proofs.right.ways_are_modest.Goals as goal
-
-pub returns : goal.returns
-returns c = ways_are_modest

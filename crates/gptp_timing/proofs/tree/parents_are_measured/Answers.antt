@@ -1,5 +1,0 @@
-use Rattle.gptp_timing.proofs.TreeLemmas.{parents_are_measured}
-use Rattle.gptp_timing.proofs.tree.parents_are_measured.Goals as goal
-
-pub returns : goal.returns
-returns c = parents_are_measured

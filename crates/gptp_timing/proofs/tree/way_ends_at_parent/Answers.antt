@@ -1,5 +1,0 @@
-use Rattle.gptp_timing.proofs.TreeLemmas.{way_ends_at_parent}
-use Rattle.gptp_timing.proofs.tree.way_ends_at_parent.Goals as goal
-
-pub returns : goal.returns
-returns c = way_ends_at_parent

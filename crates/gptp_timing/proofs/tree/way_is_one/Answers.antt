@@ -1,5 +1,0 @@
-use Rattle.gptp_timing.proofs.TreeLemmas.{way_is_one}
-use Rattle.gptp_timing.proofs.tree.way_is_one.Goals as goal
-
-pub returns : goal.returns
-returns c = way_is_one

@@ -1,5 +1,0 @@
-use Rattle.gptp_timing.proofs.TreeLemmas.{way_leads_to}
-use Rattle.gptp_timing.proofs.tree.way_leads_to.Goals as goal
-
-pub returns : goal.returns
-returns c = way_leads_to
