@@ -8,8 +8,8 @@ ghost use Rattle.gptp_pdelay.specs.GoodLink.{ceil_div};
 ghost use Rattle.gptp_pdelay.specs.Measured.{clock_rate};
 ghost use Rattle.gptp_error_laws.specs.TimeError.{hop_error};
 
-use gptp_scenario::Params;
 use gptp_scaled::{Interval, Rate, ScaledNs};
+use gptp_scenario::Params;
 use gptp_setup::interval_of;
 
 /// What stands for 1 in a rate, 2^41.

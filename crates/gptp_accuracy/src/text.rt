@@ -7,8 +7,8 @@ ghost use Rattle.gptp_accuracy.specs.AccuracyText.{accuracy_lines, first_above, 
 ghost use Rattle.gptp_accuracy.specs.AccuracyText.{system_line, accuracy_time_line, accuracy_verdict_line, accuracy_verdict_lines};
 
 use crate::errors::{SystemError, TimeErrors};
-use gptp_words::{ClockDigits, IdentityDigits};
 use gptp_vector::ClockId;
+use gptp_words::{ClockDigits, IdentityDigits};
 use std::alloc::AllocError;
 use std::fmt;
 

@@ -8,8 +8,8 @@ ghost use Rattle.gptp_certificate_text.specs.Entries.{PortEntry, entries_of, ent
 
 use crate::certificate::{Certificate, SystemLine};
 use gptp_roles::Role;
-use gptp_words::{ClockDigits, IdentityDigits, RoleWord};
 use gptp_vector::{ClockId, PortId};
+use gptp_words::{ClockDigits, IdentityDigits, RoleWord};
 use std::alloc::AllocError;
 use std::fmt;
 

@@ -10,8 +10,8 @@ ghost use Rattle.gptp_commands.specs.Output.{IsOutput};
 use crate::check::moment_of;
 use crate::failure::{SimError, Status};
 use crate::output::Output;
-use gptp_network::Document;
 use gptp_accuracy::{TimeErrors, time_errors, write_accuracy};
+use gptp_network::Document;
 use std::alloc::Global;
 
 /// The text of time errors.

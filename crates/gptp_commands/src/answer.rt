@@ -6,8 +6,8 @@ ghost use Rattle.gptp_commands.specs.Answer.{better_of, answer_of, is_refusal, A
 use crate::announced::{WordFault, announced};
 use crate::failure::SimError;
 use crate::words::two_words;
-use gptp_words::IdentityDigits;
 use gptp_vector::{Identity, Vector};
+use gptp_words::IdentityDigits;
 use std::alloc::Global;
 use std::cmp::Ordering;
 use std::fmt;

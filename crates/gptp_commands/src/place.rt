@@ -13,8 +13,8 @@ use crate::failure::SimError;
 use gptp_certificate_text::{Certificate, CertificateFault, parse_located};
 use gptp_checker::{Fault, Location, accepts, locate};
 use gptp_network::{Document, DocumentFault, Snapshot};
-use gptp_words::ClockDigits;
 use gptp_vector::PortId;
+use gptp_words::ClockDigits;
 use std::alloc::Global;
 use std::fmt;
 

@@ -3,8 +3,8 @@
 ghost use Rattle.std.specs.Prelude.{◌≡◌};
 ghost use Rattle.gptp_explain.specs.Compared.{difference, loss, variance, win};
 
-use gptp_words::ClockDigits;
 use gptp_vector::{ClockId, Identity, PortId};
+use gptp_words::ClockDigits;
 use std::fmt;
 
 /// The first in which two systems or two ways differ, with its value in both.

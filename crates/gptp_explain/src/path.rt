@@ -12,8 +12,8 @@ ghost use Rattle.gptp_explain.specs.Writing.{AppendsLine};
 use gptp_certificate_text::Certificate;
 use gptp_checker::line_of;
 use gptp_network::Snapshot;
-use gptp_words::ClockDigits;
 use gptp_vector::ClockId;
+use gptp_words::ClockDigits;
 use std::alloc::{AllocError, Global};
 
 /// The clock of the parent of a system that isn't far, if it has one.

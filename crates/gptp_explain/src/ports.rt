@@ -20,8 +20,8 @@ use gptp_certificate_text::{Certificate, SystemLine};
 use gptp_checker::steps_of;
 use gptp_network::{Document, Snapshot};
 use gptp_roles::Role;
-use gptp_words::RoleWord;
 use gptp_vector::{ClockId, PortId};
+use gptp_words::RoleWord;
 use std::alloc::AllocError;
 
 /// The port at the other end of a port's link, and how many links its system is from the root.

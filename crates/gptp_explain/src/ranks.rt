@@ -11,8 +11,8 @@ use crate::compared::difference;
 use gptp_certificate_text::Certificate;
 use gptp_checker::line_of;
 use gptp_network::Snapshot;
-use gptp_words::IdentityDigits;
 use gptp_vector::{ClockId, Identity};
+use gptp_words::IdentityDigits;
 use std::alloc::{AllocError, Global};
 
 /// How many ranks are shown in any case.

@@ -5,8 +5,8 @@ ghost use Rattle.gptp_explain.specs.Explained.{by_words, distance_word, explaine
 
 use crate::compared::difference;
 use gptp_certificate_text::SystemLine;
-use gptp_words::{ClockDigits, IdentityDigits};
 use gptp_vector::Identity;
+use gptp_words::{ClockDigits, IdentityDigits};
 use std::alloc::AllocError;
 
 /// Appends by what a root is better than a system, unless it is that, and a line feed.

@@ -1,8 +1,8 @@
 //! Why a port has its role.
 
 use crate::compared::Compared;
-use gptp_words::ClockDigits;
 use gptp_vector::PortId;
+use gptp_words::ClockDigits;
 use std::fmt;
 
 /// Why a port has its role: where its link leads, and what comes of that.

@@ -14,11 +14,11 @@ use crate::follows::Follow;
 use crate::outcome::Outcome;
 use crate::ranking::amount_or_0;
 use crate::times::Times;
-use gptp_words::{ClockDigits, IdentityDigits};
 use gptp_timeline::{
     Counts, Limit, Limits, Longest, Near, TimeOrNone, Worst, amount_of, write_first_exceeded,
 };
 use gptp_vector::PortId;
+use gptp_words::{ClockDigits, IdentityDigits};
 use std::alloc::AllocError;
 use std::fmt;
 

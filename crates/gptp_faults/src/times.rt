@@ -8,8 +8,8 @@ ghost use Rattle.gptp_faults.specs.Times.{TimesAreBounded, AreOptions, ArePlanne
 use crate::cases::{Case, Planned, fault_of, push_planned};
 use crate::options::FaultsOptions;
 use gptp_network::Document;
-use gptp_scenario::Change;
 use gptp_report::Cut;
+use gptp_scenario::Change;
 use gptp_setup::interval_of;
 use std::alloc::{AllocError, Global};
 

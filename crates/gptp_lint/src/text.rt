@@ -15,9 +15,9 @@ use crate::place::LineWords;
 use crate::source::Source;
 use crate::trouble::{Long, Lossy};
 use crate::unknown::write_unknown_keys;
-use gptp_words::{ClockDigits, IdentityDigits};
 use gptp_topology::CalmTime;
 use gptp_vector::{ClockId, Identity};
+use gptp_words::{ClockDigits, IdentityDigits};
 use std::alloc::{AllocError, Global};
 use std::fmt;
 

@@ -7,8 +7,8 @@ use crate::escaped::Escaped;
 use gptp_network::{Name, Shape, Why};
 use gptp_scenario::Params;
 use gptp_setup::interval_of;
-use gptp_words::ClockDigits;
 use gptp_vector::PortId;
+use gptp_words::ClockDigits;
 use std::fmt;
 
 /// The word for what a value is.

@@ -7,8 +7,8 @@ ghost use Rattle.gptp_network_tests.specs.Soon.{IsPairSoon, RunsOfTwoSettleSoon}
 
 use crate::drawn::begun;
 use gptp_links::Fate;
-use gptp_theorem::starts_settle;
 use gptp_settling_time::documents_settle_soon;
+use gptp_theorem::starts_settle;
 use gptp_vector::{ClockId, Identity};
 use gptp_world::{NetworkFault, World};
 use std::alloc::Global;

@@ -9,9 +9,9 @@ ghost use Rattle.gptp_sink.specs.Sink.{AppendsSome};
 use gptp_messages::{Message, Refused, decode};
 use gptp_sink::sink::Sink;
 use gptp_sink::{Cut, write_whole};
-use gptp_words::{ClockDigits, OctetDigits};
 use gptp_system::Answer;
 use gptp_vector::ClockId;
+use gptp_words::{ClockDigits, OctetDigits};
 use std::alloc::{AllocError, Global};
 use std::fmt;
 

@@ -6,9 +6,9 @@ ghost use Rattle.gptp_system.specs.Steps.{HasPortNumber};
 ghost use Rattle.gptp_words.specs.Lines.{text_of};
 ghost use Rattle.gptp_report.specs.SystemLines.{failed_line, is_grandmaster, live_line, live_lines, port_line};
 
-use gptp_words::{ClockDigits, IdentityDigits, OrNone, RoleWord, yes_or_no};
 use gptp_system::System;
 use gptp_vector::{ClockId, Identity};
+use gptp_words::{ClockDigits, IdentityDigits, OrNone, RoleWord, yes_or_no};
 use std::alloc::AllocError;
 
 /// Whether this root is a grandmaster's.

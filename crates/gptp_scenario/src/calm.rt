@@ -8,7 +8,7 @@ ghost use Rattle.gptp_scenario.specs.InUse.{is_used, count_live, lives};
 ghost use Rattle.gptp_scenario.specs.SyncWait.{sync_paths};
 
 use crate::change::{Act, Change, Timed};
-use crate::network::{SystemSpec, Network, LinkSpec};
+use crate::network::{LinkSpec, Network, SystemSpec};
 use crate::sync_wait::{comes_in_time, sync_paths};
 use gptp_links::Bounds;
 use gptp_setup::Params;
@@ -230,7 +230,12 @@ fn all_rest(params: &Params, systems: &[SystemSpec], links: &[LinkSpec], events:
 }
 
 /// Whether nothing lapses for want of Sync once a network of these has settled.
-fn syncs_come_in_time(params: &Params, systems: &[SystemSpec], links: &[LinkSpec], events: &[Timed]) -> bool
+fn syncs_come_in_time(
+    params: &Params,
+    systems: &[SystemSpec],
+    links: &[LinkSpec],
+    events: &[Timed],
+) -> bool
     requires params { KeepParams params.now }
     requires few { length systems.now ≤ 512 }
     ensures { IsTrue result ↔ SyncsComeInTime params.now
@@ -240,7 +245,12 @@ fn syncs_come_in_time(params: &Params, systems: &[SystemSpec], links: &[LinkSpec
 }
 
 /// Whether a network of these is calm after these events.
-pub(crate) fn is_calm(params: &Params, systems: &[SystemSpec], links: &[LinkSpec], events: &[Timed]) -> bool
+pub(crate) fn is_calm(
+    params: &Params,
+    systems: &[SystemSpec],
+    links: &[LinkSpec],
+    events: &[Timed],
+) -> bool
     requires params { KeepParams params.now }
     requires few { length systems.now ≤ 512 }
     ensures { IsTrue result

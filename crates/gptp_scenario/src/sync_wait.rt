@@ -10,7 +10,7 @@ ghost use Rattle.gptp_setup.specs.SettlingParams.{lapse_span};
 
 use crate::calm::{is_used, link_after, live_systems, system_after};
 use crate::change::Timed;
-use crate::network::{SystemSpec, LinkSpec};
+use crate::network::{LinkSpec, SystemSpec};
 use gptp_setup::{Params, interval_of, lapse_span};
 use gptp_vector::ClockId;
 
@@ -61,7 +61,12 @@ fn far_clock(clock: ClockId, wire: &LinkSpec) -> Option<ClockId>
 }
 
 /// So where the link is in use after these events.
-fn neighbour(systems: &[SystemSpec], events: &[Timed], clock: ClockId, wire: &LinkSpec) -> Option<ClockId>
+fn neighbour(
+    systems: &[SystemSpec],
+    events: &[Timed],
+    clock: ClockId,
+    wire: &LinkSpec,
+) -> Option<ClockId>
     ensures { result ≡ neighbour systems.now events.now clock wire.now }
 {
     let far = far_clock(clock, wire)?;
@@ -121,7 +126,12 @@ fn any_leads_elsewhere(
 
 /// Whether links in use join the system with this clock to two different systems.
 #[tactic(auto, using(crate::proofs::InUseLemmas::several_by, crate::proofs::InUseLemmas::several_of_none))]
-fn has_two_neighbours(systems: &[SystemSpec], links: &[LinkSpec], events: &[Timed], clock: ClockId) -> bool
+fn has_two_neighbours(
+    systems: &[SystemSpec],
+    links: &[LinkSpec],
+    events: &[Timed],
+    clock: ClockId,
+) -> bool
     ensures { result ≡ any_differ (neighbours systems.now links.now events.now clock) }
 {
     match first_neighbour(systems, links, events, clock) {
@@ -131,7 +141,12 @@ fn has_two_neighbours(systems: &[SystemSpec], links: &[LinkSpec], events: &[Time
 }
 
 /// Whether a system lives and links in use join it to two different systems.
-fn lives_between(systems: &[SystemSpec], links: &[LinkSpec], events: &[Timed], member: &SystemSpec) -> bool
+fn lives_between(
+    systems: &[SystemSpec],
+    links: &[LinkSpec],
+    events: &[Timed],
+    member: &SystemSpec,
+) -> bool
     ensures { result ≡ lives_between systems.now links.now events.now member.now }
 {
     system_after(events, member).live

@@ -6,8 +6,8 @@ ghost use Rattle.gptp_timeline.specs.Changes.{change_lines, changed_lines, chang
 
 use crate::ports::{ShownPort, same_bool, same_port};
 use crate::shown::{Shown, is_known, same_choice};
-use gptp_words::{ClockDigits, IdentityDigits, OrNone, RoleWord, yes_or_no};
 use gptp_vector::ClockId;
+use gptp_words::{ClockDigits, IdentityDigits, OrNone, RoleWord, yes_or_no};
 use std::alloc::AllocError;
 
 /// The word for whether an offset is known.

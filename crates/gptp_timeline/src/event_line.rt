@@ -4,8 +4,8 @@ ghost use Rattle.std.specs.Prelude.{◌≡◌, ◌++◌, ◌∷◌, [], OnOk, st
 ghost use Rattle.gptp_timeline.specs.EventLine.{at_port, at_system, event_line, inject_words, priority_words, set_words, words_of};
 
 use gptp_scenario::Change;
-use gptp_words::{ClockDigits, OctetDigits};
 use gptp_vector::ClockId;
+use gptp_words::{ClockDigits, OctetDigits};
 use std::alloc::AllocError;
 
 /// Appends the kind of an event that names a port, and that port.

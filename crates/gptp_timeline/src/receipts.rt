@@ -5,12 +5,12 @@ ghost use Rattle.gptp_system.specs.State.{local_time};
 ghost use Rattle.gptp_timeline.specs.Receipts.{offset_error, is_follow_up, offset_line, received_by, receiver_clock};
 
 use crate::amounts::SignedOrNone;
-use gptp_model::Done;
 use gptp_links::Fate;
+use gptp_model::Done;
 use gptp_scaled::ScaledNs;
-use gptp_words::ClockDigits;
 use gptp_system::{Answer, System};
 use gptp_vector::ClockId;
+use gptp_words::ClockDigits;
 use gptp_world::World;
 use std::alloc::AllocError;
 

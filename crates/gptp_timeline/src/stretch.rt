@@ -15,9 +15,9 @@ use crate::counts::{Counts, counts_of};
 use crate::limits::Limit;
 use crate::measures::{Greatest, Measures, better_if};
 use crate::watched::Watched;
-use gptp_words::ClockDigits;
 use gptp_accuracy::SystemError;
 use gptp_vector::ClockId;
+use gptp_words::ClockDigits;
 use std::alloc::{AllocError, Global};
 use std::fmt;
 

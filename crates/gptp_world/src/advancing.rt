@@ -3,14 +3,14 @@
 ghost use Rattle.std.specs.Prelude.{◌≡◌};
 ghost use Rattle.gptp_world.specs.ActTarget.{aim_of};
 
-use crate::target::ActTarget;
 use crate::joined_link::Lane;
 use crate::observer::Observer;
-use crate::world_core::WorldCore;
+use crate::target::ActTarget;
 use crate::views::act_of;
 use crate::world::World;
-use gptp_model::{Done, Item, Timed};
+use crate::world_core::WorldCore;
 use gptp_links::Fate;
+use gptp_model::{Done, Item, Timed};
 use gptp_sink::Cut;
 use gptp_sink::sink::Sink;
 use std::alloc::Global;
@@ -132,7 +132,9 @@ impl<F: Fate + Drop> World<F> {
     {
         self.well_formed();
         let timed = self.world_core.next_act(time, item);
-        let done = self.world_core.perform(&timed, aim_of(item), &mut self.fate)?;
+        let done = self
+            .world_core
+            .perform(&timed, aim_of(item), &mut self.fate)?;
         let seen = observer.observe(alloc, self, &timed, &done, sink);
         self.world_core.recycle(done);
         seen

@@ -2,8 +2,8 @@
 
 ghost use Rattle.gptp_invariants.specs.EncodableLaws.{SetsAnOctet};
 
-use crate::target::ActTarget;
 use crate::stage::Stage;
+use crate::target::ActTarget;
 use gptp_model::{Act, Change, Refused, Timed};
 
 /// A priority1 that a change sets is an octet, and so is each that it injects.

@@ -2,8 +2,8 @@
 
 ghost use Rattle.std.specs.Prelude.{◌≡◌, ◌≤◌};
 
-use crate::joined_link::Lane;
 use crate::frame_budget::FrameBudget;
+use crate::joined_link::Lane;
 use crate::stage::Stage;
 use gptp_links::Fate;
 use gptp_system::{Answer, Input, Reach};

@@ -7,8 +7,8 @@ ghost use Rattle.gptp_world.specs.Directory.{directory_clocks, joins_of, directi
 ghost use Rattle.gptp_model.specs.Views.{rising};
 
 use crate::joined_link::Lane;
-use gptp_model::Network;
 use gptp_links::Direction;
+use gptp_model::Network;
 use gptp_vector::{ClockId, PortId};
 use std::alloc::{AllocError, Global};
 use std::marker::Model;

@@ -6,13 +6,13 @@ ghost use Rattle.gptp_world.specs.JoinedLink.{channel_of};
 ghost use Rattle.gptp_model.specs.Initial.{channels_of, stations_of};
 
 use crate::buffers::Buffers;
-use crate::joined_link::JoinedLink;
 use crate::directory::Directory;
+use crate::joined_link::JoinedLink;
 use crate::net::Net;
 use crate::pending::Pending;
 use crate::stage::Stage;
-use gptp_model::{Network, Station};
 use gptp_links::{Bounds, Link};
+use gptp_model::{Network, Station};
 use gptp_system::{Outbox, Setup, System};
 use std::alloc::{AllocError, Global};
 

@@ -104,7 +104,12 @@ impl Net {
 
     /// Draws room for two frames at each port of the system at a place off its credit, once more is made where that doesn't
     /// suffice. Refused where there is no memory for it. Nothing changes but the room that there is.
-    fn draw(&mut self, frame_budget: &mut FrameBudget, place: usize, ports: u8) -> Result<(), AllocError>
+    fn draw(
+        &mut self,
+        frame_budget: &mut FrameBudget,
+        place: usize,
+        ports: u8,
+    ) -> Result<(), AllocError>
         requires net { IsNet self.old }
         requires place { place < length self.old.directory.clocks }
         requires ports { AreItsPorts place ports self.old }

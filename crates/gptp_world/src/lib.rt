@@ -7,36 +7,36 @@
 #![tactic(auto)]
 
 mod advancing;
-mod target;
 mod arriving;
 mod buffers;
-mod joined_link;
 mod chain;
 mod changing;
 mod checking;
-mod frame_budget;
 mod delivering;
 mod directory;
 mod expiring;
-mod pending_index;
 mod founding;
+mod frame_budget;
+mod joined_link;
 mod net;
 mod observer;
 mod octets;
 mod pending;
+mod pending_index;
 mod performing;
 mod pool;
 mod room;
-mod world_core;
 mod sending;
 mod stage;
 mod starting;
+mod target;
 mod telling;
 mod timing;
 mod unseen;
 mod used;
 mod views;
 mod world;
+mod world_core;
 
 pub use gptp_model::{Act, Change, Done, Network, NetworkFault, Octets, Params, Refused, Timed};
 pub use observer::Observer;

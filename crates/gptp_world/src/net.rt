@@ -1,8 +1,8 @@
 //! What is between the systems: the links, and what is pending.
 
 use crate::buffers::Buffers;
-use crate::joined_link::{JoinedLink, Lane};
 use crate::directory::Directory;
+use crate::joined_link::{JoinedLink, Lane};
 use crate::octets::{write_octets, write_send};
 use crate::pending::Pending;
 use crate::sending::send_one;

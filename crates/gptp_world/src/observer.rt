@@ -8,8 +8,8 @@ ghost use Rattle.gptp_world.specs.Observing.{told_of, TellsAct};
 ghost use Rattle.gptp_sink.specs.Sink.{AppendsSome};
 
 use crate::world::World;
-use gptp_model::{Done, Timed};
 use gptp_links::Fate;
+use gptp_model::{Done, Timed};
 use gptp_sink::Cut;
 use gptp_sink::sink::Sink;
 use std::alloc::Global;

@@ -8,9 +8,9 @@ ghost use Rattle.gptp_model.specs.declared.item.Item.TheVariants.{Expiry, Arriva
 ghost use Rattle.gptp_links.specs.declared.link.Direction.TheVariants.{FromA, FromB};
 ghost use Rattle.gptp_scheduler.specs.Pending.{without_number};
 
-use crate::pending_index::{PendingIndex, ArmedTimer, arrival_place, timer_place};
-use gptp_model::Item;
+use crate::pending_index::{ArmedTimer, PendingIndex, arrival_place, timer_place};
 use gptp_links::Direction;
+use gptp_model::Item;
 use gptp_scheduler::Agenda;
 use gptp_system::Timer;
 use std::alloc::{AllocError, Global};
@@ -181,7 +181,8 @@ impl Pending {
                 },
             )
             .unwrap();
-        self.pending_index.push(arrival_place(link, direction), number);
+        self.pending_index
+            .push(arrival_place(link, direction), number);
     }
 
     /// Takes the first arrival over a link in a direction out, and answers whether there was one.

@@ -3,13 +3,13 @@
 ghost use Rattle.std.specs.Prelude.{◌≡◌, ◌≤◌, length};
 ghost use Rattle.gptp_world.specs.Performing.{octets_of};
 
-use crate::target::ActTarget;
-use crate::joined_link::Lane;
-use crate::frame_budget::FrameBudget;
 use crate::delivering::Reached;
+use crate::frame_budget::FrameBudget;
+use crate::joined_link::Lane;
 use crate::stage::Stage;
-use gptp_model::{Act, Change, Done};
+use crate::target::ActTarget;
 use gptp_links::{Bounds, Fate};
+use gptp_model::{Act, Change, Done};
 use std::alloc::AllocError;
 
 /// What an act injects; no other injects anything.
@@ -219,7 +219,11 @@ impl Stage {
     {
         match target {
             ActTarget::Arrival(lane) => self.make_room_to_hear(lane, frame_budget),
-            ActTarget::Timer { place, timer } => self.make_room_to_expire(place, timer, frame_budget),
+            ActTarget::Timer { place, timer } => self.make_room_to_expire(
+                place,
+                timer,
+                frame_budget,
+            ),
             _ => {
                 frame_budget.give_up();
                 self.make_room_to_change(act, target)

@@ -9,8 +9,8 @@ ghost use Rattle.gptp_model.specs.World.{sender};
 
 use crate::joined_link::{JoinedLink, Lane};
 use crate::pending::Pending;
-use gptp_model::Item;
 use gptp_links::{Direction, Fate};
+use gptp_model::Item;
 
 /// Sends one frame on a link that is up, for which it has room, and answers when the frame is due; `None` where it is lost.
 fn send_on<F: Fate>(

@@ -1,8 +1,8 @@
 //! The systems of a world and what is between them.
 
 use crate::net::Net;
-use gptp_model::Station;
 use gptp_links::Fate;
+use gptp_model::Station;
 use gptp_system::{Answer, Input, Outbox, Stepped, TimersChanged};
 
 /// All that acts change, but the fate: the time and that of the last change, in ns, the systems, what is between them, and

@@ -2,11 +2,11 @@
 
 ghost use Rattle.std.specs.Prelude.{◌≡◌, ◌↔◌, ◌≤◌, IsTrue, Some};
 
-use crate::joined_link::Lane;
 use crate::delivering::narrowed;
+use crate::joined_link::Lane;
 use crate::stage::Stage;
-use gptp_model::{Act, Change};
 use gptp_links::{Bounds, Direction};
+use gptp_model::{Act, Change};
 use gptp_system::Timer;
 use gptp_vector::ClockId;
 

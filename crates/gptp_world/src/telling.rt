@@ -5,8 +5,8 @@ ghost use Rattle.gptp_world.specs.Directory.{direction_end, Join};
 ghost use Rattle.gptp_system.specs.Input.{given};
 ghost use Rattle.gptp_world.specs.Telling.{link_input, AreEndsOf, IsEndAt};
 
-use crate::joined_link::Lane;
 use crate::directory::Directory;
+use crate::joined_link::Lane;
 use crate::stage::Stage;
 use gptp_links::{Direction, Fate};
 use gptp_system::Input;

@@ -2,8 +2,8 @@
 
 use crate::observer::Observer;
 use crate::world::World;
-use gptp_model::{Done, Timed};
 use gptp_links::Fate;
+use gptp_model::{Done, Timed};
 use gptp_sink::Cut;
 use gptp_sink::sink::{Sink, WriteFailed};
 use std::alloc::Global;

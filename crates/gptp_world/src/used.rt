@@ -4,8 +4,8 @@ ghost use Rattle.std.specs.Prelude.{◌≡◌, ◌<◌, ◌++◌, length, map, o
 ghost use Rattle.gptp_invariants.specs.Standing.{snapshot_of};
 
 use crate::joined_link::Lane;
-use crate::world_core::WorldCore;
 use crate::stage::Stage;
+use crate::world_core::WorldCore;
 use gptp_links::Direction;
 use gptp_vector::PortId;
 use std::alloc::{AllocError, Global};

@@ -8,8 +8,8 @@ ghost use Rattle.gptp_world.specs.Stage.{world_of, IsStage};
 ghost use Rattle.gptp_world.specs.Stage.{IsPlacedItem};
 ghost use Rattle.gptp_model.specs.Views.{IsActOf};
 
-use crate::world_core::WorldCore;
 use crate::stage::Stage;
+use crate::world_core::WorldCore;
 use gptp_model::{Act, Item, Timed};
 use gptp_roles::Role;
 use gptp_system::System;

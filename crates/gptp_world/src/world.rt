@@ -1,9 +1,9 @@
 //! Simulated worlds.
 
-use crate::world_core::WorldCore;
 use crate::unseen::{Nowhere, Unseen};
-use gptp_model::{Done, Network, Refused, Timed};
+use crate::world_core::WorldCore;
 use gptp_links::Fate;
+use gptp_model::{Done, Network, Refused, Timed};
 use gptp_roles::Role;
 use gptp_system::System;
 use gptp_vector::{ClockId, Identity, PortId};

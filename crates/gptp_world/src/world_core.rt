@@ -4,12 +4,12 @@ ghost use Rattle.std.specs.Prelude.{◌≡◌, ◌<◌, length, OnOk};
 ghost use Rattle.gptp_world.specs.Starting.{Started};
 ghost use Rattle.gptp_world.specs.WorldCore.{IsFounded, SystemsStarted};
 
-use crate::target::ActTarget;
 use crate::checking::sets_an_octet;
 use crate::frame_budget::FrameBudget;
 use crate::stage::Stage;
-use gptp_model::{Done, Network, Refused, Timed};
+use crate::target::ActTarget;
 use gptp_links::Fate;
+use gptp_model::{Done, Network, Refused, Timed};
 use std::alloc::{AllocError, Global};
 use std::marker::Model;
 
@@ -83,7 +83,10 @@ impl WorldCore {
         let mut stage = Stage::found(alloc, network)?;
         start_all(&mut stage, fate)?;
         let frame_budget = FrameBudget::new(alloc, stage.stations.len())?;
-        Ok(WorldCore { stage, frame_budget })
+        Ok(WorldCore {
+            stage,
+            frame_budget,
+        })
     }
 
     /// An act is done at its time, where it can be; otherwise the first test that it fails is answered, and nothing changes.
@@ -129,7 +132,8 @@ impl WorldCore {
         ensures kept { OnErr result (self.new ≡ self.old) }
         ensures fate { OnErr result (fate.new ≡ fate.old) }
     {
-        self.stage.make_room_for(&timed.act, target, &mut self.frame_budget)?;
+        self.stage
+            .make_room_for(&timed.act, target, &mut self.frame_budget)?;
         self.stage.now = timed.at;
         Ok(self.stage.perform(&timed.act, target, fate))
     }
