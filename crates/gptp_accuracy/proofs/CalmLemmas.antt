@@ -60,7 +60,8 @@ quiet_dec turnaround threshold w =
     dec_iff (λ h. record { lossless = h.0; good = h.1 }) (λ h. (h.lossless, h.good))
     (dec_both (ℕ_discrete w.bounds.loss 0) (dec_le _ threshold))
 
-rests_dec : (p : Params) (systems : List SystemSpec) (events : List Timed) (w : LinkSpec) → Dec (Rests p systems events w)
+rests_dec : (p : Params) (systems : List SystemSpec) (events : List Timed) (w : LinkSpec)
+    → Dec (Rests p systems events w)
 rests_dec p systems events w =
     implied_dec (used_dec systems events (link_after events w))
     (quiet_dec p.turnaround p.threshold (link_after events w))

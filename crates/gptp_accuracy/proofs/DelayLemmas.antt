@@ -30,7 +30,8 @@ alike_up false up v w h = h
 
 -- and so do both where they get other bounds
 set_alike : (test : Bool) (least greatest loss : ℕ) (v w : LinkSpec) → AreAlike v w
-    → AreAlike (cond test (member_with_bounds least greatest loss v) v) (cond test (member_with_bounds least greatest loss w) w)
+    → AreAlike (cond test (member_with_bounds least greatest loss v) v)
+      (cond test (member_with_bounds least greatest loss w) w)
 set_alike true least greatest loss v w h = record {
   a = h.a;
   b = h.b;
@@ -118,7 +119,8 @@ end_of w a b p e f (inl h) = inl (sym e ∙ h)
 end_of w a b p e f (inr h) = inr (sym f ∙ h)
 
 -- the delays that were found are those of the link
-pub delays_found : (n : NetworkState) (events : List Timed) (clock port : ℕ) (w : LinkSpec) (a b : PortId) (bounds : Bounds)
+pub delays_found : (n : NetworkState) (events : List Timed) (clock port : ℕ) (w : LinkSpec) (a b : PortId)
+    (bounds : Bounds)
     (up : Bool) (after : Bounds) → In w n.links
     → ◌≡◌ {A = PortId × PortId × Bounds × Bool} (a, b, bounds, up) (w.a, w.b, w.bounds, w.up)
     → (a ≡ record { clock = clock; port = port }) ⊎ (b ≡ record { clock = clock; port = port })

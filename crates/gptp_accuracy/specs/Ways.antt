@@ -37,7 +37,8 @@ pub record HasDelays (n : NetworkState) (events : List Timed) (clock port least 
   pub most_is : most ≡ (link_after events wire).bounds.max
 
 -- the last link of the way to a system: it is at the own port by which the system follows its parent
-pub record IsLinkTo (n : NetworkState) (events : List Timed) (clock : ℕ) (parent : ParentLink) (l : WayLink) : Type 0 where
+pub record IsLinkTo (n : NetworkState) (events : List Timed) (clock : ℕ) (parent : ParentLink)
+  (l : WayLink) : Type 0 where
   pub delays : HasDelays n events clock parent.own_port l.least l.most
   pub drift : HasDrift n clock l.drift
 

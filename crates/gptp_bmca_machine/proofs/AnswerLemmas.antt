@@ -15,7 +15,8 @@ use Rattle.gptp_bmca_machine.proofs.PlaceLemmas.{same_mine, same_there}
 use Rattle.gptp_bmca_machine.proofs.StageLemmas.{enters, begins, tells, keeps, hears, young}
 use Rattle.gptp_bmca_machine.proofs.HearingLemmas.{mid_stays, mid_mine, final_taken, mid_on, final_kept}
 
-module _ (says : Spelling) (k : Wiring) (touch : StationTouch) (w w' : MachineState) (call : StationAnswers says touch w w') (ends : Ends k w)
+module _ (says : Spelling) (k : Wiring) (touch : StationTouch) (w w' : MachineState)
+  (call : StationAnswers says touch w w') (ends : Ends k w)
     (ends' : Ends k w') (since : k.from ≤ w.time) (lasts : StaysOn k w w') where
   -- whatever stands at the teller's place has settled
   abbrev Settled : MachineState → Type 0
@@ -124,7 +125,8 @@ module _ (says : Spelling) (k : Wiring) (touch : StationTouch) (w w' : MachineSt
   abbrev TellerStep : Port → List AnnounceFrame → Type 0
   TellerStep pv' news = (v : Station) × (pv : Port) × (slice_get w.stations k.teller_place ≡ Some v)
       × (slice_get v.ports k.teller_port ≡ Some pv)
-      × ((TellerIsReady k v pv × ((pv'.announce ≡ pv.announce) ⊎ ((f : AnnounceFrame) × In f news × FrameSaysAnnounce says f)))
+      × ((TellerIsReady k v pv × ((pv'.announce ≡ pv.announce)
+        ⊎ ((f : AnnounceFrame) × In f news × FrameSaysAnnounce says f)))
       ⊎ ((TellerIsReady k v pv → ⊥) × ((f : AnnounceFrame) × In f news × FrameSaysAnnounce says f)))
 
   teller_step : Settled w' → (v' : Station) (pv' : Port) (l l' : Lane) → pv'.held ≢ Disabled
@@ -326,7 +328,8 @@ module _ (says : Spelling) (k : Wiring) (touch : StationTouch) (w w' : MachineSt
       (omega arith))
 
   -- an answer keeps the link at a stage, where what it does to the hearer's port alone does
-  answered : ((pv pu pu' : Port) (l : Lane) (stood : Stand k w pv pu l) → TellerIsReady k stood.v pv → HearsSettled k pu'
+  answered : ((pv pu pu' : Port) (l : Lane) (stood : Stand k w pv pu l) → TellerIsReady k stood.v pv
+      → HearsSettled k pu'
       → (pu.held ≢ Disabled → pu'.held ≢ Disabled) → Hearing stood.u pu pu'
       → Stage says k pv.announce pu'.held l.frames)
       → LinkSettles says k w'

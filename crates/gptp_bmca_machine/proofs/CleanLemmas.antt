@@ -30,7 +30,8 @@ joined_back k from c n joins = (n, from.port, Joins-sym k.graph from (port_of c 
 known_clock : (k : NetworkSetting) (now : ℕ) (s : Station) → IsLiveStationState k now s → In s.clock (clocks k.graph)
 known_clock k now s is = In-clocks k.graph (station_system s) is.known
 
-module _ (k : NetworkSetting) (now : ℕ) (s : Station) (is : IsLiveStationState k now s) (clean : StationIsClean k s) where
+module _ (k : NetworkSetting) (now : ℕ) (s : Station) (is : IsLiveStationState k now s)
+  (clean : StationIsClean k s) where
   -- what follows a port goes on what the port received, which was sent a turn earlier at most
   follows_clean : (c : ℕ) (p : FollowsPort s) (n : ℕ) (a : Announce) → IsOwn s n a → k.start + c * turn k ≤ now
       → Clean k.graph (suc c) s.clock a.path ⊎ Whole k.graph s.clock a
@@ -103,7 +104,8 @@ module _ (says : Spelling) (k : NetworkSetting) (s s' : Station) (touch : Statio
   -- what enters a lane is as clean as what its sender may say
   lane_sent : (l l' : Lane) → LaneIsClean says k l → LaneStep s.clock sends l l' → IsLiveStationState k now s'
       → StationIsClean k s'
-      → ((f : AnnounceFrame) → In f l'.frames → Joins k.graph l'.from l'.to → (f.due ≤ now + k.most) ⊎ (f.due < k.start))
+      → ((f : AnnounceFrame) → In f l'.frames → Joins k.graph l'.from l'.to
+      → (f.due ≤ now + k.most) ⊎ (f.due < k.start))
       → ((f : AnnounceFrame) → In f l'.frames → f.due ≤ now + k.interval) → LaneIsClean says k l'
   lane_sent l l' clean step is' clean' fresh near = record { sender = sender; clean = good; anywhere = good_anywhere }
     where
@@ -120,7 +122,8 @@ module _ (says : Spelling) (k : NetworkSetting) (s s' : Station) (touch : Statio
       ]
 
       -- an Announce that entered after c turns
-      sent_good : (f : AnnounceFrame) (a : Announce) (c : ℕ) → In f step.news → says f.octets a → k.start + c * turn k ≤ now
+      sent_good : (f : AnnounceFrame) (a : Announce) (c : ℕ) → In f step.news → says f.octets a
+        → k.start + c * turn k ≤ now
           → Good k.graph (suc c) l'.from a
       sent_good f a c new said late =
           let (x, x_in, from, octets) = step.sent f new in
@@ -149,7 +152,8 @@ module _ (says : Spelling) (k : NetworkSetting) (s s' : Station) (touch : Statio
 
 module _ (says : Spelling) (k : NetworkSetting) where
   -- one system answers
-  called : (touch : StationTouch) (w w' : MachineState) (call : StationAnswers says touch w w') → StationFacts k w' → TracesAreClean says k w
+  called : (touch : StationTouch) (w w' : MachineState) (call : StationAnswers says touch w w') → StationFacts k w'
+      → TracesAreClean says k w
       → HeardIsClean k call.s w.time touch → TracesAreClean says k w'
   called touch w w' call facts' clean heard = record { lanes = lanes; stations = stations }
     where
@@ -226,7 +230,8 @@ module _ (says : Spelling) (k : NetworkSetting) where
   heard_none s now touch deaf n a c touched late = absurd (deaf n a touched)
 
   -- what happens keeps how clean traces are
-  acts : BeginsLater k → (w w' : MachineState) → StationFacts k w → StationFacts k w' → StationActs says w w' → TracesAreClean says k w
+  acts : BeginsLater k → (w w' : MachineState) → StationFacts k w → StationFacts k w' → StationActs says w w'
+      → TracesAreClean says k w
       → TracesAreClean says k w'
   acts begun w w' facts facts' (inl act) clean =
       called act.touch act.mid w' act.call facts'
@@ -242,13 +247,15 @@ module _ (says : Spelling) (k : NetworkSetting) where
       record { lanes = clean.lanes; stations = clean.stations } in later)
 
   -- every step keeps how clean traces are
-  pub clean_kept : BeginsLater k → (w w' : MachineState) → StationFacts k w → StationFacts k w' → MachineSteps says w w' → TracesAreClean says k w
+  pub clean_kept : BeginsLater k → (w w' : MachineState) → StationFacts k w → StationFacts k w' → MachineSteps says w w'
+      → TracesAreClean says k w
       → TracesAreClean says k w'
   clean_kept begun w w' facts facts' (inl wait) clean = waits w w' wait clean
   clean_kept begun w w' facts facts' (inr act) clean = acts begun w w' facts facts' act clean
 
   -- before the start nothing is claimed of traces
-  pub clean_begins : (w : MachineState) → StationFacts k w → SendersLive k w → w.time < k.start → TracesAreClean says k w
+  pub clean_begins : (w : MachineState) → StationFacts k w → SendersLive k w → w.time < k.start
+      → TracesAreClean says k w
   clean_begins w facts live early = record {
     lanes = λ j l at. record {
       sender = λ f h late. live j l f at h late;

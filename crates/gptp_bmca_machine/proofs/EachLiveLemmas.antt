@@ -9,10 +9,12 @@ use Rattle.gptp_bmca_machine.specs.HeldLaws.{OfEachLive}
 
 module _ (says : Spelling) (P : ℕ → Station → Type 0)
     (waits : (now later : ℕ) (s : Station) → now ≤ later → P now s → P later s)
-    (answers : (touch : StationTouch) (now : ℕ) (s s' : Station) (sends : List Send) → StationReacts says s touch now s' sends
+    (answers : (touch : StationTouch) (now : ℕ) (s s' : Station) (sends : List Send)
+      → StationReacts says s touch now s' sends
     → P now s → P now s') where
   -- a system answers
-  called : (touch : StationTouch) (w w' : MachineState) → StationAnswers says touch w w' → OfEachLive P w → OfEachLive P w'
+  called : (touch : StationTouch) (w w' : MachineState) → StationAnswers says touch w w' → OfEachLive P w
+      → OfEachLive P w'
   called touch w w' call each i s at live =
       subst (λ t. P t s) (sym call.time) (elim (call.stations i s at) [
         | inl (same, is) ↦ subst (P w.time) (sym is)

@@ -194,7 +194,8 @@ module _ (now timer : ℕ) (second : Station) (frames : List AnnounceFrame) (ear
   each_frame : (P : Lane → AnnounceFrame → Type 0)
       → ((f : AnnounceFrame) → In f frames
       → P (lane_out frames) f)
-      → (j : ℕ) (l : Lane) (f : AnnounceFrame) → slice_get (example_state now timer second frames).lanes j ≡ Some l → In f l.frames
+      → (j : ℕ) (l : Lane) (f : AnnounceFrame) → slice_get (example_state now timer second frames).lanes j ≡ Some l
+      → In f l.frames
       → P l f
   each_frame P p j l f at h =
       each_of_two (λ j (l : Lane). (f : AnnounceFrame) → In f l.frames → P l f)

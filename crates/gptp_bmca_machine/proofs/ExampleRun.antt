@@ -59,7 +59,8 @@ module _ (now : ℕ) (second : Station) where
 
       own : (x : Send) (a : Announce) → x ≡ sent → a ≡ announce
           → IsOwn (first_system (4 + now)) x.port a × IsMasterAt (first_system (4 + now)) x.port
-      own x a e f = subst (λ (y : Send). IsOwn (first_system (4 + now)) y.port a × IsMasterAt (first_system (4 + now)) y.port) (sym e)
+      own x a e f = subst (λ (y : Send). IsOwn (first_system (4 + now)) y.port a
+        × IsMasterAt (first_system (4 + now)) y.port) (sym e)
           (subst (λ b. IsOwn (first_system (4 + now)) 1 b × IsMasterAt (first_system (4 + now)) 1) (sym f) (
             record { root = refl; steps = refl; source = refl; log = own_log; path = refl },
             (0, first_port (4 + now), refl, refl, refl),
@@ -70,7 +71,8 @@ module _ (now : ℕ) (second : Station) where
       tells x a (inl e) (text, is) = own x a e is
       tells x a (inr none) said = absurd none
 
-  tells : MachineSteps example_says (example_state now now second []) (example_state now (4 + now) second (example_frame (1 + now) ∷ []))
+  tells : MachineSteps example_says (example_state now now second [])
+      (example_state now (4 + now) second (example_frame (1 + now) ∷ []))
   tells = inr (inr (inr (record {
     touch = Tick 1;
     call = record {
@@ -131,7 +133,8 @@ module _ (now : ℕ) (second : Station) where
 -- the second system hears the example_frame, whatever it held before that the Announce replaces
 hears : (now timer : ℕ) (second : Station) (q : Port) → second.live ≡ true → second.clock ≡ 2
     → second.ports ≡ q ∷ [] → q.interval ≡ 4 → q.held ≢ Disabled → Replaces 2 1 announce q.held
-    → MachineSteps example_says (example_state now timer second (example_frame now ∷ [])) (example_state now timer (following now) [])
+    → MachineSteps example_says (example_state now timer second (example_frame now ∷ []))
+      (example_state now timer (following now) [])
 hears now timer second q live clock ports interval on replaces = inr (inl (record {
   j = 0;
   l = lane_out (example_frame now ∷ []);
@@ -234,7 +237,8 @@ alone_calm now timer frames opening early soon flight =
     linked : IsLinked network.graph (port_of 2 1)
     linked = (port_of 1 1, inr (inl refl))
 
-following_is_calm : (now at timer : ℕ) (frames : List AnnounceFrame) → at ≤ now → now ≤ at + 8 → now ≤ timer → timer ≤ now + 4
+following_is_calm : (now at timer : ℕ) (frames : List AnnounceFrame) → at ≤ now → now ≤ at + 8 → now ≤ timer
+    → timer ≤ now + 4
     → ((f : AnnounceFrame) → In f frames → (now ≤ f.due) × (f.due ≤ now + 1))
     → Calm network (example_state now timer (following at) frames)
 following_is_calm now at timer frames came stays early soon flight =
@@ -260,10 +264,13 @@ one_in_flight now due left soon f (inr none) = absurd none
 
 -- the first_system system announces itself, with the times worked out
 tells_at : (now timer due : ℕ) (second : Station) → timer ≡ 4 + now → due ≡ 1 + now
-    → MachineSteps example_says (example_state now now second []) (example_state now timer second (example_frame due ∷ []))
+    → MachineSteps example_says (example_state now now second [])
+      (example_state now timer second (example_frame due ∷ []))
 tells_at now timer due second e f =
-    subst (λ t. MachineSteps example_says (example_state now now second []) (example_state now t second (example_frame due ∷ []))) (sym e)
-    (subst (λ t. MachineSteps example_says (example_state now now second []) (example_state now (4 + now) second (example_frame t ∷ []))) (sym f)
+    subst (λ t. MachineSteps example_says (example_state now now second [])
+      (example_state now t second (example_frame due ∷ []))) (sym e)
+    (subst (λ t. MachineSteps example_says (example_state now now second [])
+      (example_state now (4 + now) second (example_frame t ∷ []))) (sym f)
     (tells now second))
 
 -- any number of turns is a run
@@ -291,7 +298,8 @@ turns_run at (suc count) = (
         hears (4 + at) (7 + at) (following at)
             (record { held = Received (heard_at at); log = pos 2; interval = 4; announce = 4 }) refl refl refl refl
             (λ e. absurd cc) (inl refl),
-        subst (λ t. IsRun example_says network (example_state (4 + at) t (following (4 + at)) []) (turns (4 + at) count))
+        subst (λ t. IsRun example_says network (example_state (4 + at) t (following (4 + at)) [])
+          (turns (4 + at) count))
             (let same : 3 + (4 + at) ≡ 7 + at = omega arith in same) (turns_run (4 + at) count),
       ),
     ),
@@ -317,7 +325,8 @@ example_runs = (
         alone_calm 2 5 (example_frame 2 ∷ []) (omega arith) (omega arith) (omega arith)
             (one_in_flight 2 2 (omega arith) (omega arith)),
         nothing_lapses 2 5 lone_system (example_frame 2 ∷ []) refl,
-        hears 2 5 lone_system (record { held = Mine second_identity 0; log = pos 2; interval = 4; announce = 4 }) refl refl
+        hears 2 5 lone_system (record { held = Mine second_identity 0; log = pos 2; interval = 4; announce = 4 }) refl
+          refl
             refl refl (mine_disabled second_identity 0) (inl (omega arith)),
         turns_run 2 10,
       ),

@@ -18,7 +18,8 @@ held_later now later s passes held place r holds =
 
 module _ (says : Spelling) where
   -- through an answer: what is held was held before, or just heard, and then qualified
-  held_after : (touch : StationTouch) (now : ℕ) (s s' : Station) (sends : List Send) → StationReacts says s touch now s' sends
+  held_after : (touch : StationTouch) (now : ℕ) (s s' : Station) (sends : List Send)
+      → StationReacts says s touch now s' sends
       → HoldsNoLoop now s → HoldsNoLoop now s'
   held_after touch now s s' sends reacts held place r holds =
       subst (λ c. (r.at ≤ now) × (In c r.said.path → ⊥)) (sym reacts.clock)
@@ -35,5 +36,6 @@ module _ (says : Spelling) where
           )
 
   -- through every step
-  pub no_loop_taken : (w w' : MachineState) → MachineSteps says w w' → OfEachLive HoldsNoLoop w → OfEachLive HoldsNoLoop w'
+  pub no_loop_taken : (w w' : MachineState) → MachineSteps says w w' → OfEachLive HoldsNoLoop w
+      → OfEachLive HoldsNoLoop w'
   no_loop_taken = each_live_kept says HoldsNoLoop held_later held_after

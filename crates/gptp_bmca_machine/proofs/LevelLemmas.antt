@@ -163,7 +163,8 @@ steps_on says w w' (inr (inr (inl act))) = let same = act.pops.time in omega (ar
 steps_on says w w' (inr (inr (inr act))) = let same = act.call.time in omega (arith, same)
 
 -- where claims are made only once ports are capable nothing need be known of them
-pub no_early_ports : (says : Spelling) (n : Network) (w w' : MachineState) → ClaimsWhenReady n → EarlyPortsHear says n w w'
+pub no_early_ports : (says : Spelling) (n : Network) (w w' : MachineState) → ClaimsWhenReady n
+    → EarlyPortsHear says n w w'
 no_early_ports says n w w' ready = record {
   hears = λ d p u i joins late early.
       let by : n.ready (port_of u (suc i)) ≤ n.claimed d p = ready d p (port_of u (suc i)) joins in
@@ -176,7 +177,8 @@ no_early_ports says n w w' ready = record {
 module _ (says : Spelling) (n : Network) (net : IsSettlingNetwork n) where
   module _ (w w' : MachineState) (calm : Calm n w) (calm' : Calm n w') (nothing : NothingNearLapses n w)
       (waking : EarlyPortsHear says n w w')
-      (step : MachineSteps says w w') (time : w.time ≤ w'.time) (sound' : RunIsSound n w') (invariant : Invariant says n w) where
+      (step : MachineSteps says w w') (time : w.time ≤ w'.time) (sound' : RunIsSound n w')
+        (invariant : Invariant says n w) where
     -- one level is kept, where those below it are
     level_kept : (d : ℕ) → ((e : ℕ) → e < d → LevelSettles says n e w') → LevelSettles says n d w'
     level_kept d below best v p u q near leads =
@@ -217,10 +219,12 @@ module _ (says : Spelling) (n : Network) (net : IsSettlingNetwork n) where
   }
 
   -- what is held is sound where it has become wholly clean
-  pub clean_sound : (w : MachineState) → Calm n w → TracesAreClean says (network_setting n) w → machine_clean_from n ≤ n.sound → RunIsSound n w
+  pub clean_sound : (w : MachineState) → Calm n w → TracesAreClean says (network_setting n) w
+      → machine_clean_from n ≤ n.sound → RunIsSound n w
   clean_sound w calm traces clean late i s place r at live holds =
       let came =
-      held_whole says (network_setting n) n.reach w net.paths calm.facts traces (omega arith) i s place r at live holds in
+      held_whole says (network_setting n) n.reach w net.paths calm.facts traces
+        (omega arith) i s place r at live holds in
       came_fits n.graph s.clock (suc place) r net.graph
       (record { from = came.from; joins = came.joins; source = came.source; sound = inr came.whole })
 
@@ -236,7 +240,8 @@ good_whole n net from a good = elim good.clean [
 ]
 
 -- a delay after what is held has become wholly clean all is
-pub all_whole : (says : Spelling) (n : Network) (w : MachineState) → IsSettlingNetwork n → Calm n w → TracesAreClean says (network_setting n) w
+pub all_whole : (says : Spelling) (n : Network) (w : MachineState) → IsSettlingNetwork n → Calm n w
+    → TracesAreClean says (network_setting n) w
     → machine_clean_from n + n.most ≤ w.time → AllIsWhole says n.graph (Joins n.graph) w
 all_whole says n w net calm traces late = record {
   lanes = λ j l f a at flies said joins.
@@ -249,7 +254,8 @@ all_whole says n w net calm traces late = record {
     whole l a good = record { source = good.source; whole = good_whole n net l.from a good }
 
 -- before what is held must be sound the invariant claims nothing
-pub invariant_begins : (says : Spelling) (n : Network) → IsSettlingNetwork n → (w : MachineState) → w.time < n.sound → Invariant says n w
+pub invariant_begins : (says : Spelling) (n : Network) → IsSettlingNetwork n → (w : MachineState) → w.time < n.sound
+    → Invariant says n w
 invariant_begins says n net w early = record {
   sound = λ late. absurd (omega arith);
   levels = λ d best v p u q near leads late.

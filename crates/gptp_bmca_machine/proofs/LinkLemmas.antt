@@ -146,7 +146,8 @@ module _ (says : Spelling) (k : Wiring) where
     ]
 
   -- whatever happens keeps the link at a stage
-  acts : (w w' : MachineState) → Ends k w → Ends k w' → LapsesLater k w → HearsOn says k w → StaysOn k w w' → StationActs says w w'
+  acts : (w w' : MachineState) → Ends k w → Ends k w' → LapsesLater k w → HearsOn says k w → StaysOn k w w'
+      → StationActs says w w'
       → LinkSettles says k w → LinkSettles says k w'
   acts w w' ends ends' lapses on lasts (inl act) link = arrives w w' ends ends' act on lasts link
   acts w w' ends ends' lapses on lasts (inr (inl act)) link = drops w w' ends act link

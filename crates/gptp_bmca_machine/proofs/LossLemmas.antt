@@ -136,7 +136,8 @@ module _ (says : Spelling) (g : Snapshot) (n : Network) (left : IsWhatIsLeft g n
       → (IsLinked g (port_of s.clock (suc i)) → CameOverLink g s.clock (suc i) a) × HeldFits g s.clock a
 
   -- one system answers
-  called : (touch : StationTouch) (w w' : MachineState) (call : StationAnswers says touch w w') → Calm n w' → EverythingFits says g n w
+  called : (touch : StationTouch) (w w' : MachineState) (call : StationAnswers says touch w w') → Calm n w'
+      → EverythingFits says g n w
       → HeardFits call.s touch → EverythingFits says g n w'
   unfolding HeardFits
   called touch w w' call calm' all heard = record { lanes = lanes; stations = stations }
@@ -247,7 +248,8 @@ module _ (says : Spelling) (g : Snapshot) (n : Network) (left : IsWhatIsLeft g n
             fit.sender best far (subst (λ (x : PortIdentity). IsBest g x.clock best) (sym to) is_best);
       }
 
-  heard_none : (s : Station) (touch : StationTouch) → ((m : ℕ) (a : Announce) → touch ≡ Hear m a → ⊥) → HeardFits s touch
+  heard_none : (s : Station) (touch : StationTouch) → ((m : ℕ) (a : Announce) → touch ≡ Hear m a → ⊥)
+      → HeardFits s touch
   unfolding HeardFits
   heard_none s touch deaf i a touched = absurd (deaf (suc i) a touched)
 
@@ -306,7 +308,8 @@ loss_fits says n n' w w' net loss = record {
 
 -- ---- a loss that moves nothing
 
-module _ (says : Spelling) (n n' : Network) (net : IsSettlingNetwork n) (net' : IsSettlingNetwork n') (w w' : MachineState)
+module _ (says : Spelling) (n n' : Network) (net : IsSettlingNetwork n) (net' : IsSettlingNetwork n')
+  (w w' : MachineState)
     (moved : NothingMoved says n n' w w') (calm' : Calm n' w') where
   rests : IsResting says n w
   rests = moved.loss.rests
@@ -344,7 +347,8 @@ module _ (says : Spelling) (n n' : Network) (net : IsSettlingNetwork n) (net' : 
     long = λ best is_best. fits.long best (best_back c best known is_best);
   }
 
-  over_on : (c m : ℕ) (a : Announce) → In c (clocks n'.graph) → CameOverLink n.graph c m a → IsLinked n'.graph (port_of c m)
+  over_on : (c m : ℕ) (a : Announce) → In c (clocks n'.graph) → CameOverLink n.graph c m a
+      → IsLinked n'.graph (port_of c m)
       → CameOverLink n'.graph c m a
   over_on c m a known came (from, linked) = record {
     from = from;
@@ -423,13 +427,15 @@ module _ (says : Spelling) (n n' : Network) (net : IsSettlingNetwork n) (net' : 
 
 -- ---- a run after it
 
-first_calm : (says : Spelling) (n : Network) (w : MachineState) (ws : List MachineState) → IsLossRun says n w ws → Calm n w
+first_calm : (says : Spelling) (n : Network) (w : MachineState) (ws : List MachineState) → IsLossRun says n w ws
+    → Calm n w
 first_calm says n w [] run = run
 first_calm says n w (w' ∷ ws) run = run.0
 
 module _ (says : Spelling) (g : Snapshot) (n : Network) (net : IsSettlingNetwork n) (left : IsWhatIsLeft g n)
     (now : (w : MachineState) → Calm n w → ReceivedFits g w → ReceivedFits n.graph w) where
-  run_keeps : (w : MachineState) (ws : List MachineState) → IsLossRun says n w ws → EverythingFits says g n w → Invariant says n w
+  run_keeps : (w : MachineState) (ws : List MachineState) → IsLossRun says n w ws → EverythingFits says g n w
+      → Invariant says n w
       → Calm n (last_state w ws) × Invariant says n (last_state w ws)
   run_keeps w [] run all invariant = (run, invariant)
   run_keeps w (w' ∷ ws) (calm, nothing, waking, step, rest) all invariant =
@@ -438,7 +444,8 @@ module _ (says : Spelling) (g : Snapshot) (n : Network) (net : IsSettlingNetwork
       run_keeps w' ws rest all'
       (invariant_kept says n net w w' calm calm' nothing waking step (λ late. now w' calm' all'.stations) invariant)
 
-pub nothing_moved_settles : (says : Spelling) (n n' : Network) (w w' : MachineState) (ws : List MachineState) → IsSettlingNetwork n → IsSettlingNetwork n'
+pub nothing_moved_settles : (says : Spelling) (n n' : Network) (w w' : MachineState) (ws : List MachineState)
+    → IsSettlingNetwork n → IsSettlingNetwork n'
     → NothingMoved says n n' w w' → IsLossRun says n' w' ws → settled_from n' ≤ (last_state w' ws).time
     → NearHaveSettled n' (last_state w' ws)
 nothing_moved_settles says n n' w w' ws net net' moved run late i s at live near =

@@ -13,7 +13,8 @@ module _ (says_sync : SaysSync) (from : PortIdentity) where
   follow_up_on id (f ∷ fs) news due (inl said) = inl said
   follow_up_on id (f ∷ fs) news due (inr (none, has)) = inr (none, follow_up_on id fs news due has)
 
-  pair_on : (fs news : List AnnounceFrame) (due : ℕ) → HasPair says_sync from fs due → HasPair says_sync from (fs ++ news) due
+  pair_on : (fs news : List AnnounceFrame) (due : ℕ) → HasPair says_sync from fs due
+      → HasPair says_sync from (fs ++ news) due
   pair_on [] news due has = absurd has
   pair_on (f ∷ fs) news due (inl (id, said, source, has)) = inl (id, said, source, follow_up_on id fs news due has)
   pair_on (f ∷ fs) news due (inr has) = inr (pair_on fs news due has)
@@ -38,7 +39,8 @@ module _ (says_sync : SaysSync) (from : PortIdentity) where
       let (g, at, is) = follow_up_in id fs due has in
       (g, inr at, is)
 
-  pair_in : (fs : List AnnounceFrame) (due : ℕ) → HasPair says_sync from fs due → (f : AnnounceFrame) × In f fs × (f.due ≡ due)
+  pair_in : (fs : List AnnounceFrame) (due : ℕ) → HasPair says_sync from fs due
+      → (f : AnnounceFrame) × In f fs × (f.due ≡ due)
   pair_in [] due has = absurd has
   pair_in (f ∷ fs) due (inl (id, said, source, has)) =
       let (g, at, is) = follow_up_in id fs due has in

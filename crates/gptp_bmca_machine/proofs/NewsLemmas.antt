@@ -22,7 +22,8 @@ module _ (says : Spelling) (n : Network) (net : IsSettlingNetwork n) where
   first_calm w [] run = run
   first_calm w (w' ∷ ws) run = run.0
 
-  run_keeps : (w : MachineState) (ws : List MachineState) → IsNewsRun says n w ws → IsSoundOnLinks says n.graph w → Invariant says n w
+  run_keeps : (w : MachineState) (ws : List MachineState) → IsNewsRun says n w ws → IsSoundOnLinks says n.graph w
+      → Invariant says n w
       → Calm n (last_state w ws) × Invariant says n (last_state w ws)
   run_keeps w [] run all invariant = (run, invariant)
   run_keeps w (w' ∷ ws) (calm, off, nothing, waking, step, rest) all invariant =
@@ -42,7 +43,8 @@ module _ (says : Spelling) (n : Network) (net : IsSettlingNetwork n) where
       network_settles says n (last_state w ws) i s net calm invariant at live near by
 
   -- from rest
-  pub rest_settles : (w : MachineState) (ws : List MachineState) → IsSoundOnLinks says n.graph w → ((d : ℕ) → LevelSettles says n d w)
+  pub rest_settles : (w : MachineState) (ws : List MachineState) → IsSoundOnLinks says n.graph w
+      → ((d : ℕ) → LevelSettles says n d w)
       → IsNewsRun says n w ws → settled_from n ≤ (last_state w ws).time → NearHaveSettled n (last_state w ws)
   rest_settles w ws all levels run by i s at live near =
       let (calm, invariant) =
@@ -50,7 +52,8 @@ module _ (says : Spelling) (n : Network) (net : IsSettlingNetwork n) where
       network_settles says n (last_state w ws) i s net calm invariant at live near by
 
   -- from a start: no port is on, and so none holds anything and none is ready to tell
-  pub start_settles : (w : MachineState) (ws : List MachineState) → NothingIsHeldAtStart says n w → IsNewsRun says n w ws
+  pub start_settles : (w : MachineState) (ws : List MachineState) → NothingIsHeldAtStart says n w
+      → IsNewsRun says n w ws
       → settled_from n ≤ (last_state w ws).time → NearHaveSettled n (last_state w ws)
   start_settles w ws starts run =
       rest_settles w ws (record {

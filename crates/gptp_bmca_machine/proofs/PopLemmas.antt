@@ -10,7 +10,8 @@ use Rattle.gptp_bmca_machine.proofs.StageLemmas.{misses}
 
 module _ (says : Spelling) (k : Wiring) where
   -- the link keeps its ends when a frame is taken off a lane
-  pub ends_popped : (j : ℕ) (l : Lane) (f : AnnounceFrame) (fs : List AnnounceFrame) (w w' : MachineState) → Pops j l f fs w w' → Ends k w
+  pub ends_popped : (j : ℕ) (l : Lane) (f : AnnounceFrame) (fs : List AnnounceFrame) (w w' : MachineState)
+      → Pops j l f fs w w' → Ends k w
       → Ends k w'
   ends_popped j l f fs w w' pops ends = record {
     in_time = ends.in_time;
@@ -46,7 +47,8 @@ module _ (says : Spelling) (k : Wiring) where
       rest h = record { from = h.from; to = h.to; loss = h.loss; is_up = h.is_up }
 
   -- what stands after a frame was taken off stood before, with the lane's frames behind that one
-  abbrev pub stood_popped : (j : ℕ) (l : Lane) (f : AnnounceFrame) (fs : List AnnounceFrame) (w w' : MachineState) → Pops j l f fs w w'
+  abbrev pub stood_popped : (j : ℕ) (l : Lane) (f : AnnounceFrame) (fs : List AnnounceFrame) (w w' : MachineState)
+      → Pops j l f fs w w'
       → (m : Lane)
       → slice_get w.lanes k.lane ≡ Some m → (pv pu : Port) (l' : Lane) → Stand k w' pv pu l' → Stand k w pv pu m
   stood_popped j l f fs w w' pops m at pv pu l' stand = record {
@@ -60,7 +62,8 @@ module _ (says : Spelling) (k : Wiring) where
   }
 
   -- a frame of another lane
-  pub other_lane : (j : ℕ) (l : Lane) (f : AnnounceFrame) (fs : List AnnounceFrame) (w w' : MachineState) → Pops j l f fs w w' → k.lane ≢ j
+  pub other_lane : (j : ℕ) (l : Lane) (f : AnnounceFrame) (fs : List AnnounceFrame) (w w' : MachineState)
+      → Pops j l f fs w w' → k.lane ≢ j
       → LinkSettles says k w → LinkSettles says k w'
   other_lane j l f fs w w' pops other link since pv pu l' stand settled =
       elim (pops.lanes k.lane l' stand.lane) [
@@ -70,7 +73,8 @@ module _ (says : Spelling) (k : Wiring) where
       ]
 
   -- a frame of this lane that says no Announce
-  pub silent_frame : (j : ℕ) (l : Lane) (f : AnnounceFrame) (fs : List AnnounceFrame) (w w' : MachineState) → Pops j l f fs w w' → k.lane ≡ j
+  pub silent_frame : (j : ℕ) (l : Lane) (f : AnnounceFrame) (fs : List AnnounceFrame) (w w' : MachineState)
+      → Pops j l f fs w w' → k.lane ≡ j
       → (k.from ≤ w.time → (pv pu : Port) → Stand k w pv pu l → FrameSaysAnnounce says f → ⊥)
       → LinkSettles says k w → LinkSettles says k w'
   silent_frame j l f fs w w' pops same silent link since pv pu l' stand settled =

@@ -30,7 +30,8 @@ use Rattle.gptp_bmca_machine.proofs.SoundLemmas.{received_fits, path_on, news_al
 use Rattle.gptp_bmca_machine.proofs.NewsLemmas.{rest_settles, rest_goes_on, first_calm}
 use Rattle.gptp_bmca_machine.proofs.RestingLemmas.{all_choose, by_then_at, best_clock, nearer_now, leads_before, stage_on}
 
-module _ (says : Spelling) (n n' : Network) (net : IsSettlingNetwork n) (net' : IsSettlingNetwork n') (w w' : MachineState)
+module _ (says : Spelling) (n n' : Network) (net : IsSettlingNetwork n) (net' : IsSettlingNetwork n')
+  (w w' : MachineState)
     (k : ReactsAtRest says n n' w w') (calm' : Calm n' w') where
   rests : IsResting says n w
   rests = k.rests
@@ -305,7 +306,8 @@ module _ (says : Spelling) (n n' : Network) (net : IsSettlingNetwork n) (net' : 
             (port_of v (suc p)) s' pu' (Joins-clock n'.graph (port_of u (suc q)) (port_of v (suc p)) net'.graph back')
             back' at' port' (subst (λ t. n'.ready (port_of u (suc q)) ≤ t) (sym k.call.time) ready)
 
-pub reaction_settles : (says : Spelling) (n n' : Network) (w w' : MachineState) (ws : List MachineState) → IsSettlingNetwork n → IsSettlingNetwork n'
+pub reaction_settles : (says : Spelling) (n n' : Network) (w w' : MachineState) (ws : List MachineState)
+    → IsSettlingNetwork n → IsSettlingNetwork n'
     → ReactsAtRest says n n' w w' → IsNewsRun says n' w' ws → settled_from n' ≤ (last_state w' ws).time
     → NearHaveSettled n' (last_state w' ws)
 reaction_settles says n n' w w' ws net net' k run =
@@ -314,7 +316,8 @@ reaction_settles says n n' w w' ws net net' k run =
     p u q
     close leads) run
 
-pub rest_follows_reaction : (says : Spelling) (n n' : Network) (w w' : MachineState) (ws : List MachineState) → IsSettlingNetwork n
+pub rest_follows_reaction : (says : Spelling) (n n' : Network) (w w' : MachineState) (ws : List MachineState)
+    → IsSettlingNetwork n
     → IsSettlingNetwork n' → ReactsAtRest says n n' w w' → AllAreNear n'.graph → IsNewsRun says n' w' ws
     → settled_from n' + n'.most ≤ (last_state w' ws).time → n'.off ≤ (last_state w' ws).time
     → IsResting says n' (last_state w' ws)

@@ -15,7 +15,8 @@ pub record JustHeard (c n now : ℕ) (touch : StationTouch) (r : Reception) : Ty
   pub at : r.at ≡ now
 
 -- what a port received after a touch it had received before, or just heard
-pub mid_from : (c n now : ℕ) (touch : StationTouch) (held mid : Held) (r : Reception) → HeldInTouch c n touch now held mid
+pub mid_from : (c n now : ℕ) (touch : StationTouch) (held mid : Held) (r : Reception)
+    → HeldInTouch c n touch now held mid
     → mid ≡ Received r → (held ≡ Received r) ⊎ JustHeard c n now touch r
 mid_from c n now (Hear m a) held mid r (inl (same, on, inl takes)) e =
     let taken : Reception = record { said = a; at = now; span = takes.span } in

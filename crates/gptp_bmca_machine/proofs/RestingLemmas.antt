@@ -33,7 +33,8 @@ use Rattle.gptp_bmca_machine.proofs.NewsLemmas.{rest_settles, rest_goes_on}
 
 -- ---- rest is reached
 
-module _ (says : Spelling) (n : Network) (net : IsSettlingNetwork n) (w : MachineState) (calm : Calm n w) (invariant : Invariant says n w)
+module _ (says : Spelling) (n : Network) (net : IsSettlingNetwork n) (w : MachineState) (calm : Calm n w)
+  (invariant : Invariant says n w)
     (late : settled_from n ≤ w.time) where
   pub by_then_at : (e : ℕ) → suc e ≤ n.reach → since n e ≤ w.time
   by_then_at e h =
@@ -118,7 +119,8 @@ module _ (says : Spelling) (n n' : Network) (same : SameWiring n n') (d : ℕ) (
     qualified = final.qualified;
   }
 
-  pub stays_so : (announce : ℕ) (held : Held) (fs : List AnnounceFrame) → FinalAnnounceStays says (wiring n d b v p u q) announce held fs
+  pub stays_so : (announce : ℕ) (held : Held) (fs : List AnnounceFrame)
+      → FinalAnnounceStays says (wiring n d b v p u q) announce held fs
       → FinalAnnounceStays says (wiring n' d b' v p u q) announce held fs
   stays_so announce held fs stays = record {
     what = stays.what;
@@ -191,7 +193,8 @@ module _ (g g' : Snapshot) (wf : IsWellFormed g) (wf' : IsWellFormed g') (news :
 
 -- ---- a run from rest
 
-module _ (says : Spelling) (n n' : Network) (net : IsSettlingNetwork n) (net' : IsSettlingNetwork n') (w w' : MachineState)
+module _ (says : Spelling) (n n' : Network) (net : IsSettlingNetwork n) (net' : IsSettlingNetwork n')
+  (w w' : MachineState)
     (rests : IsResting says n w) (news : HasNews n.graph n'.graph) (same : SameWiring n n') where
   -- a link that was there is at its last stage
   pub stage_on : (v p u q : ℕ) → Joins n.graph (port_of v (suc p)) (port_of u (suc q)) → StandsAsBefore n w w' v p u
@@ -239,7 +242,8 @@ module _ (says : Spelling) (n n' : Network) (net : IsSettlingNetwork n) (net' : 
                 (subst (λ i. slice_get w'.lanes i ≡ Some l) (same.lane (port_of v (suc p))) stand.lane);
           }
 
-module _ (says : Spelling) (n n' : Network) (net : IsSettlingNetwork n) (net' : IsSettlingNetwork n') (w w' : MachineState)
+module _ (says : Spelling) (n n' : Network) (net : IsSettlingNetwork n) (net' : IsSettlingNetwork n')
+  (w w' : MachineState)
     (finds : NewsAtRest says n n' w w') where
   levels : (d : ℕ) → LevelSettles says n' d w'
   levels d best v p u q close leads = elim (finds.links v p u q leads.joins) [
@@ -256,7 +260,8 @@ module _ (says : Spelling) (n n' : Network) (net : IsSettlingNetwork n) (net' : 
       → NearHaveSettled n' (last_state w' ws)
   news_from_rest ws run = rest_settles says n' net' w' ws sound_now levels run
 
-  pub rest_follows : (ws : List MachineState) → AllAreNear n'.graph → IsNewsRun says n' w' ws → w'.time < settled_from n'
+  pub rest_follows : (ws : List MachineState) → AllAreNear n'.graph → IsNewsRun says n' w' ws
+      → w'.time < settled_from n'
       → settled_from n' + n'.most ≤ (last_state w' ws).time → n'.off ≤ (last_state w' ws).time
       → IsResting says n' (last_state w' ws)
   rest_follows ws near run early late off =

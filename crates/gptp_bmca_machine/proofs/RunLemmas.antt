@@ -13,14 +13,16 @@ use Rattle.gptp_bmca_machine.proofs.CleanLemmas.{clean_begins, clean_kept}
 use Rattle.gptp_bmca_machine.proofs.LevelLemmas.{no_early_ports, clean_sound, invariant_kept, invariant_begins}
 use Rattle.gptp_bmca_machine.proofs.SettledLemmas.{network_settles}
 
-module _ (says : Spelling) (n : Network) (net : IsSettlingNetwork n) (cleans : BecomesClean n) (ready : ClaimsWhenReady n) where
+module _ (says : Spelling) (n : Network) (net : IsSettlingNetwork n) (cleans : BecomesClean n)
+  (ready : ClaimsWhenReady n) where
   -- the first state of a run is calm
   first_calm : (w : MachineState) (ws : List MachineState) → IsRun says n w ws → Calm n w
   first_calm w [] run = run
   first_calm w (w' ∷ ws) run = run.0
 
   -- the last state is calm and keeps the invariant, where the first keeps it
-  pub run_keeps : (w : MachineState) (ws : List MachineState) → IsRun says n w ws → TracesAreClean says (network_setting n) w
+  pub run_keeps : (w : MachineState) (ws : List MachineState) → IsRun says n w ws
+      → TracesAreClean says (network_setting n) w
       → Invariant says n w → Calm n (last_state w ws) × Invariant says n (last_state w ws)
   run_keeps w [] run traces invariant = (run, invariant)
   run_keeps w (w' ∷ ws) (calm, nothing, step, rest) traces invariant =
@@ -31,7 +33,8 @@ module _ (says : Spelling) (n : Network) (net : IsSettlingNetwork n) (cleans : B
       (clean_sound says n net w' calm' traces' cleans.late) invariant)
 
   -- so it is settled, where the run begins early and ends late enough
-  pub run_settles : (w : MachineState) (ws : List MachineState) → IsRun says n w ws → SendersLive (network_setting n) w → w.time < n.start
+  pub run_settles : (w : MachineState) (ws : List MachineState) → IsRun says n w ws → SendersLive (network_setting n) w
+      → w.time < n.start
       → settled_from n ≤ (last_state w ws).time → NearHaveSettled n (last_state w ws)
   run_settles w ws run live_senders early by i s at live near =
       let first = first_calm w ws run in

@@ -43,7 +43,8 @@ kept_mine Aged root steps kept e = absurd kept
 kept_mine (Mine r t) root steps kept e = absurd kept
 
 -- a port is selected after its part in an answer, where it was so before
-selected_after : (says : Spelling) (c n now : ℕ) (touch : StationTouch) (s s' : Station) (q q' : Port) (sends : List Send)
+selected_after : (says : Spelling) (c n now : ℕ) (touch : StationTouch) (s s' : Station) (q q' : Port)
+    (sends : List Send)
     → PortStep says c n now touch s'.root s'.steps q q' sends → IsSelected now s q → IsSelected now s' q'
 selected_after says c n now touch s s' q q' sends step before = elim step.after [
   | inl (kept, is_kept) ↦ record {
@@ -82,7 +83,8 @@ selected_later now later s passes selected place q there =
 
 module _ (says : Spelling) where
   -- through an answer
-  ports_after : (touch : StationTouch) (now : ℕ) (s s' : Station) (sends : List Send) → StationReacts says s touch now s' sends
+  ports_after : (touch : StationTouch) (now : ℕ) (s s' : Station) (sends : List Send)
+      → StationReacts says s touch now s' sends
       → PortsAreSelected now s → PortsAreSelected now s'
   ports_after touch now s s' sends reacts selected place q there =
       let (p, stood, step) = reacts.ports place q there in

@@ -35,7 +35,8 @@ use Rattle.gptp_bmca_machine.proofs.LevelLemmas.{places_of, told, chooses}
 pub since_grows : (n : Network) (d e : ℕ) → d ≤ e → since n d ≤ since n e
 since_grows n d e h = let more : d * n.step ≤ e * n.step = mul-le-mul_right n.step h in omega arith
 
-module _ (says : Spelling) (n : Network) (net : IsSettlingNetwork n) (w : MachineState) (calm : Calm n w) (invariant : Invariant says n w)
+module _ (says : Spelling) (n : Network) (net : IsSettlingNetwork n) (w : MachineState) (calm : Calm n w)
+  (invariant : Invariant says n w)
     (i : ℕ) (s : Station) (at : slice_get w.stations i ≡ Some s) (live : s.live ≡ true) (d : ℕ)
     (here : IsDistance n.graph s.clock d) (near : d < 255) where
   stands : slice_get w.stations (n.place s.clock) ≡ Some s
@@ -427,7 +428,8 @@ module _ (says : Spelling) (n : Network) (net : IsSettlingNetwork n) (w : Machin
     ]
 
 -- by the end each distance has settled, and so have the Passive ends
-module _ (n : Network) (net : IsSettlingNetwork n) (w : MachineState) (d : ℕ) (s : Station) (here : IsDistance n.graph s.clock d)
+module _ (n : Network) (net : IsSettlingNetwork n) (w : MachineState) (d : ℕ) (s : Station)
+  (here : IsDistance n.graph s.clock d)
     (late : settled_from n ≤ w.time) where
   by_then : (e : ℕ) → suc e ≤ n.reach → since n e ≤ w.time
   by_then e h =
@@ -447,7 +449,8 @@ module _ (n : Network) (net : IsSettlingNetwork n) (w : MachineState) (d : ℕ) 
       (equal_within n.graph n.reach s.clock u d net.graph net.paths joined (λ e. absurd (omega arith)) here there)
 
 -- in the end every near system has settled, and all its ports
-pub network_settles : (says : Spelling) (n : Network) (w : MachineState) (i : ℕ) (s : Station) → IsSettlingNetwork n → Calm n w
+pub network_settles : (says : Spelling) (n : Network) (w : MachineState) (i : ℕ) (s : Station) → IsSettlingNetwork n
+    → Calm n w
     → Invariant says n w → slice_get w.stations i ≡ Some s → s.live ≡ true → IsNear n.graph s.clock
     → settled_from n ≤ w.time
     → HasBest n.graph s × (n.bare ≤ w.time → FollowsBest n.graph s) × (n.off ≤ w.time → HasSettledRoles n.graph s)
@@ -459,7 +462,8 @@ network_settles says n w i s net calm invariant at live (d, here, near) late = (
 )
 
 -- In the end what a near live system holds is wholly clean.
-pub network_whole : (says : Spelling) (n : Network) (w : MachineState) (i : ℕ) (s : Station) → IsSettlingNetwork n → Calm n w
+pub network_whole : (says : Spelling) (n : Network) (w : MachineState) (i : ℕ) (s : Station) → IsSettlingNetwork n
+    → Calm n w
     → Invariant says n w → slice_get w.stations i ≡ Some s → s.live ≡ true → IsNear n.graph s.clock
     → settled_from n ≤ w.time → n.off ≤ w.time → (place : ℕ) (r : Reception)
     → CameSound n.graph s.clock (suc place) r → HoldsAt s place r
@@ -470,7 +474,8 @@ network_whole says n w i s net calm invariant at live (d, here, near) late =
 
 -- once all that is held is sound, a system's root is no better than its best, and for that its steps are no fewer than
 -- its distance
-pub systems_bounded : (says : Spelling) (n : Network) (w : MachineState) (i : ℕ) (s : Station) (best : System) → IsSettlingNetwork n
+pub systems_bounded : (says : Spelling) (n : Network) (w : MachineState) (i : ℕ) (s : Station) (best : System)
+    → IsSettlingNetwork n
     → Calm n w → Invariant says n w → slice_get w.stations i ≡ Some s → s.live ≡ true → IsBest n.graph s.clock best
     → n.sound ≤ w.time
     → (best.identity ≤ s.root) × ((d : ℕ) → IsDistance n.graph s.clock d → s.root ≡ best.identity → d ≤ s.steps)

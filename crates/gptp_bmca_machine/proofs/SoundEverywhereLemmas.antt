@@ -149,13 +149,15 @@ module _ (says : Spelling) (g : Snapshot) (well : IsWellFormed g) where
 
 module _ (says : Spelling) (k : NetworkSetting) (well : IsWellFormed k.graph) where
   -- the system that answers is one of the snapshot
-  answers_known : (touch : StationTouch) (w w' : MachineState) (call : StationAnswers says touch w w') → StationFacts k w'
+  answers_known : (touch : StationTouch) (w w' : MachineState) (call : StationAnswers says touch w w')
+      → StationFacts k w'
       → MaySay k.graph call.s'
   answers_known touch w w' call facts' =
       may_say k w'.time call.s' (facts'.stations call.place call.s' call.there (call.reacts.live ∙ call.live))
 
   -- a frame is taken off its lane
-  popped_sound : (j : ℕ) (l : Lane) (f : AnnounceFrame) (fs : List AnnounceFrame) (w w' : MachineState) → Pops j l f fs w w'
+  popped_sound : (j : ℕ) (l : Lane) (f : AnnounceFrame) (fs : List AnnounceFrame) (w w' : MachineState)
+      → Pops j l f fs w w'
       → IsSoundEverywhere says k.graph w → IsSoundEverywhere says k.graph w'
   popped_sound j l f fs w w' pops all = record {
     lanes = λ n m at. elim (pops.lanes n m at) [
@@ -188,7 +190,8 @@ module _ (says : Spelling) (k : NetworkSetting) (well : IsWellFormed k.graph) wh
       → HeardIsSound k.graph s touch
   heard_nothing s touch deaf n a touched = absurd (deaf n a touched)
 
-  acts_sound : (w w' : MachineState) → StationFacts k w → StationFacts k w' → StationActs says w w' → IsSoundEverywhere says k.graph w
+  acts_sound : (w w' : MachineState) → StationFacts k w → StationFacts k w' → StationActs says w w'
+      → IsSoundEverywhere says k.graph w
       → IsSoundEverywhere says k.graph w'
   acts_sound w w' facts facts' (inl act) all =
       called_sound says k.graph well act.touch act.mid w' act.call
@@ -200,14 +203,16 @@ module _ (says : Spelling) (k : NetworkSetting) (well : IsWellFormed k.graph) wh
       called_sound says k.graph well act.touch w w' act.call (answers_known act.touch w w' act.call facts')
       (heard_nothing act.call.s act.touch act.deaf) all
 
-pub sound_kept : (says : Spelling) (k : NetworkSetting) (w w' : MachineState) → IsWellFormed k.graph → StationFacts k w → StationFacts k w'
+pub sound_kept : (says : Spelling) (k : NetworkSetting) (w w' : MachineState) → IsWellFormed k.graph → StationFacts k w
+    → StationFacts k w'
     → MachineSteps says w w' → IsSoundEverywhere says k.graph w → IsSoundEverywhere says k.graph w'
 sound_kept says k w w' well facts facts' (inl wait) all = subst (IsSoundEverywhere says k.graph) (sym wait.is)
     (let later : IsSoundEverywhere says k.graph (record w { time = wait.time }) =
     record { lanes = all.lanes; stations = all.stations } in later)
 sound_kept says k w w' well facts facts' (inr act) all = acts_sound says k well w w' facts facts' act all
 
-pub calls_sound : (says : Spelling) (g : Snapshot) (touch : StationTouch) (w w' : MachineState) (call : StationAnswers says touch w w')
+pub calls_sound : (says : Spelling) (g : Snapshot) (touch : StationTouch) (w w' : MachineState)
+    (call : StationAnswers says touch w w')
     → IsWellFormed g → MaySay g call.s' → ((n : ℕ) (a : Announce) → touch ≡ Hear n a → ⊥) → IsSoundEverywhere says g w
     → IsSoundEverywhere says g w'
 calls_sound says g touch w w' call well is' deaf all =
@@ -217,7 +222,8 @@ pub all_held : (says : Spelling) (g : Snapshot) (w : MachineState) → IsSoundEv
 all_held says g w all i s place r at live holds = all.stations i s at live place r holds
 
 -- and on the links of the snapshot all is
-pub on_links : (says : Spelling) (g : Snapshot) (w : MachineState) → IsSoundEverywhere says g w → IsSoundOnLinks says g w
+pub on_links : (says : Spelling) (g : Snapshot) (w : MachineState) → IsSoundEverywhere says g w
+    → IsSoundOnLinks says g w
 on_links says g w all = record {
   lanes = λ j l f a at flies said joins.
       let is = all.lanes j l at f a flies said in record { source = is.source; sound = is.sound };
@@ -289,7 +295,8 @@ everywhere_sound says n w net calm traces gone late = record {
       };
   stations = λ i s at live place r holds.
       let came =
-      held_whole says (network_setting n) n.reach w net.paths calm.facts traces (omega (arith, late)) i s place r at live
+      held_whole says (network_setting n) n.reach w net.paths calm.facts traces
+        (omega (arith, late)) i s place r at live
       holds in
       record { from = came.from; joins = came.joins; source = came.source; sound = inr came.whole };
 }

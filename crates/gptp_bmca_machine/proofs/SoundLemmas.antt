@@ -63,7 +63,8 @@ module _ (says : Spelling) (n : Network) (net : IsSettlingNetwork n) where
   IsSoundStation s = (place : ℕ) (r : Reception) → HoldsAt s place r → CameSound g s.clock (suc place) r
 
   -- what a system says is sound where what it holds is
-  says_sound : (now : ℕ) (s : Station) → IsLiveStationState (network_setting n) now s → IsSoundStation s → (p : ℕ) (a : Announce)
+  says_sound : (now : ℕ) (s : Station) → IsLiveStationState (network_setting n) now s → IsSoundStation s
+      → (p : ℕ) (a : Announce)
       → IsOwn s p a → IsWorse g s.clock a ⊎ Whole g s.clock a
   says_sound now s is held p a own = elim is.follows [
     | inl itself ↦ inr (whole_own g (station_system s) a is.known (own.root ∙ itself.root) (own.steps ∙ itself.steps)
@@ -91,7 +92,8 @@ module _ (says : Spelling) (n : Network) (net : IsSettlingNetwork n) where
       → (from : PortIdentity) × Joins g from (port_of s.clock (suc i)) × IsSoundFrom g from a
 
   -- one system answers
-  called : (touch : StationTouch) (w w' : MachineState) (call : StationAnswers says touch w w') → Calm n w' → IsSoundOnLinks says g w
+  called : (touch : StationTouch) (w w' : MachineState) (call : StationAnswers says touch w w') → Calm n w'
+      → IsSoundOnLinks says g w
       → HeardIsSound call.s touch → IsSoundOnLinks says g w'
   unfolding HeardIsSound
   called touch w w' call calm' all heard = record { lanes = lanes; stations = stations }
@@ -199,7 +201,8 @@ module _ (says : Spelling) (n : Network) (net : IsSettlingNetwork n) where
           from_is = ap (λ (l : Lane). l.from) (sym lane_is) ∙ has.from
 
   -- nothing is heard
-  heard_none : (s : Station) (touch : StationTouch) → ((m : ℕ) (a : Announce) → touch ≡ Hear m a → ⊥) → HeardIsSound s touch
+  heard_none : (s : Station) (touch : StationTouch) → ((m : ℕ) (a : Announce) → touch ≡ Hear m a → ⊥)
+      → HeardIsSound s touch
   unfolding HeardIsSound
   heard_none s touch deaf i q a touched at on = absurd (deaf (suc i) a touched)
 
@@ -218,7 +221,8 @@ module _ (says : Spelling) (n : Network) (net : IsSettlingNetwork n) where
 
 module _ (says : Spelling) (n : Network) (net : IsSettlingNetwork n) where
   -- a system that answers to what is no Announce keeps it too, whatever the state before was
-  pub reaction_sound : (w w' : MachineState) → StationAnswers says Other w w' → Calm n w' → IsSoundOnLinks says n.graph w
+  pub reaction_sound : (w w' : MachineState) → StationAnswers says Other w w' → Calm n w'
+      → IsSoundOnLinks says n.graph w
       → IsSoundOnLinks says n.graph w'
   reaction_sound w w' call calm' all =
       called says n net Other w w' call calm' all (heard_none says n net call.s Other (λ m a e. absurd cc))

@@ -8,7 +8,8 @@ use Rattle.gptp_bmca_machine.specs.Stage.{Wiring, IsFinal, AllFinal, FrameSaysAn
 
 module _ (says : Spelling) (k : Wiring) where
   -- final frames behind final ones
-  all_final_on : (fs news : List AnnounceFrame) → AllFinal says k fs → AllFinal says k news → AllFinal says k (fs ++ news)
+  all_final_on : (fs news : List AnnounceFrame) → AllFinal says k fs → AllFinal says k news
+      → AllFinal says k (fs ++ news)
   all_final_on fs news old new f a at said = elim (In-parts f fs news at) [
     | inl h ↦ old f a h said
     | inr h ↦ new f a h said
@@ -22,7 +23,8 @@ module _ (says : Spelling) (k : Wiring) where
   tail_on b (f ∷ fs) news (inr tail) new = inr (tail_on b fs news tail new)
 
   -- a frame among final ones that is due in time begins a final tail
-  tail_at : (b : ℕ) (news : List AnnounceFrame) (f : AnnounceFrame) → In f news → FrameSaysAnnounce says f → f.due < b → AllFinal says k news
+  tail_at : (b : ℕ) (news : List AnnounceFrame) (f : AnnounceFrame) → In f news → FrameSaysAnnounce says f → f.due < b
+      → AllFinal says k news
       → FinalTail says k b news
   tail_at b [] f at said due all = absurd at
   tail_at b (g ∷ gs) f (inl e) said due all =
@@ -61,13 +63,15 @@ module _ (says : Spelling) (k : Wiring) where
   }))
 
   -- whatever was before, final frames enter the lane, one of which says an Announce and is due in time
-  pub begins : (announce : ℕ) (held : Held) (fs news : List AnnounceFrame) (f : AnnounceFrame) → AllFinal says k news → In f news
+  pub begins : (announce : ℕ) (held : Held) (fs news : List AnnounceFrame) (f : AnnounceFrame) → AllFinal says k news
+      → In f news
       → FrameSaysAnnounce says f → f.due < k.before → Stage says k announce held (fs ++ news)
   begins announce held fs news f new at said due =
       inr (inl (tail_behind k.before fs news (tail_at k.before news f at said due new)))
 
   -- the teller tells, and its timer starts again: final frames enter the lane, one of which says an Announce
-  pub tells : (now announce announce' : ℕ) (held : Held) (fs news : List AnnounceFrame) (f : AnnounceFrame) → AllFinal says k news
+  pub tells : (now announce announce' : ℕ) (held : Held) (fs news : List AnnounceFrame) (f : AnnounceFrame)
+      → AllFinal says k news
       → In f news → FrameSaysAnnounce says f → f.due ≤ now + k.most → now ≤ announce → k.until + k.most ≤ k.before
       → Stage says k announce held fs → Stage says k announce' held (fs ++ news)
   tells now announce announce' held fs news f new at said due timer in_time (inl waits) =
@@ -100,7 +104,8 @@ module _ (says : Spelling) (k : Wiring) where
   }))
 
   -- the oldest frame says no Announce and is dropped
-  pub misses : (announce : ℕ) (held : Held) (f : AnnounceFrame) (fs : List AnnounceFrame) → (FrameSaysAnnounce says f → ⊥)
+  pub misses : (announce : ℕ) (held : Held) (f : AnnounceFrame) (fs : List AnnounceFrame)
+      → (FrameSaysAnnounce says f → ⊥)
       → Stage says k announce held (f ∷ fs) → Stage says k announce held fs
   misses announce held f fs silent (inl waits) = inl waits
   misses announce held f fs silent (inr (inl (inl (due, said, all)))) = absurd (silent said)
@@ -118,7 +123,8 @@ module _ (says : Spelling) (k : Wiring) where
   }))
 
   -- the oldest frame is heard as the Announce a, and is taken if that is final
-  pub hears : (now announce : ℕ) (held held' : Held) (f : AnnounceFrame) (fs : List AnnounceFrame) (a : Announce) → says f.octets a
+  pub hears : (now announce : ℕ) (held held' : Held) (f : AnnounceFrame) (fs : List AnnounceFrame) (a : Announce)
+      → says f.octets a
       → announce ≤ now + k.interval
       → (IsFinal k a → (span : ℕ) × (held' ≡ Received (record { said = a; at = now; span = span })))
       → Stage says k announce held (f ∷ fs) → Stage says k announce held' fs
@@ -143,7 +149,8 @@ module _ (says : Spelling) (k : Wiring) where
       go (inr (inr stays)) = inr (inr (received stays.flight))
 
   -- what is held, and will be told again in time, hasn't grown too old
-  pub young : (now announce : ℕ) (held : Held) (fs : List AnnounceFrame) (stays : FinalAnnounceStays says k announce held fs)
+  pub young : (now announce : ℕ) (held : Held) (fs : List AnnounceFrame)
+      (stays : FinalAnnounceStays says k announce held fs)
       → now ≤ announce → ((f : AnnounceFrame) → In f fs → now ≤ f.due)
       → k.interval + k.most < stays.what.span → now < stays.what.at + stays.what.span
   young now announce held fs stays timer left long = elim stays.next [

@@ -182,7 +182,8 @@ module _ (g : Snapshot) (s : Station) (clear : IsClear g s) (best : System)
       let own : s.steps ≡ d = chooses.steps in
       omega (arith, length-append port.r.said.path (s.clock ∷ [])))
 
-module _ (g : Snapshot) (n : Network) (wf : IsWellFormed n.graph) (left : IsWhatIsLeft g n) (w : MachineState) (kept : IsAfterLoss n w)
+module _ (g : Snapshot) (n : Network) (wf : IsWellFormed n.graph) (left : IsWhatIsLeft g n) (w : MachineState)
+  (kept : IsAfterLoss n w)
     (all : ReceivedFits g w) where
   calm : Calm n w
   calm = kept.calm
@@ -430,7 +431,8 @@ module _ (g : Snapshot) (n : Network) (wf : IsWellFormed n.graph) (left : IsWhat
 
 module _ (says : Spelling) (g : Snapshot) (n : Network) (wf : IsWellFormed n.graph) (left : IsWhatIsLeft g n) where
   -- those that its links lead to hold what an unmoved system tells
-  told : (w : MachineState) (kept : IsAfterLoss n w) (all : ReceivedFits g w) (d : ℕ) (best : System) (v p u q : ℕ) → d < 255
+  told : (w : MachineState) (kept : IsAfterLoss n w) (all : ReceivedFits g w) (d : ℕ) (best : System)
+      (v p u q : ℕ) → d < 255
       → LeadsOn g n d best v p u q → StillChoose g n w d → LinkSettles says (still n d best v p u q) w
       → (s : Station) → slice_get w.stations (n.place u) ≡ Some s
       → (r : Reception) × HoldsAt s q r × IsFinal (still n d best v p u q) r.said
@@ -513,7 +515,8 @@ module _ (says : Spelling) (g : Snapshot) (n : Network) (wf : IsWellFormed n.gra
               (subst (λ c. IsDistance g c (suc e)) (sym clock) here) holds final.root final.steps
 
   -- each step keeps that
-  module _ (w w' : MachineState) (kept : IsAfterLoss n w) (kept' : IsAfterLoss n w') (all : ReceivedFits g w) (all' : ReceivedFits g w')
+  module _ (w w' : MachineState) (kept : IsAfterLoss n w) (kept' : IsAfterLoss n w') (all : ReceivedFits g w)
+    (all' : ReceivedFits g w')
       (step : MachineSteps says w w') (levels : (d : ℕ) → StillSettles says g n d w) where
     level_kept : (d : ℕ) → ((e : ℕ) → e < d → StillSettles says g n e w') → StillSettles says g n d w'
     level_kept d below best v p u q near leads =
@@ -558,8 +561,10 @@ module _ (says : Spelling) (g : Snapshot) (n : Network) (wf : IsWellFormed n.gra
 
 -- ---- as the loss finds it
 
-still_stays : (says : Spelling) (n : Network) (d : ℕ) (best : System) (v p u q announce : ℕ) (held : Held) (fs : List AnnounceFrame)
-    → FinalAnnounceStays says (wiring n d best v p u q) announce held fs → FinalAnnounceStays says (still n d best v p u q) announce held fs
+still_stays : (says : Spelling) (n : Network) (d : ℕ) (best : System) (v p u q announce : ℕ) (held : Held)
+    (fs : List AnnounceFrame)
+    → FinalAnnounceStays says (wiring n d best v p u q) announce held fs
+    → FinalAnnounceStays says (still n d best v p u q) announce held fs
 still_stays says n d best v p u q announce held fs stays = record {
   what = stays.what;
   holds = stays.holds;
@@ -577,7 +582,8 @@ still_stays says n d best v p u q announce held fs stays = record {
       qualified = final.qualified;
     }
 
-module _ (says : Spelling) (n n' : Network) (net : IsSettlingNetwork n) (wf : IsWellFormed n'.graph) (w w' : MachineState)
+module _ (says : Spelling) (n n' : Network) (net : IsSettlingNetwork n) (wf : IsWellFormed n'.graph)
+  (w w' : MachineState)
     (loss : IsLoss says n n' w w') (kept' : IsAfterLoss n' w') where
   all : EverythingFits says n.graph n' w'
   all = loss_fits says n n' w w' net loss
@@ -622,7 +628,8 @@ module _ (says : Spelling) (n n' : Network) (net : IsSettlingNetwork n) (wf : Is
             (subst (λ i. slice_get w'.lanes i ≡ Some l) (loss.same.lane (port_of v (suc p))) stand.lane);
       }
 
-pub unmoved_keep : (says : Spelling) (n n' : Network) (w w' : MachineState) (ws : List MachineState) (i : ℕ) (s : Station) (best : System)
+pub unmoved_keep : (says : Spelling) (n n' : Network) (w w' : MachineState) (ws : List MachineState) (i : ℕ)
+    (s : Station) (best : System)
     (d : ℕ) → IsSettlingNetwork n → IsWellFormed n'.graph → IsLoss says n n' w w' → IsKeptRun says n' w' ws
     → slice_get (last_state w' ws).stations i ≡ Some s → s.live ≡ true → Unmoved n.graph n' s.clock
     → IsBest n.graph s.clock best → IsDistance n.graph s.clock d → d < 255

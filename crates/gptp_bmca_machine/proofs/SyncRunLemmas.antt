@@ -39,7 +39,8 @@ prompt n within short bare waits = record { covers = covers; short = short; bare
         le_pred a (suc b) h = omega arith
 
 -- nothing lapses, where Syncs are expected
-pub in_time : (says : Spelling) (says_sync : SaysSync) (n : Network) → IsSettlingNetwork n → (w : MachineState) → Calm n w
+pub in_time : (says : Spelling) (says_sync : SaysSync) (n : Network) → IsSettlingNetwork n → (w : MachineState)
+    → Calm n w
     → Invariant says n w → HaveSyncTimers n w → IsPrompt n → SyncsAreExpected says_sync n w → NothingNearLapses n w
 in_time says says_sync n net w calm invariant facts =
     nothing_lapses says_sync n net w calm invariant.sound facts
@@ -48,13 +49,16 @@ in_time says says_sync n net w calm invariant facts =
 module _ (says : Spelling) (says_sync : SaysSync) (n : Network) (net : IsSettlingNetwork n) (is_prompt : IsPrompt n)
     (cleans : BecomesClean n) (ready : ClaimsWhenReady n) where
   -- the first state of a run is calm, and Syncs are told in it
-  first_calm : (w : MachineState) (ws : List MachineState) → IsSyncRun says says_sync n w ws → Calm n w × HaveSyncTimers n w
+  first_calm : (w : MachineState) (ws : List MachineState) → IsSyncRun says says_sync n w ws
+      → Calm n w × HaveSyncTimers n w
   first_calm w [] (calm, facts) = (calm, facts)
   first_calm w (w' ∷ ws) (calm, facts, step, rest) = (calm, facts)
 
   -- the last state is calm and keeps the invariant, where the first does and Syncs are expected in it
-  run_keeps : (w : MachineState) (ws : List MachineState) → IsSyncRun says says_sync n w ws → TracesAreClean says (network_setting n) w
-      → Invariant says n w → SyncsAreExpected says_sync n w → Calm n (last_state w ws) × Invariant says n (last_state w ws)
+  run_keeps : (w : MachineState) (ws : List MachineState) → IsSyncRun says says_sync n w ws
+      → TracesAreClean says (network_setting n) w
+      → Invariant says n w → SyncsAreExpected says_sync n w
+      → Calm n (last_state w ws) × Invariant says n (last_state w ws)
   run_keeps w [] (calm, facts) traces invariant expected = (calm, invariant)
   run_keeps w (w' ∷ ws) (calm, facts, step, rest) traces invariant expected =
       let (calm', facts') = first_calm w' ws rest in
@@ -69,7 +73,8 @@ module _ (says : Spelling) (says_sync : SaysSync) (n : Network) (net : IsSettlin
       expected)
 
   -- so it ends settled, where it begins early and ends late enough
-  pub sync_run_settles : (w : MachineState) (ws : List MachineState) → IsSyncRun says says_sync n w ws → SendersLive (network_setting n) w
+  pub sync_run_settles : (w : MachineState) (ws : List MachineState) → IsSyncRun says says_sync n w ws
+      → SendersLive (network_setting n) w
       → w.time < n.start
       → settled_from n ≤ (last_state w ws).time → NearHaveSettled n (last_state w ws)
   sync_run_settles w ws run live_senders early by i s at live near =

@@ -57,7 +57,8 @@ slave_holds s i rest slave = elim rest.chosen [
 
 module _ (says : Spelling) (says_sync : SaysSync) (n : Network) (net : IsSettlingNetwork n) where
   -- a lane of the snapshot stands where its port says
-  lane_place : (w : MachineState) (j : ℕ) (l : Lane) → Calm n w → slice_get w.lanes j ≡ Some l → Joins n.graph l.from l.to
+  lane_place : (w : MachineState) (j : ℕ) (l : Lane) → Calm n w → slice_get w.lanes j ≡ Some l
+      → Joins n.graph l.from l.to
       → j ≡ n.lane l.from
   lane_place w j l calm at joins =
       let has = calm.lanes l.from l.to joins in
@@ -156,7 +157,8 @@ module _ (says : Spelling) (says_sync : SaysSync) (n : Network) (net : IsSettlin
   }
 
   -- a frame is dropped: no system changes
-  drops_steps : (w w' : MachineState) → Calm n w → Calm n w' → (act : Drops says w w') → SyncDrops says says_sync w w' act
+  drops_steps : (w w' : MachineState) → Calm n w → Calm n w' → (act : Drops says w w')
+      → SyncDrops says says_sync w w' act
       → StationsStep says_sync n w w'
   drops_steps w w' calm calm' act silent i s s' at at' live =
       subst (λ (x : Station). StationStep says_sync n w w' s x) same
@@ -188,7 +190,8 @@ module _ (says : Spelling) (says_sync : SaysSync) (n : Network) (net : IsSettlin
       ]
 
   -- frames that enter a lane
-  entered : (touch : StationTouch) (w w' : MachineState) (call : StationAnswers says touch w w') (j due : ℕ) (from : PortIdentity)
+  entered : (touch : StationTouch) (w w' : MachineState) (call : StationAnswers says touch w w') (j due : ℕ)
+      (from : PortIdentity)
       (kept : Option SyncId) (l l' : Lane) → slice_get w.lanes j ≡ Some l → slice_get w'.lanes j ≡ Some l'
       → WillMatch says_sync from kept l.frames due → WillMatch says_sync from kept l'.frames due
   entered touch w w' call j due from kept l l' there there' match =

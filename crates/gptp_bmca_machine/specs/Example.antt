@@ -118,7 +118,8 @@ example_state now timer second frames = record {
   lanes = lane_out frames ∷ lane_back ∷ [];
 }
 
--- An Announce was heard_at last at this time. The next is sent three later and heard_at one after that: the moment of the
+-- An Announce was heard_at last at this time. The next is sent three later and heard_at one after that: the moment of
+-- the
 -- timer comes, the first_system system announces itself, the moment of the example_frame comes, the second hears it.
 abbrev pub example_turn : ℕ → List MachineState
 example_turn at =

@@ -73,7 +73,8 @@ pub record Ends (k : Wiring) (w : MachineState) : Type 0 where
   pub hearer_lives : (s : Station) → slice_get w.stations k.hearer_place ≡ Some s → s.live ≡ true
   pub lane : (l : Lane) → slice_get w.lanes k.lane ≡ Some l → IsLaneOf k l
   pub only_lane : (j : ℕ) (l : Lane) → slice_get w.lanes j ≡ Some l → l.to ≡ to_port k → j ≡ k.lane
-  pub frames : (l : Lane) (f : AnnounceFrame) → slice_get w.lanes k.lane ≡ Some l → In f l.frames → LaneIsOnTime k w.time f
+  pub frames : (l : Lane) (f : AnnounceFrame) → slice_get w.lanes k.lane ≡ Some l → In f l.frames
+      → LaneIsOnTime k w.time f
   pub teller : (s : Station) (q : Port) → slice_get w.stations k.teller_place ≡ Some s
       → slice_get s.ports k.teller_port ≡ Some q → IsTeller k w.time s q
   pub hearer : (s : Station) (q : Port) → slice_get w.stations k.hearer_place ≡ Some s
@@ -87,7 +88,8 @@ LapsesLater k w = (s : Station) (due : ℕ) → slice_get w.stations k.hearer_pl
 
 -- the port that hears is on where an Announce comes now
 abbrev pub HearsOn : Spelling → Wiring → MachineState → Type 0
-HearsOn says k w = (l : Lane) (f : AnnounceFrame) (fs : List AnnounceFrame) (a : Announce) (s : Station) (q : Port) → k.from ≤ w.time
+HearsOn says k w = (l : Lane) (f : AnnounceFrame) (fs : List AnnounceFrame) (a : Announce) (s : Station) (q : Port)
+    → k.from ≤ w.time
     → slice_get w.lanes k.lane ≡ Some l → l.frames ≡ f ∷ fs → f.due ≡ w.time → says f.octets a
     → slice_get w.stations k.hearer_place ≡ Some s → slice_get s.ports k.hearer_port ≡ Some q
     → q.held ≢ Disabled
@@ -111,5 +113,6 @@ pub record Stand (k : Wiring) (w : MachineState) (pv pu : Port) (l : Lane) : Typ
 
 -- once claims are made the link is at one of the stages whenever the teller has settled and its port is on
 abbrev pub LinkSettles : Spelling → Wiring → MachineState → Type 0
-LinkSettles says k w = k.from ≤ w.time → (pv pu : Port) (l : Lane) (stand : Stand k w pv pu l) → TellerIsReady k stand.v pv
+LinkSettles says k w = k.from ≤ w.time → (pv pu : Port) (l : Lane) (stand : Stand k w pv pu l)
+    → TellerIsReady k stand.v pv
     → Stage says k pv.announce pu.held l.frames

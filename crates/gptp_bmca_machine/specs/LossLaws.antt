@@ -91,7 +91,8 @@ IsKeptRun says n w (w' ∷ ws) = IsAfterLoss n w × MachineSteps says w w' × Is
 
 -- after a loss an unmoved near system keeps the root and the steps that it had, whatever becomes of others
 abbrev pub UnmovedKeep : Spelling → Type 0
-UnmovedKeep says = (n n' : Network) (w w' : MachineState) (ws : List MachineState) (i : ℕ) (s : Station) (best : System) (d : ℕ)
+UnmovedKeep says = (n n' : Network) (w w' : MachineState) (ws : List MachineState) (i : ℕ) (s : Station)
+    (best : System) (d : ℕ)
     → IsSettlingNetwork n → IsWellFormed n'.graph → IsLoss says n n' w w' → IsKeptRun says n' w' ws
     → slice_get (last_state w' ws).stations i ≡ Some s → s.live ≡ true → Unmoved n.graph n' s.clock
     → IsBest n.graph s.clock best → IsDistance n.graph s.clock d → d < 255

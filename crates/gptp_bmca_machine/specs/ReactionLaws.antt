@@ -32,6 +32,7 @@ ReactionSettles says = (n n' : Network) (w w' : MachineState) (ws : List Machine
 -- and at rest a delay later
 abbrev pub RestFollowsReaction : Spelling → Type 0
 RestFollowsReaction says = (n n' : Network) (w w' : MachineState) (ws : List MachineState)
-    → IsSettlingNetwork n → IsSettlingNetwork n' → ReactsAtRest says n n' w w' → AllAreNear n'.graph → IsNewsRun says n' w' ws
+    → IsSettlingNetwork n → IsSettlingNetwork n' → ReactsAtRest says n n' w w' → AllAreNear n'.graph
+    → IsNewsRun says n' w' ws
     → settled_from n' + n'.most ≤ (last_state w' ws).time → n'.off ≤ (last_state w' ws).time
     → IsResting says n' (last_state w' ws)

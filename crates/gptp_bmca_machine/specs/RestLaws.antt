@@ -13,7 +13,8 @@ use Rattle.gptp_bmca_machine.specs.SoundLaws.{AllIsWhole, AllAreNear, HasNews, I
 
 -- what the teller tells is held, and stays
 abbrev pub LinkStays : Spelling → Wiring → MachineState → Type 0
-LinkStays says k w = (pv pu : Port) (l : Lane) → Stand k w pv pu l → FinalAnnounceStays says k pv.announce pu.held l.frames
+LinkStays says k w = (pv pu : Port) (l : Lane) → Stand k w pv pu l
+    → FinalAnnounceStays says k pv.announce pu.held l.frames
 
 -- in the end it is so of each link that leads farther from the best
 abbrev pub LinksStay : Spelling → Type 0
@@ -70,6 +71,7 @@ NewsFromRest says = (n n' : Network) (w w' : MachineState) (ws : List MachineSta
 -- and at rest a delay later
 abbrev pub RestFollowsNews : Spelling → Type 0
 RestFollowsNews says = (n n' : Network) (w w' : MachineState) (ws : List MachineState)
-    → IsSettlingNetwork n → IsSettlingNetwork n' → NewsAtRest says n n' w w' → AllAreNear n'.graph → IsNewsRun says n' w' ws
+    → IsSettlingNetwork n → IsSettlingNetwork n' → NewsAtRest says n n' w w' → AllAreNear n'.graph
+    → IsNewsRun says n' w' ws
     → w'.time < settled_from n' → settled_from n' + n'.most ≤ (last_state w' ws).time → n'.off ≤ (last_state w' ws).time
     → IsResting says n' (last_state w' ws)

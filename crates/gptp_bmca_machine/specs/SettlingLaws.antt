@@ -24,7 +24,8 @@ InvariantBegins says = (n : Network) (w : MachineState)
 -- every step from a calm state in which nothing lapses to a calm state keeps it, where what is held stays sound
 abbrev pub InvariantIsKept : Spelling → Type 0
 InvariantIsKept says = (n : Network) (w w' : MachineState)
-    → IsSettlingNetwork n → Calm n w → Calm n w' → NothingNearLapses n w → EarlyPortsHear says n w w' → MachineSteps says w w'
+    → IsSettlingNetwork n → Calm n w → Calm n w' → NothingNearLapses n w → EarlyPortsHear says n w w'
+    → MachineSteps says w w'
     → RunIsSound n w' → Invariant says n w
     → Invariant says n w'
 

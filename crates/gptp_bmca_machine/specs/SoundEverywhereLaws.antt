@@ -16,7 +16,8 @@ use Rattle.gptp_bmca_machine.specs.SoundEverywhere.{IsSoundEverywhere, MaySay}
 -- every step keeps it, whatever the time is
 abbrev pub EverywhereIsKept : Spelling → Type 0
 EverywhereIsKept says = (k : NetworkSetting) (w w' : MachineState)
-    → IsWellFormed k.graph → StationFacts k w → StationFacts k w' → MachineSteps says w w' → IsSoundEverywhere says k.graph w
+    → IsWellFormed k.graph → StationFacts k w → StationFacts k w' → MachineSteps says w w'
+    → IsSoundEverywhere says k.graph w
     → IsSoundEverywhere says k.graph w'
 
 -- so does each call by which the network changes, which hears nothing, where the system is one of the snapshot

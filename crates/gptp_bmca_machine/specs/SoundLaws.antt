@@ -37,7 +37,8 @@ UnlinkedAreOff g w = (i : ℕ) (s : Station) (place : ℕ) (q : Port) → slice_
 -- every step between calm states keeps that all is sound
 abbrev pub SoundIsKept : Spelling → Type 0
 SoundIsKept says = (n : Network) (w w' : MachineState)
-    → IsSettlingNetwork n → Calm n w → Calm n w' → UnlinkedAreOff n.graph w → MachineSteps says w w' → IsSoundOnLinks says n.graph w
+    → IsSettlingNetwork n → Calm n w → Calm n w' → UnlinkedAreOff n.graph w → MachineSteps says w w'
+    → IsSoundOnLinks says n.graph w
     → IsSoundOnLinks says n.graph w'
 
 -- Of two snapshots the second has news: the systems of the first live in it, no worse than before, and so do its links.
@@ -68,7 +69,8 @@ pub record AllIsWhole (says : Spelling) (g : Snapshot) (links : PortIdentity →
 -- a delay after what is held has become wholly clean all is, on the links of the snapshot
 abbrev pub AllBecomesWhole : Spelling → Type 0
 AllBecomesWhole says = (n : Network) (w : MachineState)
-    → IsSettlingNetwork n → Calm n w → TracesAreClean says (network_setting n) w → machine_clean_from n + n.most ≤ w.time
+    → IsSettlingNetwork n → Calm n w → TracesAreClean says (network_setting n) w
+    → machine_clean_from n + n.most ≤ w.time
     → AllIsWhole says n.graph (Joins n.graph) w
 
 -- all live systems are near
@@ -77,7 +79,8 @@ AllAreNear g = (v : ℕ) → In v (clocks g) → IsNear g v
 
 -- what was sent once all had settled names the best
 abbrev pub FlightNamesBest : Spelling → Network → MachineState → Type 0
-FlightNamesBest says n w = (j : ℕ) (l : Lane) (f : AnnounceFrame) (a : Announce) (best : System) → slice_get w.lanes j ≡ Some l
+FlightNamesBest says n w = (j : ℕ) (l : Lane) (f : AnnounceFrame) (a : Announce) (best : System)
+    → slice_get w.lanes j ≡ Some l
     → In f l.frames → says f.octets a → Joins n.graph l.from l.to → settled_from n + n.most ≤ f.due
     → IsBest n.graph l.from.clock best
     → a.root ≡ best.identity
@@ -90,7 +93,8 @@ NamingBegins says = (n : Network) (w : MachineState)
 
 abbrev pub NamingIsKept : Spelling → Type 0
 NamingIsKept says = (n : Network) (w w' : MachineState)
-    → IsSettlingNetwork n → AllAreNear n.graph → Calm n w' → Invariant says n w' → MachineSteps says w w' → FlightNamesBest says n w
+    → IsSettlingNetwork n → AllAreNear n.graph → Calm n w' → Invariant says n w' → MachineSteps says w w'
+    → FlightNamesBest says n w
     → FlightNamesBest says n w'
 
 -- so a delay after all has settled all is wholly clean, where it is sound
@@ -111,14 +115,16 @@ IsNewsRun says n w (w' ∷ ws) = Calm n w × UnlinkedAreOff n.graph w × Nothing
 -- sound from the news on, so that the time of settling is counted from when ports are capable.
 abbrev pub NewsSettle : Spelling → Type 0
 NewsSettle says = (g : Snapshot) (n : Network) (w : MachineState) (ws : List MachineState)
-    → IsSettlingNetwork n → HasNews g n.graph → AllIsWhole says g (Joins n.graph) w → IsNewsRun says n w ws → w.time < n.sound
+    → IsSettlingNetwork n → HasNews g n.graph → AllIsWhole says g (Joins n.graph) w → IsNewsRun says n w ws
+    → w.time < n.sound
     → settled_from n ≤ (last_state w ws).time
     → NearHaveSettled n (last_state w ws)
 
 -- and a delay later all is wholly clean again, so that the next news may come
 abbrev pub NewsBecomeWhole : Spelling → Type 0
 NewsBecomeWhole says = (g : Snapshot) (n : Network) (w : MachineState) (ws : List MachineState)
-    → IsSettlingNetwork n → AllAreNear n.graph → HasNews g n.graph → AllIsWhole says g (Joins n.graph) w → IsNewsRun says n w ws
+    → IsSettlingNetwork n → AllAreNear n.graph → HasNews g n.graph → AllIsWhole says g (Joins n.graph) w
+    → IsNewsRun says n w ws
     → w.time < n.sound → settled_from n + n.most ≤ (last_state w ws).time → n.off ≤ (last_state w ws).time
     → AllIsWhole says n.graph (Joins n.graph) (last_state w ws)
 

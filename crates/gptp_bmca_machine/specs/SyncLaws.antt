@@ -29,7 +29,8 @@ ExpectedSyncsAreKept says says_sync = (n : Network) (w w' : MachineState)
 -- so nothing lapses
 abbrev pub ExpectedSyncsComeInTime : Spelling → SaysSync → Type 0
 ExpectedSyncsComeInTime says says_sync = (n : Network) (w : MachineState)
-    → IsSettlingNetwork n → IsPrompt n → Calm n w → Invariant says n w → HaveSyncTimers n w → SyncsAreExpected says_sync n w
+    → IsSettlingNetwork n → IsPrompt n → Calm n w → Invariant says n w → HaveSyncTimers n w
+    → SyncsAreExpected says_sync n w
     → NothingNearLapses n w
 
 -- a settled system waits no longer than a sync interval, and for each link of a path a residence time and a delay

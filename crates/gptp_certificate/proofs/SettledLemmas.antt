@@ -255,7 +255,8 @@ module _ (w : WorldState) (wf : IsWellFormed (snapshot_of w)) (settled : Settled
   }
 
 -- so they are right in time
-pub right_in_time : (w : WorldState) (lines : List SystemLine) → SettlingInvariant w → States w lines → IsRightInTime w lines
+pub right_in_time : (w : WorldState) (lines : List SystemLine) → SettlingInvariant w → States w lines
+    → IsRightInTime w lines
 right_in_time w lines claimed states calm =
     let world = claimed.is.world in
     settled_choice w (stands_well w world.sound world.between world.legible) (claimed_settled w claimed calm)

@@ -100,7 +100,8 @@ lines_exist (PortEntry name port ∷ rest) stand = absurd stand
 
 -- ---- line by line
 
-readable_more : (version : ℕ) (before : List LineKey) (entry : LineKey) → AllByRecursion (IsReadableEntry version) before
+readable_more : (version : ℕ) (before : List LineKey) (entry : LineKey)
+    → AllByRecursion (IsReadableEntry version) before
     → IsReadableEntry version entry → AllByRecursion (IsReadableEntry version) (before ++ entry ∷ [])
 readable_more version [] entry all one = (one, tt)
 readable_more version (first ∷ before) entry all one = (all.0, readable_more version before entry all.1 one)
@@ -176,7 +177,8 @@ module _ (text : List ℕ) (version : ℕ) (is_version : IsVersion version) wher
             entry = entry;
             readable = readable;
             fits = subst (FitsHere version (ends_far before))
-                (one_form has.form (spelled_line entry) has.words (entry_words version entry readable) (sym has.is ∙ is))
+                (one_form has.form (spelled_line entry) has.words (entry_words version entry readable)
+                  (sym has.is ∙ is))
                 has.fits;
             is = is;
             order = out;

@@ -72,7 +72,8 @@ port_of number role = record { number = number; role = role }
 same_far_words : (a b : FarWords) → FarForm a ≡ FarForm b → a ≡ b
 same_far_words a b e = cc
 
-same_spelled : (v w : ℕ) (a b : LineKey) → IsReadableEntry v a → IsReadableEntry w b → spelled_line a ≡ spelled_line b → a ≡ b
+same_spelled : (v w : ℕ) (a b : LineKey) → IsReadableEntry v a → IsReadableEntry w b
+    → spelled_line a ≡ spelled_line b → a ≡ b
 same_spelled v w (SystemEntry c r s true p) (SystemEntry c2 r2 s2 true p2) f g e =
     let words = same_far_words (far_words c r s) (far_words c2 r2 s2) e in
     let clock = same_digits 8 c c2 f.0 g.0 (ap (λ (w : FarWords). w.clock) words) in
@@ -214,7 +215,8 @@ first_of : (a : LineKey) (xs : List LineKey) (x : List ℕ)
     → entries_text (a ∷ xs) ++ x ≡ entry_text a ++ 10 ∷ (entries_text xs ++ x)
 first_of a xs x = simp append_assoc refl
 
-more_of : (a b : LineKey) (xs ys : List LineKey) (x y : List ℕ) → a ≡ b → GoesOn xs ys x y → GoesOn (a ∷ xs) (b ∷ ys) x y
+more_of : (a b : LineKey) (xs ys : List LineKey) (x y : List ℕ) → a ≡ b → GoesOn xs ys x y
+    → GoesOn (a ∷ xs) (b ∷ ys) x y
 more_of a b xs ys x y same goes = (goes.0, ap (λ e. e ∷ ys) (sym same) ∙ ap (λ es. a ∷ es) goes.1, goes.2)
 
 either_more : (a b : LineKey) (xs ys : List LineKey) (x y : List ℕ) → a ≡ b → GoesOn xs ys x y ⊎ GoesOn ys xs y x
@@ -237,7 +239,8 @@ all_at : (v : ℕ) (xs : List LineKey) (entry : LineKey) (zs : List LineKey)
 all_at v [] entry zs all = all.0
 all_at v (x ∷ xs) entry zs all = all_at v xs entry zs all.1
 
-each_front : (first : LineKey) (xs : List LineKey) (entry : LineKey) (zs : List LineKey) → FollowEach first (xs ++ entry ∷ zs)
+each_front : (first : LineKey) (xs : List LineKey) (entry : LineKey) (zs : List LineKey)
+    → FollowEach first (xs ++ entry ∷ zs)
     → FollowEach first (xs ++ entry ∷ [])
 each_front first [] entry zs each = (each.0, tt)
 each_front first (x ∷ xs) entry zs each = (each.0, each_front x xs entry zs each.1)
@@ -262,10 +265,12 @@ at_fault v xs ys (entry ∷ zs) x y fault readable stand goes rest fails =
 
 not_end : (zs : List LineKey) (y : List ℕ) (P : Type 0) → end_text ≡ entries_text zs ++ y → (end_text ≡ y → P) → P
 not_end [] y P e f = f e
-not_end (entry ∷ zs) y P e f = absurd (form_not_end (spelled_line entry) (entries_text zs ++ y) (e ∙ first_of entry zs y))
+not_end (entry ∷ zs) y P e f = absurd (form_not_end (spelled_line entry) (entries_text zs ++ y)
+    (e ∙ first_of entry zs y))
 
 -- the head line stands first
-head_first : (v : ℕ) (xs : List LineKey) (x : List ℕ) → front_text v xs ++ x ≡ head_text v ++ 10 ∷ (entries_text xs ++ x)
+head_first : (v : ℕ) (xs : List LineKey) (x : List ℕ)
+    → front_text v xs ++ x ≡ head_text v ++ 10 ∷ (entries_text xs ++ x)
 head_first v xs x = simp append_assoc refl
 
 small_version : (v : ℕ) → IsVersion v → v < 10
@@ -362,7 +367,8 @@ no_certificate_of text fault b ys stand readable (inr goes) =
     (λ e. no_end b.version b.before fault (subst (λ r. RestFails b.version b.before r fault) (sym e) b.fails))
 
 pub no_certificate : (text : List ℕ) (fault : CertificateFault) (version : ℕ) (lines : List SystemLine)
-    → FailsToParse text fault → IsCertificate version lines → IsReadable version lines → text ≢ certificate_text version lines
+    → FailsToParse text fault → IsCertificate version lines → IsReadable version lines
+    → text ≢ certificate_text version lines
 no_certificate text fault version lines (inl (e, lacks)) order readable is =
     lacks version (entries_text (entries_of lines) ++ end_text) order.is_version
     (is ∙ head_first version (entries_of lines) end_text)

@@ -188,7 +188,8 @@ misspelled version after_far line form (Err e) words fits is fault none = inr (
   fault,
   record { form = form; words = words; fits = fits; is = is },
   λ entry readable same.
-      none entry readable (one_form (spelled_line entry) form (entry_words version entry readable) words (sym same ∙ is)),
+      none entry readable (one_form (spelled_line entry) form (entry_words version entry readable) words
+        (sym same ∙ is)),
 )
 
 -- a line with no words of any form

@@ -74,7 +74,8 @@ abbrev pub last_entry : graphs.SystemLine → entries.LineKey
 last_entry line = last_of (entries.system_entry line) (map (entries.PortEntry line.clock) line.ports)
 
 -- one line more, in order
-pub record Appends (before : List entries.LineKey) (entry : entries.LineKey) (after : List entries.LineKey) : Type 0 where
+pub record Appends (before : List entries.LineKey) (entry : entries.LineKey)
+  (after : List entries.LineKey) : Type 0 where
   pub is : after ≡ before ++ entry ∷ []
   pub order : entries.StandInOrder after
 

@@ -71,7 +71,8 @@ module _ (options : RunOptions) (input : List ℕ) (d : DocumentState) (at : Opt
     right_chosen : (certificate : List (List ℕ)) → CertifiesRight true g certificate
         → QuestionText (Choice at) input certificate Done
     right_chosen certificate (stated, right, is_certificate, lines) =
-        in_size document_limit (questions.AnswersQuestionInput (Choice at)) (RefusesFault TooMany) input certificate Done
+        in_size document_limit (questions.AnswersQuestionInput (Choice at))
+          (RefusesFault TooMany) input certificate Done
         asks.size
         (inl (
           d,

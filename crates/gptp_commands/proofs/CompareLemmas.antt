@@ -36,7 +36,8 @@ answered_none input known = record {
 -- ---- one line more
 
 are_more : (answered : List (List ℕ)) (answers : List Answer) (line : List ℕ) (answer : Answer)
-    → AreAnswers answered answers → AnswersLine line answer → AreAnswers (answered ++ line ∷ []) (answers ++ answer ∷ [])
+    → AreAnswers answered answers → AnswersLine line answer
+    → AreAnswers (answered ++ line ∷ []) (answers ++ answer ∷ [])
 are_more [] answers line answer none one =
     subst (λ xs. AreAnswers (line ∷ []) (xs ++ answer ∷ [])) (sym none) (one, refl)
 are_more (x ∷ xs) [] line answer are one = absurd are

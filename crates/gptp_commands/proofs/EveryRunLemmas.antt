@@ -73,7 +73,8 @@ ends_in_time (Some until) settled moment in_time = moment
 
 -- ---- a run
 
-certificate_exists : (asked : Bool) (w : WorldState) → SettlingInvariant w → (lines : List (List ℕ)) × CertifiesIf asked w lines
+certificate_exists : (asked : Bool) (w : WorldState) → SettlingInvariant w
+    → (lines : List (List ℕ)) × CertifiesIf asked w lines
 certificate_exists true w claimed =
     let (stated, states) = states_exist w claimed in (certificate_lines 2 stated, (stated, states, refl))
 certificate_exists false w claimed = ([], refl)

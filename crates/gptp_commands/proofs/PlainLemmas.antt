@@ -141,7 +141,8 @@ found_in entered = option_map_or (λ p. p.1) entered []
 abbrev explained : Text → List Row
 explained clock = found_in (entered (built gptp_sim) (Some (codes "explain", clock ∷ [])))
 
-clock_walked : (clock : Text) → place_value (the CLOCK) (finished explaining.rules (behind explaining clock).held) ≡ clock
+clock_walked : (clock : Text) → place_value (the CLOCK)
+    (finished explaining.rules (behind explaining clock).held) ≡ clock
 unfolding clap_on_literals
 clock_walked clock = refl
 
@@ -210,7 +211,8 @@ taken_by words behind is none right = record {
 right_by : (name : Text) (words : List Text) → subcommand_met names idle name ≡ Some name
     → IfSome (entered (built gptp_sim) (Some (name, words))) IsRightOrder
     → IfSome (entered (built gptp_sim) (stop (name ∷ words))) IsRightOrder
-right_by name words met = subst (λ at. IfSome (entered (built gptp_sim) at) IsRightOrder) (sym (stops name words name met))
+right_by name words met = subst (λ at. IfSome (entered (built gptp_sim) at) IsRightOrder)
+    (sym (stops name words name met))
 
 faults_right : IfSome (entered (built gptp_sim) (stop (codes "faults" ∷ []))) IsRightOrder
 faults_right =

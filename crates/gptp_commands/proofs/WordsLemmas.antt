@@ -27,7 +27,8 @@ words_behind_blanks (x ∷ xs) = blanks_step x xs (is_space_or_tab x) refl (word
 
 -- what stands behind them begins with a word, if there is anything
 word_step : (x : ℕ) (xs : List ℕ) (test : Bool) → is_space_or_tab x ≡ test
-    → (0 < length (drop (prefix_len is_space_or_tab xs) xs) → 0 < position_or_len is_space_or_tab (drop (prefix_len is_space_or_tab xs) xs))
+    → (0 < length (drop (prefix_len is_space_or_tab xs) xs)
+    → 0 < position_or_len is_space_or_tab (drop (prefix_len is_space_or_tab xs) xs))
     → 0 < length (drop (prefix_len is_space_or_tab (x ∷ xs)) (x ∷ xs))
     → 0 < position_or_len is_space_or_tab (drop (prefix_len is_space_or_tab (x ∷ xs)) (x ∷ xs))
 word_step x xs true blank rest some =
@@ -54,19 +55,24 @@ words_of_parts (x ∷ xs) text rest parts some front back =
 
 -- a text that doesn't begin with a blank begins with the word before its first blank
 words_front : (text : List ℕ) → 0 < length text → 0 < position_or_len is_space_or_tab text
-    → words text ≡ take (position_or_len is_space_or_tab text) text ∷ words (drop (position_or_len is_space_or_tab text) text)
+    → words text ≡ take (position_or_len is_space_or_tab text) text ∷ words
+      (drop (position_or_len is_space_or_tab text) text)
 words_front text some long =
     let split = splits_at is_space_or_tab text in
-    words_of_parts (take (position_or_len is_space_or_tab text) text) text (drop (position_or_len is_space_or_tab text) text)
+    words_of_parts (take (position_or_len is_space_or_tab text) text) text
+      (drop (position_or_len is_space_or_tab text) text)
     split.parts
     (grind (arith, common_steps)) split.front split.back
 
 -- behind the blanks stands the first word, if there is anything
-pub words_found : (text behind word rest : List ℕ) → behind ≡ drop (prefix_len is_space_or_tab text) text → 0 < length behind
-    → word ≡ take (position_or_len is_space_or_tab behind) behind → rest ≡ drop (position_or_len is_space_or_tab behind) behind
+pub words_found : (text behind word rest : List ℕ) → behind ≡ drop (prefix_len is_space_or_tab text) text
+    → 0 < length behind
+    → word ≡ take (position_or_len is_space_or_tab behind) behind
+    → rest ≡ drop (position_or_len is_space_or_tab behind) behind
     → words text ≡ word ∷ words rest
 words_found text behind word rest behind-is some word-is rest-is =
-    let long : 0 < position_or_len is_space_or_tab behind = rw behind-is (word_behind_blanks text (rw behind-is at some)) in
+    let long : 0 < position_or_len is_space_or_tab behind = rw behind-is
+        (word_behind_blanks text (rw behind-is at some)) in
     words_behind_blanks text ∙ rw (← behind-is, word-is, rest-is) (words_front behind some long)
 
 pub words_absent : (text : List ℕ) → drop (prefix_len is_space_or_tab text) text ≡ [] → words text ≡ []

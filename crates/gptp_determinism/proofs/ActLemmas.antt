@@ -199,7 +199,8 @@ module _ {F : Type 0} (answers : Bounds → ℕ → F → Option ℕ → F → T
   -- ---- all acts
 
   expires_once : (place : ℕ) (timer : Timer) (w v u : WorldState) (ds es : List Draw) → IsNamed w
-      → AreDrawn answers once ds es → TimerRunsOut place timer w ds v → TimerRunsOut place timer w es u → (ds ≡ es) × (v ≡ u)
+      → AreDrawn answers once ds es → TimerRunsOut place timer w ds v → TimerRunsOut place timer w es u
+      → (ds ≡ es) × (v ≡ u)
   expires_once place timer w v u ds es is both k l =
       let same = calls_once answers once place (TimerExpires timer) (stopped place timer w) v u ds es k.answer l.answer
       is.ports both k.calls l.calls in
@@ -220,7 +221,8 @@ module _ {F : Type 0} (answers : Bounds → ℕ → F → Option ℕ → F → T
   acts_drawn_once (Expire number timer) w v u ds es done said is both k l =
       quiet_once ds es done said v u k.0 l.0
       (expires_once k.1.place timer w v u ds es is both k.1.so
-      (system_too number w (λ place station. TimerRunsOut place timer w ds v) (λ place station. TimerRunsOut place timer w es u)
+      (system_too number w (λ place station. TimerRunsOut place timer w ds v)
+        (λ place station. TimerRunsOut place timer w es u)
       is.clocks k.1 l.1))
   acts_drawn_once (Changing c) w v u ds es done said is both k l =
       quiet_once ds es done said v u k.0 l.0

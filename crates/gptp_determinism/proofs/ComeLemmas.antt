@@ -77,7 +77,8 @@ stands_still w w' place station on here =
     record { new = new; here = there; same = subst (λ (x : Station). IsSameSystem x new) one was.same }
 
 -- a port of a system that has its ports still is one of it
-pub port_still : (old new : SystemState) (p : ℕ) → length new.ports ≡ length old.ports → HasPortNumber old p → HasPortNumber new p
+pub port_still : (old new : SystemState) (p : ℕ) → length new.ports ≡ length old.ports → HasPortNumber old p
+    → HasPortNumber new p
 port_still old new p count port =
     record { least = port.least; most = let most = port.most in omega arith }
 

@@ -145,7 +145,8 @@ far_line_once g all one x y k l =
     ∙ ap (λ (ps : List PortLine). line y.clock y.root y.steps y.far y.parent ps) (k.bare.ports ∙ sym l.bare.ports)
 
 -- so has every other
-line_once : (w : WorldState) (station : Station) (x y : SystemLine) → IsStatedLine w station x → IsStatedLine w station y
+line_once : (w : WorldState) (station : Station) (x y : SystemLine) → IsStatedLine w station x
+    → IsStatedLine w station y
     → x ≡ y
 line_once w station x y (inl k) (inl l) = k.is ∙ sym l.is
 line_once w station x y (inl k) (inr l) = absurd (k.is_near l.is_far)

@@ -55,7 +55,8 @@ module _ (t u : SystemState) (xs ys : List Sending) where
 
   selects_once : (now : ℕ) (s : SystemState) → Selects now s t xs → Selects now s u ys → Same t u xs ys
   selects_once now s k l =
-      let same = one_least (system_vector s.identity ∷ path_vectors s.held) k.vector l.vector k.is_chosen l.is_chosen in (
+      let same = one_least (system_vector s.identity ∷ path_vectors s.held) k.vector l.vector k.is_chosen
+          l.is_chosen in (
         k.state ∙ ap (λ (v : Vector). choosing v now s) same ∙ sym l.state,
         k.sends_are
             ∙ ap (λ (v : Vector). announcements (clock s) v.root v.steps 1 (fresh_ports v s) s.ports) same
@@ -109,13 +110,15 @@ module _ (t u : SystemState) (xs ys : List Sending) where
         k.sends_are ∙ rw (split.0, split.1) refl ∙ sym l.sends_are,
       )
 
-  syncs_once : (is_leading : Bool) (now : ℕ) (s : SystemState) → SyncsIf is_leading now s t xs → SyncsIf is_leading now s u ys
+  syncs_once : (is_leading : Bool) (now : ℕ) (s : SystemState) → SyncsIf is_leading now s t xs
+      → SyncsIf is_leading now s u ys
       → Same t u xs ys
   syncs_once true now s k l = leads_once now s k l
   syncs_once false now s k l = becomes_once t u xs ys _ k l
 
   -- what is told by a sum of rates held at its limits
-  told_once : (info : SyncInfo) (now : ℕ) (s : SystemState) (a b : Relayed) → IsToldAtLimits info now s a → IsToldAtLimits info now s b
+  told_once : (info : SyncInfo) (now : ℕ) (s : SystemState) (a b : Relayed) → IsToldAtLimits info now s a
+      → IsToldAtLimits info now s b
       → a ≡ b
   told_once info now s a b (inl k) (inl l) = k.1 ∙ sym l.1
   told_once info now s a b (inl k) (inr l) = absurd (l.0 k.0)

@@ -34,7 +34,8 @@ pub clock_same : (w : Way) (l : WayLink) (i : ℕ) → i ≤ length w.links → 
 clock_same w l zero h = refl
 clock_same w l (suc i) h = ap (λ (k : WayLink). clock_rate k.drift) (link_same w l i h)
 
-pub steady_same : (w : Way) (l : WayLink) (i : ℕ) → i < length w.links → steady_rate_at (longer w l) i ≡ steady_rate_at w i
+pub steady_same : (w : Way) (l : WayLink) (i : ℕ) → i < length w.links
+    → steady_rate_at (longer w l) i ≡ steady_rate_at w i
 steady_same w l i h =
     ap (λ a. rate_of (pos a) (pos (clock_at (longer w l) (suc i)))) (clock_same w l i (omega (arith, h)))
     ∙ ap (λ b. rate_of (pos (clock_at w i)) (pos b)) (clock_same w l (suc i) h)
@@ -60,7 +61,8 @@ unlike_same w l i h =
         ap (λ v. unsigned_abs (v -ℤ floor_div ((pos (clock_at w 0) -ℤ pos a) *ℤ unit) (pos a))) e
         ∙ ap (λ v. unsigned_abs (t -ℤ floor_div ((pos (clock_at w 0) -ℤ pos v) *ℤ unit) (pos v))) f
 
-pub rates_same : (w : Way) (l : WayLink) (i : ℕ) → i < length w.links → rates_error_at (longer w l) i ≡ rates_error_at w i
+pub rates_same : (w : Way) (l : WayLink) (i : ℕ) → i < length w.links
+    → rates_error_at (longer w l) i ≡ rates_error_at w i
 rates_same w l i h =
     let totals = total_same (suc i) (rate_error_at (longer w l)) (rate_error_at w)
     (λ j k. rate_error_same w l j (omega (arith, h, k))) in

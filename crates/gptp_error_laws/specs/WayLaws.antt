@@ -22,7 +22,8 @@ longer w l = record w { links = w.links ++ (l ∷ []) }
 -- The time error of the systems on a way stays as it is where the way goes on: with the law before it, those of all
 -- systems are worked out in one pass from the root down.
 abbrev pub ParentsErrorStays : Type 0
-ParentsErrorStays = (w : Way) (l : WayLink) (h : ℕ) → h ≤ length w.links → time_error_at (longer w l) h ≡ time_error_at w h
+ParentsErrorStays = (w : Way) (l : WayLink) (h : ℕ) → h ≤ length w.links
+    → time_error_at (longer w l) h ≡ time_error_at w h
 
 -- what the clock so many links from the root shows at a time in ns, where the clocks begin with these phases
 abbrev pub shown_at : Way → (ℕ → ℕ) → ℕ → ℕ → ℤ

@@ -66,7 +66,8 @@ follows_once roots a b k l =
 -- ---- a run
 
 module _ (d : DocumentState) (once : RunsEndOnce d) where
-  run_once : (t : Times) (p : Planned) (run : ℕ) (a b : EndState × EndState) → CaseRunEnds d t p run a → CaseRunEnds d t p run b
+  run_once : (t : Times) (p : Planned) (run : ℕ) (a b : EndState × EndState) → CaseRunEnds d t p run a
+      → CaseRunEnds d t p run b
       → a ≡ b
   run_once t p run a b k l =
       let at = run_moment t run in
@@ -78,7 +79,8 @@ module _ (d : DocumentState) (once : RunsEndOnce d) where
   outcome_once : (t : Times) (number : ℕ) (p : Planned) (a b : OutcomeState) → IsOutcome d t number p a
       → IsOutcome d t number p b → a ≡ b
   outcome_once t number p a b k l =
-      let runs = each_once (CaseRunEnds d t p) (run_once t p) _ (k.first ∷ k.others) (l.first ∷ l.others) k.runs l.runs in
+      let runs = each_once (CaseRunEnds d t p) (run_once t p) _ (k.first ∷ k.others)
+          (l.first ∷ l.others) k.runs l.runs in
       let first : k.first ≡ l.first = cc in
       let others : k.others ≡ l.others = cc in
       let numbers : a.number ≡ b.number = k.number_is ∙ sym l.number_is in

@@ -87,6 +87,7 @@ pub worse_orders : IsStrictWeakOrder is_worse
 worse_orders = IsStrictWeakOrder-flip _ (ranks_by nat_list_cmp_total (λ (o : OutcomeState). weight (worst_of o)))
 
 -- so outcomes are ranked in one order
-pub ranked_once : (outcomes a b : List OutcomeState) → OutcomesAreRanked outcomes a → OutcomesAreRanked outcomes b → a ≡ b
+pub ranked_once : (outcomes a b : List OutcomeState) → OutcomesAreRanked outcomes a
+    → OutcomesAreRanked outcomes b → a ≡ b
 ranked_once outcomes a b x y =
     same_order is_worse worse_orders a b x.worst_first y.worst_first (λ z. x.equals z ∙ sym (y.equals z))

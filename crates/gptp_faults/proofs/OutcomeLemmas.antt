@@ -49,7 +49,8 @@ pub record AreTried (d : DocumentState) (t : Times) (p : Planned) (count : ℕ) 
   pub follow_is : AreFollows first.0.roots follow
 
 module _ (d : DocumentState) (t : Times) (p : Planned) where
-  pub one_tried : (first : EndState × EndState) (down back : Extremes) (follow : List Follow) → CaseRunEnds d t p 0 first
+  pub one_tried : (first : EndState × EndState) (down back : Extremes) (follow : List Follow)
+      → CaseRunEnds d t p 0 first
       → down ≡ of_one first.0.stretch → back ≡ of_one first.1.stretch → AreFollows first.0.roots follow
       → AreTried d t p 1 down back follow
   one_tried first down back follow run down_is back_is follow_is = record {
@@ -63,12 +64,14 @@ module _ (d : DocumentState) (t : Times) (p : Planned) where
 
   pub more_tried : (count : ℕ) (down back down_after back_after : Extremes) (follow : List Follow)
       → AreTried d t p count down back follow → (ends : EndState × EndState) → CaseRunEnds d t p count ends
-      → down_after ≡ greatest_of_two down (of_one ends.0.stretch) → back_after ≡ greatest_of_two back (of_one ends.1.stretch)
+      → down_after ≡ greatest_of_two down (of_one ends.0.stretch)
+      → back_after ≡ greatest_of_two back (of_one ends.1.stretch)
       → AreTried d t p (count + 1) down_after back_after follow
   more_tried count down back down_after back_after follow tried ends run down_is back_is = record {
     first = tried.first;
     others = tried.others ++ ends ∷ [];
-    runs = subst (λ ns. Each (CaseRunEnds d t p) ns (tried.first ∷ tried.others ++ ends ∷ [])) (sym (range_with_one count))
+    runs = subst (λ ns. Each (CaseRunEnds d t p) ns (tried.first ∷ tried.others ++ ends ∷ []))
+      (sym (range_with_one count))
         (each_more (CaseRunEnds d t p) (range_with_len 0 count) (tried.first ∷ tried.others) count ends tried.runs run);
     down_is = down_is ∙ ap (λ e. greatest_of_two e (of_one ends.0.stretch)) tried.down_is
         ∙ sym (greatest_more (of_one tried.first.0.stretch) (downs tried.others) ends.0.stretch)
@@ -110,7 +113,8 @@ module _ (parts part count : ℕ) where
       → case_numbers parts part (count + 1) ≡ case_numbers parts part count ++ count ∷ []
   one_number is = numbers_more ∙ ap (λ ns. case_numbers parts part count ++ ns) (rw is refl)
 
-  pub no_number : is_of_part parts part count ≡ false → case_numbers parts part (count + 1) ≡ case_numbers parts part count
+  pub no_number : is_of_part parts part count ≡ false
+      → case_numbers parts part (count + 1) ≡ case_numbers parts part count
   no_number is =
       numbers_more ∙ ap (λ ns. case_numbers parts part count ++ ns) (rw is refl)
       ∙ append-nil (case_numbers parts part count)

@@ -103,6 +103,7 @@ initial_legible n is = record { stations = stations; links = links }
         wire_fits : (wire : LinkSpec) → wire.a.clock ≢ wire.b.clock → ChannelFits (channel_from wire)
         wire_fits wire apart = record { ends = λ e. apart (ap (λ (p : PortId). p.clock) e); frames = by }
           where
-            by : (direction : Direction) (f : Frame) → In f (world_queue direction (channel_from wire)) → SayWhatFits f.octets
+            by : (direction : Direction) (f : Frame) → In f (world_queue direction (channel_from wire))
+              → SayWhatFits f.octets
             by FromA f member = absurd member
             by FromB f member = absurd member

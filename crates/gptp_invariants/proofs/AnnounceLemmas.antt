@@ -125,7 +125,8 @@ module _ (head : Head) (body : AnnounceBody) (path : List ℕ) where
 
     seen_source : port_identity_number (head_of octets).source ≡ port_identity_number head.source
     seen_source =
-        ap port_identity_number (sym same_source ∙ sym (ap (λ (h : Head). h.source) (head_read bare_octets bare bare_reads)))
+        ap port_identity_number (sym same_source
+          ∙ sym (ap (λ (h : Head). h.source) (head_read bare_octets bare bare_reads)))
 
     seen_log : (head_of octets).log_interval ≡ head.log_interval
     seen_log = sym same_log ∙ sym (ap (λ (h : Head). h.log_interval) (head_read bare_octets bare bare_reads))

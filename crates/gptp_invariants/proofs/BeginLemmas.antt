@@ -52,7 +52,8 @@ enough p w pace is at l =
     period = rw asking pace.requests
 
 -- where no time has passed since the last change, each good link in use is watched
-fresh_watches : (p : SettlingParams) (w : WorldState) → KeepPace p → w.last_change ≡ w.time → IsWorld p w → LinkIsMeasured w
+fresh_watches : (p : SettlingParams) (w : WorldState) → KeepPace p → w.last_change ≡ w.time → IsWorld p w
+    → LinkIsMeasured w
     → GoodLinksMeasure p w
 fresh_watches p w pace now is measured at stands =
     watch_begins at (w.last_change + largest_interval p) (w.last_change + 2 * largest_interval p) w l is.sound
@@ -72,7 +73,8 @@ fresh_watches p w pace now is measured at stands =
 
 -- ---- after a change, and at first
 
-pub changes_begin : (p : SettlingParams) (change : Change) (w : WorldState) (draws : List Draw) (done : Done) (w' : WorldState)
+pub changes_begin : (p : SettlingParams) (change : Change) (w : WorldState) (draws : List Draw) (done : Done)
+    (w' : WorldState)
     → KeepPace p → Acts (Changing change) w draws done w' → IsWorld p w' → LinkIsMeasured w' → GoodLinksMeasure p w'
 changes_begin p change w draws done w' pace k = fresh_watches p w' pace (change_is_last change w draws done w' k)
 

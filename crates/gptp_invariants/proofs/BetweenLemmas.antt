@@ -24,7 +24,8 @@ use Rattle.gptp_invariants.proofs.OutlineLemmas.{acts_count, count, starts_all_c
 
 -- ---- the world that a network makes
 
-port_made : (n : NetworkState) → IsNetwork n → (port : PortId) → IsPort n.systems port → StationsHavePort (stations_of n) port
+port_made : (n : NetworkState) → IsNetwork n → (port : PortId) → IsPort n.systems port
+    → StationsHavePort (stations_of n) port
 port_made n is port k =
     let setup = setup_of (pace_of n) k.system in
     let made : Station = station_of (pace_of n) k.system in

@@ -120,7 +120,8 @@ pub are_above : (p : SettlingParams) (m start : ℕ) (times : SettlingTimes) (w 
     → Invariant says_announce (network_with p m start times w) (view w) → sound_from p m start times w ≤ w.time
     → AreAbove w
 are_above p m start times w network calm invariant late place station here live best is_best =
-    systems_bounded says_announce (network_with p m start times w) (view w) place (station_view station) best network calm
+    systems_bounded says_announce (network_with p m start times w) (view w) place
+      (station_view station) best network calm
     invariant (station_there w.stations place station here) live is_best late
 
 -- so what a system of a settled world states is bounded

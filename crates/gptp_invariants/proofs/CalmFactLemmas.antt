@@ -111,7 +111,8 @@ follows_seen station steady (inr k) =
       trace = k.path;
     })
 
-module _ (p : SettlingParams) (m start : ℕ) (w : WorldState) (sound : IsSound w) (legible : IsEncodable w) (known : IsKnown p w)
+module _ (p : SettlingParams) (m start : ℕ) (w : WorldState) (sound : IsSound w) (legible : IsEncodable w)
+  (known : IsKnown p w)
   where
     abbrev k : NetworkSetting
     k = network_setting (network_of p m start w)
@@ -185,7 +186,8 @@ module _ (p : SettlingParams) (m start : ℕ) (w : WorldState) (sound : IsSound 
 -- so it is at every pace, where frames of before the change are gone by the start
 pub facts_with : (p : SettlingParams) (m start : ℕ) (times : SettlingTimes) (w : WorldState) → IsSound w → IsEncodable w
     → IsKnown p w
-    → w.last_change + 2 * largest_interval p ≤ start → StationFacts (network_setting (network_with p m start times w)) (view w)
+    → w.last_change + 2 * largest_interval p ≤ start
+    → StationFacts (network_setting (network_with p m start times w)) (view w)
 facts_with p m start times w sound legible known old = record {
   stations = λ i s there lives.
       let x = are.stations i s there lives in

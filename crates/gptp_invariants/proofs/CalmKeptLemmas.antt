@@ -208,7 +208,8 @@ module _ (w w' : WorldState) (k : KeepsNetwork w w') where
   links_quiet p quiet link channel here used =
       let (old, stands, same) = alike bare bare w.net.channels w'.net.channels (sym k.links) link channel here in
       let uses : channel_is_used (live_stations w.stations) old ≡ true =
-      ap (channel_is_used (live_stations w.stations)) same ∙ ap (λ s. channel_is_used s channel) (sym k.systems) ∙ used in
+      ap (channel_is_used (live_stations w.stations)) same
+        ∙ ap (λ s. channel_is_used s channel) (sym k.systems) ∙ used in
       let is = quiet link old stands uses in
       let bounds = ap (λ (c : Channel). c.bounds) same in
       record { lossless = rw⁻¹ bounds is.lossless; good = rw⁻¹ bounds is.good }

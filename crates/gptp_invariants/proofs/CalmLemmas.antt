@@ -54,7 +54,8 @@ pub linked_interval : (p : SettlingParams) (w : WorldState) → IsSound w → Is
 linked_interval p w sound known port linked =
     log_shorter p w known.set (log_of w.stations port) (linked_log p w sound known.set port linked)
 
-module _ (p : SettlingParams) (m start : ℕ) (w : WorldState) (sound : IsSound w) (between : AreBetween w) (legible : IsEncodable w)
+module _ (p : SettlingParams) (m start : ℕ) (w : WorldState) (sound : IsSound w) (between : AreBetween w)
+  (legible : IsEncodable w)
     (known : IsKnown p w) (bounded : BoundsPaths (snapshot_of w) m) where
   -- a step of distance takes long enough for the wait for a Sync, the largest announce interval and the greatest delay
   pub network : w.last_change + 2 * largest_interval p ≤ start → IsSettlingNetwork (network_of p m start w)
@@ -107,7 +108,8 @@ same_direction FromB FromA same = sym same
 
 -- ---- the state
 
-module _ (p : SettlingParams) (m start : ℕ) (times : SettlingTimes) (w : WorldState) (sound : IsSound w) (legible : IsEncodable w)
+module _ (p : SettlingParams) (m start : ℕ) (times : SettlingTimes) (w : WorldState) (sound : IsSound w)
+  (legible : IsEncodable w)
     (known : IsKnown p w) (quiet : HaveQuietLinks p.params w)
     (facts_are : StationFacts (network_setting (network_with p m start times w)) (view w))
     (capable : AreCapableFrom start w) where

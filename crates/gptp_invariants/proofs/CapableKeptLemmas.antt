@@ -64,7 +64,8 @@ HaveParams p w = (place : ℕ) (station : Station) → slice_get w.stations plac
 pub known_params : (p : SettlingParams) (w : WorldState) → AreSet p w → HaveParams p w
 known_params p w set place station there = (set place station there).starts.params
 
-module _ (p : SettlingParams) (w w' : WorldState) (clocks : HaveOwnClocks w) (set : HaveParams p w) (clocks' : HaveOwnClocks w')
+module _ (p : SettlingParams) (w w' : WorldState) (clocks : HaveOwnClocks w) (set : HaveParams p w)
+  (clocks' : HaveOwnClocks w')
     (set' : HaveParams p w') (k : KeepsNetwork w w') where
   -- a link stood there, with the same ends and bounds
   link_stood : (link : ℕ) (channel : Channel) → slice_get w'.net.channels link ≡ Some channel
@@ -74,7 +75,8 @@ module _ (p : SettlingParams) (w w' : WorldState) (clocks : HaveOwnClocks w) (se
   -- a live system stood where it stands
   system_stood : (place number was : ℕ) → was ≡ number → StationIsLiveAt place number w' → StationIsLiveAt place was w
   system_stood place number was named at =
-      let member = subst (In (standing_system at.station)) k.systems (live_there w'.stations place at.station at.here at.live)
+      let member = subst (In (standing_system at.station)) k.systems
+          (live_there w'.stations place at.station at.here at.live)
       in
       let old = live_from w.stations (standing_system at.station) member in
       let same = ap (λ (s : System). s.clock) (sym old.is) in
@@ -177,7 +179,8 @@ done_measured answers timed fate fate_after w w' done octet k sound is =
 -- and each good link in use is watched, after a change too
 pub done_watches : {F : Type 0} (answers : Bounds → ℕ → F → Option ℕ → F → Type 0) (p : SettlingParams) (timed : Timed)
     (fate fate_after : F) (w w' : WorldState) (done : Done) → KeepPace p → IsFitAct timed.act
-    → DelaysFitIntervals w timed.act → SetsAnOctet timed.act → WasDone answers timed fate fate_after w w' done → IsWorld p w
+    → DelaysFitIntervals w timed.act → SetsAnOctet timed.act → WasDone answers timed fate fate_after w w' done
+    → IsWorld p w
     → LinkIsMeasured w → GoodLinksMeasure p w → GoodLinksMeasure p w'
 done_watches answers p timed fate fate_after w w' done pace fit prompt octet k is measured watches =
     by timed.act k.acts

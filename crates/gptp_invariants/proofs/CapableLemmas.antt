@@ -20,7 +20,8 @@ use Rattle.gptp_invariants.proofs.UsedLinkLemmas.{used_watched}
 
 -- ---- a port at a link of the snapshot
 
-module _ (p : SettlingParams) (w : WorldState) (pace : KeepPace p) (is : IsWorld p w) (quiet : HaveQuietLinks p.params w)
+module _ (p : SettlingParams) (w : WorldState) (pace : KeepPace p) (is : IsWorld p w)
+  (quiet : HaveQuietLinks p.params w)
     (watches : GoodLinksMeasure p w) (late : start_of p w ≤ w.time) (place : ℕ) (station : Station)
     (here : slice_get w.stations place ≡ Some station) (live : station.live ≡ true) where
   -- the link is watched, so its port is capable
@@ -41,7 +42,8 @@ module _ (p : SettlingParams) (w : WorldState) (pace : KeepPace p) (is : IsWorld
       let capable = link_capable i q to there joins in
       record { capable = capable; enabled = (shown.each i h q holds there).on capable }
 
-pub used_capable : (p : SettlingParams) (w : WorldState) → KeepPace p → IsWorld p w → HaveQuietLinks p.params w → GoodLinksMeasure p w
+pub used_capable : (p : SettlingParams) (w : WorldState) → KeepPace p → IsWorld p w → HaveQuietLinks p.params w
+    → GoodLinksMeasure p w
     → start_of p w ≤ w.time → AreUsedCapable w
 used_capable p w pace is quiet watches late place station here live =
     port_capable p w pace is quiet watches late place station here live

@@ -51,10 +51,12 @@ net_kept w net fit is = record {
 
 -- one link becomes another on which all fits
 channel_fits : (channels : List Channel) (link : ℕ) (channel new : Channel) → slice_get channels link ≡ Some channel
-    → ((direction : Direction) (f : Frame) → In f (world_queue direction new) → RequestSaysWhatFits f.octets) → AllFit channels
+    → ((direction : Direction) (f : Frame) → In f (world_queue direction new) → RequestSaysWhatFits f.octets)
+    → AllFit channels
     → AllFit (slice_set channels link new)
 channel_fits channels link channel new here fits all =
-    get-set_all (λ (c : Channel). (way : Direction) (f : Frame) → In f (world_queue way c) → RequestSaysWhatFits f.octets)
+    get-set_all (λ (c : Channel). (way : Direction) (f : Frame) → In f (world_queue way c)
+      → RequestSaysWhatFits f.octets)
     channels link
     channel new here fits all
 
@@ -275,7 +277,8 @@ initially_measured n = record {
       subst (IsStationMeasured 0) made (started_measured (setup_of (pace_of n) member) 0 false);
   frames = λ link channel here.
       let (wire, at, made) = mapped channel_from n.links link channel here in
-      subst (λ (c : Channel). (direction : Direction) (f : Frame) → In f (world_queue direction c) → RequestSaysWhatFits f.octets)
+      subst (λ (c : Channel). (direction : Direction) (f : Frame) → In f (world_queue direction c)
+        → RequestSaysWhatFits f.octets)
       made
       (still wire);
 }

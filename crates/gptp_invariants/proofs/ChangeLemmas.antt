@@ -63,7 +63,8 @@ ends_are w link channel wired here direction place station there named =
 
 -- ---- calls one after another
 
-calls_if_live_kept : (p : SettlingParams) (So : ℤ → Type 0) (place : ℕ) (input : Input) (w : WorldState) (draws : List Draw)
+calls_if_live_kept : (p : SettlingParams) (So : ℤ → Type 0) (place : ℕ) (input : Input) (w : WorldState)
+    (draws : List Draw)
     (w' : WorldState)
     → ((station : Station) → slice_get w.stations place ≡ Some station → IsTimely station.system w.time input)
     → IsKept p So w → CallsIfLive place input w draws w' → IsKept p So w'
@@ -72,7 +73,8 @@ calls_if_live_kept p So place input w draws w' timely kept (inl (answer, calls))
 calls_if_live_kept p So place input w draws w' timely kept (inr (failed, none, is)) = subst (IsKept p So) (sym is) kept
 
 -- an input at a port of the system at a place, which has as many ports as this one
-tells_kept : (p : SettlingParams) (So : ℤ → Type 0) (input : ℕ → Input) → IsOfPort input → (s : SystemState) (place n : ℕ)
+tells_kept : (p : SettlingParams) (So : ℤ → Type 0) (input : ℕ → Input) → IsOfPort input
+    → (s : SystemState) (place n : ℕ)
     (w : WorldState) (draws : List Draw) (w' : WorldState) → HasPorts place (length s.ports) w → HasPortNumber s n
     → IsKept p So w → CallsIfLive place (input n) w draws w' → IsKept p So w'
 tells_kept p So input timely s place n w draws w' has port =
@@ -298,7 +300,8 @@ changed_kept p So w kept = record {
       };
 }
 
-pub changes_kept : (p : SettlingParams) (So : ℤ → Type 0) (c : Change) (w : WorldState) (draws : List Draw) (w' : WorldState)
+pub changes_kept : (p : SettlingParams) (So : ℤ → Type 0) (c : Change) (w : WorldState) (draws : List Draw)
+    (w' : WorldState)
     → IsWired w → w.last_change ≡ w.time → ((log : ℤ) → So log → DelayFitsInterval (interval_of log) (Changing c))
     → IsKept p So w → Changes c w draws w' → IsKept p So w'
 changes_kept p So (LinkDown number port) w draws w' wired now prompt kept k =

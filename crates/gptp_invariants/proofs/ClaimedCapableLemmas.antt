@@ -87,7 +87,8 @@ module _ (p : SettlingParams) (w : WorldState) (is : IsWorld p w)
         let joins = used_joins w begins.link begins.direction begins.channel begins.here used in
         inl (
           port_identity_number (receiver begins.direction begins.channel),
-          subst (λ x. Joins (snapshot_of w) (port_identity_number x) (port_identity_number (receiver begins.direction begins.channel)))
+          subst (λ x. Joins (snapshot_of w) (port_identity_number x)
+            (port_identity_number (receiver begins.direction begins.channel)))
               begins.begins joins,
         )
 
@@ -162,7 +163,8 @@ module _ (g : Snapshot) (itself : PortId) (h : Held) (q : Port) (shown : IsShown
       by (inl linked) on = linked
       by (inr off) on = absurd (not_both q on off)
 
-pub ports_settled : (p : SettlingParams) (w : WorldState) → KeepPace p → IsWorld p w → GoodLinksMeasure p w → FailedNeighboursAreSilent p w
+pub ports_settled : (p : SettlingParams) (w : WorldState) → KeepPace p → IsWorld p w → GoodLinksMeasure p w
+    → FailedNeighboursAreSilent p w
     → HaveQuietLinks p.params w → start_of p w ≤ w.time → ArePortsSettled w
 ports_settled p w pace is watched silent quiet late place station here live i h q stands there =
     port_settled (snapshot_of w) (own station.system (suc i)) h q
@@ -176,7 +178,8 @@ ports_settled p w pace is watched silent quiet late place station here live i h 
     used = used_capable p w pace is quiet watched late place station here live i h q stands there
 
 -- so the ports are capable as the machine of gptp_bmca_machine wants them
-pub are_capable : (p : SettlingParams) (w : WorldState) → KeepPace p → IsWorld p w → GoodLinksMeasure p w → FailedNeighboursAreSilent p w
+pub are_capable : (p : SettlingParams) (w : WorldState) → KeepPace p → IsWorld p w → GoodLinksMeasure p w
+    → FailedNeighboursAreSilent p w
     → BecomeCapable p w
 are_capable p w pace is watched silent quiet late place station here live i h q stands there =
     let settled = ports_settled p w pace is watched silent quiet late place station here live i h q stands there in

@@ -20,7 +20,8 @@ delay_within systems (first ∷ channels) bound each =
     by (channel_is_used systems first) (delay_within systems channels bound (λ link. each (suc link)))
   where
     by : (used : Bool) → greatest_channel_delay systems channels ≤ bound
-        → (if used then max first.bounds.max (greatest_channel_delay systems channels) else greatest_channel_delay systems channels)
+        → (if used then max first.bounds.max (greatest_channel_delay systems channels) else greatest_channel_delay
+          systems channels)
         ≤ bound
     by true later = let one = each zero first refl in omega arith
     by false later = later
@@ -40,7 +41,8 @@ delay_of_used systems (first ∷ channels) (suc link) channel here used =
   where
     by : (is : Bool) → channel.bounds.max ≤ greatest_channel_delay systems channels
         → channel.bounds.max
-        ≤ (if is then max first.bounds.max (greatest_channel_delay systems channels) else greatest_channel_delay systems channels)
+        ≤ (if is then max first.bounds.max (greatest_channel_delay systems channels) else greatest_channel_delay
+          systems channels)
     by true later = omega arith
     by false later = later
 

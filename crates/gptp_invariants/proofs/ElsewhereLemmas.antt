@@ -326,7 +326,8 @@ module _ (at : LinkPlace) (P : WorldState → Type 0) (link_in : (w : WorldState
 
       seen : meter at (with_station place (with_setup value station) w) after ≡ meter at w l
       seen = λ i. record {
-        pair = pair_view w.time (interval_of (asking.params i).pdelay) at.direction l.channel (measure_at (asking.state i))
+        pair = pair_view w.time (interval_of (asking.params i).pdelay) at.direction l.channel
+          (measure_at (asking.state i))
             (measure_at (answering.state i));
         last = (asking.state i).peer.last;
       }
@@ -675,17 +676,21 @@ act_watched at gone calm w w' is seen =
     let m = meter at w is.link in
     let m' = meter at w' seen.after in
     let one = seen.so in
-    let facts = facts_kept k gone reads_as_request reads_as_reply m.pair m'.pair (act_of k reads_as_request reads_as_reply m m' one.acts) one.out one.back
+    let facts = facts_kept k gone reads_as_request reads_as_reply m.pair m'.pair
+        (act_of k reads_as_request reads_as_reply m m' one.acts) one.out one.back
     is.facts in
     let same_least : least ≡ least_delay at w' seen.after = ap (λ (b : Bounds). b.min) (sym seen.bounds) in
-    let inv = meter_kept k least reads_as_request reads_as_reply gone calm m m' is.good is.facts facts one.out_late one.back_late one.acts
+    let inv = meter_kept k least reads_as_request reads_as_reply gone calm m m' is.good is.facts facts one.out_late
+        one.back_late one.acts
     is.inv in
     record {
       link = seen.after;
       good = subst (λ (x : Setting). IsGood x gone calm) (sym seen.settled) is.good;
       facts = subst (λ (x : Setting). Facts x gone m'.pair) (sym seen.settled) facts;
-      inv = subst (λ (x : Setting). MeterInv x (least_delay at w' seen.after) reads_as_request reads_as_reply gone calm m')
-          (sym seen.settled) (subst (λ (n : ℕ). MeterInv k n reads_as_request reads_as_reply gone calm m') same_least inv);
+      inv = subst (λ (x : Setting). MeterInv x
+        (least_delay at w' seen.after) reads_as_request reads_as_reply gone calm m')
+          (sym seen.settled) (subst (λ (n : ℕ). MeterInv k n reads_as_request reads_as_reply gone calm m')
+            same_least inv);
     }
 
 -- where the same is seen of the link it is watched too
@@ -697,9 +702,12 @@ watched_as at gone calm w w' is l set seen least = record {
   good = subst (λ (x : Setting). IsGood x gone calm) (sym set) is.good;
   facts = subst (λ (x : Setting). Facts x gone (pair at w' l)) (sym set)
       (subst (λ (m : Meter). Facts (link_setting at w is.link) gone m.pair) (sym seen) is.facts);
-  inv = subst (λ (x : Setting). MeterInv x (least_delay at w' l) reads_as_request reads_as_reply gone calm (meter at w' l)) (sym set)
-      (subst (λ (n : ℕ). MeterInv (link_setting at w is.link) n reads_as_request reads_as_reply gone calm (meter at w' l)) (sym least)
-      (subst (λ (m : Meter). MeterInv (link_setting at w is.link) (least_delay at w is.link) reads_as_request reads_as_reply gone calm m)
+  inv = subst (λ (x : Setting). MeterInv x (least_delay at w' l) reads_as_request reads_as_reply gone calm
+      (meter at w' l)) (sym set)
+      (subst (λ (n : ℕ). MeterInv (link_setting at w is.link) n reads_as_request reads_as_reply gone calm
+        (meter at w' l)) (sym least)
+      (subst (λ (m : Meter). MeterInv (link_setting at w is.link)
+        (least_delay at w is.link) reads_as_request reads_as_reply gone calm m)
       (sym seen) is.inv));
 }
 

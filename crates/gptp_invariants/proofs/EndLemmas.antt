@@ -295,7 +295,8 @@ module _ (place : ℕ) (input : Input) (w : WorldState) (draws : List Draw) (ans
         setup = setups;
         part = inl (
           same,
-          subst (λ (x : SystemState). IsPartAfter x w.time input port.port (measure_at e.state) (measure_at q')) is part,
+          subst (λ (x : SystemState). IsPartAfter x w.time input port.port (measure_at e.state)
+            (measure_at q')) is part,
         );
       }
 

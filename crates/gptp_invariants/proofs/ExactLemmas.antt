@@ -161,7 +161,8 @@ module _ (link : ℕ) (direction : Direction) (w w' : WorldState) (draws : List 
 
   late : settled + suc steps * (p.params.threshold + p.params.residence) ≤ w.time
   late =
-      let span : SettlingParams → ℕ = λ q. exact_span m (suc steps) q (sync_paths_of w) (length (snapshot_of w).systems) in
+      let span : SettlingParams → ℕ = λ q. exact_span m (suc steps) q (sync_paths_of w)
+          (length (snapshot_of w).systems) in
       let passed = subst (λ q. w.last_change + span q ≤ w.time) of_pace calm.late in
       omega (arith, passed)
 
@@ -213,12 +214,14 @@ module _ (link : ℕ) (direction : Direction) (w w' : WorldState) (draws : List 
 
   pub used_exactly : AreWithin error offset ahead
   used_exactly =
-      let told : TellsHearing (port_id (follower_clock followed.at w followed.follower) port) (Some answers.Used) octets done =
+      let told : TellsHearing (port_id (follower_clock followed.at w followed.follower) port)
+          (Some answers.Used) octets done =
       subst (λ n. TellsHearing (port_id n port) (Some answers.Used) octets done) (sym named_so) tells in
       let exact = calm_offsets_are_exact p m settled link direction w draws done w' followed.at followed.follower steps
       port octets is_ahead.shows_root.station shows.station offset has_way k told (message, reads) claimed carries
       calm_by early from_then root there (ap (λ (x : SystemState). x.offset) (sym shows.state) ∙ left) in
-      let long = way_leads_to.long (follower_parts p.params w) (snapshot_of w) (suc steps) number way.way way.phase way.leads
+      let long = way_leads_to.long (follower_parts p.params w) (snapshot_of w)
+          (suc steps) number way.way way.phase way.leads
       in
       let own : is_ahead.own ≡ followed.follower.own.station.system =
       is_ahead.shows.state ∙ ap (λ (x : Station). x.system) (sym followed.own_is) in

@@ -66,17 +66,21 @@ module _ (at : LinkPlace) (first : ℕ) where
       let m = meter at w is.link in
       let m' = meter at w' seen.after in
       let one = seen.so in
-      let facts = facts_kept k first reads_as_request reads_as_reply m.pair m'.pair (act_of k reads_as_request reads_as_reply m m' one.acts) one.out one.back
+      let facts = facts_kept k first reads_as_request reads_as_reply m.pair m'.pair
+          (act_of k reads_as_request reads_as_reply m m' one.acts) one.out one.back
       is.facts in
       let same_least : least ≡ least_delay at w' seen.after = ap (λ (b : Bounds). b.min) (sym seen.bounds) in
-      let inv = first_kept k least reads_as_request reads_as_reply first first m m' is.short (omega arith) is.facts facts one.out_late
+      let inv = first_kept k least reads_as_request reads_as_reply first first m m' is.short
+          (omega arith) is.facts facts one.out_late
       one.back_late one.acts is.inv in
       record {
         link = seen.after;
         short = subst (λ (x : Setting). exchange_span x < x.period) (sym seen.settled) is.short;
         facts = subst (λ (x : Setting). Facts x first m'.pair) (sym seen.settled) facts;
-        inv = subst (λ (x : Setting). InvFirst x (least_delay at w' seen.after) reads_as_request reads_as_reply first m')
-            (sym seen.settled) (subst (λ (n : ℕ). InvFirst k n reads_as_request reads_as_reply first m') same_least inv);
+        inv = subst (λ (x : Setting). InvFirst x
+          (least_delay at w' seen.after) reads_as_request reads_as_reply first m')
+            (sym seen.settled) (subst (λ (n : ℕ). InvFirst k n reads_as_request reads_as_reply first m')
+              same_least inv);
       }
 
   first_like : (w w' : WorldState) (is : IsFirstAt first at w) (l : IsLinkOf at w')
@@ -87,9 +91,12 @@ module _ (at : LinkPlace) (first : ℕ) where
     short = subst (λ (x : Setting). exchange_span x < x.period) (sym set) is.short;
     facts = subst (λ (x : Setting). Facts x first (pair at w' l)) (sym set)
         (subst (λ (m : Meter). Facts (link_setting at w is.link) first m.pair) (sym seen) is.facts);
-    inv = subst (λ (x : Setting). InvFirst x (least_delay at w' l) reads_as_request reads_as_reply first (meter at w' l)) (sym set)
-        (subst (λ (n : ℕ). InvFirst (link_setting at w is.link) n reads_as_request reads_as_reply first (meter at w' l)) (sym least)
-        (subst (λ (m : Meter). InvFirst (link_setting at w is.link) (least_delay at w is.link) reads_as_request reads_as_reply first m)
+    inv = subst (λ (x : Setting). InvFirst x (least_delay at w' l) reads_as_request reads_as_reply first
+      (meter at w' l)) (sym set)
+        (subst (λ (n : ℕ). InvFirst (link_setting at w is.link) n reads_as_request reads_as_reply first (meter at w' l))
+          (sym least)
+        (subst (λ (m : Meter). InvFirst (link_setting at w is.link)
+          (least_delay at w is.link) reads_as_request reads_as_reply first m)
         (sym seen) is.inv));
   }
 
@@ -141,7 +148,8 @@ first_goes_on at first time w sound later nothing is =
       link = is.link;
       short = is.short;
       facts = facts_later k first time p later (nothing_late at time w is.link sound nothing) is.facts;
-      inv = first_later k (least_delay at w is.link) reads_as_request reads_as_reply first (meter at w is.link) _ (time, later, refl)
+      inv = first_later k (least_delay at w is.link) reads_as_request reads_as_reply first (meter at w is.link) _
+        (time, later, refl)
           is.inv;
     }
 
@@ -153,7 +161,8 @@ by_goes_on at first start time w sound later nothing (l, by) =
 
 pub first_full : FirstIsFull
 first_full at first w l late =
-    exchange_full (link_setting at w l.link) (least_delay at w l.link) reads_as_request reads_as_reply first first (meter at w l.link) l.facts
+    exchange_full (link_setting at w l.link) (least_delay at w l.link) reads_as_request reads_as_reply first first
+      (meter at w l.link) l.facts
     l.inv late
 
 -- ---- a port comes up
@@ -271,7 +280,8 @@ module _ (at : LinkPlace) (place p : ℕ) (w : WorldState) (draws : List Draw) (
         (ap (slice_get w.stations) (sym here) ∙ l.asking.here))
 
     request_goes : FirstIs reads_as_request
-        (λ (f : SeenFrame). reads_as_request f.octets (request_from (sender at.direction l.channel) l.asking.state.peer.next))
+        (λ (f : SeenFrame). reads_as_request f.octets
+          (request_from (sender at.direction l.channel) l.asking.state.peer.next))
         (AreMute reads_as_request) (map link_frame_view (up_step.grows.news at.direction))
     request_goes =
         let port = sender at.direction l.channel in
@@ -289,14 +299,16 @@ module _ (at : LinkPlace) (place p : ℕ) (w : WorldState) (draws : List Draw) (
           port = port.port;
         } in
         let said = up_step.grows.said at.direction ∙ ap (λ q. said_at k.after q k.sends) (sym mine) in
-        subst (λ (r : Request). FirstIs reads_as_request (λ (f : SeenFrame). reads_as_request f.octets r) (AreMute reads_as_request)
+        subst (λ (r : Request). FirstIs reads_as_request (λ (f : SeenFrame). reads_as_request f.octets r)
+          (AreMute reads_as_request)
         (map link_frame_view (up_step.grows.news at.direction)))
         (λ i. request_from (mine i) (number_is i))
         (sends_request k.station.system k.after port.port k.sends sent
         (orderly.params place k.station k.here).pdelay fits kept (up_step.grows.news at.direction) said)
 
     -- where nothing was in flight to the other port, nothing waited there, and no reply was in flight to this one
-    up_first : exchange_span (link_setting at w l) < (link_setting at w l).period → AreMute reads_as_request (pair at w l).out
+    up_first : exchange_span (link_setting at w l) < (link_setting at w l).period
+      → AreMute reads_as_request (pair at w l).out
         → ((f : SeenFrame) → In f (pair at w l).out → IsDueInTime (link_setting at w l) now now f)
         → (pair at w l).waits ≡ None → AreMute reads_as_reply (pair at w l).back
         → ((f : SeenFrame) → In f (pair at w l).back → IsDueInTime (link_setting at w l) now now f)
@@ -306,7 +318,8 @@ module _ (at : LinkPlace) (place p : ℕ) (w : WorldState) (draws : List Draw) (
       short = subst (λ (y : Setting). exchange_span y < y.period) (sym up_step.settled) short;
       facts = subst (λ (y : Setting). Facts y now m'.pair) (sym up_step.settled) facts;
       inv = subst (λ (y : Setting). InvFirst y (least_delay at w' up_step.after) reads_as_request reads_as_reply now m')
-          (sym up_step.settled) (subst (λ (n : ℕ). InvFirst set n reads_as_request reads_as_reply now m') same_least inv);
+          (sym up_step.settled) (subst (λ (n : ℕ). InvFirst set n reads_as_request reads_as_reply now m')
+            same_least inv);
     }
       where
         set : Setting
@@ -434,7 +447,8 @@ pub record Came (at : LinkPlace) (time port : ℕ) (w : WorldState) : Type 0 whe
 
 -- the own port comes up
 pub ready_first : (at : LinkPlace) (time place p : ℕ) (w : WorldState) (draws : List Draw) (answer : Answer)
-    (w' : WorldState) (k : Calls place (PortUp p) w draws answer w') → HasPortNumber k.station.system p → at.asking ≡ place
+    (w' : WorldState) (k : Calls place (PortUp p) w draws answer w') → HasPortNumber k.station.system p
+      → at.asking ≡ place
     → IsReady at time p w → Came at time p w'
 unfolding up_first
 ready_first at time place p w draws answer w' k of here is =
@@ -448,7 +462,8 @@ ready_first at time place p w draws answer w' k of here is =
         link = first.link;
         short = first.short;
         facts = subst (λ t. Facts (link_setting at w' first.link) t (pair at w' first.link)) is.now first.facts;
-        inv = subst (λ t. InvFirst (link_setting at w' first.link) (least_delay at w' first.link) reads_as_request reads_as_reply t
+        inv = subst (λ t. InvFirst (link_setting at w' first.link)
+          (least_delay at w' first.link) reads_as_request reads_as_reply t
             (meter at w' first.link)) is.now first.inv;
       };
       orderly = calls_orderly place (PortUp p) w draws answer w' is.orderly k;

@@ -102,7 +102,8 @@ module _ (p : SettlingParams) (at : LinkPlace) (w : WorldState) (sound : IsSound
 
   all_fit : AllFit brought.net.channels
   all_fit =
-      get-set_all (λ (c : Channel). (way : Direction) (f : Frame) → In f (world_queue way c) → RequestSaysWhatFits f.octets)
+      get-set_all (λ (c : Channel). (way : Direction) (f : Frame) → In f (world_queue way c)
+        → RequestSaysWhatFits f.octets)
       w.net.channels at.link s.channel up_channel s.here
       (λ way f member. absurd (subst (In f) (none_flies way) member)) measured.frames
 
@@ -159,7 +160,8 @@ module _ (p : SettlingParams) (at : LinkPlace) (w : WorldState) (sound : IsSound
     now = refl;
     port_is = ap (λ (q : PortId). q.port) (sender_up at.direction s.channel);
     short = let good = s.good in let short = s.short in omega (arith, good, short);
-    silent = subst (AreMute reads_as_request) (sym (ap (map link_frame_view) (none_flies at.direction))) (no_frames_mute reads_as_request);
+    silent = subst (AreMute reads_as_request) (sym (ap (map link_frame_view) (none_flies at.direction)))
+      (no_frames_mute reads_as_request);
     sent = λ f member. absurd (subst (In f) (ap (map link_frame_view) (none_flies at.direction)) member);
     waits = ap (λ o. waits_by o link_up.answering.state.peer.waiting) no_wait;
     mute = subst (AreMute reads_as_reply) (sym (ap (map link_frame_view) (none_flies (other_direction at.direction))))

@@ -65,7 +65,8 @@ module _ (place : ℕ) (input : Input) (w : WorldState) (draws : List Draw) (ans
       (said_at k.after (sender at.direction old.channel) k.sends) w'
   grows =
       call_lane place input w draws answer w' k at.link at.direction old.channel apart
-      (λ e. ends (was.a ∙ e ∙ sym was.b)) old.here (used_up (live_stations w.stations) old.channel old.used) old.lossless
+      (λ e. ends (was.a ∙ e ∙ sym was.b)) old.here
+        (used_up (live_stations w.stations) old.channel old.used) old.lossless
 
   new_is : grows.new ≡ f'.channel
   new_is = same_there w'.net.channels at.link grows.new f'.channel grows.here f'.here

@@ -43,7 +43,8 @@ use Rattle.gptp_invariants.proofs.OutlineLemmas.{change_is_last, starts_are_last
 -- ---- a calm world
 
 -- it has been calm for the settling span of m systems
-calm_for : (p : SettlingParams) (m settled : ℕ) (w : WorldState) → KeepsAll p w → IsCalmBy p m settled w → settled ≤ w.time
+calm_for : (p : SettlingParams) (m settled : ℕ) (w : WorldState) → KeepsAll p w → IsCalmBy p m settled w
+    → settled ≤ w.time
     → IsCalmFor (span_over m) w
 calm_for p m settled w claimed calm late = record {
   pace = p;
@@ -60,7 +61,8 @@ settled_from p m settled w claimed calm late shown =
     (settled_by_paths m w (record { pace = p; is = claimed }) calm.bounded (calm_for p m settled w claimed calm late))
     (let passed = calm.passed in omega (arith, passed)) late shown
 
-right_from : (p : SettlingParams) (m settled : ℕ) (w : WorldState) → KeepsAll p w → IsCalmBy p m settled w → settled ≤ w.time
+right_from : (p : SettlingParams) (m settled : ℕ) (w : WorldState) → KeepsAll p w → IsCalmBy p m settled w
+    → settled ≤ w.time
     → w.time ≤ 10 ^ 18 → AllMeasureRight p.params w
 right_from p m settled w claimed calm late shown =
     measured_right p settled p.params.threshold w (settled_from p m settled w claimed calm late shown)

@@ -149,7 +149,8 @@ module _ (p : SettlingParams) (settled longest : ℕ) (w : WorldState) (is : IsS
         → receiver direction d.channel ≢ receiver at.direction f.channel
     other_port off same =
         let begins = sender_opposite direction d.channel ∙ same ∙ sym (sender_opposite at.direction f.channel) in
-        let one = one_way w is.world.sound is.world.legible link at.link (other_direction direction) (other_direction at.direction)
+        let one = one_way w is.world.sound is.world.legible link at.link (other_direction direction)
+            (other_direction at.direction)
         d.channel f.channel d.takes.here f.here (ap port_identity_number begins) in
         off one.same_link (sym (opposite_same direction at.direction one.same_way))
 
@@ -171,7 +172,8 @@ module _ (p : SettlingParams) (settled longest : ℕ) (w : WorldState) (is : IsS
             (ap (slice_get w.net.channels) (sym here) ∙ d.takes.here) f.here in
             inr (record {
               lane = ap (world_queue at.direction) (popped here)
-                  ∙ queue_other at.direction direction d.takes.rest d.channel other ∙ ap (world_queue at.direction) same;
+                  ∙ queue_other at.direction direction d.takes.rest d.channel other
+                  ∙ ap (world_queue at.direction) same;
               other = other_port (λ there. other);
             })
           where
@@ -202,7 +204,8 @@ module _ (p : SettlingParams) (settled longest : ℕ) (w : WorldState) (is : IsS
       -- the oldest frame is this one, and the others are left
       front_is : world_queue at.direction f.channel ≡ frame w.time octets ∷ d.takes.rest
       front_is =
-          ap (world_queue at.direction) (sym channel_is) ∙ ap (λ way. world_queue way d.channel) came.way ∙ d.takes.front
+          ap (world_queue at.direction) (sym channel_is) ∙ ap (λ way. world_queue way d.channel) came.way
+            ∙ d.takes.front
 
       left_is : world_queue at.direction left.channel ≡ d.takes.rest
       left_is =
@@ -221,7 +224,8 @@ module _ (p : SettlingParams) (settled longest : ℕ) (w : WorldState) (is : IsS
     module _ (at : LinkPlace) (left : IsFollower at emptied) (steps : ℕ) (h' : HasWay p.params at emptied left steps)
       where
         kept_by : CameHere at left ⊎ CameElsewhere at left
-            → FollowerInvariant (follower_setting p.params settled longest at emptied left steps h') tells (follower at emptied left)
+            → FollowerInvariant (follower_setting p.params settled longest at emptied left steps h') tells
+              (follower at emptied left)
         kept_by (inr elsewhere) =
             let g = f at left in
             inv_on p settled longest w emptied is is_left takes_keeps refl at g left (was at left).a (was at left).b
@@ -366,7 +370,8 @@ module _ (p : SettlingParams) (settled longest : ℕ) (w : WorldState) (is : IsS
           (λ here. inl (heard_tells_none port octets w.time s s' c.sends (sender at.direction g.channel) sent))
 
       -- over its own
-      arrives : CameHere at left → FollowerActs k tells (follower at w g) (follower_view w.time at.direction f'.channel x')
+      arrives : CameHere at left → FollowerActs k tells (follower at w g)
+        (follower_view w.time at.direction f'.channel x')
       arrives came = by own_is
         where
           nothing : seen.news ≡ []
@@ -411,7 +416,8 @@ module _ (p : SettlingParams) (settled longest : ℕ) (w : WorldState) (is : IsS
                     on_time;
               })
 
-      follows_on : FollowerInvariant (follower_setting p.params settled longest at w' f' steps h') tells (follower at w' f')
+      follows_on : FollowerInvariant (follower_setting p.params settled longest at w' f' steps h') tells
+        (follower at w' f')
       follows_on =
           inv_on p settled longest w w' is is' keeps time at g f' a b bounds steps h' carries (by (which at left))
         where
@@ -445,7 +451,8 @@ module _ (p : SettlingParams) (settled longest : ℕ) (w : WorldState) (is : IsS
           roots_emptied;
     }
 
-pub delivery_carries : (p : SettlingParams) (settled longest : ℕ) (w w' : WorldState) → IsSettledFrom p settled longest w
+pub delivery_carries : (p : SettlingParams) (settled longest : ℕ) (w w' : WorldState)
+    → IsSettledFrom p settled longest w
     → IsSettledFrom p settled longest w' → CarriesTime p.params settled longest w → (link : ℕ) (direction : Direction)
     (octets : List ℕ) (draws : List Draw) (answer : Option Answer) → Delivers link direction octets w draws answer w'
     → CarriesTime p.params settled longest w'

@@ -215,7 +215,8 @@ module _ (p : SettlingParams) (settled longest : ℕ) (w w' : WorldState) (is : 
         by timers.Lapse k all runs =
             inl (timer_tells_none timers.Lapse w.time s s' e.calls.sends port (λ q. cc) (λ q. cc) all)
 
-    follows_on : FollowerInvariant (follower_setting p.params settled longest at w' f' steps h') tells (follower at w' f')
+    follows_on : FollowerInvariant (follower_setting p.params settled longest at w' f' steps h') tells
+      (follower at w' f')
     follows_on =
         inv_on p settled longest w w' is is' keeps time at f f' seen.a seen.b seen.bounds steps h' carries
         (step_seen p settled longest w w' is is' keeps time at f f' seen.a seen.b seen.bounds steps h' place s s'

@@ -48,10 +48,12 @@ record IsSeenKept (x : SystemState) (source : PortIdentity) (sequence : ℕ) (in
   ingress_is : sync.ingress ≡ ingress
 
 seen_kept : (x : SystemState) (source : PortIdentity) (sequence : ℕ) (ingress : ℤ)
-    → option_map kept_sync x.sync_in ≡ Some (kept_at_ingress source sequence ingress) → IsSeenKept x source sequence ingress
+    → option_map kept_sync x.sync_in ≡ Some (kept_at_ingress source sequence ingress)
+    → IsSeenKept x source sequence ingress
 seen_kept x source sequence ingress was = by x.sync_in refl was
   where
-    by : (o : Option KeptInSystem) → x.sync_in ≡ o → option_map kept_sync o ≡ Some (kept_at_ingress source sequence ingress)
+    by : (o : Option KeptInSystem) → x.sync_in ≡ o
+      → option_map kept_sync o ≡ Some (kept_at_ingress source sequence ingress)
         → IsSeenKept x source sequence ingress
     by None is none = absurd (none-some (kept_at_ingress source sequence ingress) none)
     by (Some sync) is some =
@@ -103,7 +105,8 @@ module _ (k : FollowerSetting) (now : ℕ) (direction : Direction) (old new : Ch
   unmoved_by (inl stays) none = put_unmoved now direction old new x x' (stays_put x x' root slave stays)
   unmoved_by (inr (inl has)) none =
       let (at, two_step, from) = followed_here x p k.parent takes p has.head has.follows in
-      absurd (none (Sync (port_identity_number has.head.source) has.head.sequence) (has.head, has.reads, two_step, refl, refl))
+      absurd (none (Sync (port_identity_number has.head.source) has.head.sequence)
+        (has.head, has.reads, two_step, refl, refl))
   unmoved_by (inr (inr has)) none =
       absurd (none (FollowUp (port_identity_number has.m.head.source) has.m.head.sequence (told_in has.m))
       (has.m, has.reads, refl, refl, refl))
@@ -125,7 +128,8 @@ module _ (k : FollowerSetting) (now : ℕ) (direction : Direction) (old new : Ch
       one_head has.head head (one_reading octets (messages.Sync has.head) (messages.Sync head) has.reads reads) in
       record {
         kept = ap (option_map kept_sync) has.sync_in
-            ∙ ap (λ (h : Head). Some (kept_at_ingress (port_identity_number h.source) h.sequence (local_time x now))) same
+            ∙ ap (λ (h : Head). Some (kept_at_ingress (port_identity_number h.source) h.sequence (local_time x now)))
+              same
             ∙ (λ i. Some (kept_at_ingress (sym from i) (sym number i) (shows i)));
         still = record { known = has.known; relay = has.relay };
       }

@@ -53,7 +53,8 @@ time_carries p settled longest w time later carries = record {
   roots = carries.roots;
 }
 
-module _ (p : SettlingParams) (settled longest : ℕ) (w : WorldState) (time : ℕ) (early : w.time < settled) (known : IsKnown p w)
+module _ (p : SettlingParams) (settled longest : ℕ) (w : WorldState) (time : ℕ) (early : w.time < settled)
+  (known : IsKnown p w)
     (is : IsSettledFrom p settled longest (at_time time w)) where
   abbrev later : WorldState
   later = at_time time w
@@ -89,7 +90,8 @@ module _ (p : SettlingParams) (settled longest : ℕ) (w : WorldState) (time : �
             → ((one : Frame) × In one (world_queue at.direction f'.channel) × (g ≡ link_frame_view one))
             → g.due < settled + (followers.parent_link k).most
         by g (one, member, same) =
-            subst (λ (y : SeenFrame). y.due < settled + (followers.parent_link k).most) (sym same) (old_frame one member)
+            subst (λ (y : SeenFrame). y.due < settled + (followers.parent_link k).most) (sym same)
+              (old_frame one member)
 
   pub begins : CarriesTime p.params settled longest later
   begins = record {

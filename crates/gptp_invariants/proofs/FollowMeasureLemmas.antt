@@ -48,7 +48,8 @@ delay_seen s i q one slave there last =
     ∙ ap (λ o. option_map_or (λ (y : Port). option_map_or (λ d. d) (delay_of y.peer) (pos 0)) o (pos 0)) there
     ∙ ap (λ o. option_map_or (λ d. d) (option_map (λ (y : Measurement). y.delay) o) (pos 0)) last
 
-module _ (p : SettlingParams) (settled longest : ℕ) (w : WorldState) (is : IsSettledFrom p settled longest w) (at : LinkPlace)
+module _ (p : SettlingParams) (settled longest : ℕ) (w : WorldState) (is : IsSettledFrom p settled longest w)
+  (at : LinkPlace)
     (f : IsFollower at w) (steps : ℕ) (h : HasWay p.params at w f steps) where
   abbrev x : Parts
   x = follower_parts p.params w
@@ -75,7 +76,8 @@ module _ (p : SettlingParams) (settled longest : ℕ) (w : WorldState) (is : IsS
       λ i. local_clock (phase i) (drift i) t
 
   -- the link that the port has measured is the one over which its system follows
-  module _ (q : Port) (m : HasMeasuredLink w (port_identity_number to) (port_identity_number (sender at.direction f.channel)) q) where
+  module _ (q : Port) (m : HasMeasuredLink w (port_identity_number to)
+    (port_identity_number (sender at.direction f.channel)) q) where
     abbrev k : Measuring
     k = link_setting m.at w m.link
 

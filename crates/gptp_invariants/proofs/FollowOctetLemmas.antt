@@ -72,7 +72,8 @@ told_alone octets source sequence told (m, reads, from, number, is) (Sync s n) (
 told_alone octets source sequence told (m, reads, from, number, is) (FollowUp s n t) (k, k_reads, f, g, h) =
     let e : m ≡ k =
     one_follow_up m k (one_reading octets (messages.FollowUp m) (messages.FollowUp k) reads k_reads) in
-    let same_source : s ≡ source = f ∙ ap (λ (x : FollowUpFields). port_identity_number x.head.source) (sym e) ∙ sym from in
+    let same_source : s ≡ source = f ∙ ap (λ (x : FollowUpFields). port_identity_number x.head.source) (sym e)
+        ∙ sym from in
     let same_number : n ≡ sequence = g ∙ ap (λ (x : FollowUpFields). x.head.sequence) (sym e) ∙ sym number in
     let same_told : t ≡ told = h ∙ ap told_in (sym e) ∙ sym is in
     λ i. FollowUp (same_source i) (same_number i) (same_told i)

@@ -271,7 +271,8 @@ record IsUsedHere (w : WorldState) (place : LinkPlace) (f : IsFollower place w) 
   front : world_queue place.direction f.channel ≡ frame w.time octets ∷ rest
   used : IsUsed (receiver place.direction f.channel).port m (follower_state place w f) after
 
-module _ (p : SettlingParams) (settled longest : ℕ) (w : WorldState) (is : IsSettledFrom p settled longest w) (place : LinkPlace)
+module _ (p : SettlingParams) (settled longest : ℕ) (w : WorldState) (is : IsSettledFrom p settled longest w)
+  (place : LinkPlace)
     (f : IsFollower place w) (link : ℕ) (direction : Direction) (octets : List ℕ) (draws : List Draw)
     (answer : Option Answer) (w' : WorldState) (d : Delivers link direction octets w draws answer w')
     (named : follower_clock place w f ≡ (receiver direction d.channel).clock) (m : FollowUpFields)

@@ -50,7 +50,8 @@ set_up_is f none w own place station here =
 pub clock_shown : (p : Params) (w : WorldState) → IsSound w → LinkIsMeasured w → (place : ℕ) (station : Station)
     → slice_get w.stations place ≡ Some station → (t : ℕ)
     → local_time station.system t
-    ≡ local_clock ((follower_parts p w).phase (clock station.system)) ((follower_parts p w).drift (clock station.system)) t
+    ≡ local_clock ((follower_parts p w).phase (clock station.system))
+      ((follower_parts p w).drift (clock station.system)) t
 clock_shown p w sound measured place station here t =
     let set_up = (measured.stations place station here).set_up in
     let own = sound.wired.clocks in
@@ -78,11 +79,13 @@ bound_short : (systems : List System) (channels : List Channel) (port : PortIden
     → bound_at (λ b. b.max) systems channels port ≤ greatest_channel_delay systems channels
 bound_short systems [] port = omega arith
 bound_short systems (first ∷ channels) port =
-    by (channel_is_used systems first) (has_port_id first.a port || has_port_id first.b port) (bound_short systems channels port)
+    by (channel_is_used systems first) (has_port_id first.a port || has_port_id first.b port)
+      (bound_short systems channels port)
   where
     by : (used at : Bool) → bound_at (λ b. b.max) systems channels port ≤ greatest_channel_delay systems channels
         → (if used && at then first.bounds.max else bound_at (λ b. b.max) systems channels port)
-        ≤ (if used then max first.bounds.max (greatest_channel_delay systems channels) else greatest_channel_delay systems channels)
+        ≤ (if used then max first.bounds.max (greatest_channel_delay systems channels) else greatest_channel_delay
+          systems channels)
     by true true later = omega arith
     by true false later = omega arith
     by false at later = later
@@ -94,7 +97,8 @@ FindsBound f systems channels port bound =
     × (port_identity_number (sender direction channel) ≡ port) × (bound ≡ f channel.bounds)
 
 at_end : (direction : Direction) (channel : Channel) (port : PortIdentity)
-    → port_identity_number (sender direction channel) ≡ port → (has_port_id channel.a port || has_port_id channel.b port) ≡ true
+    → port_identity_number (sender direction channel) ≡ port
+    → (has_port_id channel.a port || has_port_id channel.b port) ≡ true
 at_end FromA channel port same = or_left (has_port_id channel.a port) _ (is_port_there channel.a port same)
 at_end FromB channel port same = or_right (has_port_id channel.a port) _ (is_port_there channel.b port same)
 
@@ -116,7 +120,8 @@ bound_found f systems (first ∷ channels) zero direction channel port here used
     let same : first ≡ channel = same_Some first channel here in
     let uses : channel_is_used systems first ≡ true = ap (channel_is_used systems) same ∙ used in
     let at = at_end direction first port (ap (λ c. port_identity_number (sender direction c)) same ∙ begins) in
-    let both = and_from (channel_is_used systems first) (has_port_id first.a port || has_port_id first.b port) uses at in (
+    let both = and_from (channel_is_used systems first)
+        (has_port_id first.a port || has_port_id first.b port) uses at in (
       zero,
       direction,
       first,

@@ -54,7 +54,8 @@ said_tells_none s' port sends other octets member m told =
     timeless_tells (Written _) (timeless (trace s') x.head x.body (other x among)) m
     (subst (λ o. tells o m) is told)
 
-announcing : (sends : List Sending) → AllAre Announcing sends → (x : Sending) → In x sends → message_kind x.body ≢ Telling
+announcing : (sends : List Sending) → AllAre Announcing sends → (x : Sending) → In x sends
+    → message_kind x.body ≢ Telling
 announcing sends all x member kind = let e = all x member in cc
 
 -- what is heard is answered with Announces alone

@@ -18,7 +18,8 @@ use Rattle.gptp_invariants.specs.Timed.{IsSettledFrom}
 use Rattle.gptp_invariants.specs.View.{port_identity_number}
 use Rattle.gptp_invariants.proofs.FollowPartLemmas.{bound_is, clock_shown, parts_fit}
 
-module _ (p : SettlingParams) (settled longest : ℕ) (w : WorldState) (is : IsSettledFrom p settled longest w) (at : LinkPlace)
+module _ (p : SettlingParams) (settled longest : ℕ) (w : WorldState) (is : IsSettledFrom p settled longest w)
+  (at : LinkPlace)
     (f : IsFollower at w) (steps : ℕ) (h : HasWay p.params at w f steps) where
   abbrev x : Parts
   x = follower_parts p.params w
@@ -37,7 +38,8 @@ module _ (p : SettlingParams) (settled longest : ℕ) (w : WorldState) (is : IsS
 
   pub is_setting : IsSetting k
   is_setting =
-      ways_are_settings x g steps number settled longest (port_identity_number (sender at.direction f.channel)) h.way h.phase fit
+      ways_are_settings x g steps number settled longest
+        (port_identity_number (sender at.direction f.channel)) h.way h.phase fit
       h.is
 
   pub residence_is : k.way.residence ≡ p.params.residence

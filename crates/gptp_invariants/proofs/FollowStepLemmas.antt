@@ -1,4 +1,5 @@
--- A call of a settled world, at a system that follows: an act of the machine of gptp_sync_machine, which keeps its invariant.
+-- A call of a settled world, at a system that follows: an act of the machine of gptp_sync_machine, which keeps its
+-- invariant.
 use Rattle.std.proofs.Common.{◌≡◌, ◌≢◌, ◌⊎◌, ◌≤◌, ◌+◌, ℕ, suc, List, [], ◌++◌, map, Some, None, slice_get, sym, ap, subst, ◌∙◌, inl, inr, arith}
 use Rattle.std.specs.Option.{option_map}
 use Rattle.std.proofs.lemmas.List.{append-nil}
@@ -102,7 +103,8 @@ module _ (p : SettlingParams) (settled longest : ℕ) (w w' : WorldState) (is : 
           (same_parts p.params w w' keeps)
           (subst (λ g. IsWayTo (follower_parts p.params w') g (suc steps) (follower_clock at w f) h'.way h'.phase)
           (same_snapshot w w' keeps)
-          (subst (λ (q : PortId). IsWayTo (follower_parts p.params w') (snapshot_of w') (suc steps) q.clock h'.way h'.phase)
+          (subst (λ (q : PortId). IsWayTo (follower_parts p.params w') (snapshot_of w')
+            (suc steps) q.clock h'.way h'.phase)
           same_to h'.is));
     }
 
@@ -119,12 +121,14 @@ module _ (p : SettlingParams) (settled longest : ℕ) (w w' : WorldState) (is : 
         let kept = inv_kept k tells (follower at w f) after acts (carries.follow at f steps way_was) in
         subst (λ t. FollowerInvariant (follower_setting p.params settled longest at w' f' steps h') tells
         (follower_view t at.direction f'.channel x')) (sym time)
-        (subst (λ (q : PortId). FollowerInvariant (follower_of h'.way h'.phase steps (port_identity_number q) settled longest) tells after)
+        (subst (λ (q : PortId). FollowerInvariant
+          (follower_of h'.way h'.phase steps (port_identity_number q) settled longest) tells after)
         (sym same_from) kept)
 
     -- ---- what is sent
 
-    module _ (news : List Frame) (queue_is : world_queue at.direction f'.channel ≡ world_queue at.direction f.channel ++ news)
+    module _ (news : List Frame) (queue_is : world_queue at.direction f'.channel ≡ world_queue at.direction
+      f.channel ++ news)
         (late : (g : Frame) → In g news → w.time + f.channel.bounds.min ≤ g.due) where
       lane_is : after.lane ≡ (follower at w f).lane ++ map link_frame_view news
       lane_is = lane_seen at.direction f.channel f'.channel news queue_is
@@ -170,7 +174,8 @@ module _ (p : SettlingParams) (settled longest : ℕ) (w w' : WorldState) (is : 
       unmoved put = put_unmoved w.time at.direction f.channel f'.channel x x' put
 
       -- others send
-      pub others : StaysPut x x' → AreMute tells (map link_frame_view news) → FollowerActs k tells (follower at w f) after
+      pub others : StaysPut x x' → AreMute tells (map link_frame_view news)
+        → FollowerActs k tells (follower at w f) after
       others put mute =
           others_send (record { unmoved = unmoved put; news = map link_frame_view news; lane = lane_is; mute = mute })
 
@@ -198,7 +203,8 @@ module _ (p : SettlingParams) (settled longest : ℕ) (w w' : WorldState) (is : 
               own_fits s' (sender at.direction f.channel).port (omega (arith, most, count, few))
 
           by : PairOrNone (port_identity_number (own s' (sender at.direction f.channel).port)) t.told
-              (said_at s' (own s' (sender at.direction f.channel).port) sends) → FollowerActs k tells (follower at w f) after
+              (said_at s' (own s' (sender at.direction f.channel).port) sends)
+                → FollowerActs k tells (follower at w f) after
           by (inr none) =
               let nothing : octets_of news ≡ [] =
               said ∙ ap (λ q. said_at s' q sends) (sym mine) ∙ none in
@@ -217,7 +223,8 @@ module _ (p : SettlingParams) (settled longest : ℕ) (w w' : WorldState) (is : 
                 sent = pair_sends k.parent t.told news here;
                 in_time = in_time;
                 right = λ from_then.
-                    subst (λ told. FollowUpIsRight k.way k.phase k.place told w.time) (sym (here.exact (t.fits from_then)))
+                    subst (λ told. FollowUpIsRight k.way k.phase k.place told w.time)
+                      (sym (here.exact (t.fits from_then)))
                     (t.right from_then);
               })
 
@@ -259,7 +266,8 @@ module _ (p : SettlingParams) (settled longest : ℕ) (w w' : WorldState) (is : 
               now = stops'.runs;
               kept = ap (option_map kept_sync) stops'.sync_in;
               lane = lane_is steps h' news queue_is late
-                  ∙ ap (λ fs. (follower at w f).lane ++ map link_frame_view fs) nothing ∙ append-nil (follower at w f).lane;
+                  ∙ ap (λ fs. (follower at w f).lane ++ map link_frame_view fs) nothing
+                  ∙ append-nil (follower at w f).lane;
               relay = stops'.relay;
             })
     step_seen (inr (other, still)) above moves speaks = by (same_place at.asking place)

@@ -54,7 +54,8 @@ parent_from x n r slave holds =
     ap (option_and_then (λ q. option_map (λ source. (q, source)) (held_source (held_at x q)))) slave
     ∙ ap (λ o. option_map (λ source. (n, source)) (option_map (λ (y : Reception). y.vector.source) o)) holds
 
-module _ (p : SettlingParams) (settled longest : ℕ) (w : WorldState) (is : IsSettledFrom p settled longest w) (at : LinkPlace)
+module _ (p : SettlingParams) (settled longest : ℕ) (w : WorldState) (is : IsSettledFrom p settled longest w)
+  (at : LinkPlace)
     (f : IsFollower at w) where
   abbrev s : SystemState
   s = follower_state at w f
@@ -95,7 +96,8 @@ module _ (p : SettlingParams) (settled longest : ℕ) (w : WorldState) (is : IsS
   own_port =
       let back = sender_opposite at.direction f.channel in
       subst (λ (q : PortId). HasPortNumber s q.port) back
-      (is.world.sound.wired.ports at.link at.answering (other_direction at.direction) f.channel f.own.station f.here f.own.here
+      (is.world.sound.wired.ports at.link at.answering
+        (other_direction at.direction) f.channel f.own.station f.here f.own.here
       (f.own.named ∙ ap (λ (q : PortId). q.clock) (sym back)))
 
   -- there it takes its time from the parent
@@ -130,7 +132,8 @@ same_root g v a b wf (x, is_x, a_is) (y, is_y, b_is) =
 
 -- what has a live station of a clock had it before, by a call: it is the one that was called, or unchanged
 pub record WasBefore (place : ℕ) (input : Input) (w : WorldState) (draws : List Draw) (answer : Answer)
-    (w' : WorldState) (k : Calls place input w draws answer w') (other number : ℕ) (new : StationIsLiveAt other number w')
+    (w' : WorldState) (k : Calls place input w draws answer w') (other number : ℕ)
+      (new : StationIsLiveAt other number w')
     : Type 0 where
   pub before : StationIsLiveAt other number w
   pub which : ((other ≡ place) × (before.station ≡ k.station) × (new.station ≡ in_state k.after k.station))
@@ -175,8 +178,10 @@ was_before place input w draws answer w' k other number new = by (same_place oth
     }
 
 -- What follows in the later world followed in the one before, over the same link, where the network stayed.
-pub record FollowedBefore (at : LinkPlace) (w w' : WorldState) (f' : IsFollower at w') (above : StationIsLiveAt at.asking
-    (sender at.direction f'.channel).clock w) (own : StationIsLiveAt at.answering (receiver at.direction f'.channel).clock w)
+pub record FollowedBefore (at : LinkPlace) (w w' : WorldState) (f' : IsFollower at w')
+  (above : StationIsLiveAt at.asking
+    (sender at.direction f'.channel).clock w)
+      (own : StationIsLiveAt at.answering (receiver at.direction f'.channel).clock w)
     : Type 0 where
   pub before : IsFollower at w
   pub a : f'.channel.a ≡ before.channel.a
@@ -213,7 +218,8 @@ followed_before at w w' f' k above own =
       before = record {
         channel = old;
         here = stands;
-        used = ap (channel_is_used (live_stations w.stations)) same ∙ ap (λ s. channel_is_used s f'.channel) (sym k.systems) ∙ f'.used;
+        used = ap (channel_is_used (live_stations w.stations)) same
+          ∙ ap (λ s. channel_is_used s f'.channel) (sym k.systems) ∙ f'.used;
         lossless = ap (λ (x : Bounds). x.loss) (sym bounds) ∙ f'.lossless;
         above = renamed w at.asking _ _ (ap (λ (q : PortId). q.clock) from) above;
         own = renamed w at.answering _ _ (ap (λ (q : PortId). q.clock) to) own;

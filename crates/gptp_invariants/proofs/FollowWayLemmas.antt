@@ -91,7 +91,8 @@ phases_fit stations each number = by (slice_get (setups_of stations) (clock_plac
 
 -- ---- the way of a system that follows
 
-module _ (p : SettlingParams) (settled longest : ℕ) (w : WorldState) (is : IsSettledFrom p settled longest w) (at : LinkPlace)
+module _ (p : SettlingParams) (settled longest : ℕ) (w : WorldState) (is : IsSettledFrom p settled longest w)
+  (at : LinkPlace)
     (f : IsFollower at w) (steps : ℕ) (h : HasWay p.params at w f steps) where
   abbrev x : Parts
   x = follower_parts p.params w
@@ -179,7 +180,8 @@ pub record Follows (w : WorldState) (place : ℕ) (station : Station) : Type 0 w
   pub own_is : follower.own.station ≡ station
   pub named : (receiver at.direction follower.channel).clock ≡ clock station.system
 
-pub follows_parent : (p : SettlingParams) (settled longest : ℕ) (w : WorldState) → IsSettledFrom p settled longest w → (place : ℕ)
+pub follows_parent : (p : SettlingParams) (settled longest : ℕ) (w : WorldState) → IsSettledFrom p settled longest w
+    → (place : ℕ)
     (station : Station) → slice_get w.stations place ≡ Some station → station.live ≡ true
     → IsNear (snapshot_of w) (clock station.system) → (l : ParentLink)
     → IsParent (snapshot_of w) (clock station.system) l → Follows w place station

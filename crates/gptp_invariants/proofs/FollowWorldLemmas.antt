@@ -40,7 +40,8 @@ acts_carry_time p settled longest (Changing change) w draws done w' none k is is
 
 -- so it is from act to act
 module _ {F : Type 0} (answers : Bounds → ℕ → F → Option ℕ → F → Type 0) where
-  pub done_carries : (p : SettlingParams) (settled longest : ℕ) (timed : Timed) (fate fate_after : F) (w w' : WorldState)
+  pub done_carries : (p : SettlingParams) (settled longest : ℕ) (timed : Timed) (fate fate_after : F)
+      (w w' : WorldState)
       (done : Done) → IsNoChange timed.act → WasDone answers timed fate fate_after w w' done → IsKnown p w
       → IsSettledFrom p settled longest (at timed.at w) → AllMeasureRight p.params (at timed.at w)
       → IsSettledFrom p settled longest w' → (settled ≤ w.time → CarriesTime p.params settled longest w)
@@ -65,7 +66,8 @@ used_within systems (first ∷ channels) bound each =
     by (channel_is_used systems first) refl (used_within systems channels bound (λ link. each (suc link)))
   where
     by : (used : Bool) → channel_is_used systems first ≡ used → greatest_channel_delay systems channels ≤ bound
-        → (if used then max first.bounds.max (greatest_channel_delay systems channels) else greatest_channel_delay systems channels)
+        → (if used then max first.bounds.max (greatest_channel_delay systems channels) else greatest_channel_delay
+          systems channels)
         ≤ bound
     by true is later = let one = each zero first refl is in omega (arith, one, later)
     by false is later = later

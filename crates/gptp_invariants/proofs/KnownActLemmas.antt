@@ -62,7 +62,8 @@ out_due place timer w draws w' k =
     sym (live_due k.calls.station timer k.calls.live) ∙ ap (station_due timer) same ∙ k.now_due in
     let least : w.time ≤ w.time = omega arith in rw now least
 
-pub expires_kept : (p : SettlingParams) (So : ℤ → Type 0) (place : ℕ) (timer : Timer) (w : WorldState) (draws : List Draw)
+pub expires_kept : (p : SettlingParams) (So : ℤ → Type 0) (place : ℕ) (timer : Timer) (w : WorldState)
+    (draws : List Draw)
     (w' : WorldState) → TimerRunsOut place timer w draws w' → IsKept p So w → IsKept p So w'
 expires_kept p So place timer w draws w' k kept =
     calls_kept p So place (TimerExpires timer) (stopped place timer w) draws k.answer w' k.calls

@@ -67,7 +67,8 @@ pub port_at_rest : (s : SystemState) → AreHeld s → IsAtRest s → (i : ℕ) 
 port_at_rest s held rest i h stands = record {
   fresh = not_aged v (clock s) i h stays;
   mine = λ root steps is.
-      let same = mine_is v (clock s) i root steps (subst (λ x. x ≡ held_after_selection v (clock s) (suc i) x) is stays) in
+      let same = mine_is v (clock s) i root steps
+          (subst (λ x. x ≡ held_after_selection v (clock s) (suc i) x) is stays) in
       (same.0 ∙ sym rest.root, same.1 ∙ sym rest.steps);
   passive = λ r got. by r (received_stays v (clock s) i h r stays got);
   came = held i h stands;

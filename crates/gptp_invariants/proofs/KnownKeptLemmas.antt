@@ -93,7 +93,8 @@ near_short log w near link channel here =
     }
 
 -- what is known, item by item
-pub known_kept : (p : SettlingParams) (w : WorldState) → IsWorldOnTime w → IsKnown p w → IsKept p (IsCounted p w.stations) w
+pub known_kept : (p : SettlingParams) (w : WorldState) → IsWorldOnTime w → IsKnown p w
+    → IsKept p (IsCounted p w.stations) w
 known_kept p w on known = record {
   change = known.fresh.change;
   stations = λ place station here.
@@ -192,7 +193,8 @@ stays_off input now s s' sends answer steps nothing off = by s'.lapse refl
     by None is = is
     by (Some t) is = absurd (ran t (runs.lapse t is))
 
-module _ (p : SettlingParams) (So : ℤ → Type 0) (place : ℕ) (input : Input) (w : WorldState) (draws : List Draw) (answer : Answer)
+module _ (p : SettlingParams) (So : ℤ → Type 0) (place : ℕ) (input : Input) (w : WorldState) (draws : List Draw)
+  (answer : Answer)
     (w' : WorldState) (calls : Calls place input w draws answer w') where
   -- the system as the call leaves it
   called_station : IsTimely calls.station.system w.time input → IsKeptStation p So w.time calls.station

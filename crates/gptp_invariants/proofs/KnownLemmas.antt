@@ -54,13 +54,15 @@ acts_kept p So (Changing c) w draws done w' sound prompt k kept =
     prompt (changed_kept p So w kept) k.1
 
 -- such an act is prompt for each interval that counts
-counted_prompt : (p : SettlingParams) (act : Act) (w : WorldState) → DelayFitsInterval (largest_interval p) act → DelaysFitIntervals w act
+counted_prompt : (p : SettlingParams) (act : Act) (w : WorldState) → DelayFitsInterval (largest_interval p) act
+    → DelaysFitIntervals w act
     → (log : ℤ) → IsCounted p w.stations log → DelayFitsInterval (interval_of log) act
 counted_prompt p act w most prompt log (inl same) = subst (λ l. DelayFitsInterval (interval_of l) act) (sym same) most
 counted_prompt p act w most prompt log (inr at) = prompt at.place at.station log at.here at.among
 
 pub acts_known : (p : SettlingParams) (act : Act) (w : WorldState) (draws : List Draw) (done : Done) (w' : WorldState)
-    → IsSound w → DelayFitsInterval (largest_interval p) act → DelaysFitIntervals w act → Acts act w draws done w' → IsKnown p w
+    → IsSound w → DelayFitsInterval (largest_interval p) act → DelaysFitIntervals w act → Acts act w draws done w'
+    → IsKnown p w
     → IsKnown p w'
 acts_known p act w draws done w' sound most prompt k known =
     let counted = IsCounted p w.stations in

@@ -1,4 +1,5 @@
--- A call, seen at a link: what becomes of the two lanes, of the port that reads_as_request and of the port that answers.
+-- A call, seen at a link: what becomes of the two lanes, of the port that reads_as_request and of the port that
+-- answers.
 use Rattle.std.proofs.Common.{◌≡◌, ◌≢◌, ◌⊎◌, ◌+◌, ◌≤◌, ℕ, Bool, true, false, List, [], ◌∷◌, ◌++◌, map, refl, sym, ap, subst, ◌∙◌, inl, inr, eqb-true, eq-eqb}
 use Rattle.std.specs.Prelude.{if◌then◌else◌, ◌==◌}
 use Rattle.std.proofs.lemmas.List.{append-nil, map-append}
@@ -47,7 +48,8 @@ same_pdelay p q e = cc
 same_respond : (p q : ℕ) → timers.Respond p ≡ timers.Respond q → p ≡ q
 same_respond p q e = cc
 
--- what a timer makes of a port that reads_as_request: its own Pdelay timer sends the next request, and any other leaves what it
+-- what a timer makes of a port that reads_as_request: its own Pdelay timer sends the next request, and any other leaves
+-- what it
 -- asked
 pub asker_timer : (s : SystemState) (now period : ℕ) (timer : Timer) (n : ℕ) (x x' : Part)
     → IsPartAfter s now (Expires timer) n x x'
@@ -155,7 +157,8 @@ module _ {at : LinkPlace} {place : ℕ} {input : Input} {w w' : WorldState} {l :
       ap (λ (x : Setup). asker_view (interval_of x.params.pdelay) (measure_at step.after.asking.state)) step.period
 
   lane_is : (direction : Direction)
-      → link_lane_view direction step.after.channel ≡ link_lane_view direction l.channel ++ map link_frame_view (news direction)
+      → link_lane_view direction step.after.channel ≡ link_lane_view direction l.channel ++ map link_frame_view
+        (news direction)
   lane_is direction =
       ap (map link_frame_view) (step.grows.queues direction)
       ∙ map-append link_frame_view (world_queue direction l.channel) (news direction)
@@ -163,7 +166,8 @@ module _ {at : LinkPlace} {place : ℕ} {input : Input} {w w' : WorldState} {l :
   pub out_is : (pair at w' step.after).out ≡ (pair at w l).out ++ map link_frame_view (news at.direction)
   out_is = lane_is at.direction
 
-  pub back_is : (pair at w' step.after).back ≡ (pair at w l).back ++ map link_frame_view (news (other_direction at.direction))
+  pub back_is : (pair at w' step.after).back ≡ (pair at w l).back ++ map link_frame_view
+      (news (other_direction at.direction))
   back_is = lane_is (other_direction at.direction)
 
   -- a system sends nothing from the end of another
@@ -184,14 +188,16 @@ module _ {at : LinkPlace} {place : ℕ} {input : Input} {w w' : WorldState} {l :
 
   pub out_stays : at.asking ≢ place → (pair at w' step.after).out ≡ (pair at w l).out
   out_stays apart =
-      out_is ∙ ap (λ fs. (pair at w l).out ++ map link_frame_view fs) (asking_quiet apart) ∙ append-nil (pair at w l).out
+      out_is ∙ ap (λ fs. (pair at w l).out ++ map link_frame_view fs) (asking_quiet apart)
+        ∙ append-nil (pair at w l).out
 
   pub back_stays : at.answering ≢ place → (pair at w' step.after).back ≡ (pair at w l).back
   back_stays apart =
       back_is ∙ ap (λ fs. (pair at w l).back ++ map link_frame_view fs) (answering_quiet apart)
       ∙ append-nil (pair at w l).back
 
-  none_mute : {X : Type 0} (says : List ℕ → X → Type 0) (fs : List Frame) → fs ≡ [] → AreMute says (map link_frame_view fs)
+  none_mute : {X : Type 0} (says : List ℕ → X → Type 0) (fs : List Frame) → fs ≡ []
+      → AreMute says (map link_frame_view fs)
   none_mute says fs none f member = absurd (subst (λ gs. In f (map link_frame_view gs)) none member)
 
   -- what is sent to the port that answers reads_as_request nothing, unless the other's Pdelay timer expires
@@ -223,12 +229,14 @@ module _ {at : LinkPlace} {place : ℕ} {input : Input} {w w' : WorldState} {l :
   -- what is sent is due in time
   pub out_in_time : IsSentInTime (link_setting at w l) w.time (pair at w l).out (pair at w' step.after).out
   out_in_time =
-      sent_in_time (link_setting at w l) w.time (world_queue at.direction l.channel) (news at.direction) (pair at w l).out
+      sent_in_time (link_setting at w l) w.time (world_queue at.direction l.channel) (news at.direction)
+        (pair at w l).out
       (pair at w' step.after).out out_is (λ g member. member) (step.grows.dues at.direction)
 
   pub back_in_time : IsSentInTime (link_setting at w l) w.time (pair at w l).back (pair at w' step.after).back
   back_in_time =
-      sent_in_time (link_setting at w l) w.time (world_queue (other_direction at.direction) l.channel) (news (other_direction at.direction))
+      sent_in_time (link_setting at w l) w.time (world_queue (other_direction at.direction) l.channel)
+        (news (other_direction at.direction))
       (pair at w l).back (pair at w' step.after).back back_is (λ g member. member)
       (step.grows.dues (other_direction at.direction))
 
@@ -240,7 +248,8 @@ module _ {at : LinkPlace} {place : ℕ} {input : Input} {w w' : WorldState} {l :
 
   pub back_late : IsSentLate (least_delay at w l) w.time (pair at w l).back (pair at w' step.after).back
   back_late =
-      sent_late (least_delay at w l) w.time (world_queue (other_direction at.direction) l.channel) (news (other_direction at.direction))
+      sent_late (least_delay at w l) w.time (world_queue (other_direction at.direction) l.channel)
+        (news (other_direction at.direction))
       (pair at w l).back (pair at w' step.after).back back_is (λ g member. member)
       (step.grows.lates (other_direction at.direction))
 

@@ -81,7 +81,8 @@ module _ (link : ℕ) (direction : Direction) (octets : List ℕ) (w : WorldStat
         let one : k.station ≡ station = same_there w.stations k.place k.station station k.there there in
         let begins : sender (other_direction direction) k.channel ≡ port = sender_opposite direction k.channel in
         subst (λ (p : PortId). IsUp station.system p.port) begins
-        (sound.wired.linked link k.place (other_direction direction) k.channel station k.takes.here channel_up there live
+        (sound.wired.linked link k.place (other_direction direction) k.channel station k.takes.here channel_up
+          there live
         (ap (λ (x : Station). clock x.system) (sym one) ∙ k.is_end ∙ ap (λ (p : PortId). p.clock) (sym begins)))
 
     -- the station at an end of its clock is the one that hears
@@ -171,12 +172,14 @@ module _ (link : ℕ) (direction : Direction) (octets : List ℕ) (w : WorldStat
           (is_up calls.station calls.here calls.live) orderly left_link
           (λ same number. absurd (not_asker at.asking (sender at.direction l.channel) at.direction refl l.asking same
           number))
-          (λ same number. absurd (not_asker at.answering (receiver at.direction l.channel) (other_direction at.direction)
+          (λ same number. absurd (not_asker at.answering (receiver at.direction l.channel)
+            (other_direction at.direction)
           answerer_begins l.answering same number)) in
           let asker = part_left at.asking (sender at.direction l.channel) at.direction refl l.asking
           (measure_at l.asking.state) (measure_at step.after.asking.state) step.asking in
           let answerer = part_left at.answering (receiver at.direction l.channel) (other_direction at.direction)
-          answerer_begins l.answering (measure_at l.answering.state) (measure_at step.after.answering.state) step.answering in
+          answerer_begins l.answering (measure_at l.answering.state)
+            (measure_at step.after.answering.state) step.answering in
           record {
             after = step.after;
             settled = step.settled;
@@ -283,13 +286,16 @@ module _ (link : ℕ) (direction : Direction) (octets : List ℕ) (w : WorldStat
             | inr left ↦ asks_still period (measure_at l.asking.state) (measure_at step.after.asking.state) left.1
           ]
 
-          request_noted : Notes (link_setting at w l) reads_as_request w.time octets (waits_view (measure_at l.answering.state))
+          request_noted : Notes (link_setting at w l) reads_as_request w.time octets
+            (waits_view (measure_at l.answering.state))
               (waits_view (measure_at step.after.answering.state))
           request_noted = elim step.answering [
             | inl called ↦
-                hears_notes (link_setting at w l) l.answering.station.system w.time octets (measure_at l.answering.state)
+                hears_notes (link_setting at w l) l.answering.station.system w.time octets
+                  (measure_at l.answering.state)
                 (measure_at step.after.answering.state)
-                (hears_here (receiver at.direction less.channel) l.answering.station.system (measure_at l.answering.state)
+                (hears_here (receiver at.direction less.channel) l.answering.station.system
+                  (measure_at l.answering.state)
                 (measure_at step.after.answering.state)
                 (ap (λ (p : PortId). p.port)
                 (popped_receiver at w l direction (frame w.time octets) k.takes.rest was k.net stands_now
@@ -299,7 +305,8 @@ module _ (link : ℕ) (direction : Direction) (octets : List ℕ) (w : WorldStat
             | inr left ↦ absurd (left.0 answers_here)
           ]
 
-          answerer_seen : AnswererHears (link_setting at w l) reads_as_request reads_as_reply (pair at w l) (pair at w' step.after)
+          answerer_seen : AnswererHears (link_setting at w l) reads_as_request reads_as_reply (pair at w l)
+            (pair at w' step.after)
           answerer_seen = record {
             time = step.time;
             asker = asker_is step ∙ asker_left.0;
@@ -313,8 +320,10 @@ module _ (link : ℕ) (direction : Direction) (octets : List ℕ) (w : WorldStat
             waits = request_noted;
             news = map link_frame_view (step.grows.news (other_direction at.direction));
             back = back_is step
-                ∙ ap (λ fs. map link_frame_view fs ++ map link_frame_view (step.grows.news (other_direction at.direction)))
-                (ap (λ d. world_queue (other_direction d) less.channel) (sym way) ∙ queue_left direction k.takes.rest l.channel
+                ∙ ap (λ fs. map link_frame_view fs ++ map link_frame_view
+                  (step.grows.news (other_direction at.direction)))
+                (ap (λ d. world_queue (other_direction d) less.channel) (sym way)
+                  ∙ queue_left direction k.takes.rest l.channel
                 ∙ ap (λ d. world_queue (other_direction d) l.channel) way);
             mute = back_mute step (λ same e. absurd cc);
           }
@@ -368,7 +377,8 @@ module _ (link : ℕ) (direction : Direction) (octets : List ℕ) (w : WorldStat
               subst (IsGoodLink l.channel.bounds.max l.answering.station.setup.params.turnaround)
               (sym l.asking.measures.threshold) l.good
 
-          reply_taken : TakesReply (link_setting at w l) reads_as_reply w.time octets (asker_view period (measure_at l.asking.state))
+          reply_taken : TakesReply (link_setting at w l) reads_as_reply w.time octets
+            (asker_view period (measure_at l.asking.state))
               (asker_view period (measure_at step.after.asking.state))
           reply_taken =
               hears_takes (link_setting at w l) l.asking.station.system w.time period octets (measure_at l.asking.state)
@@ -377,10 +387,12 @@ module _ (link : ℕ) (direction : Direction) (octets : List ℕ) (w : WorldStat
               (clock_is at.asking (sender at.direction l.channel) w l.asking w.time) l.asking.measures.own
               (clocks_apart at w l sound.wired.clocks) good_here local_clocks
 
-          reply_measured : TakesMeasure (link_setting at w l) reads_as_reply octets (asker_view period (measure_at l.asking.state))
+          reply_measured : TakesMeasure (link_setting at w l) reads_as_reply octets
+            (asker_view period (measure_at l.asking.state))
               l.asking.state.peer.last step.after.asking.state.peer.last
           reply_measured =
-              hears_measure (link_setting at w l) l.asking.station.system w.time period octets (measure_at l.asking.state)
+              hears_measure (link_setting at w l) l.asking.station.system w.time period octets
+                (measure_at l.asking.state)
               (measure_at step.after.asking.state) asker_hears (sender at.direction l.channel)
               (receiver at.direction l.channel) refl refl
               (clock_is at.asking (sender at.direction l.channel) w l.asking w.time) l.asking.measures.own
@@ -389,7 +401,8 @@ module _ (link : ℕ) (direction : Direction) (octets : List ℕ) (w : WorldStat
           other_way : at.direction ≡ other_direction direction
           other_way = sym (opposite_twice at.direction) ∙ ap other_direction (sym way)
 
-          asker_seen : AskerHears (link_setting at w l) reads_as_request reads_as_reply (pair at w l) (pair at w' step.after)
+          asker_seen : AskerHears (link_setting at w l) reads_as_request reads_as_reply (pair at w l)
+            (pair at w' step.after)
           asker_seen = record {
             time = step.time;
             waits = waits_left;
@@ -400,7 +413,8 @@ module _ (link : ℕ) (direction : Direction) (octets : List ℕ) (w : WorldStat
             back = back_stays step answers_elsewhere
                 ∙ ap (map link_frame_view)
                 (ap (λ d. world_queue d less.channel) (sym way) ∙ queue_set direction k.takes.rest l.channel);
-            asker = subst (TakesReply (link_setting at w l) reads_as_reply w.time octets (asker_view period (measure_at l.asking.state)))
+            asker = subst (TakesReply (link_setting at w l) reads_as_reply w.time octets
+              (asker_view period (measure_at l.asking.state)))
                 (sym (asker_is step)) reply_taken;
             news = map link_frame_view (step.grows.news at.direction);
             out = out_is step
@@ -410,7 +424,8 @@ module _ (link : ℕ) (direction : Direction) (octets : List ℕ) (w : WorldStat
             mute = out_mute step (λ same e. absurd cc) (λ p e. absurd cc);
           }
 
-        heard_act : MeterActs (link_setting at w l) reads_as_request reads_as_reply (meter at w l) (meter at w' step.after)
+        heard_act : MeterActs (link_setting at w l) reads_as_request reads_as_reply (meter at w l)
+          (meter at w' step.after)
         unfolding asker_seen
         heard_act = elim (which_way direction at.direction) [
           | inl way ↦ meter_heard (answerer_seen way) (asker_left way).1
@@ -434,7 +449,8 @@ module _ (link : ℕ) (direction : Direction) (octets : List ℕ) (w : WorldStat
 
         -- what is sent is due in time, and takes the least delay or more, though a frame is gone
         lane_in_time : (way : Direction)
-            → IsSentInTime (link_setting at w l) w.time (link_lane_view way l.channel) (link_lane_view way step.after.channel)
+            → IsSentInTime (link_setting at w l) w.time (link_lane_view way l.channel)
+              (link_lane_view way step.after.channel)
         lane_in_time way =
             sent_in_time (link_setting at w l) w.time (world_queue way less.channel) (step.grows.news way)
             (link_lane_view way l.channel) (link_lane_view way step.after.channel) (lane_is way) (lane_left way)
@@ -443,7 +459,8 @@ module _ (link : ℕ) (direction : Direction) (octets : List ℕ) (w : WorldStat
             (step.grows.dues way f member))
 
         lane_late : (way : Direction)
-            → IsSentLate (least_delay at w l) w.time (link_lane_view way l.channel) (link_lane_view way step.after.channel)
+            → IsSentLate (least_delay at w l) w.time (link_lane_view way l.channel)
+              (link_lane_view way step.after.channel)
         lane_late way =
             sent_late (least_delay at w l) w.time (world_queue way less.channel) (step.grows.news way)
             (link_lane_view way l.channel) (link_lane_view way step.after.channel) (lane_is way) (lane_left way)
@@ -503,7 +520,8 @@ module _ (link : ℕ) (direction : Direction) (octets : List ℕ) (w : WorldStat
           so = answerer_seen at l here told calls way;
         }
 
-    pub asker_hears_seen : (at : LinkPlace) (l : IsLinkOf at w) → link ≡ at.link → direction ≡ other_direction at.direction
+    pub asker_hears_seen : (at : LinkPlace) (l : IsLinkOf at w) → link ≡ at.link
+      → direction ≡ other_direction at.direction
         → IsSeenAtLink (λ k m m'. AskerHears k reads_as_request reads_as_reply m.pair m'.pair) at w w' l
     asker_hears_seen at l here way = go answer k.hears
       where

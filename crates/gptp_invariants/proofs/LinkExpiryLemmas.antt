@@ -168,7 +168,8 @@ module _ (at : LinkPlace) (place : ℕ) (timer : Timer) (w : WorldState) (draws 
         l.asking.measures.allowed
 
     request_goes : FirstIs reads_as_request
-        (λ (f : SeenFrame). reads_as_request f.octets (request_from asker_port l.asking.state.peer.next)) (AreMute reads_as_request)
+        (λ (f : SeenFrame). reads_as_request f.octets (request_from asker_port l.asking.state.peer.next))
+          (AreMute reads_as_request)
         (map link_frame_view (step.grows.news at.direction))
     request_goes =
         let p = asker_port.port in
@@ -180,13 +181,15 @@ module _ (at : LinkPlace) (place : ℕ) (timer : Timer) (w : WorldState) (draws 
         let number_is : next_of s p ≡ l.asking.state.peer.next =
         ap (λ x. next_of x p) system ∙ end_next at.asking asker_port w l.asking in
         let said = step.grows.said at.direction ∙ ap (λ port. said_at s' port sends) (sym mine) in
-        subst (λ (r : Request). FirstIs reads_as_request (λ (f : SeenFrame). reads_as_request f.octets r) (AreMute reads_as_request)
+        subst (λ (r : Request). FirstIs reads_as_request (λ (f : SeenFrame). reads_as_request f.octets r)
+          (AreMute reads_as_request)
         (map link_frame_view (step.grows.news at.direction)))
         (λ i. request_from (mine i) (number_is i))
         (sends_request s s' p sends sent (orderly.params place k.calls.station k.calls.here).pdelay fits (own_kept p)
         (step.grows.news at.direction) said)
 
-    pub request_seen : RequestTimerExpires (link_setting at w l) reads_as_request reads_as_reply (pair at w l) (pair at w' step.after)
+    pub request_seen : RequestTimerExpires (link_setting at w l) reads_as_request reads_as_reply (pair at w l)
+      (pair at w' step.after)
     request_seen = record {
       time = step.time;
       waits = waits_still;
@@ -263,12 +266,14 @@ module _ (at : LinkPlace) (place : ℕ) (timer : Timer) (w : WorldState) (draws 
         (subst (λ (port : PortId). FirstIs reads_as_reply
         (λ (f : SeenFrame). reads_as_reply f.octets (Response (link_identity port) waiting.request owed.t2))
         (FirstIs reads_as_reply
-        (λ (f : SeenFrame). reads_as_reply f.octets (FollowUp (link_identity port) waiting.request (local_time s w.time)))
+        (λ (f : SeenFrame). reads_as_reply f.octets
+          (FollowUp (link_identity port) waiting.request (local_time s w.time)))
         (AreMute reads_as_reply)) (map link_frame_view (step.grows.news (other_direction at.direction)))) mine
         (sends_answer s s' p w.time owed sends responds own_fits fits (own_kept p)
         (step.grows.news (other_direction at.direction)) said))
 
-    pub answer_seen : AnswerTimerExpires (link_setting at w l) reads_as_request reads_as_reply (pair at w l) (pair at w' step.after)
+    pub answer_seen : AnswerTimerExpires (link_setting at w l) reads_as_request reads_as_reply (pair at w l)
+      (pair at w' step.after)
     answer_seen = record {
       time = step.time;
       asker = asker_is step ∙ asker_still.0;

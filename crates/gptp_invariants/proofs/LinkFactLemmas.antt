@@ -148,7 +148,8 @@ facts_begin at gone w l sound measured flight =
           let by = seen_gone gone (world_queue at.direction l.channel) (flight at.direction) g member in
           record { earliest = late.out g member; latest = omega arith };
       back = λ g member.
-          let by = seen_gone gone (world_queue (other_direction at.direction) l.channel) (flight (other_direction at.direction)) g member in
+          let by = seen_gone gone (world_queue (other_direction at.direction) l.channel)
+              (flight (other_direction at.direction)) g member in
           record { earliest = late.back g member; latest = omega arith };
     }
 
@@ -162,5 +163,6 @@ links_fresh at gone calm w l sound measured flight past before =
       waiting = λ x waits.
           let latest = answer x.due (waits_due l.answering.state.respond l.answering.state.peer.waiting x waits) in
           omega arith;
-      back = seen_gone gone (world_queue (other_direction at.direction) l.channel) (flight (other_direction at.direction));
+      back = seen_gone gone (world_queue (other_direction at.direction) l.channel)
+        (flight (other_direction at.direction));
     }

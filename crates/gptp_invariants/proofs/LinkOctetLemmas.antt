@@ -37,7 +37,8 @@ same_type m n reads = sym (type_is (Written m) n reads) ∙ written_type m
 pub no_request_read : (path : List ℕ) (head : Head) (body : Body) → message_kind body ≢ Asking → (h : Head)
     → Reads (Written (sent_message path head body)) (messages.PdelayReq h) → ⊥
 no_request_read path head (bodies.Announce body) other h reads =
-    let e = same_type (sent_message path head (bodies.Announce body)) (messages.PdelayReq h) reads in absurd (omega arith)
+    let e = same_type (sent_message path head (bodies.Announce body)) (messages.PdelayReq h) reads
+        in absurd (omega arith)
 no_request_read path head bodies.Sync other h reads =
     let e = same_type (sent_message path head bodies.Sync) (messages.PdelayReq h) reads in absurd (omega arith)
 no_request_read path head (bodies.FollowUp origin rate) other h reads =
@@ -48,7 +49,8 @@ no_request_read path head (bodies.PdelayResp stamp requester) other h reads =
     let e = same_type (sent_message path head (bodies.PdelayResp stamp requester)) (messages.PdelayReq h) reads in
     absurd (omega arith)
 no_request_read path head (bodies.PdelayRespFollowUp stamp requester) other h reads =
-    let e = same_type (sent_message path head (bodies.PdelayRespFollowUp stamp requester)) (messages.PdelayReq h) reads in
+    let e = same_type (sent_message path head (bodies.PdelayRespFollowUp stamp requester))
+        (messages.PdelayReq h) reads in
     absurd (omega arith)
 
 pub asks_not : (path : List ℕ) (head : Head) (body : Body) → message_kind body ≢ Asking → (request : Request)

@@ -12,7 +12,8 @@ use Rattle.gptp_invariants.specs.LinkView.{IsEndOf, IsMeasuring, other_direction
 use Rattle.gptp_invariants.proofs.LinkLemmas.{sender_opposite}
 
 -- a live station's port at a link is an end of it
-abbrev pub end_is : (place : ℕ) (port : PortId) (w : WorldState) → LinkIsMeasured w → (e : StationIsLiveAt place port.clock w)
+abbrev pub end_is : (place : ℕ) (port : PortId) (w : WorldState) → LinkIsMeasured w
+    → (e : StationIsLiveAt place port.clock w)
     → HasPortNumber e.station.system port.port → IsEndOf place port w
 end_is place port w measured e of =
     let found = port_stands e.station.system port.port of in

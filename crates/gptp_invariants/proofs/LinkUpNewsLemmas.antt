@@ -59,7 +59,8 @@ tells_leave channel w draws w' k =
       time = two.time ∙ one.time;
     }
 
-module _ (p : SettlingParams) (start number port : ℕ) (w : WorldState) (draws : List Draw) (done : Done) (w' : WorldState)
+module _ (p : SettlingParams) (start number port : ℕ) (w : WorldState) (draws : List Draw) (done : Done)
+  (w' : WorldState)
     (pace : KeepPace p) (is : IsWorld p w) (is' : IsWorld p w') (measured : LinkIsMeasured w)
     (silent : AreSilentBy p start w)
     (ready : AreReadyBy p start w) (apart : (at : LinkPlace) → StandsUnanswered at w' → IsOtherLink at

@@ -121,14 +121,17 @@ sends_fit input now station s' sends answer timely steady its k is x member =
 
 -- the frames in flight in one direction become others that fit
 pub queue_fits : (channels : List Channel) (link : ℕ) (direction : Direction) (channel : Channel) (frames : List Frame)
-    → slice_get channels link ≡ Some channel → ((f : Frame) → In f frames → RequestSaysWhatFits f.octets) → AllFit channels
+    → slice_get channels link ≡ Some channel → ((f : Frame) → In f frames → RequestSaysWhatFits f.octets)
+    → AllFit channels
     → AllFit (slice_set channels link (with_queue direction frames channel))
 queue_fits channels link direction channel frames here fits all =
-    get-set_all (λ (c : Channel). (way : Direction) (f : Frame) → In f (world_queue way c) → RequestSaysWhatFits f.octets)
+    get-set_all (λ (c : Channel). (way : Direction) (f : Frame) → In f (world_queue way c)
+      → RequestSaysWhatFits f.octets)
     channels link
     channel (with_queue direction frames channel) here (by direction) all
   where
-    by : (d way : Direction) (f : Frame) → In f (world_queue way (with_queue d frames channel)) → RequestSaysWhatFits f.octets
+    by : (d way : Direction) (f : Frame) → In f (world_queue way (with_queue d frames channel))
+      → RequestSaysWhatFits f.octets
     by FromA FromA f member = fits f member
     by FromA FromB f member = all link channel here FromB f member
     by FromB FromA f member = all link channel here FromA f member
@@ -149,7 +152,8 @@ entered_fits place direction channel now octets (Some delay) net here fits all =
     by f (inr (inr none)) = absurd none
 
 all_sent_fit : (now : ℕ) (s : SystemState) (xs : List Sending) (draws : List Draw) (net net' : Net)
-    → ((x : Sending) → In x xs → RequestSaysWhatFits (written s x)) → AllFit net.channels → SendsAll now s xs draws net net'
+    → ((x : Sending) → In x xs → RequestSaysWhatFits (written s x)) → AllFit net.channels
+    → SendsAll now s xs draws net net'
     → AllFit net'.channels
 all_sent_fit now s [] draws net net' fits all (none, same) =
     subst (λ (n : Net). AllFit n.channels) (sym same) all

@@ -16,7 +16,8 @@ use Rattle.gptp_invariants.proofs.SettlingInvariantLemmas.{set_alike}
 use Rattle.gptp_invariants.proofs.UsedLinkLemmas.{used_watched}
 use Rattle.gptp_invariants.proofs.WatchLemmas.{watched_measure}
 
-pub used_measured : (p : SettlingParams) (w : WorldState) → KeepPace p → IsWorld p w → HaveQuietLinks p.params w → GoodLinksMeasure p w
+pub used_measured : (p : SettlingParams) (w : WorldState) → KeepPace p → IsWorld p w → HaveQuietLinks p.params w
+    → GoodLinksMeasure p w
     → w.last_change + 5 * largest_interval p ≤ w.time → HaveMeasuredLinks w
 used_measured p w pace is quiet watches late place station here live i h q holds there to joins =
     let x = used_watched p w pace is quiet watches place station here live i q to there joins in
@@ -27,7 +28,8 @@ used_measured p w pace is quiet watches late place station here live i h q holds
       from_is = x.from_is;
       to_is = x.to_is;
       state = x.state;
-      measured = subst (λ (state : Port). HasMeasured (link_setting x.at w l) (least_delay x.at w l) state.peer.last) x.state
+      measured = subst (λ (state : Port). HasMeasured (link_setting x.at w l)
+        (least_delay x.at w l) state.peer.last) x.state
           (watched_measure x.at w.last_change (largest_interval p) w x.watched x.period late);
     }
 

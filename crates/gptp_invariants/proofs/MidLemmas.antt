@@ -74,14 +74,16 @@ or_second : (a b : Bool) → b ≡ true → (a || b) ≡ true
 or_second true b e = refl
 or_second false b e = e
 
-sources_same : (known v : Vector) → same_source known v ≡ true → port_identity_number v.source ≡ port_identity_number known.source
+sources_same : (known v : Vector) → same_source known v ≡ true
+    → port_identity_number v.source ≡ port_identity_number known.source
 sources_same known v e =
     let (clocks, ports) = both_true (known.source.clock == v.source.clock) (known.source.port == v.source.port) e in
     let clock = eqb-true known.source.clock v.source.clock clocks in
     let port = eqb-true known.source.port v.source.port ports in
     λ i. record { clock = sym clock i; port = sym port i }
 
-same_sources : (known v : Vector) → port_identity_number v.source ≡ port_identity_number known.source → same_source known v ≡ true
+same_sources : (known v : Vector) → port_identity_number v.source ≡ port_identity_number known.source
+    → same_source known v ≡ true
 same_sources known v e =
     let clock = eq-eqb known.source.clock v.source.clock (sym (ap (λ (p : PortIdentity). p.clock) e)) in
     let port = eq-eqb known.source.port v.source.port (sym (ap (λ (p : PortIdentity). p.port) e)) in

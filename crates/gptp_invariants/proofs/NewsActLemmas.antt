@@ -35,7 +35,8 @@ watched_ready p start w watches past by at stands =
     inr (w.last_change + largest_interval p, w.last_change + 2 * largest_interval p, watches at stands, past, by)
 
 -- what is ready by a time is so by a later one
-later_ready : (p : SettlingParams) (start later : ℕ) (at : LinkPlace) (w : WorldState) → start ≤ later → IsReadyBy p start at w
+later_ready : (p : SettlingParams) (start later : ℕ) (at : LinkPlace) (w : WorldState) → start ≤ later
+    → IsReadyBy p start at w
     → IsReadyBy p later at w
 later_ready p start later at w more (inl (first, (l, by))) = inl (first, (l, omega (arith, by, more)))
 later_ready p start later at w more (inr (gone, since, l, past, by)) =
@@ -99,8 +100,10 @@ stood_live p w w' set set' live stays links at stands =
         → then.station.setup.params ≡ now.station.setup.params
     alike_params place number was now then = set place then.station then.here ∙ sym (set' place now.station now.here)
 
-module _ (p : SettlingParams) (start number value : ℕ) (w : WorldState) (draws : List Draw) (done : Done) (w' : WorldState)
-    (is : IsWorld p w) (is' : IsWorld p w') (measured : LinkIsMeasured w) (live : AllLive w) (ready : AreReadyBy p start w)
+module _ (p : SettlingParams) (start number value : ℕ) (w : WorldState) (draws : List Draw) (done : Done)
+  (w' : WorldState)
+    (is : IsWorld p w) (is' : IsWorld p w') (measured : LinkIsMeasured w) (live : AllLive w)
+      (ready : AreReadyBy p start w)
     (octet : value < 256) (acts : Acts (Changing (Priority1 number value)) w draws done w') where
   abbrev now : WorldState
   now = record w { last_change = w.time }

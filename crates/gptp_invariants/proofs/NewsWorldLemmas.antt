@@ -96,7 +96,8 @@ record Lives (number : ℕ) (w : WorldState) : Type 0 where
   place : ℕ
   at : StationIsLiveAt place number w
 
-lives_there : (w : WorldState) (number : ℕ) → stations_have_clock (live_stations w.stations) number ≡ true → Lives number w
+lives_there : (w : WorldState) (number : ℕ) → stations_have_clock (live_stations w.stations) number ≡ true
+    → Lives number w
 lives_there w number has =
     let (s, member, same) = clock_lives w.stations number has in
     let there = live_from w.stations s member in
@@ -110,7 +111,8 @@ lives_there w number has =
       };
     }
 
-module _ (p : SettlingParams) (w : WorldState) (is : IsWorld p w) (quiet : HaveQuietLinks p.params w) (from to : PortIdentity)
+module _ (p : SettlingParams) (w : WorldState) (is : IsWorld p w) (quiet : HaveQuietLinks p.params w)
+  (from to : PortIdentity)
     (joins : Joins (snapshot_of w) from to) (way : IsWay w from to) where
   asks_there : Lives (sender way.direction way.channel).clock w
   asks_there = lives_there w _ (sender_lives (live_stations w.stations) way.direction way.channel way.used)
@@ -156,11 +158,13 @@ module _ (p : SettlingParams) (w : WorldState) (is : IsWorld p w) (quiet : HaveQ
 
 -- ---- a link that is ready
 
-abbrev link_in : (p : SettlingParams) (start : ℕ) (at : LinkPlace) (w : WorldState) → IsReadyBy p start at w → IsLinkOf at w
+abbrev link_in : (p : SettlingParams) (start : ℕ) (at : LinkPlace) (w : WorldState) → IsReadyBy p start at w
+    → IsLinkOf at w
 link_in p start at w (inl (first, (l, by))) = l.link
 link_in p start at w (inr (gone, since, l, past, by)) = l.link
 
-ready_capable : (p : SettlingParams) (start : ℕ) (at : LinkPlace) (w : WorldState) → IsKnown p w → (r : IsReadyBy p start at w)
+ready_capable : (p : SettlingParams) (start : ℕ) (at : LinkPlace) (w : WorldState) → IsKnown p w
+    → (r : IsReadyBy p start at w)
     → start ≤ w.time → is_capable (link_in p start at w r).asking.state.peer ≡ true
 ready_capable p start at w known (inl (first, (l, by))) late = (first_full at first w l (omega (arith, by, late))).0
 ready_capable p start at w known (inr (gone, since, l, past, by)) late =
@@ -170,8 +174,10 @@ ready_capable p start at w known (inr (gone, since, l, past, by)) late =
     (watched_stay_capable at gone since w l (omega (arith, by, late, period))).0
 
 -- an act that leaves the link alone leaves it ready
-pub ready_goes_through : (p : SettlingParams) (start : ℕ) (at : LinkPlace) (act : Act) (w w' : WorldState) (draws : List Draw)
-    (done : Done) → IsSound w → LinkIsMeasured w → LeavesAlone at act w → Acts act w draws done w' → IsReadyBy p start at w
+pub ready_goes_through : (p : SettlingParams) (start : ℕ) (at : LinkPlace) (act : Act) (w w' : WorldState)
+    (draws : List Draw)
+    (done : Done) → IsSound w → LinkIsMeasured w → LeavesAlone at act w → Acts act w draws done w'
+      → IsReadyBy p start at w
     → IsReadyBy p start at w'
 ready_goes_through p start at act w w' draws done sound measured alone k (inl (first, by)) =
     inl (first, by_goes_through at first start act w w' draws done sound measured alone k by)
@@ -193,7 +199,8 @@ either (suc a) (suc b) = elim (either a b) [
 ]
 
 -- what is in flight there is due within the delay of the link, or before the start
-ready_due : (p : SettlingParams) (start : ℕ) (at : LinkPlace) (w : WorldState) (r : IsReadyBy p start at w) (f : MeasuredFrame)
+ready_due : (p : SettlingParams) (start : ℕ) (at : LinkPlace) (w : WorldState) (r : IsReadyBy p start at w)
+    (f : MeasuredFrame)
     → In f (pair at w (link_in p start at w r)).out
     → (f.due ≤ w.time + (link_setting at w (link_in p start at w r)).most) ⊎ (f.due < start)
 ready_due p start at w (inl (first, (l, by))) f member =
@@ -223,7 +230,8 @@ link_used at w l =
     (clock_has w.stations at.answering l.answering.station _ l.answering.here l.answering.live l.answering.named)
 
 -- the port that is unanswered isn't capable
-silent_off : (p : SettlingParams) (start : ℕ) (w : WorldState) → KeepPace p → IsWorld p w → AreSilentBy p start w → start ≤ w.time
+silent_off : (p : SettlingParams) (start : ℕ) (w : WorldState) → KeepPace p → IsWorld p w → AreSilentBy p start w
+    → start ≤ w.time
     → (at : LinkPlace) (s : StandsUnanswered at w) (q : Port)
     → number s.asking.station.system.ports (sender at.direction s.channel).port ≡ Some q → is_capable q.peer ≡ false
 silent_off p start w pace is silent late at s q there =
@@ -388,7 +396,8 @@ news_begin p start w pace is measured silent sound ready early = record {
   sound = sound;
   ready = ready;
   settling = λ m bounded quiet off.
-      invariant_begins says_announce (news_network p m start w) (news_net p start w pace is silent ready quiet m bounded)
+      invariant_begins says_announce (news_network p m start w)
+        (news_net p start w pace is silent ready quiet m bounded)
       (view w)
       (omega (arith, early));
   in_turn = λ m bounded quiet short. record {
@@ -410,7 +419,8 @@ module _ (p : SettlingParams) (start : ℕ) (w w' : WorldState) (news : IsNews p
     (silent' : AreSilentBy p start w') (sound' : IsSoundWorld w') (ready' : AreReadyBy p start w')
     (same : (m : ℕ) → news_network p m start w' ≡ news_network p m start w)
     (same_turn : (m : ℕ) → turn_network p m start w' ≡ turn_network p m start w) (same_delay : delay_in w' ≡ delay_in w)
-    (back : HaveQuietLinks p.params w' → HaveQuietLinks p.params w) (step : MachineSteps says_announce (view w) (view w'))
+    (back : HaveQuietLinks p.params w' → HaveQuietLinks p.params w)
+      (step : MachineSteps says_announce (view w) (view w'))
     (told : (m : ℕ) → 0 < p.params.sync_timeout
     → SyncSteps says_announce says_sync (turn_network p m start w) (view w) (view w')) where
   step_settles : (m : ℕ) → BoundsPaths (snapshot_of w') m → HaveQuietLinks p.params w' → NothingLapses p.params
@@ -469,7 +479,8 @@ module _ (p : SettlingParams) (start : ℕ) (w w' : WorldState) (news : IsNews p
       subst_expecting m
       (record {
         invariant = invariant;
-        expected = expected_kept says_announce says_sync n net timely.bare (view w) (view w') before after timers timers'
+        expected = expected_kept says_announce says_sync n net timely.bare (view w)
+          (view w') before after timers timers'
             (told m (has_timeout p.params (paths_with m w) short)) was.invariant invariant was.expected;
       })
     where
@@ -485,7 +496,8 @@ called_live place input w draws answer w' k live other station there =
     get-set_all (λ (x : Station). x.live ≡ true) w.stations place k.station (in_state k.after k.station) k.here k.live
     live other station (ap (λ (v : WorldState). slice_get v.stations other) (sym k.is) ∙ there)
 
-acts_silent : (p : SettlingParams) (start : ℕ) (act : Act) (w : WorldState) (draws : List Draw) (done : Done) (w' : WorldState)
+acts_silent : (p : SettlingParams) (start : ℕ) (act : Act) (w : WorldState) (draws : List Draw) (done : Done)
+    (w' : WorldState)
     → IsNoChange act → Acts act w draws done w' → IsWorld p w → LinkIsMeasured w → AreSilentBy p start w
     → AreSilentBy p start w'
 acts_silent p start act w draws done w' none k is measured silent at s =
@@ -560,7 +572,8 @@ news_go_on p start time w later first news =
     λ at s.
     let (change, one, soon) = news.silent at (stood_earlier at time w s) in
     (change, silence_goes_on at (change + largest_interval p) time w one, soon) in
-    let step : MachineSteps says_announce (view w) (view (at_time time w)) = inl (record { time = time; later = later; is = refl }) in
+    let step : MachineSteps says_announce (view w) (view (at_time time w)) = inl
+        (record { time = time; later = later; is = refl }) in
     record {
       pace = news.pace;
       world = is';

@@ -32,7 +32,8 @@ queue_set FromA frames channel = refl
 queue_set FromB frames channel = refl
 
 pub queue_left : (direction : Direction) (frames : List Frame) (channel : Channel)
-    → world_queue (other_direction direction) (with_queue direction frames channel) ≡ world_queue (other_direction direction) channel
+    → world_queue (other_direction direction) (with_queue direction frames channel) ≡ world_queue
+      (other_direction direction) channel
 queue_left FromA frames channel = refl
 queue_left FromB frames channel = refl
 

@@ -90,7 +90,8 @@ seen_kept keep (helds.Received r) kept = tt
 
 -- each Announce that is sent says_announce something
 abbrev pub AreRead : SystemState → List Sending → Type 0
-AreRead s sends = (x : Sending) → In x sends → IsAnnounce x.body → (a : Announce) × says_announce (send_view s x).octets a
+AreRead s sends = (x : Sending) → In x sends → IsAnnounce x.body
+    → (a : Announce) × says_announce (send_view s x).octets a
 
 module _ (s' : SystemState) (sends : List Sending) (read : AreRead s' sends) where
   tells_seen : (keep : ℤ → ℕ) (n now : ℕ) (h h' : Held) (q q' : Port) → PortAnnounces n now q q' sends
@@ -110,7 +111,8 @@ module _ (s' : SystemState) (sends : List Sending) (read : AreRead s' sends) whe
 
     ends_seen : PortEnds c n now root steps k.mid h' q q' sends
         → (((port_view keep h' q').held ≡ held_view keep k.mid) × SeenIsKept (held_view keep k.mid))
-        ⊎ BecomesMaster says_announce c n now root steps (held_view keep k.mid) (port_view keep h q) (port_view keep h' q')
+        ⊎ BecomesMaster says_announce c n now root steps (held_view keep k.mid) (port_view keep h q)
+          (port_view keep h' q')
         (map (send_view s') sends)
     ends_seen (inl (same, kept)) = inl (ap (held_view keep) same, seen_kept keep k.mid kept)
     ends_seen (inr m) = inr (record {
@@ -133,7 +135,8 @@ module _ (s' : SystemState) (sends : List Sending) (read : AreRead s' sends) whe
         timing (inl (mine, same)) = inl (ap (held_view keep) mine, same)
         timing (inr tells) = inr (tells_seen keep n now h h' q q' tells)
 
-    pub port_seen : PortStep says_announce c n now (touch_view touch) root steps (port_view keep h q) (port_view keep h' q')
+    pub port_seen : PortStep says_announce c n now (touch_view touch) root steps (port_view keep h q)
+      (port_view keep h' q')
         (map (send_view s') sends)
     port_seen = record {
       interval = ap interval_of k.log;
@@ -158,12 +161,14 @@ module _ (live : Bool) (s s' : SystemState) (touch : Touch) (now : ℕ) (sends :
 
   place_seen : (i : ℕ) (seen : SeenPort) → slice_get (ports_view (span_at s') s'.held s'.ports) i ≡ Some seen
       → (q : SeenPort) × (slice_get (ports_view (span_at s) s.held s.ports) i ≡ Some q)
-      × PortStep says_announce (clock s) (suc i) now (touch_view touch) s'.root s'.steps q seen (map (send_view s') sends)
+      × PortStep says_announce (clock s) (suc i) now (touch_view touch) s'.root s'.steps q seen
+        (map (send_view s') sends)
   place_seen i seen there = go (port_from (span_at s') s'.held s'.ports i seen there)
     where
       go : IsPortAt (span_at s') s'.held s'.ports i seen
           → (q : SeenPort) × (slice_get (ports_view (span_at s) s.held s.ports) i ≡ Some q)
-          × PortStep says_announce (clock s) (suc i) now (touch_view touch) s'.root s'.steps q seen (map (send_view s') sends)
+          × PortStep says_announce (clock s) (suc i) now (touch_view touch) s'.root s'.steps q seen
+            (map (send_view s') sends)
       go p =
           let r = k.ports i p.held p.port p.held_there p.port_there in
           let at : ReceivedAt (suc i) r.held = λ x got. (held i r.held r.held_there x got).receiver in

@@ -59,7 +59,8 @@ rest_sound p m w claim live bounded quiet late = record {
         all_whole says_announce (settling_network p m w) (view w) (is_network p m w claim.world bounded)
         (is_calm p m w claim.world quiet.links (claim_capable p w claim)) (claim.settling m bounded quiet).traces late
 
-    sound_from : (j : ℕ) (l : Lane) (f : AnnounceFrame) (a : Announce) → slice_get (view w).lanes j ≡ Some l → In f l.frames
+    sound_from : (j : ℕ) (l : Lane) (f : AnnounceFrame) (a : Announce) → slice_get (view w).lanes j ≡ Some l
+      → In f l.frames
         → says_announce f.octets a → (link : ℕ) (direction : Direction) (channel : Channel)
         → slice_get w.net.channels link ≡ Some channel
         → l ≡ record {

@@ -20,7 +20,8 @@ pub acts_seen : (act : Act) (w : WorldState) (draws : List Draw) (done : Done) (
 acts_seen (Deliver link direction) w draws done w' none sound legible k =
     by (delivers_seen link direction k.octets w draws k.answer w' sound legible k.delivers)
   where
-    by : Arrives says_announce (view w) (view w') ⊎ Drops says_announce (view w) (view w') → SeenActs says_announce (view w) (view w')
+    by : Arrives says_announce (view w) (view w') ⊎ Drops says_announce (view w) (view w')
+      → SeenActs says_announce (view w) (view w')
     by (inl arrives) = inl arrives
     by (inr drops) = inr (inl drops)
 acts_seen (Expire number timer) w draws done w' none sound legible (told, k) =

@@ -78,7 +78,8 @@ module _ (place : ℕ) (input : Input) (w : WorldState) (draws : List Draw) (ans
       sends_fit k.after (rest_fits k.after after_fits after_steady.held after_steady.rest) few_ports after_steady.shown
       after_steady.logs k.sends answers.reacts.tells
 
-  answer_seen : SeenReacts says_announce (station_view k.station) (touch_view answers.touch) w.time (station_view called)
+  answer_seen : SeenReacts says_announce (station_view k.station) (touch_view answers.touch) w.time
+      (station_view called)
       (map (send_view k.after) k.sends)
   answer_seen =
       let told = rest_fits k.after after_fits after_steady.held after_steady.rest in

@@ -133,7 +133,8 @@ responds_port : (owed : Option Owed) (p now : ℕ) (s : SystemState) (sends : Li
 responds_port None p now s sends none x member = absurd (subst (In x) none member)
 responds_port (Some owed) p now s sends k x member = go (subst (In x) k.sends_are member)
   where
-    go : In x (pdelay_response (own s p) owed k.came k.came-rest ∷ response_follow_up (own s p) owed k.went k.went-rest ∷ [])
+    go : In x (pdelay_response (own s p) owed k.came k.came-rest ∷ response_follow_up
+      (own s p) owed k.went k.went-rest ∷ [])
         → p ≡ x.port
     go (inl here) = ap (λ (y : Sending). y.port) (sym here)
     go (inr (inl here)) = ap (λ (y : Sending). y.port) (sym here)
@@ -173,7 +174,8 @@ module _ (s s' : SystemState) (now : ℕ) (input : Input) (sends : List Sending)
   pub asks_nothing : input ≢ Expires (timers.Pdelay port.port) → input ≢ PortUp port.port
       → AreMute reads_as_request (map link_frame_view news)
   asks_nothing timer up =
-      mute_news reads_as_request news (λ octets member. go (said_from s' port sends octets (subst (In octets) said member)))
+      mute_news reads_as_request news (λ octets member.
+        go (said_from s' port sends octets (subst (In octets) said member)))
     where
       go : {octets : List ℕ}
           → ((x : Sending) × In x sends × (own s' x.port ≡ port) × (octets ≡ written s' x))
@@ -192,7 +194,8 @@ module _ (s s' : SystemState) (now : ℕ) (input : Input) (sends : List Sending)
   -- and no reply, unless its Respond timer expires
   pub replies_nothing : input ≢ Expires (timers.Respond port.port) → AreMute reads_as_reply (map link_frame_view news)
   replies_nothing timer =
-      mute_news reads_as_reply news (λ octets member. go (said_from s' port sends octets (subst (In octets) said member)))
+      mute_news reads_as_reply news (λ octets member.
+        go (said_from s' port sends octets (subst (In octets) said member)))
     where
       go : {octets : List ℕ}
           → ((x : Sending) × In x sends × (own s' x.port ≡ port) × (octets ≡ written s' x))
@@ -244,7 +247,8 @@ module _ (s s' : SystemState) (p : ℕ) (sends : List Sending) (sent : AsksOnce 
           (subst (λ o. reads_as_request o r) is spoken)
 
   -- the frames of the port are its request, and some that ask nothing before and behind it
-  pub sends_request : FirstIs reads_as_request (λ (f : SeenFrame). reads_as_request f.octets (request_from (own s p) (next_of s p)))
+  pub sends_request : FirstIs reads_as_request
+      (λ (f : SeenFrame). reads_as_request f.octets (request_from (own s p) (next_of s p)))
       (AreMute reads_as_request) (map link_frame_view news)
   sends_request =
       let whole : octets_of news
@@ -252,7 +256,8 @@ module _ (s s' : SystemState) (p : ℕ) (sends : List Sending) (sent : AsksOnce 
       said ∙ ap (said_at s' (own s p)) sent.is
       ∙ said_append s' (own s p) front (request_of p s ∷ behind)
       ∙ ap (λ os. said_at s' (own s p) front ++ os) (said_here s' (own s p) (request_of p s) behind same) in
-      first_news reads_as_request (request_from (own s p) (next_of s p)) (AreMute reads_as_request) news (said_at s' (own s p) front)
+      first_news reads_as_request (request_from (own s p) (next_of s p)) (AreMute reads_as_request) news
+        (said_at s' (own s p) front)
       (written s' (request_of p s)) (said_at s' (own s p) behind) whole
       (announces_mute front (λ x there. In-left x front behind there))
       ((request_of p s).head, request_written s s' p log fits, refl)
@@ -283,7 +288,8 @@ module _ (s s' : SystemState) (p now : ℕ) (owed : Owed) (sends : List Sending)
   first_said : reads_as_reply (written s' first) (Response (link_identity (own s p)) answered_request owed.t2)
   first_said =
       let message : PdelayResp = record { head = first.head; stamp = sent.came; requester = owed.requester } in
-      subst (λ t. reads_as_reply (written s' first) (Response (link_identity (own s p)) answered_request t)) sent.came_is.whole
+      subst (λ t. reads_as_reply (written s' first) (Response (link_identity (own s p)) answered_request t))
+        sent.came_is.whole
       (response_said message
       (record {
         head = own_head sent.came-rest true sent.came_is.small;
@@ -291,10 +297,12 @@ module _ (s s' : SystemState) (p now : ℕ) (owed : Owed) (sends : List Sending)
         requester = fits.from;
       }))
 
-  second_said : reads_as_reply (written s' second) (FollowUp (link_identity (own s p)) answered_request (local_time s now))
+  second_said : reads_as_reply (written s' second)
+      (FollowUp (link_identity (own s p)) answered_request (local_time s now))
   second_said =
       let message : PdelayRespFollowUp = record { head = second.head; stamp = sent.went; requester = owed.requester } in
-      subst (λ t. reads_as_reply (written s' second) (FollowUp (link_identity (own s p)) answered_request t)) sent.went_is.whole
+      subst (λ t. reads_as_reply (written s' second) (FollowUp (link_identity (own s p)) answered_request t))
+        sent.went_is.whole
       (follow_up_said message
       (record {
         head = own_head sent.went-rest false sent.went_is.small;
@@ -306,14 +314,16 @@ module _ (s s' : SystemState) (p now : ℕ) (owed : Owed) (sends : List Sending)
   pub sends_answer : FirstIs reads_as_reply
       (λ (f : SeenFrame). reads_as_reply f.octets (Response (link_identity (own s p)) answered_request owed.t2))
       (FirstIs reads_as_reply
-      (λ (f : SeenFrame). reads_as_reply f.octets (FollowUp (link_identity (own s p)) answered_request (local_time s now)))
+      (λ (f : SeenFrame). reads_as_reply f.octets
+        (FollowUp (link_identity (own s p)) answered_request (local_time s now)))
       (AreMute reads_as_reply))
       (map link_frame_view news)
   sends_answer =
       let whole : octets_of news ≡ written s' first ∷ written s' second ∷ [] =
       said ∙ ap (said_at s' (own s p)) sent.sends_are ∙ said_here s' (own s p) first (second ∷ []) same
       ∙ ap (λ os. written s' first ∷ os) (said_here s' (own s p) second [] same) in
-      first_news reads_as_reply (Response (link_identity (own s p)) answered_request owed.t2) _ news [] (written s' first)
+      first_news reads_as_reply (Response (link_identity (own s p)) answered_request owed.t2) _ news []
+        (written s' first)
       (written s' second ∷ []) whole (λ o member. absurd member) first_said
       (λ rest is. first_news reads_as_reply (FollowUp (link_identity (own s p)) answered_request (local_time s now))
       (AreMute reads_as_reply) rest [] (written s' second) [] is (λ o member. absurd member) second_said
@@ -341,7 +351,8 @@ request_sent s now input sends sent x member kind = by input sent (asking_input 
 -- what a system sends says a request that fits, or none, where the requests of its ports fit
 pub written_fits : (s s' : SystemState) (now : ℕ) (input : Input) (sends : List Sending)
     → AreSent s now input sends → IsLog s.params.pdelay → (x : Sending) → In x sends
-    → (message_kind x.body ≡ Asking → RequestFits (own s x.port) (next_of s x.port)) → RequestSaysWhatFits (written s' x)
+    → (message_kind x.body ≡ Asking → RequestFits (own s x.port) (next_of s x.port))
+    → RequestSaysWhatFits (written s' x)
 written_fits s s' now input sends sent log x member fits head reads = by (kinds (message_kind x.body))
   where
     kinds : (k : Kind) → (k ≡ Asking) ⊎ (k ≢ Asking)

@@ -127,15 +127,18 @@ module _ (p : SettlingParams) (m start : ℕ) (times : SettlingTimes) (w : World
       -- it follows its best a step's time for each link after all that is held is wholly clean
       follows_so : since n d ≤ w.time → FollowsBest (snapshot_of w) (station_view station)
       follows_so late =
-          follows_best says_announce n net (view w) state invariant place (station_view station) there live d distance near late
+          follows_best says_announce n net (view w) state invariant place
+            (station_view station) there live d distance near late
           (omega (arith, late))
 
       -- a step's time later its ports have settled
       roles_so : since n (suc d) ≤ w.time → (port : ℕ) → HasPortNumber station.system port
-          → IsSettledRole (snapshot_of w) (port_of (clock station.system) port) (graph_role (role_at station.system port))
+          → IsSettledRole (snapshot_of w) (port_of (clock station.system) port)
+            (graph_role (role_at station.system port))
       roles_so late =
           roles_are
-          (settled_roles says_announce n net (view w) state invariant place (station_view station) there live d distance near
+          (settled_roles says_announce n net (view w) state invariant place
+            (station_view station) there live d distance near
           (omega (arith, late)) (λ u joined far lower. late) (omega (arith, late)))
 
   -- ---- all of them
@@ -162,7 +165,8 @@ module _ (p : SettlingParams) (m start : ℕ) (times : SettlingTimes) (w : World
         }
 
 -- by a number of systems that bounds its paths
-module _ (p : SettlingParams) (w : WorldState) (is : IsWorld p w) (capable : BecomeCapable p w) (holds : SettlesAsMachine p w) (m : ℕ)
+module _ (p : SettlingParams) (w : WorldState) (is : IsWorld p w) (capable : BecomeCapable p w)
+  (holds : SettlesAsMachine p w) (m : ℕ)
     (bounded : BoundsPaths (snapshot_of w) m) (quiet : IsQuietWith p.params (paths_with m w) w) where
   abbrev seen : Network
   seen = settling_network p m w
@@ -220,7 +224,8 @@ module _ (p : SettlingParams) (w : WorldState) (is : IsWorld p w) (capable : Bec
       (is_quick_calm p m w is quiet.links capable) (settling.at_once off) (omega (arith, late))
 
 -- so it settles by its own paths and the number of live systems
-pub settles : (p : SettlingParams) (w : WorldState) → IsWorld p w → IsQuietWorld p.params w → BecomeCapable p w → SettlesAsMachine p w
+pub settles : (p : SettlingParams) (w : WorldState) → IsWorld p w → IsQuietWorld p.params w → BecomeCapable p w
+    → SettlesAsMachine p w
     → w.last_change + settling_span_with p (sync_paths_of w) (length (snapshot_of w).systems) ≤ w.time → Settled w
 settles p w is quiet capable holds =
     settles_by_paths p w is capable holds (path_bound (snapshot_of w)) (paths_bound p w is) quiet

@@ -46,7 +46,8 @@ log_of_port p w set port k = go port.port k.is
         (q.log_interval, log_among p w.stations k.place k.station k.here (set k.place k.station k.here) i q there)
 
 -- where a link is set, a port is at its end, so that its delay isn't above the largest interval either
-prompt_most : (p : SettlingParams) (act : Act) (w : WorldState) (draws : List Draw) (done : Done) (w' : WorldState) → IsWorld p w
+prompt_most : (p : SettlingParams) (act : Act) (w : WorldState) (draws : List Draw) (done : Done) (w' : WorldState)
+    → IsWorld p w
     → DelaysFitIntervals w act → Acts act w draws done w' → DelayFitsInterval (largest_interval p) act
 prompt_most p (Deliver link direction) w draws done w' is prompt k = tt
 prompt_most p (Expire number timer) w draws done w' is prompt k = tt
@@ -76,7 +77,8 @@ module _ (p : SettlingParams) (act : Act) (w : WorldState) (draws : List Draw) (
   }
 
 -- an act that changes nothing of the network keeps every limit
-pub still_acts_stay : (p : SettlingParams) (act : Act) (w : WorldState) (draws : List Draw) (done : Done) (w' : WorldState)
+pub still_acts_stay : (p : SettlingParams) (act : Act) (w : WorldState) (draws : List Draw) (done : Done)
+    (w' : WorldState)
     → IsNoChange act → Acts act w draws done w' → IsWorld p w → IsWorld p w'
 still_acts_stay p (Deliver link direction) w draws done w' none k is =
     acts_stay p (Deliver link direction) w draws done w' tt (λ place station log here among. tt) tt k is

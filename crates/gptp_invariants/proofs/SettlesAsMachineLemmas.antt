@@ -80,20 +80,23 @@ systems_bound p w is v u us path =
     path_bounded (snapshot_of w) v u us (stands_well w is.sound is.between is.legible) path
 
 -- nor more than gptp_graph reads off its links, which are no more than live
-pub paths_bound : (p : SettlingParams) (w : WorldState) → IsWorld p w → BoundsPaths (snapshot_of w) (path_bound (snapshot_of w))
+pub paths_bound : (p : SettlingParams) (w : WorldState) → IsWorld p w
+    → BoundsPaths (snapshot_of w) (path_bound (snapshot_of w))
 paths_bound p w is = paths_within (snapshot_of w) (stands_well w is.sound is.between is.legible)
 
 pub paths_fewer : (g : Snapshot) → path_bound g ≤ length g.systems
 paths_fewer g = omega arith
 
-pub is_quick_calm : (p : SettlingParams) (m : ℕ) (w : WorldState) → IsWorld p w → HaveQuietLinks p.params w → BecomeCapable p w
+pub is_quick_calm : (p : SettlingParams) (m : ℕ) (w : WorldState) → IsWorld p w → HaveQuietLinks p.params w
+    → BecomeCapable p w
     → Calm (quick_network p m w) (view w)
 is_quick_calm p m w is quiet capable =
     calm p m (start_of p w) (at_once p w) w is.sound is.legible is.known quiet
     (facts p m (start_of p w) w is.sound is.legible is.known) (capable quiet)
 
 -- and one with quiet links is a calm state
-pub is_calm : (p : SettlingParams) (m : ℕ) (w : WorldState) → IsWorld p w → HaveQuietLinks p.params w → BecomeCapable p w
+pub is_calm : (p : SettlingParams) (m : ℕ) (w : WorldState) → IsWorld p w → HaveQuietLinks p.params w
+    → BecomeCapable p w
     → Calm (settling_network p m w) (view w)
 is_calm p m w is quiet capable =
     calm p m (start_of p w) (in_turn p (paths_with m w)) w is.sound is.legible
@@ -110,7 +113,8 @@ pub claims_when_ready : (p : SettlingParams) (m start : ℕ) (w : WorldState) (t
 claims_when_ready p m start w times d from to joins = omega arith
 
 -- until the largest interval has passed since the last change nothing is claimed
-pub begins : (p : SettlingParams) (w : WorldState) → IsWorld p w → w.time < w.last_change + largest_interval p → SettlesAsMachine p w
+pub begins : (p : SettlingParams) (w : WorldState) → IsWorld p w → w.time < w.last_change + largest_interval p
+    → SettlesAsMachine p w
 begins p w is early m bounded quiet =
     let state = is_calm p m w is quiet.links (λ still begun. absurd (omega arith)) in
     let before : w.time < (settling_network p m w).sound = omega arith in
@@ -120,16 +124,19 @@ begins p w is early m bounded quiet =
           state.facts.near j l f at flies in absurd (omega (arith, early, near, late)))
           (omega arith);
       invariant = invariant_begins says_announce (settling_network p m w) (is_network p m w is bounded) (view w) before;
-      at_once = λ off. invariant_begins says_announce (quick_network p m w) (is_quick_network p m w is bounded) (view w) before;
+      at_once = λ off. invariant_begins says_announce (quick_network p m w) (is_quick_network p m w is bounded)
+        (view w) before;
       expected = expected_begins says_sync (settling_network p m w) (view w) before;
     }
 
 -- so where no time has passed
-fresh_begins : (p : SettlingParams) (w : WorldState) → IsLog p.largest → w.last_change ≡ w.time → IsWorld p w → SettlesAsMachine p w
+fresh_begins : (p : SettlingParams) (w : WorldState) → IsLog p.largest → w.last_change ≡ w.time → IsWorld p w
+    → SettlesAsMachine p w
 fresh_begins p w largest now is =
     let positive = interval_positive p.largest largest in begins p w is (omega arith)
 
-pub changes_begin : (p : SettlingParams) (change : Change) (w : WorldState) (draws : List Draw) (done : Done) (w' : WorldState)
+pub changes_begin : (p : SettlingParams) (change : Change) (w : WorldState) (draws : List Draw) (done : Done)
+    (w' : WorldState)
     → IsLog p.largest → Acts (Changing change) w draws done w' → IsWorld p w' → SettlesAsMachine p w'
 changes_begin p change w draws done w' largest k = fresh_begins p w' largest (change_is_last change w draws done w' k)
 
@@ -184,7 +191,8 @@ module _ (p : SettlingParams) (w w' : WorldState) (is : IsWorld p w) (is' : IsWo
 
     -- traces are as clean as they must be, so that what is held is sound once it is wholly clean
     traces' : TracesAreClean says_announce (network_setting n) (view w')
-    traces' = clean_kept says_announce (network_setting n) cleans.begins (view w) (view w') before.facts after.facts step settling.traces
+    traces' = clean_kept says_announce (network_setting n) cleans.begins (view w)
+      (view w') before.facts after.facts step settling.traces
 
     kept : NothingNearLapses n (view w) → Invariant says_announce n (view w')
     kept nothing =
@@ -199,7 +207,8 @@ module _ (p : SettlingParams) (w w' : WorldState) (is : IsWorld p w) (is' : IsWo
         (is_quick_calm p m w is quiet.links capable)
         (subst (λ x. Calm x (view w')) (same_quick m) (is_quick_calm p m w' is' quiet' capable'))
         (nothing_lapses p quick w is.known off)
-        (no_early_ports says_announce quick (view w) (view w') (claims_when_ready p m (start_of p w) w (at_once p w))) step
+        (no_early_ports says_announce quick (view w) (view w')
+          (claims_when_ready p m (start_of p w) w (at_once p w))) step
         (clean_sound says_announce n net (view w') after traces' cleans.late)
         (settling.at_once off)
 
@@ -221,13 +230,15 @@ module _ (p : SettlingParams) (w w' : WorldState) (is : IsWorld p w) (is' : IsWo
         let timers = timers_of w is in
         let timers' = subst (λ x. HaveSyncTimers x (view w')) (same m) (timers_of w' is') in
         let nothing : NothingNearLapses n (view w) =
-        lapses_in_time says_announce says_sync n net (view w) before settling.invariant timers timely settling.expected in
+        lapses_in_time says_announce says_sync n net
+          (view w) before settling.invariant timers timely settling.expected in
         let invariant : Invariant says_announce n (view w') = kept nothing in
         record {
           traces = traces';
           invariant = invariant;
           at_once = kept_at_once;
-          expected = expected_kept says_announce says_sync n net timely.bare (view w) (view w') before after timers timers'
+          expected = expected_kept says_announce says_sync n net timely.bare (view w)
+            (view w') before after timers timers'
               (told m (has_timeout p.params (paths_with m w) short)) settling.invariant invariant settling.expected;
         }
 
@@ -268,7 +279,8 @@ same_quick_settling p w w' k m =
     ∙ same_at_once w w' k p m (start_of p w)
 
 pub acts_hold : (p : SettlingParams) (act : Act) (w : WorldState) (draws : List Draw) (done : Done) (w' : WorldState)
-    → IsNoChange act → Acts act w draws done w' → IsWorld p w → BecomeCapable p w → BecomeCapable p w' → SettlesAsMachine p w
+    → IsNoChange act → Acts act w draws done w' → IsWorld p w → BecomeCapable p w → BecomeCapable p w'
+    → SettlesAsMachine p w
     → SettlesAsMachine p w'
 acts_hold p act w draws done w' none k is capable capable' =
     let keeps = acts_keep act w draws done w' none k in
@@ -291,8 +303,10 @@ later_holds p w time later is is' capable capable' =
 -- so the claim is kept from act to act
 pub done_holds : {F : Type 0} (answers : Bounds → ℕ → F → Option ℕ → F → Type 0) (p : SettlingParams) (timed : Timed)
     (fate fate_after : F) (w w' : WorldState) (done : Done) → IsLog p.largest → IsFitAct timed.act
-    → DelaysFitIntervals w timed.act → SetsAnOctet timed.act → WasDone answers timed fate fate_after w w' done → IsWorld p w
-    → BecomeCapable p w → BecomeCapable p (at timed.at w) → BecomeCapable p w' → SettlesAsMachine p w → SettlesAsMachine p w'
+    → DelaysFitIntervals w timed.act → SetsAnOctet timed.act → WasDone answers timed fate fate_after w w' done
+    → IsWorld p w
+    → BecomeCapable p w → BecomeCapable p (at timed.at w) → BecomeCapable p w' → SettlesAsMachine p w
+    → SettlesAsMachine p w'
 done_holds answers p timed fate fate_after w w' done largest fit prompt octet k is capable then capable' holds =
     by timed.act k.acts
   where

@@ -64,7 +64,8 @@ claimed_later w time later first claimed = record {
 
 pub claimed_kept : {F : Type 0} (answers : Bounds → ℕ → F → Option ℕ → F → Type 0) (timed : Timed)
     (fate fate_after : F) (w w' : WorldState) (done : Done) → IsFitAct timed.act → DelaysFitIntervals w timed.act
-    → SetsAnOctet timed.act → WasDone answers timed fate fate_after w w' done → SettlingInvariant w → SettlingInvariant w'
+    → SetsAnOctet timed.act → WasDone answers timed fate fate_after w w' done → SettlingInvariant w
+    → SettlingInvariant w'
 claimed_kept answers timed fate fate_after w w' done fit prompt octet k claimed =
     record {
       pace = claimed.pace;
@@ -74,7 +75,8 @@ claimed_kept answers timed fate fate_after w w' done fit prompt octet k claimed 
 -- ---- what it promises
 
 -- a world with a system has the parameters and the largest interval that its systems start with
-pub set_alike : (w : WorldState) (claimed : SettlingInvariant w) (p : SettlingParams) → HavePace p w → (place : ℕ) (station : Station)
+pub set_alike : (w : WorldState) (claimed : SettlingInvariant w) (p : SettlingParams) → HavePace p w
+    → (place : ℕ) (station : Station)
     → slice_get w.stations place ≡ Some station → KeepsAll p w
 set_alike w claimed p have place station here =
     let known = (claimed.is.world.known.set place station here).starts in
@@ -167,7 +169,8 @@ settled_at_once m w claimed bounded calm off place station here =
 -- ---- by distance
 
 -- a near live system at distance d of a calm world in which no path has more than m systems
-module _ (m d : ℕ) (w : WorldState) (claimed : SettlingInvariant w) (bounded : BoundsPaths (snapshot_of w) m) (place : ℕ)
+module _ (m d : ℕ) (w : WorldState) (claimed : SettlingInvariant w) (bounded : BoundsPaths (snapshot_of w) m)
+  (place : ℕ)
     (station : Station) (here : slice_get w.stations place ≡ Some station) (live : station.live ≡ true)
     (distance : IsDistance (snapshot_of w) (clock station.system) d) (near : d < 255) where
   pub distance_follows : IsCalmFor (distance_span m d) w → FollowsBest (snapshot_of w) (station_view station)
@@ -187,7 +190,8 @@ module _ (m d : ℕ) (w : WorldState) (claimed : SettlingInvariant w) (bounded :
 
 -- ---- by neighbours
 
-pub settled_by_neighbours : (w : WorldState) → SettlingInvariant w → IsCalmFor (span_over (path_bound (snapshot_of w))) w
+pub settled_by_neighbours : (w : WorldState) → SettlingInvariant w
+    → IsCalmFor (span_over (path_bound (snapshot_of w))) w
     → Settled w
 settled_by_neighbours w claimed =
     settled_by_paths (path_bound (snapshot_of w)) w claimed (paths_bound claimed.pace w claimed.is.world)

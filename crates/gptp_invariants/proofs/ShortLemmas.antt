@@ -43,12 +43,14 @@ module _ (span : ℕ) where
       → IsShortChannel span now (with_queue direction frames channel)
   queue_short now FromA channel frames short is = record { most = is.most; dues = dues }
     where
-      dues : (way : Direction) (f : Frame) → In f (world_queue way (with_queue FromA frames channel)) → f.due ≤ now + span
+      dues : (way : Direction) (f : Frame) → In f (world_queue way (with_queue FromA frames channel))
+        → f.due ≤ now + span
       dues FromA f member = short f member
       dues FromB f member = is.dues FromB f member
   queue_short now FromB channel frames short is = record { most = is.most; dues = dues }
     where
-      dues : (way : Direction) (f : Frame) → In f (world_queue way (with_queue FromB frames channel)) → f.due ≤ now + span
+      dues : (way : Direction) (f : Frame) → In f (world_queue way (with_queue FromB frames channel))
+        → f.due ≤ now + span
       dues FromA f member = is.dues FromA f member
       dues FromB f member = short f member
 
@@ -200,7 +202,8 @@ module _ (span : ℕ) where
   injects_short true from octets w draws w' all k =
       subst (IsShort span) (sym k.is) (one_short w.time from octets k.draw w.net k.net all k.sent)
 
-  changes_short : (c : Change) (w : WorldState) (draws : List Draw) (w' : WorldState) → DelayFitsInterval span (Changing c)
+  changes_short : (c : Change) (w : WorldState) (draws : List Draw) (w' : WorldState)
+      → DelayFitsInterval span (Changing c)
       → IsShort span w → Changes c w draws w' → IsShort span w'
   changes_short (LinkDown number port) w draws w' fit all k =
       goes_down_short k.channel.up k.place k.channel w draws w' k.is.here all k.so

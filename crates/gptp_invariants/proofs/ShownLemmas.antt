@@ -38,7 +38,8 @@ held_disabled : (is_slave : Bool) (h : Held) → h ≡ helds.Disabled → role_b
 held_disabled is_slave h same = rw same refl
 
 -- what is known of one port of a live system of a world that has been calm for so long
-module _ (w : WorldState) (claimed : SettlingInvariant w) (calm : IsCalmFor capable_span w) (place : ℕ) (station : Station)
+module _ (w : WorldState) (claimed : SettlingInvariant w) (calm : IsCalmFor capable_span w) (place : ℕ)
+  (station : Station)
     (here : slice_get w.stations place ≡ Some station) (live : station.live ≡ true) where
   abbrev s : SystemState
   s = station.system
@@ -98,7 +99,8 @@ capable_shown number w s claimed shows calm =
     (capable_ports w claimed calm shows.place shows.station shows.is.here shows.live)
 
 -- and a role that is
-pub enabled_shown : (number port : ℕ) (w : WorldState) (role : Role) → SettlingInvariant w → AtSystem number w (HasRole port role)
+pub enabled_shown : (number port : ℕ) (w : WorldState) (role : Role) → SettlingInvariant w
+    → AtSystem number w (HasRole port role)
     → IsEnabledInTime number port w role
 enabled_shown number port w role claimed at calm =
     let is = enabled_role w claimed calm at.place at.station at.is.here at.so.live port at.so.port_of in
@@ -132,7 +134,8 @@ pub choice_shown : (number root steps : ℕ) (slave : Option ℕ) (w : WorldStat
 choice_shown number root steps slave w claimed at calm near =
     settled_choice number w (claimed_settled w claimed calm) near root steps slave at
 
-pub role_shown : (number port : ℕ) (w : WorldState) (role : Role) → SettlingInvariant w → AtSystem number w (HasRole port role)
+pub role_shown : (number port : ℕ) (w : WorldState) (role : Role) → SettlingInvariant w
+    → AtSystem number w (HasRole port role)
     → PlaysInTime number port w role
 role_shown number port w role claimed at calm near =
     settled_role number w (claimed_settled w claimed calm) near port role at
@@ -154,7 +157,8 @@ pub choice_at_once : (number root steps : ℕ) (slave : Option ℕ) (w : WorldSt
 choice_at_once number root steps slave w claimed at m bounded calm nothing near =
     settled_choice number w (settled_at_once m w claimed bounded calm nothing) near root steps slave at
 
-pub role_at_once : (number port : ℕ) (w : WorldState) (role : Role) → SettlingInvariant w → AtSystem number w (HasRole port role)
+pub role_at_once : (number port : ℕ) (w : WorldState) (role : Role) → SettlingInvariant w
+    → AtSystem number w (HasRole port role)
     → PlaysAtOnce number port w role
 role_at_once number port w role claimed at m bounded calm nothing near =
     settled_role number w (settled_at_once m w claimed bounded calm nothing) near port role at

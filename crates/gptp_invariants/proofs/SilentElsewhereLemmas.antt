@@ -113,7 +113,8 @@ changed_silent p start w silent at s =
 
 -- ---- another link comes up
 
-module _ (p : SettlingParams) (start : ℕ) (at : LinkPlace) (place : ℕ) (channel : Channel) (w : WorldState) (draws : List Draw)
+module _ (p : SettlingParams) (start : ℕ) (at : LinkPlace) (place : ℕ) (channel : Channel) (w : WorldState)
+  (draws : List Draw)
     (w' : WorldState) (clocks : HaveOwnClocks w) (setups : HaveTheirSetups w) (apart : AreApart w)
     (here : slice_get w.net.channels place ≡ Some channel) (other : at.link ≢ place) where
   abbrev raised : Channel

@@ -69,7 +69,8 @@ pub record IsDeaf (input : Input) : Type 0 where
 module _ (g : Snapshot) (well : IsWellFormed g) (place : ℕ) (input : Input) (w : WorldState) (draws : List Draw)
     (answer : Answer) (w' : WorldState) (k : Calls place input w draws answer w') (is : IsAnswering w)
     (apart : AreApart w) (timely : IsTimely k.station.system w.time input) (deaf : IsDeaf input) where
-  pub call_sound : In (standing_system (in_state k.after k.station)) g.systems → IsSoundEverywhere says_announce g (view w)
+  pub call_sound : In (standing_system (in_state k.after k.station)) g.systems
+      → IsSoundEverywhere says_announce g (view w)
       → IsSoundEverywhere says_announce g (view w')
   call_sound known all =
       let old = is.stations place k.station k.here in
@@ -165,7 +166,8 @@ all_goes g well place (p ∷ ps) w draws w' has goes (first, rest, between, answ
 abbrev pub HasClocks : List System → List System → Type 0
 HasClocks systems others = (s : System) → In s systems → (t : System) × In t others × (t.clock ≡ s.clock)
 
-clock_more : (systems others : List System) (number : ℕ) → HasClocks systems others → stations_have_clock systems number ≡ true
+clock_more : (systems others : List System) (number : ℕ) → HasClocks systems others
+    → stations_have_clock systems number ≡ true
     → stations_have_clock others number ≡ true
 clock_more systems others number more has =
     let (s, among, named) = from_map (λ (x : System). x.clock) number systems (clock_from systems number has) in
@@ -179,7 +181,8 @@ used_more : (systems others : List System) (channel new : Channel) → HasClocks
     → channel_is_used systems channel ≡ true → channel_is_used others new ≡ true
 used_more systems others channel new more a b up used =
     let (on, ends) = and_parts channel.up _ used in
-    let (here, there) = and_parts (stations_have_clock systems channel.a.clock) (stations_have_clock systems channel.b.clock) ends in
+    let (here, there) = and_parts (stations_have_clock systems channel.a.clock)
+        (stations_have_clock systems channel.b.clock) ends in
     and_from new.up _ (up on)
     (and_from _ _
     (subst (λ (p : PortId). stations_have_clock others p.clock ≡ true) (sym a)

@@ -170,7 +170,8 @@ module _ (w : WorldState) (well : IsWellFormed (snapshot_of w)) (is : IsAnswerin
             elim new_one [ inl dead ↦ absurd cc | inr equal ↦ sym equal ] in
             let was : k.station.system.identity ≡ s.identity =
             ap (λ (x : Station). x.system.identity) (sym one) ∙ ap (λ (x : System). x.identity) (sym at.is) in
-            (standing_system new, live_there v.stations place new now_there refl, named, omega (arith, own_identity, was)))
+            (standing_system new, live_there v.stations place new now_there refl, named, omega
+              (arith, own_identity, was)))
         | inr other ↦ (
           s,
           subst (λ x. In x (live_stations v.stations)) (sym at.is)
@@ -386,7 +387,8 @@ module _ (w : WorldState) (well : IsWellFormed (snapshot_of w)) (is : IsAnswerin
       by (inl (answer, c)) = called answer c
       by (inr (failed, none, same)) =
           subst IsSoundWorld (sym same)
-          (subst (λ (h : Snapshot). IsSoundEverywhere says_announce h (view v)) (sym same_v) (seen_v (snapshot_of w) all))
+          (subst (λ (h : Snapshot). IsSoundEverywhere says_announce h (view v)) (sym same_v)
+            (seen_v (snapshot_of w) all))
 
   -- where a link is down, or a system has failed
   down_sound : (up : Bool) (place : ℕ) (channel : Channel) (draws : List Draw) (w' : WorldState) → up ≡ false
@@ -467,7 +469,8 @@ sound_acts p act w draws done w' none k is all =
     let after : StationFacts (network_setting (network_of p 0 start w)) (view w') =
     subst (λ (n : Network). StationFacts (network_setting n) (view w')) same
     (facts p 0 start w' is'.sound is'.legible is'.known) in
-    let step : MachineSteps says_announce (view w) (view w') = inr (acts_seen act w draws done w' none is.sound is.legible k) in
+    let step : MachineSteps says_announce (view w) (view w') = inr
+        (acts_seen act w draws done w' none is.sound is.legible k) in
     subst (λ (h : Snapshot). IsSoundEverywhere says_announce h (view w')) (sym (same_snapshot w w' keeps))
     (sound_kept says_announce (network_setting (network_of p 0 start w)) (view w) (view w')
     (stands_well w is.sound is.between is.legible) before after step all)

@@ -562,7 +562,8 @@ module _ {F : Type 0} (answers : Bounds → ℕ → F → Option ℕ → F → T
         stood_among (pace_of n) first_world w orderly.clocks params is.sound.wired.clocks
         (known_params (pace_of n) w is.known.set) (subst (KeepsNetwork first_world) woken_is keeps_time.0) at stands
 
-    of : (place : ℕ) (direction : Direction) (e : StationIsLiveAt place (sender direction stood.channel).clock first_world)
+    of : (place : ℕ) (direction : Direction) (e : StationIsLiveAt place
+      (sender direction stood.channel).clock first_world)
         → HasPortNumber e.station.system (sender direction stood.channel).port
     of place direction e =
         let (was, here, made) = from_wake place e.station e.here in
@@ -603,7 +604,8 @@ module _ {F : Type 0} (answers : Bounds → ℕ → F → Option ℕ → F → T
     unfolding link
     ready =
         let out = ap (map link_frame_view) (none_flies at.link stood.channel stood.here at.direction) in
-        let back = ap (map link_frame_view) (none_flies at.link stood.channel stood.here (other_direction at.direction)) in
+        let back = ap (map link_frame_view) (none_flies at.link stood.channel stood.here (other_direction at.direction))
+            in
         let pace = keeps_pace n network in
         let asking = params at.asking stood.asking.station stood.asking.here in
         let answering = params at.answering stood.answering.station stood.answering.here in

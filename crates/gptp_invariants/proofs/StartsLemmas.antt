@@ -59,7 +59,8 @@ next_link c cs port is = record {
 }
 
 first_link : (c : Channel) (cs : List Channel) (number port : ℕ)
-    → (c.up && (is_link_end number port c.a || is_link_end number port c.b)) ≡ true → BeginsLink (c ∷ cs) (port_id number port)
+    → (c.up && (is_link_end number port c.a || is_link_end number port c.b)) ≡ true
+    → BeginsLink (c ∷ cs) (port_id number port)
 first_link c cs number port is = by (is_link_end number port c.a) refl
   where
     up : c.up ≡ true
@@ -72,13 +73,15 @@ first_link c cs number port is = by (is_link_end number port c.a) refl
     by : (b : Bool) → is_link_end number port c.a ≡ b → BeginsLink (c ∷ cs) (port_id number port)
     by true here = at FromA (port_is number port c.a here)
     by false other =
-        let here : is_link_end number port c.b ≡ true = grind (arith, nat_tests) in at FromB (port_is number port c.b here)
+        let here : is_link_end number port c.b ≡ true = grind (arith, nat_tests)
+            in at FromB (port_is number port c.b here)
 
 found_link : (channels : List Channel) (number port : ℕ) → is_up_at channels number port ≡ true
     → BeginsLink channels (port_id number port)
 found_link [] number port is = absurd cc
 found_link (c ∷ cs) number port is =
-    by (c.up && (is_link_end number port c.a || is_link_end number port c.b)) refl is (λ rest. found_link cs number port rest)
+    by (c.up && (is_link_end number port c.a || is_link_end number port c.b)) refl is
+      (λ rest. found_link cs number port rest)
   where
     by : (b : Bool) → (c.up && (is_link_end number port c.a || is_link_end number port c.b)) ≡ b
         → (b || is_up_at cs number port) ≡ true → (is_up_at cs number port ≡ true → BeginsLink cs (port_id number port))

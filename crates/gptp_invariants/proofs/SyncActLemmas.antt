@@ -44,7 +44,8 @@ use Rattle.gptp_invariants.proofs.SyncCallLemmas.{TakesSyncs, kept_stays, slave_
 use Rattle.gptp_invariants.proofs.SyncHeardLemmas.{follow_ups_are_used, followed_here, syncs_are_kept}
 use Rattle.gptp_invariants.proofs.TimeStepLemmas.{KeepsSync}
 
-module _ (p : SettlingParams) (m start : ℕ) (times : SettlingTimes) (w : WorldState) (sound : IsSound w) (legible : IsEncodable w)
+module _ (p : SettlingParams) (m start : ℕ) (times : SettlingTimes) (w : WorldState) (sound : IsSound w)
+  (legible : IsEncodable w)
     (set : AreSet p w) (knows : KnowTime w) (above : 0 < p.params.sync_timeout) where
   abbrev n : Network
   n = network_with p m start times w
@@ -64,7 +65,8 @@ module _ (p : SettlingParams) (m start : ℕ) (times : SettlingTimes) (w : World
   abbrev RunsSo : SeenStation → SeenStation → MachineState → Type 0
   RunsSo s s' w' = TimerStep says_sync n (view w) w' s s' × (FollowsOn s s' → s'.kept ≡ s.kept)
 
-  pub expiries_tell : (place : ℕ) (timer : Timer) (draws : List Draw) (w' : WorldState) → TimerRunsOut place timer w draws w'
+  pub expiries_tell : (place : ℕ) (timer : Timer) (draws : List Draw) (w' : WorldState)
+      → TimerRunsOut place timer w draws w'
       → (act : Runs says_announce (view w) (view w')) × SyncRuns says_announce says_sync n (view w) (view w') act
   expiries_tell place timer draws w' k =
       let c = k.calls in
@@ -99,7 +101,8 @@ module _ (p : SettlingParams) (m start : ℕ) (times : SettlingTimes) (w : World
     -- what is asked of a frame that arrives at a port
     abbrev Heard : MachineState → SeenStation → SeenStation → ℕ → List ℕ → Type 0
     Heard mid s s' at said = TimerStep says_sync n mid (view w') s s'
-        × (((i : ℕ) → s.slave ≡ Some (suc i) → at ≡ suc i → FollowsOn s s' → HearsFollowedSync says_sync n w.time i said s s')
+        × (((i : ℕ) → s.slave ≡ Some (suc i) → at ≡ suc i → FollowsOn s s'
+          → HearsFollowedSync says_sync n w.time i said s s')
         × ((i : ℕ) → s.slave ≡ Some (suc i) → at ≢ suc i → FollowsOn s s' → s'.kept ≡ s.kept))
 
     module _ (one : Answer) (c : Calls k.place (FrameHeard port octets) emptied draws one w') where
@@ -202,8 +205,10 @@ module _ (p : SettlingParams) (m start : ℕ) (times : SettlingTimes) (w : World
     deliveries_tell = by answer k.hears
       where
         by : (o : Option Answer) → Hears k.place port octets emptied draws o w'
-            → ((act : Arrives says_announce (view w) (view w')) × SyncArrives says_announce says_sync n (view w) (view w') act)
-            ⊎ ((act : Drops says_announce (view w) (view w')) × SyncDrops says_announce says_sync (view w) (view w') act)
+            → ((act : Arrives says_announce (view w) (view w'))
+              × SyncArrives says_announce says_sync n (view w) (view w') act)
+            ⊎ ((act : Drops says_announce (view w) (view w'))
+              × SyncDrops says_announce says_sync (view w) (view w') act)
         by None hears =
             let drop = failed_drops link direction octets w draws answer w' sound legible k hears in
             inr (drop.act, λ i m x at named live said. drop.failed i m at named live)
@@ -216,7 +221,8 @@ module _ (p : SettlingParams) (m start : ℕ) (times : SettlingTimes) (w : World
   acts_tell (Deliver link direction) draws done w' none k =
       by (deliveries_tell link direction k.octets draws k.answer w' k.delivers)
     where
-      by : ((act : Arrives says_announce (view w) (view w')) × SyncArrives says_announce says_sync n (view w) (view w') act)
+      by : ((act : Arrives says_announce (view w) (view w'))
+        × SyncArrives says_announce says_sync n (view w) (view w') act)
           ⊎ ((act : Drops says_announce (view w) (view w')) × SyncDrops says_announce says_sync (view w) (view w') act)
           → SyncActs says_announce says_sync n (view w) (view w')
       by (inl arrives) = inl arrives

@@ -62,7 +62,8 @@ module _ (s : SystemState) (p : ℕ) (source : PortIdentity) (takes : TakesTime 
   at_slave = let slave = takes.slave in rw slave (eq-eqb p p refl)
 
   -- what comes from there is followed
-  pub followed : (head : Head) → head.two_step ≡ true → port_identity_number head.source ≡ source → is_followed p head s ≡ true
+  pub followed : (head : Head) → head.two_step ≡ true → port_identity_number head.source ≡ source
+      → is_followed p head s ≡ true
   followed head two_step from =
       let holds = takes.holds in
       let same : is_port takes.reception.vector.source head.source ≡ true =

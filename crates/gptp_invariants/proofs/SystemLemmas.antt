@@ -47,7 +47,8 @@ live_there (first ∷ stations) (suc place) station here live =
     by first.live (live_there stations place station here live)
   where
     by : (live : Bool) → In (standing_system station) (live_stations stations)
-        → In (standing_system station) (if live then standing_system first ∷ live_stations stations else live_stations stations)
+        → In (standing_system station) (if live then standing_system first ∷ live_stations stations else
+          live_stations stations)
     by true among = inr among
     by false among = among
 
@@ -77,7 +78,8 @@ clocks_differ (first ∷ stations) own = by first.live (clocks_differ stations r
         absurd (omega arith)
 
     by : (live : Bool) → Different (map clock_in (live_stations stations))
-        → Different (map clock_in (if live then standing_system first ∷ live_stations stations else live_stations stations))
+        → Different (map clock_in (if live then standing_system first ∷ live_stations stations else live_stations
+          stations))
     by true differ = (alone, differ)
     by false differ = differ
 
@@ -89,7 +91,8 @@ clock_from (s ∷ systems) number has =
     by (clock_from systems number) (or_cases (s.clock == number) (stations_have_clock systems number) has)
   where
     by : (stations_have_clock systems number ≡ true → In number (map clock_in systems))
-        → (((s.clock == number) ≡ true) ⊎ (stations_have_clock systems number ≡ true)) → In number (map clock_in (s ∷ systems))
+        → (((s.clock == number) ≡ true) ⊎ (stations_have_clock systems number ≡ true))
+        → In number (map clock_in (s ∷ systems))
     by later (inl same) = inl (sym (eqb-true s.clock number same))
     by later (inr among) = inr (later among)
 

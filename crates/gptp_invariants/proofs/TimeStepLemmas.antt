@@ -340,7 +340,8 @@ stops s t s' is params sync_in known relay lapse root =
 relays_by : (b : Bool) (info : SyncInfo) (now : ℕ) (s s' : SystemState) (sends : List Sending)
     → RelaysBy b info now s s' sends → Stops (Expires timers.Relay) s s'
 relays_by true info now s s' sends k = stops s (telling (timer_stopped s)) s' k.state refl refl refl refl refl refl
-relays_by false info now s s' sends (inl k) = stops s (telling (timer_stopped s)) s' k.state refl refl refl refl refl refl
+relays_by false info now s s' sends (inl k) = stops s
+    (telling (timer_stopped s)) s' k.state refl refl refl refl refl refl
 relays_by false info now s s' sends (inr k) = stops s (timer_stopped s) s' k.becomes.state refl refl refl refl refl refl
 
 relays_if : (known : Option SyncInfo) (now : ℕ) (s s' : SystemState) (sends : List Sending)
@@ -408,7 +409,8 @@ hears_frame p octets now s s' sends answer k = by (frame_heard p octets now s s'
           lapse = λ due is. inl (is, refl);
         })))
     by (inr (inr learned)) =
-        inr (inr (inl (knows_by (has_sync_timeout s.params) learned.info (delay_at s p) (root_rate_at s p) now s s' sends
+        inr (inr (inl (knows_by (has_sync_timeout s.params) learned.info (delay_at s p)
+          (root_rate_at s p) now s s' sends
         answer refl
         (subst (λ (t : Timestamp). t.nanos < 1000000000) (sym (origin_on p learned.m s learned.info learned.said))
         (stamp_read octets learned.m learned.reads)) learned.knows)))

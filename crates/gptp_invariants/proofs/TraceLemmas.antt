@@ -143,7 +143,8 @@ module _ (p : SettlingParams) (w : WorldState) (is : KeepsAll p w) (quiet : IsQu
         → received (held_at s n) ≡ Some r → IsHeldWhole (snapshot_of w) (clock s) n r
     held_whole_at m n r bounded late holds =
         let seen = seen_held n r holds in
-        let hit = held_whole says_announce k m (view w) bounded state.facts traces late place (station_view station) seen.i
+        let hit = held_whole says_announce k m (view w) bounded state.facts traces late place
+            (station_view station) seen.i
         (reception_view (span_at s) r) (station_there w.stations place station here) live seen.holds in
         subst (λ x. IsHeldWhole (snapshot_of w) (clock s) x r) (sym seen.number) (record {
           from = hit.from;
@@ -214,7 +215,8 @@ held_becomes_whole number w s claimed shows m n r bounded calm holds =
     (let shorter = turns_less calm.pace w is.world.known m in omega (arith, late, shorter))
     (subst (λ (x : SystemState). received (held_at x n) ≡ Some r) same holds))
 
-pub held_becomes_whole_sooner : (number : ℕ) (w : WorldState) (s : SystemState) → SettlingInvariant w → ShowsLive number w s
+pub held_becomes_whole_sooner : (number : ℕ) (w : WorldState) (s : SystemState) → SettlingInvariant w
+    → ShowsLive number w s
     → AreHeldWholeSooner w s
 held_becomes_whole_sooner number w s claimed shows m n r bounded calm holds =
     let is = set_alike w claimed calm.pace calm.set shows.place shows.station shows.is.here in
@@ -233,7 +235,8 @@ held_is_no_better g number port r best wf held is_best =
     IsBest-neighbour g number held.from.clock best wf
     (port, held.from.port, Joins-sym g held.from (port_of number port) held.joins) is_best in (
       root_not_better g wf held.from.clock (heard_announce r) held.whole best there,
-      λ root d far. steps_not_fewer g wf held.from.clock (heard_announce r) held.whole best there held.from.clock d (inl refl)
+      λ root d far. steps_not_fewer g wf held.from.clock (heard_announce r) held.whole best there held.from.clock d
+        (inl refl)
           there far root,
     )
 

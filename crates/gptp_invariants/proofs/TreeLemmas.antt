@@ -71,7 +71,8 @@ module _ (w : WorldState) (claimed : SettlingInvariant w) (settled_world : Settl
   linked_port s n lives (q, joins) =
       let (x, member, port) = wf.ends (port_of (clock s) n) q joins in
       let same : x ≡ standing_system lives.station =
-      same_clock g x (standing_system lives.station) wf member (live_there w.stations lives.place lives.station lives.here
+      same_clock g x (standing_system lives.station) wf member
+        (live_there w.stations lives.place lives.station lives.here
       lives.live) (port.clock ∙ ap clock lives.is) in
       let most : n ≤ (standing_system lives.station).ports = subst (λ (y : System). n ≤ y.ports) same port.last in
       subst (λ (y : SystemState). HasPortNumber y n) (sym lives.is) (record { least = port.first; most = most })
@@ -87,7 +88,8 @@ module _ (w : WorldState) (claimed : SettlingInvariant w) (settled_world : Settl
 
   -- ---- the best of a component
 
-  is_root : (s : SystemState) (best : System) → IsLiveStation w s → IsBest g (clock s) best → best.clock ≡ clock s → IsRoot s
+  is_root : (s : SystemState) (best : System) → IsLiveStation w s → IsBest g (clock s) best → best.clock ≡ clock s
+      → IsRoot s
   is_root s best lives is_best same = record {
     root = root;
     steps = IsDistance-unique g (clock s) s.steps 0 wf is.steps here;

@@ -129,7 +129,8 @@ module _ {place : ℕ} {input : Input} {gone : ℕ} {at : LinkPlace} {w w' : Wor
     (step : CallStep place input gone at w w' l) where
   pub asker_is : (silent_view at w' step.after).asker
       ≡ asker_view (interval_of l.asking.station.setup.params.pdelay) (measure_at step.after.asking.state)
-  asker_is = ap (λ (x : Setup). asker_view (interval_of x.params.pdelay) (measure_at step.after.asking.state)) step.setup
+  asker_is = ap (λ (x : Setup). asker_view (interval_of x.params.pdelay) (measure_at step.after.asking.state))
+      step.setup
 
   -- where the port measures on as it did nothing is seen
   pub view_stays :

@@ -108,7 +108,8 @@ module _ (gone : ℕ) (at : LinkPlace) (link : ℕ) (direction : Direction) (oct
 
   lane : LaneShrinks at w emptied l
   lane =
-      takes_shrink at.link (other_direction at.direction) link direction w.time octets k.channel w.net k.net l.channel l.here
+      takes_shrink at.link (other_direction at.direction) link direction w.time octets k.channel w.net k.net
+        l.channel l.here
       k.takes
 
   abbrev less : IsUnansweredAt at emptied
@@ -165,7 +166,8 @@ module _ (gone : ℕ) (at : LinkPlace) (link : ℕ) (direction : Direction) (oct
 
       here : link ≡ at.link
       here =
-          sound.wired.apart link at.link (other_direction direction) at.direction k.channel l.channel k.takes.here l.here
+          sound.wired.apart link at.link (other_direction direction) at.direction k.channel l.channel
+            k.takes.here l.here
           (sender_opposite direction k.channel ∙ sym port_is)
 
       one : k.channel ≡ l.channel
@@ -173,7 +175,8 @@ module _ (gone : ℕ) (at : LinkPlace) (link : ℕ) (direction : Direction) (oct
           same_there w.net.channels link k.channel l.channel k.takes.here
           (ap (slice_get w.net.channels) here ∙ l.here)
 
-      by : (direction ≡ at.direction) ⊎ (direction ≡ other_direction at.direction) → direction ≡ other_direction at.direction
+      by : (direction ≡ at.direction) ⊎ (direction ≡ other_direction at.direction)
+        → direction ≡ other_direction at.direction
       by (inl way) =
           absurd (ends_apart (ap (λ (p : PortId). p.clock) (port_is ∙ λ i. receiver (way i) (one i))))
       by (inr way) = way

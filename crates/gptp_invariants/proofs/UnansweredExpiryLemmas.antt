@@ -27,7 +27,8 @@ use Rattle.gptp_invariants.specs.Unanswered.{IsOldBy, IsSeenUnanswered, IsUnansw
 use Rattle.gptp_invariants.proofs.UnansweredCallLemmas.{CallStep, asker_is, call_seen, view_stays}
 
 module _ (gone : ℕ) (at : LinkPlace) (place : ℕ) (timer : Timer) (w : WorldState) (draws : List Draw) (w' : WorldState)
-    (k : TimerRunsOut place timer w draws w') (sound : IsSound w) (l : IsUnansweredAt at w) (old : IsOldBy gone at w l) where
+    (k : TimerRunsOut place timer w draws w') (sound : IsSound w) (l : IsUnansweredAt at w)
+      (old : IsOldBy gone at w l) where
   step : CallStep place (TimerExpires timer) gone at (stopped place timer w) w' l
   step =
       call_seen gone at place (TimerExpires timer) (stopped place timer w) draws k.answer w' k.calls sound.wired.clocks

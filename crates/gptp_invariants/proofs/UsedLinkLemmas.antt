@@ -35,7 +35,8 @@ receiver_lives : (w : WorldState) (direction : Direction) (channel : Channel)
     → channel_is_used (live_stations w.stations) channel ≡ true → LivesSomewhere (receiver direction channel).clock w
 receiver_lives w direction channel used =
     let has = subst (λ (q : PortId). stations_have_clock (live_stations w.stations) q.clock ≡ true)
-    (sender_opposite direction channel) (sender_lives (live_stations w.stations) (other_direction direction) channel used) in
+    (sender_opposite direction channel) (sender_lives (live_stations w.stations)
+      (other_direction direction) channel used) in
     let (s, member, same) = clock_lives w.stations (receiver direction channel).clock has in
     let there = live_from w.stations s member in
     record {
@@ -61,11 +62,13 @@ pub record IsWatchedLink (p : SettlingParams) (w : WorldState) (from to : PortId
   pub period : (link_setting at w watched.link).period ≤ largest_interval p
   pub allowed : (link_setting at w watched.link).allowed ≡ p.params.lost
 
-module _ (p : SettlingParams) (w : WorldState) (pace : KeepPace p) (is : IsWorld p w) (quiet : HaveQuietLinks p.params w)
+module _ (p : SettlingParams) (w : WorldState) (pace : KeepPace p) (is : IsWorld p w)
+  (quiet : HaveQuietLinks p.params w)
     (watches : GoodLinksMeasure p w) (place : ℕ) (station : Station) (here : slice_get w.stations place ≡ Some station)
     (live : station.live ≡ true) where
   -- where a way from a port of the system stands
-  abbrev place_of_way : (n : ℕ) (to : PortIdentity) → IsWay w (port_identity_number (own station.system n)) to → LinkPlace
+  abbrev place_of_way : (n : ℕ) (to : PortIdentity) → IsWay w (port_identity_number (own station.system n)) to
+      → LinkPlace
   place_of_way n to way = record {
     link = way.link;
     direction = way.direction;

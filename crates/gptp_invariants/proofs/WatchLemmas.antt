@@ -32,17 +32,21 @@ watch_kept at gone calm act w w' draws done sound calm_act acts is =
     let m = meter at w is.link in
     let m' = meter at w' seen.after in
     let one = seen.so in
-    let facts = facts_kept k gone reads_as_request reads_as_reply m.pair m'.pair (act_of k reads_as_request reads_as_reply m m' one.acts) one.out one.back
+    let facts = facts_kept k gone reads_as_request reads_as_reply m.pair m'.pair
+        (act_of k reads_as_request reads_as_reply m m' one.acts) one.out one.back
     is.facts in
     let same_least : least ≡ least_delay at w' seen.after = ap (λ (b : Bounds). b.min) (sym seen.bounds) in
-    let inv = meter_kept k least reads_as_request reads_as_reply gone calm m m' is.good is.facts facts one.out_late one.back_late one.acts
+    let inv = meter_kept k least reads_as_request reads_as_reply gone calm m m' is.good is.facts facts one.out_late
+        one.back_late one.acts
     is.inv in
     record {
       link = seen.after;
       good = subst (λ (x : Setting). IsGood x gone calm) (sym seen.settled) is.good;
       facts = subst (λ (x : Setting). Facts x gone m'.pair) (sym seen.settled) facts;
-      inv = subst (λ (x : Setting). MeterInv x (least_delay at w' seen.after) reads_as_request reads_as_reply gone calm m')
-          (sym seen.settled) (subst (λ (n : ℕ). MeterInv k n reads_as_request reads_as_reply gone calm m') same_least inv);
+      inv = subst (λ (x : Setting). MeterInv x
+        (least_delay at w' seen.after) reads_as_request reads_as_reply gone calm m')
+          (sym seen.settled) (subst (λ (n : ℕ). MeterInv k n reads_as_request reads_as_reply gone calm m')
+            same_least inv);
     }
 
 pub watch_goes_on : WatchGoesOn
@@ -53,7 +57,8 @@ watch_goes_on at gone calm time w sound later first is =
       link = is.link;
       good = is.good;
       facts = facts_later k gone time p later (nothing_late at time w is.link sound first) is.facts;
-      inv = meter_later k (least_delay at w is.link) reads_as_request reads_as_reply gone calm (meter at w is.link) _ (time, later, refl)
+      inv = meter_later k (least_delay at w is.link) reads_as_request reads_as_reply gone calm (meter at w is.link) _
+        (time, later, refl)
           is.inv;
     }
 
@@ -61,10 +66,12 @@ pub watched_capable : WatchedPortsBecomeCapable
 watched_capable at change interval w l short past =
     let k = link_setting at w l.link in
     capability_settles k reads_as_request reads_as_reply change interval (pair at w l.link) short l.facts
-    (meter_is_inv k (least_delay at w l.link) reads_as_request reads_as_reply (change + interval) (change + 2 * interval)
+    (meter_is_inv k (least_delay at w l.link) reads_as_request reads_as_reply (change + interval)
+      (change + 2 * interval)
     (meter at w l.link) l.inv) past
 
 pub watched_measure : WatchedPortsMeasure
 watched_measure at change interval w l short past =
-    measuring_settles (link_setting at w l.link) (least_delay at w l.link) reads_as_request reads_as_reply change interval
+    measuring_settles (link_setting at w l.link)
+      (least_delay at w l.link) reads_as_request reads_as_reply change interval
     (meter at w l.link) short l.facts l.inv past

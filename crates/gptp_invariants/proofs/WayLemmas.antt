@@ -56,7 +56,8 @@ used_there systems (first ∷ channels) (suc link) channel here used =
     by (channel_is_used systems first) (used_there systems channels link channel here used)
   where
     by : (is : Bool) → In (standing_link channel) (used_channels systems channels)
-        → In (standing_link channel) (if is then standing_link first ∷ used_channels systems channels else used_channels systems channels)
+        → In (standing_link channel) (if is then standing_link first ∷ used_channels systems channels else used_channels
+          systems channels)
     by true among = inr among
     by false among = among
 
@@ -99,7 +100,8 @@ way_of w p q (inr member) =
 -- a used link joins its ends
 pub used_joins : (w : WorldState) (link : ℕ) (direction : Direction) (channel : Channel)
     → slice_get w.net.channels link ≡ Some channel → channel_is_used (live_stations w.stations) channel ≡ true
-    → Joins (snapshot_of w) (port_identity_number (sender direction channel)) (port_identity_number (receiver direction channel))
+    → Joins (snapshot_of w) (port_identity_number (sender direction channel))
+      (port_identity_number (receiver direction channel))
 used_joins w link FromA channel here used =
     inl (used_there (live_stations w.stations) w.net.channels link channel here used)
 used_joins w link FromB channel here used =

@@ -43,7 +43,8 @@ MeasuredDone {F} answers = (timed : Timed) (fate fate_after : F) (w w' : WorldSt
 
 -- after every change of the network
 abbrev pub WatchesChanged : Type 0
-WatchesChanged = (p : SettlingParams) (change : Change) (w : WorldState) (draws : List Draw) (done : Done) (w' : WorldState)
+WatchesChanged = (p : SettlingParams) (change : Change) (w : WorldState) (draws : List Draw) (done : Done)
+    (w' : WorldState)
     → KeepPace p → Acts (Changing change) w draws done w' → IsWorld p w' → LinkIsMeasured w'
     → GoodLinksMeasure p w'
 

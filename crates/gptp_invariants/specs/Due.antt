@@ -21,7 +21,8 @@ pub record IsSoonAfter (since span time : ℕ) : Type 0 where
 -- within one turnaround.
 pub record IsPortKnown (p : SettlingParams) (now : ℕ) (h : Held) (q : Port) : Type 0 where
   pub announces : is_mine h ≡ true → IsSoonAfter now (interval_of q.log_interval) q.announce
-  pub came : (r : Reception) → received h ≡ Some r → IsSoonAfter r.at (span_by p.params.timeout p.largest r.interval) now
+  pub came : (r : Reception) → received h ≡ Some r
+      → IsSoonAfter r.at (span_by p.params.timeout p.largest r.interval) now
   pub asks : (t : ℕ) → q.pdelay ≡ Some t → IsSoonAfter now (interval_of p.params.pdelay) t
   pub answers : (t : ℕ) → q.respond ≡ Some t → IsSoonAfter now p.params.turnaround t
 

@@ -9,13 +9,15 @@ use Rattle.gptp_model.specs.World.{Channel, WorldState, receiver, sender}
 use Rattle.gptp_invariants.specs.Measured.{StationIsLiveAt}
 use Rattle.gptp_invariants.specs.LinkView.{IsLinkOf, LinkPlace, reads_as_request, least_delay, meter, pair, reads_as_reply, link_setting}
 
--- The port that reads_as_request sent it at this time: since then exchanges are in their phases, and what they had to measure is
+-- The port that reads_as_request sent it at this time: since then exchanges are in their phases, and what they had to
+-- measure is
 -- measured.
 pub record IsFirstAt (first : ℕ) (at : LinkPlace) (w : WorldState) : Type 0 where
   pub link : IsLinkOf at w
   pub short : exchange_span (link_setting at w link) < (link_setting at w link).period
   pub facts : Facts (link_setting at w link) first (pair at w link)
-  pub inv : InvFirst (link_setting at w link) (least_delay at w link) reads_as_request reads_as_reply first (meter at w link)
+  pub inv : InvFirst (link_setting at w link) (least_delay at w link) reads_as_request reads_as_reply first
+      (meter at w link)
 
 -- and one interval between requests and one exchange after it are over before this time
 abbrev pub IsFirstBy : ℕ → ℕ → LinkPlace → WorldState → Type 0

@@ -47,7 +47,8 @@ FirstIsFull = (at : LinkPlace) (first : ℕ) (w : WorldState) (l : IsFirstAt fir
 
 -- a link that comes up is such a one, in both directions, from then on
 abbrev pub LinkUpIsFirst : Type 0
-LinkUpIsFirst = (p : SettlingParams) (at : LinkPlace) (number port : ℕ) (w w' : WorldState) (draws : List Draw) (done : Done)
+LinkUpIsFirst = (p : SettlingParams) (at : LinkPlace) (number port : ℕ) (w w' : WorldState) (draws : List Draw)
+    (done : Done)
     → IsSound w → LinkIsMeasured w → IsKnown p w → (s : StandsDown at w)
     → IsChannel (port_id number port) at.link w.net s.channel → Acts (Changing (LinkUp number port)) w draws done w'
     → IsFirstAt w.time at w'

@@ -1,4 +1,5 @@
--- A system that follows its parent, and the lane from the one to the other, as the machine of gptp_sync_machine sees them.
+-- A system that follows its parent, and the lane from the one to the other, as the machine of gptp_sync_machine sees
+-- them.
 use Rattle.std.specs.Prelude.{◌≡◌, ℕ, true, List}
 use Rattle.std.specs.Option.{option_map}
 use Rattle.gptp_messages.specs.declared.follow_up.FollowUp.{FollowUp as FollowUpView}
@@ -22,7 +23,8 @@ told_in m = record { origin = m.origin; correction = m.head.correction; rate = m
 -- octets tell a Sync exactly where they read as one of two steps, and a Follow_Up where they read as one
 abbrev pub tells : List ℕ → Message → Type 0
 tells octets (Sync source sequence) =
-    (head : Head) × Reads octets (messages.Sync head) × (head.two_step ≡ true) × (source ≡ port_identity_number head.source)
+    (head : Head) × Reads octets (messages.Sync head) × (head.two_step ≡ true)
+      × (source ≡ port_identity_number head.source)
     × (sequence ≡ head.sequence)
 tells octets (FollowUp source sequence told) =
     (m : FollowUpView) × Reads octets (messages.FollowUp m) × (source ≡ port_identity_number m.head.source)

@@ -1,4 +1,5 @@
--- The systems of a world that follow a parent, and what their ways are made of, as the machine of gptp_sync_machine asks.
+-- The systems of a world that follow a parent, and what their ways are made of, as the machine of gptp_sync_machine
+-- asks.
 use Rattle.std.specs.Prelude.{◌≡◌, ◌&&◌, ◌||◌, ℕ, suc, pos, true, if◌then◌else◌, List, [], ◌∷◌, Some, slice_get}
 use Rattle.std.specs.Option.{option_map_or}
 use Rattle.gptp_graph.specs.Distance.{IsNear}

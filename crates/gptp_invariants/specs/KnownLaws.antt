@@ -39,7 +39,8 @@ LaterKnown = (p : SettlingParams) (w : WorldState) (t : ℕ)
 -- and so does every act that sets no link to a delay above an announce interval, nor above the largest
 abbrev pub ActsKnown : Type 0
 ActsKnown = (p : SettlingParams) (act : Act) (w : WorldState) (draws : List Draw) (done : Done) (w' : WorldState)
-    → IsSound w → DelayFitsInterval (largest_interval p) act → DelaysFitIntervals w act → Acts act w draws done w' → IsKnown p w
+    → IsSound w → DelayFitsInterval (largest_interval p) act → DelaysFitIntervals w act → Acts act w draws done w'
+    → IsKnown p w
     → IsKnown p w'
 
 -- so what is known is kept from act to act

@@ -50,7 +50,8 @@ DeliveriesAreActs = (at : LinkPlace) (link : ℕ) (direction : Direction) (octet
     → IsSound w → Delivers link direction octets w draws answer w'
     → IsOneAct at w w' l
 
--- the Pdelay timer of the port that reads_as_request sends a request, and the Respond timer of the port that answers an answer
+-- the Pdelay timer of the port that reads_as_request sends a request, and the Respond timer of the port that answers an
+-- answer
 abbrev pub RequestTimersAsk : Type 0
 RequestTimersAsk = (at : LinkPlace) (w w' : WorldState) (draws : List Draw) (l : IsLinkOf at w)
     → IsSound w → TimerRunsOut at.asking (timers.Pdelay (sender at.direction l.channel).port) w draws w'

@@ -156,7 +156,8 @@ pub record RequestFits (source : PortId) (sequence : ℕ) : Type 0 where
 
 -- a request that octets say fits
 abbrev pub RequestSaysWhatFits : List ℕ → Type 0
-RequestSaysWhatFits octets = (head : Head) → Reads octets (messages.PdelayReq head) → RequestFits head.source head.sequence
+RequestSaysWhatFits octets = (head : Head) → Reads octets (messages.PdelayReq head)
+    → RequestFits head.source head.sequence
 
 -- A port measures: it is this one, with the parameters of its system; where its Pdelay timer runs that is due one
 -- period from the beginning or later; and where its Respond timer runs there is an answer that fits.

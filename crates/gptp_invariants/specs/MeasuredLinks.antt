@@ -21,5 +21,6 @@ pub record HasMeasuredLink (w : WorldState) (from to : PortIdentity) (q : Port) 
 
 -- so has each port of a live system each link of the snapshot that is at it
 abbrev pub HaveMeasuredLinks : WorldState → Type 0
-HaveMeasuredLinks w = OfEachPort (λ itself h q. (to : PortIdentity) → Joins (snapshot_of w) (port_identity_number itself) to
+HaveMeasuredLinks w = OfEachPort (λ itself h q. (to : PortIdentity)
+    → Joins (snapshot_of w) (port_identity_number itself) to
     → HasMeasuredLink w (port_identity_number itself) to q) w

@@ -49,7 +49,8 @@ HasSettledBy p m start w =
 
 -- a world goes on by itself, and what is claimed of it stays
 abbrev pub NewsAdvance : {F : Type 0} → (Bounds → ℕ → F → Option ℕ → F → Type 0) → Type 0
-NewsAdvance {F} answers = (p : SettlingParams) (start until : ℕ) (told : List Told) (fate fate_after : F) (w w' : WorldState)
+NewsAdvance {F} answers = (p : SettlingParams) (start until : ℕ) (told : List Told) (fate fate_after : F)
+    (w w' : WorldState)
     → Advanced answers until told fate fate_after w w' → IsNews p start w
     → IsNews p start w'
 
@@ -87,7 +88,8 @@ SettlesFrom p time start w =
 
 -- So does a network after every change that takes nothing away, at any time, where all that was held was sound.
 abbrev pub GainSettles : {F : Type 0} → (Bounds → ℕ → F → Option ℕ → F → Type 0) → Type 0
-GainSettles {F} answers = (p : SettlingParams) (change : Change) (time start : ℕ) (fate drawn fate_after : F) (until m : ℕ)
+GainSettles {F} answers = (p : SettlingParams) (change : Change) (time start : ℕ) (fate drawn fate_after : F)
+    (until m : ℕ)
     (told : List Told) (done : Done) (w between w' : WorldState)
     → KeepsAll p w → IsSoundWorld w → IsGain change (at_time time w) → SetsAnOctet (Changing change)
     → WasDone answers (record { at = time; act = Changing change }) fate drawn w between done

@@ -46,7 +46,8 @@ NewsBegin = (p : SettlingParams) (start : ℕ) (w : WorldState)
 
 -- every act that changes nothing of the network keeps it
 abbrev pub NewsAreKept : Type 0
-NewsAreKept = (p : SettlingParams) (start : ℕ) (act : Act) (w : WorldState) (draws : List Draw) (done : Done) (w' : WorldState)
+NewsAreKept = (p : SettlingParams) (start : ℕ) (act : Act) (w : WorldState) (draws : List Draw) (done : Done)
+    (w' : WorldState)
     → IsNoChange act → SetsAnOctet act → Acts act w draws done w' → IsNews p start w
     → IsNews p start w'
 
@@ -74,7 +75,8 @@ NewsWorldsSettleInTurn = (p : SettlingParams) (start m : ℕ) (w : WorldState)
 -- A link that comes up, and leads to no failed system, is such news, where each other link in use is ready: from when
 -- both its ends will be, one interval between requests and one exchange later.
 abbrev pub LinkUpIsNews : Type 0
-LinkUpIsNews = (p : SettlingParams) (start number port : ℕ) (w : WorldState) (draws : List Draw) (done : Done) (w' : WorldState)
+LinkUpIsNews = (p : SettlingParams) (start number port : ℕ) (w : WorldState) (draws : List Draw) (done : Done)
+    (w' : WorldState)
     → KeepPace p → IsWorld p w → IsWorld p w' → LinkIsMeasured w → AreSilentBy p start w → IsSoundWorld w
     → AreReadyBy p start w → ((at : LinkPlace) → StandsUnanswered at w' → IsOtherLink at (port_id number port) w)
     → w.time + interval_of p.params.pdelay + (delay_in w' + p.params.turnaround + delay_in w') < start
@@ -108,7 +110,8 @@ ReadyIsReadyLater = (p : SettlingParams) (start later : ℕ) (w : WorldState)
 
 -- every act that changes nothing of the network, done at its time, keeps what is claimed
 abbrev pub NewsAreDone : {F : Type 0} → (Bounds → ℕ → F → Option ℕ → F → Type 0) → Type 0
-NewsAreDone {F} answers = (p : SettlingParams) (start : ℕ) (timed : Timed) (fate fate_after : F) (w w' : WorldState) (done : Done)
+NewsAreDone {F} answers = (p : SettlingParams) (start : ℕ) (timed : Timed) (fate fate_after : F) (w w' : WorldState)
+    (done : Done)
     → IsNoChange timed.act → SetsAnOctet timed.act → WasDone answers timed fate fate_after w w' done → IsNews p start w
     → IsNews p start w'
 

@@ -41,7 +41,8 @@ TimeStaysWorld = (p : SettlingParams) (w : WorldState) (time : ℕ)
 
 -- so one is left from act to act
 abbrev pub DoneStaysWorld : {F : Type 0} → (Bounds → ℕ → F → Option ℕ → F → Type 0) → Type 0
-DoneStaysWorld {F} answers = (p : SettlingParams) (timed : Timed) (fate fate_after : F) (w w' : WorldState) (done : Done)
+DoneStaysWorld {F} answers = (p : SettlingParams) (timed : Timed) (fate fate_after : F) (w w' : WorldState)
+    (done : Done)
     → IsFitAct timed.act → DelaysFitIntervals w timed.act → SetsAnOctet timed.act
     → WasDone answers timed fate fate_after w w' done → IsWorld p w
     → IsWorld p w'
@@ -56,7 +57,8 @@ HoldsBegins = (p : SettlingParams) (w : WorldState)
 
 -- so it does after every change of the network
 abbrev pub HoldsChanged : Type 0
-HoldsChanged = (p : SettlingParams) (change : Change) (w : WorldState) (draws : List Draw) (done : Done) (w' : WorldState)
+HoldsChanged = (p : SettlingParams) (change : Change) (w : WorldState) (draws : List Draw) (done : Done)
+    (w' : WorldState)
     → IsLog p.largest → Acts (Changing change) w draws done w' → IsWorld p w'
     → SettlesAsMachine p w'
 
@@ -71,13 +73,15 @@ HoldsAtFirst {F} answers = (n : NetworkState) (fate fate_after : F) (w : WorldSt
 -- an act that changes nothing of the network keeps it
 abbrev pub HoldsKept : Type 0
 HoldsKept = (p : SettlingParams) (act : Act) (w : WorldState) (draws : List Draw) (done : Done) (w' : WorldState)
-    → IsNoChange act → Acts act w draws done w' → IsWorld p w → BecomeCapable p w → BecomeCapable p w' → SettlesAsMachine p w
+    → IsNoChange act → Acts act w draws done w' → IsWorld p w → BecomeCapable p w → BecomeCapable p w'
+    → SettlesAsMachine p w
     → SettlesAsMachine p w'
 
 -- and so does time that passes
 abbrev pub HoldsLater : Type 0
 HoldsLater = (p : SettlingParams) (w : WorldState) (time : ℕ)
-    → w.time ≤ time → IsWorld p w → IsWorld p (at time w) → BecomeCapable p w → BecomeCapable p (at time w) → SettlesAsMachine p w
+    → w.time ≤ time → IsWorld p w → IsWorld p (at time w) → BecomeCapable p w → BecomeCapable p (at time w)
+    → SettlesAsMachine p w
     → SettlesAsMachine p (at time w)
 
 -- so it is kept from act to act, where the ports are capable before the act, at its time, and after it

@@ -37,13 +37,15 @@ standing_link channel = record { a = port_identity_number channel.a; b = port_id
 
 -- a link is up between two of the systems
 abbrev pub channel_is_used : List System → Channel → Bool
-channel_is_used systems channel = channel.up && (stations_have_clock systems channel.a.clock && stations_have_clock systems channel.b.clock)
+channel_is_used systems channel = channel.up &&
+    (stations_have_clock systems channel.a.clock && stations_have_clock systems channel.b.clock)
 
 -- those that are, in their order
 abbrev pub used_channels : List System → List Channel → List Link
 used_channels systems [] = []
 used_channels systems (channel ∷ channels) =
-    if channel_is_used systems channel then standing_link channel ∷ used_channels systems channels else used_channels systems channels
+    if channel_is_used systems channel then standing_link channel ∷ used_channels systems channels else used_channels
+      systems channels
 
 -- ---- the whole world
 

@@ -86,7 +86,8 @@ FollowUpsAreUsed = (p : ℕ) (octets : List ℕ) (now : ℕ) (s s' : SystemState
 -- Every act that changes nothing of the network is a step of the machine by which Syncs are told and heard, where
 -- something can lapse in the network.
 abbrev pub ActsTellSyncs : Type 0
-ActsTellSyncs = (p : SettlingParams) (m start : ℕ) (times : SettlingTimes) (act : Act) (w : WorldState) (draws : List Draw)
+ActsTellSyncs = (p : SettlingParams) (m start : ℕ) (times : SettlingTimes) (act : Act) (w : WorldState)
+    (draws : List Draw)
     (done : Done)
     (w' : WorldState)
     → IsNoChange act → IsSound w → IsEncodable w → IsKnown p w → 0 < p.params.sync_timeout

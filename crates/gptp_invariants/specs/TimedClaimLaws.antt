@@ -76,7 +76,8 @@ AllLater = (w : WorldState) (time : ℕ)
 -- frames take down the way of the system: the offset that it leaves, if it leaves one, is within the time error of that
 -- way of what its clock shows less what its root's does.
 abbrev pub CalmOffsetsAreExact : Type 0
-CalmOffsetsAreExact = (p : SettlingParams) (m settled link : ℕ) (direction : Direction) (w : WorldState) (draws : List Draw)
+CalmOffsetsAreExact = (p : SettlingParams) (m settled link : ℕ) (direction : Direction) (w : WorldState)
+    (draws : List Draw)
     (done : Done) (w' : WorldState) (place : LinkPlace) (f : IsFollower place w) (steps port : ℕ) (octets : List ℕ)
     (root after : Station) (offset : ℤ)
     → (h : HasWay p.params place w f steps)

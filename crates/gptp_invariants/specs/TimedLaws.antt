@@ -45,7 +45,8 @@ TimeBegins = (p : SettlingParams) (settled longest : ℕ) (w : WorldState) (time
 
 -- every act that changes nothing of the network keeps it
 abbrev pub ActsCarryTime : Type 0
-ActsCarryTime = (p : SettlingParams) (settled longest : ℕ) (act : Act) (w : WorldState) (draws : List Draw) (done : Done)
+ActsCarryTime = (p : SettlingParams) (settled longest : ℕ) (act : Act) (w : WorldState) (draws : List Draw)
+    (done : Done)
     (w' : WorldState)
     → IsNoChange act → Acts act w draws done w'
     → IsSettledFrom p settled longest w → IsSettledFrom p settled longest w' → AllMeasureRight p.params w
@@ -86,7 +87,8 @@ AreFollowUp octets = (m : FollowUp) × Reads octets (messages.FollowUp m)
 -- offset that it leaves, if it leaves one, is within the time error of the way of the system of what its clock shows
 -- then less what the root's clock does.
 abbrev pub OffsetsAreExact : Type 0
-OffsetsAreExact = (p : SettlingParams) (settled longest link : ℕ) (direction : Direction) (w : WorldState) (draws : List Draw)
+OffsetsAreExact = (p : SettlingParams) (settled longest link : ℕ) (direction : Direction) (w : WorldState)
+    (draws : List Draw)
     (done : Done) (w' : WorldState) (place : LinkPlace) (f : IsFollower place w) (steps port : ℕ) (octets : List ℕ)
     (root after : Station) (offset : ℤ)
     → (h : HasWay p.params place w f steps)
@@ -118,7 +120,8 @@ pub record AllNearFollow (p : Params) (w : WorldState) (number : ℕ) : Type 0 w
   pub way : HasWay p place w follower steps
 
 abbrev pub OthersFollow : Type 0
-OthersFollow = (p : SettlingParams) (settled longest : ℕ) (w : WorldState) (place : ℕ) (station : Station) (best : System)
+OthersFollow = (p : SettlingParams) (settled longest : ℕ) (w : WorldState) (place : ℕ) (station : Station)
+    (best : System)
     → IsSettledFrom p settled longest w → slice_get w.stations place ≡ Some station → station.live ≡ true
     → IsNear (snapshot_of w) (clock station.system) → IsBest (snapshot_of w) (clock station.system) best
     → best.clock ≢ clock station.system

@@ -50,7 +50,8 @@ priority1 identity = identity / 2 ^ 104
 pub record IsTree (w : WorldState) : Type 0 where
   pub settled : Settled w
   pub others : (s : SystemState) (best : System)
-      → IsLiveStation w s → IsNear (snapshot_of w) (clock s) → IsBest (snapshot_of w) (clock s) best → best.clock ≢ clock s
+      → IsLiveStation w s → IsNear (snapshot_of w) (clock s) → IsBest (snapshot_of w) (clock s) best
+      → best.clock ≢ clock s
       → HangsOnParent w s
   pub best : (s : SystemState) (best : System)
       → IsLiveStation w s → IsBest (snapshot_of w) (clock s) best → best.clock ≡ clock s

@@ -62,10 +62,12 @@ pub record IsSilent (gone : ℕ) (at : LinkPlace) (w : WorldState) : Type 0 wher
 
 -- wherever all stands so, old frames are gone the largest announce interval after the last change
 abbrev pub FailedNeighboursAreSilent : SettlingParams → WorldState → Type 0
-FailedNeighboursAreSilent p w = (at : LinkPlace) → StandsUnanswered at w → IsSilent (w.last_change + largest_interval p) at w
+FailedNeighboursAreSilent p w = (at : LinkPlace) → StandsUnanswered at w
+    → IsSilent (w.last_change + largest_interval p) at w
 
 -- the link stands as it did, no frame comes from the failed end, and what is seen becomes what this allows
-pub record IsSeenUnanswered (So : Setting → Unanswered → Unanswered → Type 0) (gone : ℕ) (at : LinkPlace) (w w' : WorldState)
+pub record IsSeenUnanswered (So : Setting → Unanswered → Unanswered → Type 0) (gone : ℕ) (at : LinkPlace)
+  (w w' : WorldState)
     (l : IsUnansweredAt at w) : Type 0 where
   pub after : IsUnansweredAt at w'
   pub settled : silent_setting at w' after ≡ silent_setting at w l

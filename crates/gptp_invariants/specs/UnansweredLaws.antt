@@ -32,7 +32,8 @@ PortsAreSeen = (at : LinkPlace) (w : WorldState) → IsSound w → LinkIsMeasure
 
 -- the last request isn't in the future, and the request timer isn't late
 abbrev pub TimersAreKnown : Type 0
-TimersAreKnown = (at : LinkPlace) (p : SettlingParams) (w : WorldState) (l : IsUnansweredAt at w) → IsSound w → IsKnown p w
+TimersAreKnown = (at : LinkPlace) (p : SettlingParams) (w : WorldState) (l : IsUnansweredAt at w) → IsSound w
+    → IsKnown p w
     → TimerFacts (silent_setting at w l) (silent_view at w l)
 
 -- ---- acts
@@ -93,7 +94,8 @@ SilenceBegins = (at : LinkPlace) (p : SettlingParams) (w : WorldState)
 abbrev pub SilenceIsKept : Type 0
 SilenceIsKept = (at : LinkPlace) (gone : ℕ) (p : SettlingParams) (act : Act) (w w' : WorldState) (draws : List Draw)
     (done : Done)
-    → IsSound w → LinkIsMeasured w → IsKnown p w → ((change : Change) → act ≢ Changing change) → Acts act w draws done w'
+    → IsSound w → LinkIsMeasured w → IsKnown p w → ((change : Change) → act ≢ Changing change)
+    → Acts act w draws done w'
     → IsSilent gone at w
     → IsSilent gone at w'
 
@@ -121,19 +123,22 @@ NoneStandsAnew = (at : LinkPlace) (act : Act) (w w' : WorldState) (draws : List 
 
 -- so from a change on all such ports are unanswered
 abbrev pub AreSilentAtFirst : Type 0
-AreSilentAtFirst = (p : SettlingParams) (w : WorldState) → IsSound w → LinkIsMeasured w → IsKnown p w → w.last_change ≡ w.time
+AreSilentAtFirst = (p : SettlingParams) (w : WorldState) → IsSound w → LinkIsMeasured w → IsKnown p w
+    → w.last_change ≡ w.time
     → FailedNeighboursAreSilent p w
 
 -- after every act but a change
 abbrev pub ActsLeaveSilent : Type 0
 ActsLeaveSilent = (p : SettlingParams) (act : Act) (w w' : WorldState) (draws : List Draw) (done : Done)
-    → IsSound w → LinkIsMeasured w → IsKnown p w → ((change : Change) → act ≢ Changing change) → Acts act w draws done w'
+    → IsSound w → LinkIsMeasured w → IsKnown p w → ((change : Change) → act ≢ Changing change)
+    → Acts act w draws done w'
     → FailedNeighboursAreSilent p w
     → FailedNeighboursAreSilent p w'
 
 -- and as time passes
 abbrev pub AreSilentLater : Type 0
-AreSilentLater = (p : SettlingParams) (time : ℕ) (w : WorldState) → FailedNeighboursAreSilent p w → FailedNeighboursAreSilent p (at_time time w)
+AreSilentLater = (p : SettlingParams) (time : ℕ) (w : WorldState) → FailedNeighboursAreSilent p w
+    → FailedNeighboursAreSilent p (at_time time w)
 
 -- and L + 5 announce intervals after the last change none of them is capable
 abbrev pub SilentPortsBecomeIncapable : Type 0

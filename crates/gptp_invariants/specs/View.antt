@@ -104,7 +104,8 @@ ports_view keep (h ∷ hs) (q ∷ qs) = port_view keep h q ∷ ports_view keep h
 
 -- the Sync that a system keeps
 abbrev pub kept_view : SystemState → Option SyncId
-kept_view s = option_map (λ (k : KeptSync). record { source = port_identity_number k.source; sequence = k.sequence }) s.sync_in
+kept_view s = option_map (λ (k : KeptSync). record
+    { source = port_identity_number k.source; sequence = k.sequence }) s.sync_in
 
 -- a system in this state
 abbrev pub system_view : Bool → SystemState → SeenStation

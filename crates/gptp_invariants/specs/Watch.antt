@@ -27,4 +27,5 @@ pub record IsCapablePort (h : Held) (q : Port) : Type 0 where
 
 -- so it is with each port of a live system at which a link of the snapshot is
 abbrev pub AreUsedCapable : WorldState → Type 0
-AreUsedCapable w = OfEachPort (λ itself h q. IsLinked (snapshot_of w) (port_identity_number itself) → IsCapablePort h q) w
+AreUsedCapable w = OfEachPort (λ itself h q. IsLinked (snapshot_of w) (port_identity_number itself)
+    → IsCapablePort h q) w

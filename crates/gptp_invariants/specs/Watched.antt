@@ -11,4 +11,5 @@ pub record IsWatched (gone calm : ℕ) (at : LinkPlace) (w : WorldState) : Type 
   pub link : IsLinkOf at w
   pub good : IsGood (link_setting at w link) gone calm
   pub facts : Facts (link_setting at w link) gone (pair at w link)
-  pub inv : MeterInv (link_setting at w link) (least_delay at w link) reads_as_request reads_as_reply gone calm (meter at w link)
+  pub inv : MeterInv (link_setting at w link) (least_delay at w link) reads_as_request reads_as_reply gone calm
+      (meter at w link)

@@ -240,10 +240,12 @@ module _ (s one t : ℕ → Option Flight) (lane : Lane) (key : Key) (f : Flight
   next-left k apart differs = rw (joins.others k apart ∙ same k differs) refl
 
   tail-leads : 0 < lane.count → next_at t lane.tail.place ≡ key.place
-  tail-leads some = rw (joins.joined some ∙ ap (option_map (with_next_flight key)) (same lane.tail.place (tail-differs some)))
+  tail-leads some = rw (joins.joined some ∙ ap (option_map (with_next_flight key))
+      (same lane.tail.place (tail-differs some)))
       (by (s lane.tail.place)
       (last-all s (λ k. IsSome (s k)) lane.tail.place lane.count lane.head.place some chained.tail chained.there)) where
-        by : (o : Option Flight) → IsSome o → next_at (λ j. option_map (with_next_flight key) o) lane.tail.place ≡ key.place
+        by : (o : Option Flight) → IsSome o → next_at
+          (λ j. option_map (with_next_flight key) o) lane.tail.place ≡ key.place
         by None some = absurd (vacant_has_none None some refl)
         by (Some e) some = refl
 
@@ -314,7 +316,8 @@ module _ (s one t : ℕ → Option Flight) (lane : Lane) (key : Key) (f : Flight
 
 pub changes-pushed : (s one t : Slab Flight) (lane : Lane) (key : Key) (f : Flight) → get s key.place ≡ None
     → Updates s one key.place (Some f) → slab_len one ≡ slab_len s + 1 → one.capacity ≡ s.capacity → SameRoom one t
-    → JoinsFlight (get one) (get t) lane key → DirectionIsChained (get s) lane → newest_due (frames_in (get s) lane) ≤ f.due
+    → JoinsFlight (get one) (get t) lane key → DirectionIsChained (get s) lane
+    → newest_due (frames_in (get s) lane) ≤ f.due
     → ChangesOneDirection s t lane (with_last_flight key f.due lane)
 changes-pushed s one t lane key f vacant updates len capacity room joins chained late =
     let same = room.len in
@@ -337,7 +340,8 @@ newest-rest e f fs = refl
 
 -- The frame at the head of a direction is gone.
 module _ (s t : ℕ → Option Flight) (lane : Lane) (f : Flight) (found : s lane.head.place ≡ Some f)
-    (same : (k : ℕ) → k ≢ lane.head.place → t k ≡ s k) (some : 0 < lane.count) (chained : DirectionIsChained s lane) where
+    (same : (k : ℕ) → k ≢ lane.head.place → t k ≡ s k) (some : 0 < lane.count)
+      (chained : DirectionIsChained s lane) where
   abbrev shorter : Lane
   shorter = without_first_flight t f.next lane
 
@@ -492,7 +496,8 @@ linked-turned s one other h =
     }
 
 -- frames of the first_frame direction came or went
-pub linked-changed : (s t : Slab Flight) (one after other : Lane) → FlightsAreLinked s one other → ChangesOneDirection s t one after
+pub linked-changed : (s t : Slab Flight) (one after other : Lane) → FlightsAreLinked s one other
+    → ChangesOneDirection s t one after
     → after.count ≤ after.limit → FlightsAreLinked t after other
 linked-changed s t one after other h changes few =
     let len = changes.len in
@@ -551,7 +556,8 @@ linked-roomy s t one other more most h kept fits =
       room = fits;
     } in
     subst
-    (λ (u : Slab Flight). FlightsAreLinked u (with_limit (one.count + more) one) (with_limit (other.count + most) other))
+    (λ (u : Slab Flight). FlightsAreLinked u (with_limit (one.count + more) one)
+      (with_limit (other.count + most) other))
     (sym kept) same
 
 -- ---- one change after another

@@ -30,7 +30,8 @@ still_of c t s of_it =
     }
 
 -- an event that names another system leaves it as it stands
-passed_over : (c : Cable) (t : Timed) (s : Standing) → IsOf c s → is_cable_end c (named t.act) ≡ false → acted t.act s ≡ s
+passed_over : (c : Cable) (t : Timed) (s : Standing) → IsOf c s → is_cable_end c (named t.act) ≡ false
+    → acted t.act s ≡ s
 passed_over c t s of_it other =
     let (a, b) = or_parts (named t.act == c.a.clock) (named t.act == c.b.clock) other in
     untouched t.act s (λ same. eqb-false (named t.act) c.a.clock a (same ∙ of_it.a))
@@ -76,7 +77,8 @@ module _ {X : Type 0} (Told : ℕ → List Standing → X)
       by (at == u.at) ∙ ap (λ test. Told loss (cond test [] (s ∷ []) ++ then)) (sym apart)
     where
       by : (same : Bool)
-          → Told loss (s ∷ (cond same [] (course_at_time at s ∷ []) ++ course_from (acted u.act (course_at_time u.at s)) us))
+          → Told loss (s ∷ (cond same [] (course_at_time at s ∷ []) ++ course_from
+            (acted u.act (course_at_time u.at s)) us))
           ≡ Told loss (s ∷ course_from (acted u.act (course_at_time u.at s)) us)
       by true = refl
       by false = repeats loss at s (course_from (acted u.act (course_at_time u.at s)) us)
@@ -101,10 +103,12 @@ module _ {X : Type 0} (Told : ℕ → List Standing → X)
       let at_it : IsOf c (course_at_time t.at s) = record { a = of_it.a; b = of_it.b } in
       let later = behind t ts order in
       let in_order = order_behind t ts order in
-      by at_it (thin (acted t.act (course_at_time t.at s)) ts (still_of c t (course_at_time t.at s) at_it) later in_order)
+      by at_it (thin (acted t.act (course_at_time t.at s)) ts
+        (still_of c t (course_at_time t.at s) at_it) later in_order)
       (thin (course_at_time t.at s) ts at_it later in_order) (is_cable_end c (named t.act)) refl
     where
-      by : IsOf c (course_at_time t.at s) → Same (acted t.act (course_at_time t.at s)) ts → Same (course_at_time t.at s) ts
+      by : IsOf c (course_at_time t.at s) → Same (acted t.act (course_at_time t.at s)) ts
+        → Same (course_at_time t.at s) ts
           → (test : Bool) → is_cable_end c (named t.act) ≡ test
           → Told loss (course_from s (t ∷ ts))
           ≡ Told loss (course_from s (cond test (t ∷ naming c ts) (naming c ts)))

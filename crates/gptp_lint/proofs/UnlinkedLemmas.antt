@@ -25,7 +25,8 @@ own_clock m = clock_of m.identity
 
 -- ---- one system more
 
-pub unlinked_more : (cables : List Cable) (ms : List SystemSpec) (place : ℕ) (m : SystemSpec) → slice_get ms place ≡ Some m
+pub unlinked_more : (cables : List Cable) (ms : List SystemSpec) (place : ℕ) (m : SystemSpec)
+    → slice_get ms place ≡ Some m
     → unlinked_in cables (map own_clock (take place ms)) ++ unlinked_in cables (own_clock m ∷ [])
     ≡ unlinked_in cables (map own_clock (take (place + 1) ms))
 unlinked_more cables ms place m there =
@@ -49,7 +50,8 @@ linked_to n clock is =
 
 linked_from : (n : NetworkState) (clock : ℕ) → LinksName n clock → is_linked (map cable_of n.links) clock ≡ true
 linked_from n clock (w, among, at) =
-    passes_at (λ (c : Cable). is_cable_end c clock) (map cable_of n.links) (cable_of w) (In-map cable_of w n.links among)
+    passes_at (λ (c : Cable). is_cable_end c clock) (map cable_of n.links) (cable_of w)
+      (In-map cable_of w n.links among)
     (elim at [
       | inl a ↦ or_left (clock == w.a.clock) (clock == w.b.clock) (eq-eqb clock w.a.clock (sym a))
       | inr b ↦ or_right (clock == w.a.clock) (clock == w.b.clock) (eq-eqb clock w.b.clock (sym b))

@@ -108,12 +108,14 @@ one_refusal f d e (inr (inl tlvs)) (inr (inr stamp)) = absurd (not_first f d e t
 one_refusal f d e (inr (inr stamp)) (inr (inl tlvs)) = absurd (not_first f e d tlvs stamp)
 
 -- an answer that reads or refuses is the only one
-pub only_reading : (f : List ℕ) (r : Result Message Refused) → IfOk r (Reads f) → IfErr r (RefusesFrame f) → (m : Message)
+pub only_reading : (f : List ℕ) (r : Result Message Refused) → IfOk r (Reads f) → IfErr r (RefusesFrame f)
+    → (m : Message)
     → Reads f m → r ≡ Ok m
 only_reading f (Ok n) reads refuses m m-reads = ap Ok (one_reading f n m reads m-reads)
 only_reading f (Err e) reads refuses m m-reads = absurd (never_both f m e m-reads refuses)
 
-pub only_refusal : (f : List ℕ) (r : Result Message Refused) → IfOk r (Reads f) → IfErr r (RefusesFrame f) → (e : Refused)
+pub only_refusal : (f : List ℕ) (r : Result Message Refused) → IfOk r (Reads f) → IfErr r (RefusesFrame f)
+    → (e : Refused)
     → RefusesFrame f e → r ≡ Err e
 only_refusal f (Ok n) reads refuses e e-refuses = absurd (never_both f n e reads e-refuses)
 only_refusal f (Err d) reads refuses e e-refuses = ap Err (one_refusal f d e refuses e-refuses)

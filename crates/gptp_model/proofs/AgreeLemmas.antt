@@ -100,7 +100,8 @@ replaced_agrees place w old new here count but (Expiry other timer) = by (same_p
 
 -- nothing changes but the arrivals of one link
 pub record OnlyArrivals (place : ℕ) (es es' : List Entry) : Type 0 where
-  pub timers : (other : ℕ) (timer : Timer) → times_of_item (Expiry other timer) es' ≡ times_of_item (Expiry other timer) es
+  pub timers : (other : ℕ) (timer : Timer) → times_of_item (Expiry other timer) es' ≡ times_of_item
+      (Expiry other timer) es
   pub arrivals : (link : ℕ) (direction : Direction) → link ≢ place
       → times_of_item (Arrival link direction) es' ≡ times_of_item (Arrival link direction) es
 
@@ -143,7 +144,8 @@ relinked_agrees place w old new es here own only agrees (Expiry other timer) =
 relinked_agrees place w old new es here own only agrees (Arrival link direction) = by (same_place link place)
   where
     by : (link ≡ place) ⊎ (link ≢ place)
-        → times_of_item (Arrival link direction) es ≡ arriving direction (slice_get (slice_set w.net.channels place new) link)
+        → times_of_item (Arrival link direction) es ≡ arriving direction
+          (slice_get (slice_set w.net.channels place new) link)
     by (inl same) = let there = get-set_same w.net.channels place old new here in rw (same, there) (own direction)
     by (inr apart) =
         only.arrivals link direction apart ∙ agrees (Arrival link direction)
@@ -164,8 +166,10 @@ both_ways place FromB FromB channel frames es es' own others before = own
 
 -- the frames in flight in one direction of a link become others, and what is pending of them follows
 pub queue_agrees : (place : ℕ) (direction : Direction) (w : WorldState) (channel : Channel) (frames : List Frame)
-    (es : List Entry) → slice_get w.net.channels place ≡ Some channel → times_of_item (Arrival place direction) es ≡ dues frames
-    → ((i : Item) → same_item i (Arrival place direction) ≡ false → times_of_item i es ≡ times_of_item i w.net.pending) → Agrees w
+    (es : List Entry) → slice_get w.net.channels place ≡ Some channel
+      → times_of_item (Arrival place direction) es ≡ dues frames
+    → ((i : Item) → same_item i (Arrival place direction) ≡ false → times_of_item i es ≡ times_of_item i w.net.pending)
+    → Agrees w
     → Agrees (record w {
       net = record {
         channels = slice_set w.net.channels place (with_queue direction frames channel);
@@ -189,11 +193,13 @@ entered_agrees place direction channel now octets (Some delay) w here agrees =
     let at : ℕ = due_after (world_queue direction channel) now delay in
     let sent : Frame = frame at octets in
     let i : Item = Arrival place direction in
-    let before : times_of_item i w.net.pending ≡ dues (world_queue direction channel) = agrees i ∙ ap (arriving direction) here in
+    let before : times_of_item i w.net.pending ≡ dues (world_queue direction channel) = agrees i
+        ∙ ap (arriving direction) here in
     let after : times_of_item i (put at i w.net.pending) ≡ dues (world_queue direction channel ++ sent ∷ []) =
     times-put_same i at w.net.pending ∙ ap (λ ts. ts ++ at ∷ []) before
     ∙ sym (map-append (λ (f : Frame). f.due) (world_queue direction channel) (sent ∷ [])) in
-    queue_agrees place direction w channel (world_queue direction channel ++ sent ∷ []) (put at i w.net.pending) here after
+    queue_agrees place direction w channel (world_queue direction channel ++ sent ∷ [])
+      (put at i w.net.pending) here after
     (λ j differ. times-put_other i j at w.net.pending differ) agrees
 
 pub sends_one_agrees : (now : ℕ) (from : PortId) (octets : List ℕ) (draw : Draw) (w : WorldState) (net' : Net)
@@ -228,7 +234,8 @@ calls_agree place input w draws answer w' calls but =
 
 -- the oldest frame leaves
 pub takes_agree : (place : ℕ) (direction : Direction) (now : ℕ) (octets : List ℕ) (channel : Channel) (w : WorldState)
-    (net' : Net) → Agrees w → TakesFrame place direction now octets channel w.net net' → Agrees (record w { net = net' })
+    (net' : Net) → Agrees w → TakesFrame place direction now octets channel w.net net'
+      → Agrees (record w { net = net' })
 takes_agree place direction now octets channel w net' agrees takes =
     let i : Item = Arrival place direction in
     let before : times_of_item i w.net.pending ≡ dues (frame now octets ∷ takes.rest) =

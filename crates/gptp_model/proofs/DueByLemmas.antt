@@ -90,7 +90,8 @@ module _ (time : ℕ) where
   IsKeptOrLater i due es = (t : ℕ) → due ≡ Some t → (times_of_item i es ≡ t ∷ []) ⊎ (time < t)
 
   put_if-step : (i : Item) (due : Option ℕ) (es : List Entry) → IsKeptOrLater i due es
-      → same_times (times_of_item i es) (timer_time due) ≡ false → due_by time (put_if i due (without i es)) ≤ due_by time es
+      → same_times (times_of_item i es) (timer_time due) ≡ false
+      → due_by time (put_if i due (without i es)) ≤ due_by time es
   put_if-step i None es ahead moved = due_by-without i es
   put_if-step i (Some t) es ahead moved = by (ahead t refl)
     where
@@ -104,7 +105,8 @@ module _ (time : ℕ) where
       → due_by time (set_due i due es) ≤ due_by time es
   due_by-set_due i due es ahead = by (same_times (times_of_item i es) (timer_time due)) refl
     where
-      by : (b : Bool) → same_times (times_of_item i es) (timer_time due) ≡ b → due_by time (set_due i due es) ≤ due_by time es
+      by : (b : Bool) → same_times (times_of_item i es) (timer_time due) ≡ b
+        → due_by time (set_due i due es) ≤ due_by time es
       by true b = let same : due_by time es ≤ due_by time es = omega arith in rw b same
       by false b = rw b (put_if-step i due es ahead b)
 

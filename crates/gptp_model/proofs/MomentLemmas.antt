@@ -67,7 +67,8 @@ nothing_before-next es time i next =
     (All-append (λ (e : Entry). time ≤ e.time) next.before (pending_entry time i ∷ next.after) before
     (All-cons (λ (e : Entry). time ≤ e.time) (pending_entry time i) next.after here next.not_before))
 
-times-all_step : (P : ℕ → Type 0) (i : Item) (e : Entry) (es : List Entry) → P e.time → AllByRecursion P (times_of_item i es)
+times-all_step : (P : ℕ → Type 0) (i : Item) (e : Entry) (es : List Entry) → P e.time
+    → AllByRecursion P (times_of_item i es)
     → (t : Bool) → same_item i e.item ≡ t → AllByRecursion P (times_of_item i (e ∷ es))
 times-all_step P i e es here rest true t = rw t (here, rest)
 times-all_step P i e es here rest false t = rw t rest
@@ -82,10 +83,12 @@ times-all P i (e ∷ es) all =
 
 -- the next is pending at its time, and before that only later
 pub times-next : (es : List Entry) (time : ℕ) (i : Item) → IsNext es time i
-    → (front : List ℕ) × (rest : List ℕ) × (times_of_item i es ≡ front ++ time ∷ rest) × AllByRecursion (λ u. time < u) front
+    → (front : List ℕ) × (rest : List ℕ) × (times_of_item i es ≡ front ++ time ∷ rest)
+      × AllByRecursion (λ u. time < u) front
 times-next es time i next =
     let same = same_itself i in
-    let here : times_of_item i (pending_entry time i ∷ next.after) ≡ time ∷ times_of_item i next.after = rw same refl in (
+    let here : times_of_item i (pending_entry time i ∷ next.after) ≡ time ∷ times_of_item i next.after = rw
+        same refl in (
       times_of_item i next.before,
       times_of_item i next.after,
       ap (times_of_item i) next.is ∙ times-append i next.before (pending_entry time i ∷ next.after)
@@ -119,7 +122,8 @@ some-step [] rest time is = absurd (grind (arith, is))
 some-step (f ∷ fs) rest time is = absurd (grind (arith, is))
 
 -- a timer that is next is due then
-pub next-due : (es : List Entry) (time : ℕ) (i : Item) (due : Option ℕ) → IsNext es time i → times_of_item i es ≡ timer_time due
+pub next-due : (es : List Entry) (time : ℕ) (i : Item) (due : Option ℕ) → IsNext es time i
+    → times_of_item i es ≡ timer_time due
     → due ≡ Some time
 next-due es time i None next is =
     let found = times-next es time i next in absurd (some-step found.0 found.1 time (sym found.2 ∙ is))

@@ -77,7 +77,8 @@ later_dues f (g ∷ fs) order = (order.0, lower f.due g.due (dues fs) order.0 (l
 
 -- a frame that is next is the oldest of its world_queue
 pub next_comes : (link : ℕ) (direction : Direction) (time : ℕ) (w : WorldState)
-    → ((channel : Channel) → slice_get w.net.channels link ≡ Some channel → AreDueInOrder (world_queue direction channel))
+    → ((channel : Channel) → slice_get w.net.channels link ≡ Some channel
+    → AreDueInOrder (world_queue direction channel))
     → Agrees w → IsNext w.net.pending time (Arrival link direction) → Comes link direction time w
 next_comes link direction time w ordered agrees next = by (slice_get w.net.channels link) refl
   where

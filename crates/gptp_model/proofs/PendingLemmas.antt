@@ -19,16 +19,19 @@ other_item i j k differ same = grind (arith, nat_tests)
 
 -- ---- the times_of_item of an item
 
-pub times-append : (i : Item) (es fs : List Entry) → times_of_item i (es ++ fs) ≡ times_of_item i es ++ times_of_item i fs
+pub times-append : (i : Item) (es fs : List Entry)
+    → times_of_item i (es ++ fs) ≡ times_of_item i es ++ times_of_item i fs
 times-append i [] fs = refl
 times-append i (e ∷ es) fs = by_test (same_item i e.item) refl (times-append i es fs)
   where
-    by_test : (t : Bool) → same_item i e.item ≡ t → times_of_item i (es ++ fs) ≡ times_of_item i es ++ times_of_item i fs
+    by_test : (t : Bool) → same_item i e.item ≡ t
+      → times_of_item i (es ++ fs) ≡ times_of_item i es ++ times_of_item i fs
         → times_of_item i ((e ∷ es) ++ fs) ≡ times_of_item i (e ∷ es) ++ times_of_item i fs
     by_test true t ih = rw t (ap (λ ts. e.time ∷ ts) ih)
     by_test false t ih = rw t ih
 
-pub times-put_same : (i : Item) (time : ℕ) (es : List Entry) → times_of_item i (put time i es) ≡ times_of_item i es ++ time ∷ []
+pub times-put_same : (i : Item) (time : ℕ) (es : List Entry)
+    → times_of_item i (put time i es) ≡ times_of_item i es ++ time ∷ []
 times-put_same i time es =
     let same = same_itself i in let one : times_of_item i (pending_entry time i ∷ []) ≡ time ∷ [] = rw same refl in
     times-append i es (pending_entry time i ∷ []) ∙ ap (λ ts. times_of_item i es ++ ts) one
@@ -37,17 +40,20 @@ pub times-put_other : (i j : Item) (time : ℕ) (es : List Entry) → same_item 
     → times_of_item j (put time i es) ≡ times_of_item j es
 times-put_other i j time es differ =
     let none : times_of_item j (pending_entry time i ∷ []) ≡ [] = rw differ refl in
-    times-append j es (pending_entry time i ∷ []) ∙ ap (λ ts. times_of_item j es ++ ts) none ∙ append-nil (times_of_item j es)
+    times-append j es (pending_entry time i ∷ []) ∙ ap (λ ts. times_of_item j es ++ ts) none
+      ∙ append-nil (times_of_item j es)
 
 pub times-without_same : (i : Item) (es : List Entry) → times_of_item i (without i es) ≡ []
 times-without_same i [] = refl
 times-without_same i (e ∷ es) = by_test (same_item i e.item) refl (times-without_same i es)
   where
-    by_test : (t : Bool) → same_item i e.item ≡ t → times_of_item i (without i es) ≡ [] → times_of_item i (without i (e ∷ es)) ≡ []
+    by_test : (t : Bool) → same_item i e.item ≡ t → times_of_item i (without i es) ≡ []
+      → times_of_item i (without i (e ∷ es)) ≡ []
     by_test true t ih = rw t ih
     by_test false t ih = rw t (rw t ih)
 
-pub times-without_other : (i j : Item) (es : List Entry) → same_item j i ≡ false → times_of_item j (without i es) ≡ times_of_item j es
+pub times-without_other : (i j : Item) (es : List Entry) → same_item j i ≡ false
+    → times_of_item j (without i es) ≡ times_of_item j es
 times-without_other i j [] differ = refl
 times-without_other i j (e ∷ es) differ = by_test (same_item i e.item) refl (times-without_other i j es differ)
   where
@@ -57,11 +63,13 @@ times-without_other i j (e ∷ es) differ = by_test (same_item i e.item) refl (t
     by_test false t ih = let h : times_of_item j (e ∷ without i es) ≡ times_of_item j (e ∷ es) =
         ap (λ ts. if same_item j e.item then e.time ∷ ts else ts) ih in rw t h
 
-pub times-without_first_same : (i : Item) (es : List Entry) → times_of_item i (without_first_entry i es) ≡ drop 1 (times_of_item i es)
+pub times-without_first_same : (i : Item) (es : List Entry)
+    → times_of_item i (without_first_entry i es) ≡ drop 1 (times_of_item i es)
 times-without_first_same i [] = refl
 times-without_first_same i (e ∷ es) = by_test (same_item i e.item) refl (times-without_first_same i es)
   where
-    by_test : (t : Bool) → same_item i e.item ≡ t → times_of_item i (without_first_entry i es) ≡ drop 1 (times_of_item i es)
+    by_test : (t : Bool) → same_item i e.item ≡ t
+      → times_of_item i (without_first_entry i es) ≡ drop 1 (times_of_item i es)
         → times_of_item i (without_first_entry i (e ∷ es)) ≡ drop 1 (times_of_item i (e ∷ es))
     by_test true t ih = rw t refl
     by_test false t ih = rw t (rw t ih)
@@ -88,7 +96,8 @@ pub without-none : (i : Item) (es : List Entry) → times_of_item i es ≡ [] �
 without-none i [] none = refl
 without-none i (e ∷ es) none = by_test (same_item i e.item) refl (without-none i es)
   where
-    by_test : (t : Bool) → same_item i e.item ≡ t → (times_of_item i es ≡ [] → without i es ≡ es) → without i (e ∷ es) ≡ e ∷ es
+    by_test : (t : Bool) → same_item i e.item ≡ t → (times_of_item i es ≡ [] → without i es ≡ es)
+      → without i (e ∷ es) ≡ e ∷ es
     by_test true t ih = let some : e.time ∷ times_of_item i es ≡ [] = rw t at none in absurd (grind (arith, some))
     by_test false t ih = let rest : times_of_item i es ≡ [] = rw t at none in rw t (ap (λ xs. e ∷ xs) (ih rest))
 
@@ -102,15 +111,18 @@ without_first-none i (e ∷ es) none = by_test (same_item i e.item) refl (withou
     by_test false t ih = let rest : times_of_item i es ≡ [] = rw t at none in rw t (ap (λ xs. e ∷ xs) (ih rest))
 
 -- where an item is pending at most once, to cancel all is to cancel the first
-pub without-once : (i : Item) (es : List Entry) → length (times_of_item i es) ≤ 1 → without i es ≡ without_first_entry i es
+pub without-once : (i : Item) (es : List Entry) → length (times_of_item i es) ≤ 1
+    → without i es ≡ without_first_entry i es
 without-once i [] once = refl
 without-once i (e ∷ es) once = by_test (same_item i e.item) refl (without-once i es)
   where
-    by_test : (t : Bool) → same_item i e.item ≡ t → (length (times_of_item i es) ≤ 1 → without i es ≡ without_first_entry i es)
+    by_test : (t : Bool) → same_item i e.item ≡ t
+      → (length (times_of_item i es) ≤ 1 → without i es ≡ without_first_entry i es)
         → without i (e ∷ es) ≡ without_first_entry i (e ∷ es)
     by_test true t ih =
         let least : length (e.time ∷ times_of_item i es) ≤ 1 = rw t at once in
-        let none : times_of_item i es ≡ [] = is_empty (times_of_item i es) (omega arith) in rw t (without-none i es none)
+        let none : times_of_item i es ≡ [] = is_empty (times_of_item i es) (omega arith)
+            in rw t (without-none i es none)
     by_test false t ih = let rest : length (times_of_item i es) ≤ 1 = rw t at once in rw t (ap (λ xs. e ∷ xs) (ih rest))
 
 pub without-first : (i : Item) (es : List Entry) → without i (without_first_entry i es) ≡ without i es
@@ -138,11 +150,14 @@ same_times-is (t ∷ ts) (u ∷ us) same =
     ap (λ x. x ∷ ts) head ∙ ap (λ xs. u ∷ xs) (same_times-is ts us tail)
 
 -- where a timer is pending at its time, its pending_entry stays
-pub set_due-kept : (i : Item) (due : Option ℕ) (es : List Entry) → times_of_item i es ≡ timer_time due → set_due i due es ≡ es
+pub set_due-kept : (i : Item) (due : Option ℕ) (es : List Entry) → times_of_item i es ≡ timer_time due
+    → set_due i due es ≡ es
 set_due-kept i due es is =
-    let same : same_times (times_of_item i es) (timer_time due) ≡ true = rw is (same_times-refl (timer_time due)) in rw same refl
+    let same : same_times (times_of_item i es) (timer_time due) ≡ true = rw is (same_times-refl (timer_time due))
+        in rw same refl
 
-set_due-moved_step : (i : Item) (due : Option ℕ) (es : List Entry) → (times_of_item i es ≡ timer_time due → ⊥) → (t : Bool)
+set_due-moved_step : (i : Item) (due : Option ℕ) (es : List Entry) → (times_of_item i es ≡ timer_time due → ⊥)
+    → (t : Bool)
     → same_times (times_of_item i es) (timer_time due) ≡ t → set_due i due es ≡ put_if i due (without i es)
 set_due-moved_step i due es differ true t = absurd (differ (same_times-is (times_of_item i es) (timer_time due) t))
 set_due-moved_step i due es differ false t = rw t refl
@@ -150,14 +165,16 @@ set_due-moved_step i due es differ false t = rw t refl
 -- otherwise a new one is put
 pub set_due-moved : (i : Item) (due : Option ℕ) (es : List Entry) → (times_of_item i es ≡ timer_time due → ⊥)
     → set_due i due es ≡ put_if i due (without i es)
-set_due-moved i due es differ = set_due-moved_step i due es differ (same_times (times_of_item i es) (timer_time due)) refl
+set_due-moved i due es differ = set_due-moved_step i due es differ
+    (same_times (times_of_item i es) (timer_time due)) refl
 
 after_one : (ts : List ℕ) → length ts ≤ 1 → drop 1 ts ≡ []
 after_one [] once = refl
 after_one (t ∷ ts) once = is_empty ts (omega arith)
 
 -- an item that is pending at most once isn't any more where the first is cancelled
-pub times-stopped : (i : Item) (es : List Entry) → length (times_of_item i es) ≤ 1 → times_of_item i (without_first_entry i es) ≡ []
+pub times-stopped : (i : Item) (es : List Entry) → length (times_of_item i es) ≤ 1
+    → times_of_item i (without_first_entry i es) ≡ []
 times-stopped i es once = times-without_first_same i es ∙ after_one (times_of_item i es) once
 
 pub set_due-replaced : (i : Item) (due : Option ℕ) (es : List Entry) → (times_of_item i es ≡ timer_time due → ⊥)
@@ -191,7 +208,8 @@ set_due_same-step i due es true t = rw t (same_times-is (times_of_item i es) (ti
 set_due_same-step i due es false t = rw t (times-put_if_same i due (without i es) (times-without_same i es))
 
 -- A timer is pending at its time, whatever was pending of it.
-pub times-set_due_same : (i : Item) (due : Option ℕ) (es : List Entry) → times_of_item i (set_due i due es) ≡ timer_time due
+pub times-set_due_same : (i : Item) (due : Option ℕ) (es : List Entry)
+    → times_of_item i (set_due i due es) ≡ timer_time due
 times-set_due_same i due es = set_due_same-step i due es (same_times (times_of_item i es) (timer_time due)) refl
 
 set_due_other-step : (i j : Item) (due : Option ℕ) (es : List Entry) → same_item j i ≡ false → (t : Bool)

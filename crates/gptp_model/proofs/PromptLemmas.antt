@@ -36,13 +36,15 @@ stays_prompt act w w' stays prompt place new log there member =
     let was = stays.stations place new there in
     prompt place was.old log was.here (subst (In log) was.same.intervals member)
 
-pub stay_prompt : (acts : List Timed) (w w' : WorldState) → Stays w w' → AllDelaysFitIntervals w acts → AllDelaysFitIntervals w' acts
+pub stay_prompt : (acts : List Timed) (w w' : WorldState) → Stays w w' → AllDelaysFitIntervals w acts
+    → AllDelaysFitIntervals w' acts
 stay_prompt acts w w' stays prompt place timed here = stays_prompt timed.act w w' stays (prompt place timed here)
 
 -- ---- worlds of one network
 
 -- what is prompt for a time is so for a longer one
-pub prompt_longer : (most longer : ℕ) (act : Act) → most ≤ longer → DelayFitsInterval most act → DelayFitsInterval longer act
+pub prompt_longer : (most longer : ℕ) (act : Act) → most ≤ longer → DelayFitsInterval most act
+    → DelayFitsInterval longer act
 prompt_longer most longer (Deliver link direction) less prompt = tt
 prompt_longer most longer (Expire number timer) less prompt = tt
 prompt_longer most longer (Changing (LinkDown number port)) less prompt = tt

@@ -111,7 +111,8 @@ module _ (due : Timer → Option ℕ) (place : ℕ) where
 
   -- what is none of these timers is pending as before
   pub times-set_all_other : (i : Item) (ts : List Timer) (es : List Entry)
-      → AllByRecursion (λ t. same_item i (Expiry place t) ≡ false) ts → times_of_item i (set_all ts es) ≡ times_of_item i es
+      → AllByRecursion (λ t. same_item i (Expiry place t) ≡ false) ts
+      → times_of_item i (set_all ts es) ≡ times_of_item i es
   times-set_all_other i [] es all = refl
   times-set_all_other i (t ∷ ts) es all =
       times-set_all_other i ts (set_due (Expiry place t) (due t) es) all.1

@@ -203,7 +203,8 @@ up_at (c ∷ cs) (suc link) direction channel here up =
     (up_at cs link direction channel here up)
 
 -- the ports that a start brings up are its own
-pub brought_ports : (station : Station) (net : Net) (p : ℕ) → In p (up_ports station net) → HasPortNumber station.system p
+pub brought_ports : (station : Station) (net : Net) (p : ℕ) → In p (up_ports station net)
+    → HasPortNumber station.system p
 brought_ports station net p among =
     let numbers = range_with_len 1 (length station.system.ports) in
     let within = range_in 1 (length station.system.ports) p

@@ -18,7 +18,8 @@ abbrev pub expected : WorldState → Item → List ℕ
 expected w (Expiry place timer) =
     option_map_or (λ station. timer_time (station_due timer station)) (slice_get w.stations place) []
 expected w (Arrival link direction) =
-    option_map_or (λ channel. map (λ (f : Frame). f.due) (world_queue direction channel)) (slice_get w.net.channels link) []
+    option_map_or (λ channel. map (λ (f : Frame). f.due) (world_queue direction channel))
+      (slice_get w.net.channels link) []
 
 -- What is pending agrees with the state: each item is pending at just those times_of_item, in order of putting.
 abbrev pub Agrees : WorldState → Type 0
@@ -28,7 +29,8 @@ Agrees w = (item : Item) → times_of_item item w.net.pending ≡ expected w ite
 
 -- each timer is one of a system with these ports, or isn't pending at its place
 abbrev pub OnlyItsTimers : ℕ → List Port → List Entry → Type 0
-OnlyItsTimers place ports es = (timer : Timer) → In timer (timers_from 1 ports) ⊎ (times_of_item (Expiry place timer) es ≡ [])
+OnlyItsTimers place ports es = (timer : Timer)
+    → In timer (timers_from 1 ports) ⊎ (times_of_item (Expiry place timer) es ≡ [])
 
 -- Everything agrees but the timers of the system at a place:
 -- those may be pending at any times_of_item, as long as they are its own.

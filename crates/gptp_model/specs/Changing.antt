@@ -71,7 +71,8 @@ is_link_end number port end = end.clock == number && end.port == port
 abbrev pub is_up_at : List Channel → ℕ → ℕ → Bool
 is_up_at [] number port = false
 is_up_at (channel ∷ channels) number port =
-    (channel.up && (is_link_end number port channel.a || is_link_end number port channel.b)) || is_up_at channels number port
+    (channel.up && (is_link_end number port channel.a || is_link_end number port channel.b)) || is_up_at channels
+      number port
 
 -- the numbers of a system's ports whose links are up, rising
 abbrev pub up_ports : Station → Net → List ℕ

@@ -51,10 +51,12 @@ abbrev pub put_if : Item → Option ℕ → List Entry → List Entry
 put_if item None es = es
 put_if item (Some time) es = put time item es
 
--- A timer is to run out at this time, or doesn't run: where it is pending so, its pending_entry stays; otherwise that is
+-- A timer is to run out at this time, or doesn't run: where it is pending so, its pending_entry stays; otherwise that
+-- is
 -- cancelled, and a new one put.
 abbrev pub set_due : Item → Option ℕ → List Entry → List Entry
-set_due item due es = if same_times (times_of_item item es) (timer_time due) then es else put_if item due (without item es)
+set_due item due es = if same_times (times_of_item item es) (timer_time due) then es else put_if item due
+    (without item es)
 
 -- The next: of all entries one of least time, and of those the first that was put.
 pub record IsNext (es : List Entry) (time : ℕ) (item : Item) : Type 0 where

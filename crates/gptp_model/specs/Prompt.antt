@@ -16,7 +16,8 @@ DelaysFitIntervals w act = (place : ℕ) (station : Station) (log : ℤ) → sli
 
 -- so it is in each act of a list
 abbrev pub AllDelaysFitIntervals : WorldState → List Timed → Type 0
-AllDelaysFitIntervals w acts = (place : ℕ) (timed : Timed) → slice_get acts place ≡ Some timed → DelaysFitIntervals w timed.act
+AllDelaysFitIntervals w acts = (place : ℕ) (timed : Timed) → slice_get acts place ≡ Some timed
+    → DelaysFitIntervals w timed.act
 
 -- a system starts with these parameters, and with this largest interval
 pub record HasPace (p : SettlingParams) (station : Station) : Type 0 where

@@ -31,7 +31,8 @@ gone (x ∷ xs) (suc place) is within = gone xs place is (omega arith)
 abbrev member_told : SystemSpec → ℕ × ℕ × ℕ × ℤ × ArrayVec ℤ
 member_told m = (m.identity, m.ports, m.phase, m.drift, m.intervals)
 
-pub ports_told : (clock : ℕ) (o : Option SystemSpec) (s : ℕ × ℕ × ℕ × ℤ × ArrayVec ℤ) → Some s ≡ option_map member_told o
+pub ports_told : (clock : ℕ) (o : Option SystemSpec) (s : ℕ × ℕ × ℕ × ℤ × ArrayVec ℤ)
+    → Some s ≡ option_map member_told o
     → ports_by clock s.0 s.1 ≡ option_and_then (ports_if clock) o
 ports_told clock None s is = absurd cc
 ports_told clock (Some m) s is =

@@ -69,7 +69,8 @@ module _ (g : Snapshot) (wf : IsWellFormed g) (v : ℕ) where
   known_some n Several other two there = two
 
   -- all ports of the system have been gone through
-  pub known_all : (s : System) (known : Neighbours) → In s g.systems → s.clock ≡ v → NeighboursAreKnown g v (s.ports + 1) known
+  pub known_all : (s : System) (known : Neighbours) → In s g.systems → s.clock ≡ v
+      → NeighboursAreKnown g v (s.ports + 1) known
       → are_several known ≡ has_two_neighbours g v
   known_all s known live named are = by (has_two_neighbours g v) refl
     where

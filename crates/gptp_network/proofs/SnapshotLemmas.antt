@@ -94,7 +94,8 @@ stands_clock [] own s = refl
 stands_clock (t ∷ ts) own s = stands_clock ts own (system_acted t.act own s) ∙ acted_clock t.act own s
 
 -- a system keeps the clock that it was given
-pub clock_after : (events : List Timed) (m : SystemSpec) → clock_of (system_after events m).identity ≡ clock_of m.identity
+pub clock_after : (events : List Timed) (m : SystemSpec)
+    → clock_of (system_after events m).identity ≡ clock_of m.identity
 clock_after events m = stands_clock events (clock_of m.identity) (standing m)
 
 -- ---- what stands is a snapshot

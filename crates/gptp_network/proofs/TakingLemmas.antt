@@ -182,7 +182,8 @@ other_clock m ms events once pair lives member =
     let none : zero ≡ suc place = once zero (suc place) m l refl here same in
     absurd (omega arith)
 
-live_once_more : (m : SystemSpec) (ms : List SystemSpec) (events : List Timed) → OneClockEach (m ∷ ms) → (o : Option (ℕ × ℕ))
+live_once_more : (m : SystemSpec) (ms : List SystemSpec) (events : List Timed) → OneClockEach (m ∷ ms)
+    → (o : Option (ℕ × ℕ))
     → live_after events m ≡ o → Different (map (λ (s : System). s.clock) (live_systems ms events))
     → Different (map (λ (s : System). s.clock) (live_systems (m ∷ ms) events))
 live_once_more m ms events once None e rest = rw e rest

@@ -1,4 +1,5 @@
--- The offset that the second_member of two systems is left by a Follow_Up is exact, as each act of their world promises.
+-- The offset that the second_member of two systems is left by a Follow_Up is exact, as each act of their world
+-- promises.
 use Rattle.std.proofs.Common.{◌≡◌, ◌≤◌, ◌+◌, ◌-ℤ◌, ℕ, zero, suc, ℤ, pos, true, [], ◌∷◌, Option, Some, length, slice_get, refl, sym, ap, subst, ◌∙◌, inl, inr, arith}
 use Rattle.std.proofs.lemmas.Int.{ints}
 use Rattle.std.proofs.lemmas.Option.{none-some, same_Some}
@@ -190,7 +191,8 @@ module _ (w : WorldState) (time : ℕ) (k : IsPairSince 27000000000 w) (sound : 
   bound_there f =
       let way = way_of w (port_of 1 1) (port_of 2 1)
       (Joins-sym (snapshot_of w) (port_of 2 1) (port_of 1 1) parent.nearer.joins) in
-      let (v, at_place, same) = alike (link_after []) channel_wire pair_network.links w.net.channels (sym k.stands.links)
+      let (v, at_place, same) = alike (link_after []) channel_wire pair_network.links w.net.channels
+          (sym k.stands.links)
       way.link way.channel way.here in
       ap (bound_at f (live_stations w.stations) w.net.channels) (sym way.to)
       ∙ bound_is f w sound claimed.is.world.legible way.link way.direction way.channel way.here way.used
@@ -231,7 +233,8 @@ module _ (w : WorldState) (time : ℕ) (k : IsPairSince 27000000000 w) (sound : 
   pub first_is : (best : System) → In best pair_snapshot.systems → first_member ≡ best.identity → 1 ≡ best.clock
   first_is best (inl same) is = sym (ap (λ (s : System). s.clock) same)
   first_is best (inr (inl same)) is =
-      let other : first_member ≡ second_member = is ∙ ap (λ (s : System). s.identity) same in absurd (omega (arith, other))
+      let other : first_member ≡ second_member = is ∙ ap (λ (s : System). s.identity) same
+          in absurd (omega (arith, other))
   first_is best (inr (inr none)) is = absurd none
 
   ahead : IsAhead w 2 time (pos 0)

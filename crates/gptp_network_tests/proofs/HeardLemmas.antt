@@ -131,7 +131,8 @@ module _ (w : WorldState) (k : IsPairSince 15000000000 w) (sound : IsSound w) (c
       (held.good.source ∙ joined_to_second held.from 1 held.joins)
 
 pub second_hears : (w : WorldState) (time : ℕ) (done : Done) (m : AnnounceView) → IsPairSince 15000000000 w → IsSound w
-    → SettlingInvariant w → w.time ≤ time → IsHeardClean w time done → HearsAnnounce 2 m done → m.head.source ≡ port_id 1 1
+    → SettlingInvariant w → w.time ≤ time → IsHeardClean w time done → HearsAnnounce 2 m done
+    → m.head.source ≡ port_id 1 1
 second_hears w time done m k sound claimed passed clean heard = hears w k sound claimed m time done passed heard clean
 
 -- a world of the pair at a time has been one since an earlier time

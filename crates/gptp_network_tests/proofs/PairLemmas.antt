@@ -225,7 +225,8 @@ second_lives time w at =
     record { place = stands.place; station = stands.station; is = stands.is; so = stands.so.live }
 
 -- a system that is shown as the second_member has one port
-pub second_has_port : (time : ℕ) (w : WorldState) (s : SystemState) → IsPairAt time w → ShowsLive 2 w s → HasPortNumber s 1
+pub second_has_port : (time : ℕ) (w : WorldState) (s : SystemState) → IsPairAt time w → ShowsLive 2 w s
+    → HasPortNumber s 1
 second_has_port time w s at shows =
     let among = live_there w.stations shows.place shows.station shows.is.here shows.live in
     let ports : length shows.station.system.ports ≡ 1 =

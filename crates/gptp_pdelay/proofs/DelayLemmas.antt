@@ -63,7 +63,8 @@ whole_counts : (rate n : ℕ) → IsCounted rate (n * 33554432) (n * rate)
 whole_counts rate n = record { low = omega arith; high = omega arith }
 
 -- the spans of an exchange are within twice the delays of the turnaround
-whole_low : (least most turnaround whole arrivals sendings : ℕ) → AreExchangeSpans least most turnaround whole arrivals sendings →
+whole_low : (least most turnaround whole arrivals sendings : ℕ)
+    → AreExchangeSpans least most turnaround whole arrivals sendings →
     turnaround + 2 * least ≤ whole
 whole_low least most turnaround whole arrivals sendings s = omega (arith, s.whole_is, s.there_long, s.home_long)
 

@@ -4,7 +4,8 @@ use Rattle.std.proofs.Math.Nat.{mul-le-mul_left}
 use Rattle.gptp_pdelay.specs.Measured.{AreExchangeSpans, WeightedMean, MeanIsBelow, MeanIsAbove}
 
 pub mean_low : (least most turnaround whole arrivals sendings : ℕ) →
-    AreExchangeSpans least most turnaround whole arrivals sendings → arrivals * (turnaround + 2 * least) ≤ sendings * whole
+    AreExchangeSpans least most turnaround whole arrivals sendings
+      → arrivals * (turnaround + 2 * least) ≤ sendings * whole
 mean_low least most turnaround whole arrivals sendings s =
     let a : arrivals * (turnaround + 2 * least) ≡ (s.gap + whole) * (turnaround + 2 * least) =
     ap (λ n. n * (turnaround + 2 * least)) s.arrivals_is in
@@ -19,7 +20,8 @@ mean_low least most turnaround whole arrivals sendings s =
     omega arith
 
 pub mean_high : (least most turnaround whole arrivals sendings : ℕ) →
-    AreExchangeSpans least most turnaround whole arrivals sendings → sendings * whole ≤ arrivals * (turnaround + 2 * most)
+    AreExchangeSpans least most turnaround whole arrivals sendings
+      → sendings * whole ≤ arrivals * (turnaround + 2 * most)
 mean_high least most turnaround whole arrivals sendings s =
     let a : arrivals * (turnaround + 2 * most) ≡ (s.gap + whole) * (turnaround + 2 * most) =
     ap (λ n. n * (turnaround + 2 * most)) s.arrivals_is in

@@ -53,7 +53,8 @@ none_in_time : (time : ℕ) (f : LaneFrame) → In f [] → IsDueInTime example_
 none_in_time time f at = absurd at
 
 -- one frame more isn't
-more_in_time : (time : ℕ) (front : LaneFrame) (fs : List LaneFrame) → time ≤ front.due → front.due ≤ time + example_link.most
+more_in_time : (time : ℕ) (front : LaneFrame) (fs : List LaneFrame) → time ≤ front.due
+    → front.due ≤ time + example_link.most
     → ((f : LaneFrame) → In f fs → IsDueInTime example_link second time f) → (f : LaneFrame) → In f (front ∷ fs)
     → IsDueInTime example_link second time f
 more_in_time time front fs since by rest f (inl e) =
@@ -131,7 +132,8 @@ module _ (x : Start) where
       as_recorded : (sequence : ℕ) (t1 t2 : ℤ) → x.sequence ≡ sequence → example_link.asking_clock x.sent ≡ t1
           → example_link.answering_clock (frame_came x) ≡ t2
           → recorded x
-          ≡ record (asking_port x) { progress = Answered sequence example_link.answering t1 t2 (example_link.asking_clock (home x)) }
+          ≡ record (asking_port x) { progress = Answered sequence example_link.answering t1 t2
+            (example_link.asking_clock (home x)) }
       as_recorded sequence t1 t2 same one two = rw (← same, ← one, ← two)
 
   -- the follow-up completes the exchange
@@ -199,18 +201,22 @@ module _ (x : Start) where
   }
 
   -- the request is in flight
-  pub at_request : (time : ℕ) → x.sent ≤ time → time ≤ frame_came x → Facts example_link second (pair_at_time (request_sent x) time)
+  pub at_request : (time : ℕ) → x.sent ≤ time → time ≤ frame_came x
+      → Facts example_link second (pair_at_time (request_sent x) time)
   at_request time since by = known (pair_at_time (request_sent x) time) refl since (omega arith) (none_waits time)
       (more_in_time time (request_frame x) [] by (omega arith) (none_in_time time)) (none_in_time time)
 
   -- the answer waits
-  pub at_answer : (time : ℕ) → frame_came x ≤ time → time ≤ answered_port x → Facts example_link second (pair_at_time (request_heard x) time)
+  pub at_answer : (time : ℕ) → frame_came x ≤ time → time ≤ answered_port x
+      → Facts example_link second (pair_at_time (request_heard x) time)
   at_answer time since by = known (pair_at_time (request_heard x) time) refl (omega arith) (omega arith)
       (waits_in_time time (noted example_link (request x) (frame_came x)) by) (none_in_time time) (none_in_time time)
 
   -- both replies are in flight
-  pub at_replies : (time : ℕ) → answered_port x ≤ time → time ≤ home x → Facts example_link second (pair_at_time (answer_sent x) time)
-  at_replies time since by = known (pair_at_time (answer_sent x) time) refl (omega arith) (omega arith) (none_waits time)
+  pub at_replies : (time : ℕ) → answered_port x ≤ time → time ≤ home x
+      → Facts example_link second (pair_at_time (answer_sent x) time)
+  at_replies time since by = known (pair_at_time (answer_sent x) time) refl (omega arith) (omega arith)
+      (none_waits time)
       (none_in_time time)
       (more_in_time time (response_frame x) (follow_up_frame x ∷ []) by (omega arith)
       (more_in_time time (follow_up_frame x) [] by (omega arith) (none_in_time time)))

@@ -15,7 +15,8 @@ use Rattle.gptp_pdelay_machine.specs.Facts.{Facts, IsDueInTime, IsSentInTime, No
 module _ (k : Setting) (gone : ℕ) where
   -- a lane that is sent to in time stays in time
   lane_kept : (time : ℕ) (was now : List LaneFrame) → IsSentInTime k time was now
-      → ((f : LaneFrame) → In f was → IsDueInTime k gone time f) → (f : LaneFrame) → In f now → IsDueInTime k gone time f
+      → ((f : LaneFrame) → In f was → IsDueInTime k gone time f) → (f : LaneFrame) → In f now
+      → IsDueInTime k gone time f
   lane_kept time was now sent before f at = elim (sent f at) [
     | inl old ↦ before f old
     | inr (since, inl by) ↦ record { earliest = since; latest = omega arith }

@@ -52,7 +52,8 @@ module _ (k : Setting) (least : ℕ) (asks : List ℕ → Request → Type 0) (r
       }))
 
   -- the port that asks hears the oldest frame
-  pub asker_heard : (a a' : Asker) (w : Option Waiting) (out : List LaneFrame) (front : LaneFrame) (rest : List LaneFrame)
+  pub asker_heard : (a a' : Asker) (w : Option Waiting) (out : List LaneFrame) (front : LaneFrame)
+      (rest : List LaneFrame)
       (time : ℕ) → front.due ≡ time → TakesReply k replies time front.octets a a'
       → IsClean k least asks replies calm a w out (front ∷ rest) → IsClean k least asks replies calm a' w out rest
   asker_heard a a' w out front rest time now takes clean = by_phase clean.phase
@@ -305,14 +306,16 @@ module _ (k : Setting) (asks : List ℕ → Request → Type 0) (replies : List 
       after : (due : ℕ) → p'.time ≤ due → p.time + 0 ≤ due
       after due since = let same = act_takes_no_time k asks replies p p' act in omega (arith, since, same)
 
-  pub inv_later : (p p' : Pair) → TimeOnlyPasses p p' → PortInvariant k asks replies gone calm p → PortInvariant k asks replies gone calm p'
+  pub inv_later : (p p' : Pair) → TimeOnlyPasses p p' → PortInvariant k asks replies gone calm p
+      → PortInvariant k asks replies gone calm p'
   inv_later = inv_from_later k 0 asks replies gone calm
 
   pub inv_begins : (p : Pair) → IsJustChanged k gone calm p → PortInvariant k asks replies gone calm p
   inv_begins = inv_from_begins k 0 asks replies gone calm
 
   -- and holds where it does for whatever least delay
-  pub inv_forgets : (least : ℕ) (p : Pair) → InvFrom k least asks replies gone calm p → PortInvariant k asks replies gone calm p
+  pub inv_forgets : (least : ℕ) (p : Pair) → InvFrom k least asks replies gone calm p
+      → PortInvariant k asks replies gone calm p
   inv_forgets least p inv = record {
     bounds = inv.bounds;
     clean = λ since. (let clean = inv.clean since in

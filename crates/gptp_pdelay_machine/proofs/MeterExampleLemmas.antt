@@ -28,7 +28,8 @@ module _ (x : Start) (last : Option Measurement) where
   }
 
   -- the follow-up measures by the four times of the exchange
-  takes_follow_up : TakesMeasure example_link replies (follow_up_frame x).octets (recorded x) last (Some (measured_meter x last))
+  takes_follow_up : TakesMeasure example_link replies (follow_up_frame x).octets (recorded x) last
+      (Some (measured_meter x last))
   takes_follow_up = record {
     nothing = λ none. absurd (none (follow_up x) refl);
     response = λ sequence t1 t2 is says. absurd cc;
@@ -36,7 +37,8 @@ module _ (x : Start) (last : Option Measurement) where
         (same_stamp (example_link.answering_clock (answered_port x)) t3 (cc)) (cc);
   }
     where
-      measures : (t1 t2 t3 t4 : ℤ) → example_link.asking_clock x.sent ≡ t1 → example_link.answering_clock (frame_came x) ≡ t2
+      measures : (t1 t2 t3 t4 : ℤ) → example_link.asking_clock x.sent ≡ t1
+        → example_link.answering_clock (frame_came x) ≡ t2
           → example_link.answering_clock (answered_port x) ≡ t3 → example_link.asking_clock (home x) ≡ t4
           → Measures last (Some (measured_meter x last)) t1 t2 t3 t4
       measures t1 t2 t3 t4 first_is second_is third_is fourth_is = rw (← first_is, ← second_is, ← third_is, ← fourth_is)
@@ -63,8 +65,10 @@ module _ (x : Start) (last : Option Measurement) where
 
   -- the exchange is a run, and what comes after it goes on
   measures_on : (rest : List Meter) → x.before.asked + example_link.period ≡ x.sent
-      → IsMeterRun example_link 500 spells_request replies second (example_meter (next_due x) (Some (measured_meter x last))) rest
-      → IsMeterRun example_link 500 spells_request replies second (example_meter (timer_due x) last) (metered x last ++ rest)
+      → IsMeterRun example_link 500 spells_request replies second
+        (example_meter (next_due x) (Some (measured_meter x last))) rest
+      → IsMeterRun example_link 500 spells_request replies second (example_meter (timer_due x) last)
+        (metered x last ++ rest)
   unfolding hears_response hears_follow_up
   measures_on rest now on = (
     at_timer x now,

@@ -225,7 +225,8 @@ module _ (k : Setting) (least : ℕ) (asks : List ℕ → Request → Type 0) (r
       FollowUpAhead sequence source t1 t2 t4 late open' (follow_up_more sequence back news ahead)
 
   -- From the time on by which the second request was answered, the port is capable or the answer is in flight.
-  answer_is_ahead : (gone from : ℕ) (m : Meter) (news : List LaneFrame) → first + k.period + k.most + k.turnaround < from
+  answer_is_ahead : (gone from : ℕ) (m : Meter) (news : List LaneFrame)
+      → first + k.period + k.most + k.turnaround < from
       → from ≤ m.pair.time → Facts k gone m.pair → InvFirst k least asks replies first m
       → AreUntold tells m.pair.back → Ordered m.pair.asker (m.pair.back ++ news)
   answer_is_ahead gone from m news past late facts inv untold = elim inv.since [

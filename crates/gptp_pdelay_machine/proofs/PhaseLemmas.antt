@@ -170,7 +170,8 @@ module _ (k : Setting) (least : ℕ) (asks : List ℕ → Request → Type 0) (r
       (FollowUpComes sequence came heard there home progress asks_none none follow_up) = absurd cc
 
   -- where nothing is pending, no request is open
-  pub closed_where_nothing_pends : (waits : Option Waiting) (out back : List LaneFrame) → AreMute asks out → waits ≡ None
+  pub closed_where_nothing_pends : (waits : Option Waiting) (out back : List LaneFrame) → AreMute asks out
+      → waits ≡ None
       → AreMute replies back → Phase k least asks replies a waits out back → a.progress ≡ Closed
   closed_where_nothing_pends waits out back asks_none none replies_none (Rests closed a1 n1 r1) = closed
   closed_where_nothing_pends waits out back asks_none none replies_none (RequestGoes sequence progress request n1 r1) =

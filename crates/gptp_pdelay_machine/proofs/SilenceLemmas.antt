@@ -15,7 +15,8 @@ module _ (k : Setting) (gone : ℕ) where
 
   -- a request that is given up counts as lost, and when too many are the port isn't capable
   accounts_given_up : (a : Asker) → a.lost ≤ k.allowed
-      → (a.capable ≡ true → a.asked ≤ gone + k.period + a.lost * k.period) → AccountsFor a.asked (asker_given_up k.allowed a)
+      → (a.capable ≡ true → a.asked ≤ gone + k.period + a.lost * k.period)
+      → AccountsFor a.asked (asker_given_up k.allowed a)
   unfolding AccountsFor
   accounts_given_up a lost since = by_test (nat_lt k.allowed (a.lost + 1)) refl
     where

@@ -42,7 +42,8 @@ module _ (asks : List ℕ → Request → Type 0) (replies : List ℕ → Reply 
   -- its exchange is good: where its response is recorded, what is heard leaves that so, or completes the exchange well
   abbrev pub NoExchangeIsBad : Type 0
   NoExchangeIsBad = (k : Setting) (gone calm : ℕ) (p p' : Pair) (sequence : ℕ) (source : PortIdentity) (t1 t2 t4 : ℤ)
-      → PortInvariant k asks replies gone calm p → calm ≤ p.asker.asked → p.asker.progress ≡ Answered sequence source t1 t2 t4
+      → PortInvariant k asks replies gone calm p → calm ≤ p.asker.asked
+      → p.asker.progress ≡ Answered sequence source t1 t2 t4
       → AskerHears k asks replies p p'
       → (p'.asker ≡ p.asker) ⊎ (p'.asker ≡ asker_completed true p.asker)
 

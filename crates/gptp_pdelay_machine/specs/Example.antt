@@ -18,7 +18,8 @@ use Rattle.gptp_pdelay_machine.specs.Runs.{IsPortRun}
 abbrev pub second : ℕ
 second = 1000000000
 
--- Port 1 of clock 1 spells_request port 1 of clock 2. A frame takes up to 500 ns, an answer waits for 1,000 ns, and nine requests
+-- Port 1 of clock 1 spells_request port 1 of clock 2. A frame takes up to 500 ns, an answer waits for 1,000 ns, and
+-- nine requests
 -- may be lost. The other system's clock is a microsecond ahead, and slow.
 abbrev pub example_link : Setting
 example_link = record {
@@ -56,7 +57,8 @@ replies octets r = octets ≡ reply_octets r
 
 -- a example_port_state of the machine
 abbrev pub example_port_state : ℕ → Asker → Option Waiting → List LaneFrame → List LaneFrame → Pair
-example_port_state time asker waits out back = record { time = time; asker = asker; waits = waits; out = out; back = back }
+example_port_state time asker waits out back = record
+    { time = time; asker = asker; waits = waits; out = out; back = back }
 
 -- where an exchange begins: the port as it was before, and the time and the sequence of the request that it sends
 pub record Start : Type 0 where
@@ -100,7 +102,8 @@ module _ (x : Start) where
 
   abbrev pub recorded : Asker
   recorded = record asking_port {
-    progress = Answered x.sequence example_link.answering (example_link.asking_clock x.sent) (example_link.answering_clock frame_came)
+    progress = Answered x.sequence example_link.answering (example_link.asking_clock x.sent)
+      (example_link.answering_clock frame_came)
         (example_link.asking_clock home);
   }
 
@@ -160,13 +163,15 @@ first_exchange = record {
 abbrev pub next : Start
 next = record { before = done first_exchange; sent = 2 * second; sequence = 2 }
 
--- The two exchanges are a run: the port isn't capable after the first_exchange, and is after the second. All that the laws
+-- The two exchanges are a run: the port isn't capable after the first_exchange, and is after the second. All that the
+-- laws
 -- suppose of a port on a good example_link is so here, with the last change at 0 and a threshold of 800 ns.
 pub record TwoExchangesMakeCapable : Type 0 where
   pub link_is_good : IsGoodLink example_link.most example_link.turnaround 800
   pub clocks : HasLocalClocks example_link
   pub timing : 2 * 800 + example_link.turnaround < example_link.period
   pub fresh : IsJustChanged example_link second (2 * second) (timer_due first_exchange)
-  pub run : IsPortRun example_link spells_request replies second (timer_due first_exchange) (exchange first_exchange ++ exchange next)
+  pub run : IsPortRun example_link spells_request replies second (timer_due first_exchange)
+      (exchange first_exchange ++ exchange next)
   pub one : (done first_exchange).capable ≡ false
   pub two : (done next).capable ≡ true

@@ -17,7 +17,8 @@ abbrev pub AreMute : {X : Type 0} → (List ℕ → X → Type 0) → List LaneF
 AreMute {X} says fs = (f : LaneFrame) → In f fs → IsMute says f
 
 -- first mute frames, then one of which P holds, and of the frames behind it Q holds
-abbrev pub FirstIs : {X : Type 0} → (List ℕ → X → Type 0) → (LaneFrame → Type 0) → (List LaneFrame → Type 0) → List LaneFrame
+abbrev pub FirstIs : {X : Type 0} → (List ℕ → X → Type 0) → (LaneFrame → Type 0) → (List LaneFrame → Type 0)
+    → List LaneFrame
     → Type 0
 FirstIs {X} says P Q [] = ⊥
 FirstIs {X} says P Q (f ∷ fs) = (P f × Q fs) ⊎ (IsMute says f × FirstIs says P Q fs)

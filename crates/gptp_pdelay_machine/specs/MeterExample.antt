@@ -29,7 +29,8 @@ module _ (x : Start) (last : Option Measurement) where
       }
 
   abbrev pub metered : List Meter
-  metered = example_meter (request_sent x) last ∷ example_meter (request_due x) last ∷ example_meter (request_heard x) last
+  metered = example_meter (request_sent x) last ∷ example_meter (request_due x) last ∷ example_meter
+      (request_heard x) last
       ∷ example_meter (answer_due x) last ∷ example_meter (answer_sent x) last ∷ example_meter (replies_due x) last
       ∷ example_meter (response_heard x) last ∷ example_meter (follow_up_heard x) (Some measured_meter)
       ∷ example_meter (next_due x) (Some measured_meter) ∷ []
@@ -40,7 +41,8 @@ one = measured_meter first_exchange None
 abbrev pub two : Measurement
 two = measured_meter next (Some one)
 
--- The states of the two exchanges are a run, over a example_link of exactly 500 ns. The first_exchange takes the clocks for equal, and
+-- The states of the two exchanges are a run, over a example_link of exactly 500 ns. The first_exchange takes the clocks
+-- for equal, and
 -- measures 1490 units of 2^-16 ns above 500 ns. The second sees that the neighbour is slow by 10^8 parts in 2^41, and
 -- measures 500 ns by the neighbour's clock.
 pub record TwoExchangesMeasure : Type 0 where

@@ -14,7 +14,8 @@ IsStep k asks replies p p' = TimeOnlyPasses p p' ⊎ PortActs k asks replies p p
 -- from p the states of the list come in turn, each by one step, and of all of them the facts are known
 abbrev pub IsPortRun : Setting → (List ℕ → Request → Type 0) → (List ℕ → Reply → Type 0) → ℕ → Pair → List Pair → Type 0
 IsPortRun k asks replies gone p [] = Facts k gone p
-IsPortRun k asks replies gone p (q ∷ rest) = Facts k gone p × IsStep k asks replies p q × IsPortRun k asks replies gone q rest
+IsPortRun k asks replies gone p (q ∷ rest) = Facts k gone p × IsStep k asks replies p q
+    × IsPortRun k asks replies gone q rest
 
 -- time passes, or one act happens whose new frames take the least delay or more, with what becomes of the measurement
 abbrev pub IsMeterStep : Setting → ℕ → (List ℕ → Request → Type 0) → (List ℕ → Reply → Type 0) → Meter → Meter → Type 0

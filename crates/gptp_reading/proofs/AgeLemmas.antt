@@ -49,7 +49,8 @@ use Rattle.gptp_reading.specs.Age.{WorldsAreRecent}
 
 -- ---- Syncs that are expected
 
-module _ (tells : SaysSync) (n : Network) (net : IsSettlingNetwork n) (w : MachineState) (calm : Calm n w) (sound : RunIsSound n w)
+module _ (tells : SaysSync) (n : Network) (net : IsSettlingNetwork n) (w : MachineState) (calm : Calm n w)
+  (sound : RunIsSound n w)
     (facts : HaveSyncTimers n w) where
   -- when a system tells time by some time, that hasn't passed
   tells_later : (d v by : ℕ) → IsDistance n.graph v d → TellsBy tells n w.stations w.lanes d v by → w.time ≤ by
@@ -201,7 +202,8 @@ module _ (p : SettlingParams) (w : WorldState) (claimed : KeepsAll p w) (quiet :
         by (inr short) = started_lately short
 
 -- a world with a system has the parameters and the largest interval that its systems start with
-pub claimed_alike : (w : WorldState) (claimed : SettlingInvariant w) (p : SettlingParams) → WorldIsCalm p w → (place : ℕ) (station : Station)
+pub claimed_alike : (w : WorldState) (claimed : SettlingInvariant w) (p : SettlingParams) → WorldIsCalm p w
+    → (place : ℕ) (station : Station)
     → slice_get w.stations place ≡ Some station → KeepsAll p w
 claimed_alike w claimed p calm place station here =
     let known = (claimed.is.world.known.set place station here).starts in

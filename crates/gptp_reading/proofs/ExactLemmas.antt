@@ -173,7 +173,8 @@ record IsUsedHere (w : WorldState) (place : LinkPlace) (f : IsFollower place w) 
   front : world_queue place.direction f.channel ≡ frame w.time octets ∷ rest
   used : IsUsedBy (receiver place.direction f.channel).port m w.time (follower_state place w f) after
 
-module _ (p : SettlingParams) (settled longest : ℕ) (w : WorldState) (is : IsSettledFrom p settled longest w) (place : LinkPlace)
+module _ (p : SettlingParams) (settled longest : ℕ) (w : WorldState) (is : IsSettledFrom p settled longest w)
+  (place : LinkPlace)
     (f : IsFollower place w) (link : ℕ) (direction : Direction) (w' : WorldState) (number : ℕ)
     (u : HasUser direction link w w' number) (own : f.own.station ≡ u.station)
     (named : follower_clock place w f ≡ number) where
@@ -198,7 +199,8 @@ module _ (p : SettlingParams) (settled longest : ℕ) (w : WorldState) (is : IsS
       λ i. record { clock = clocks i; port = sym same i } in
       let lane = one_way w is.world.sound is.world.legible link place.link (other_direction direction)
       (other_direction place.direction) u.channel f.channel u.here f.here
-      (ap port_identity_number (sender_opposite direction u.channel ∙ ends ∙ sym (sender_opposite place.direction f.channel)))
+      (ap port_identity_number (sender_opposite direction u.channel ∙ ends
+        ∙ sym (sender_opposite place.direction f.channel)))
       in
       record {
         rest = u.rest;
@@ -213,7 +215,8 @@ module _ (p : SettlingParams) (settled longest : ℕ) (w : WorldState) (is : IsS
 module _ (link : ℕ) (direction : Direction) (w w' : WorldState) (draws : List Draw) (number : ℕ) (done : Done)
     (p : SettlingParams) (m steps : ℕ) (system : SystemState) (way : Way) (phase : ℕ → ℕ)
     (k : Acts (Deliver link direction) w draws done w') (uses : UsesFollowUp number done)
-    (shows : ShowsLive number w' system) (claimed : KeepsAll p w) (carries : CarriesWhereCalm p w) (calm : WorldIsCalm p w)
+    (shows : ShowsLive number w' system) (claimed : KeepsAll p w) (carries : CarriesWhereCalm p w)
+      (calm : WorldIsCalm p w)
     (bounded : BoundsPaths (snapshot_of w) m) (come : HasComeDown p m (suc steps) w.time w)
     (early : w.time ≤ 10 ^ 18) (near : IsNear (snapshot_of w) number)
     (leads : IsWayTo (follower_parts p.params w) (snapshot_of w) (suc steps) number way phase) where
@@ -324,7 +327,8 @@ module _ (link : ℕ) (direction : Direction) (w w' : WorldState) (draws : List 
 -- ---- every act
 
 -- a world with a system has the parameters and the largest interval that its systems start with
-pub all_alike : (w : WorldState) → WorldInvariant w → (p : SettlingParams) → HavePace p w → (place : ℕ) (station : Station)
+pub all_alike : (w : WorldState) → WorldInvariant w → (p : SettlingParams) → HavePace p w
+    → (place : ℕ) (station : Station)
     → slice_get w.stations place ≡ Some station → KeepsAll p w × CarriesWhereCalm p w
 all_alike w all p have place station here =
     let known = (all.is.world.known.set place station here).starts in

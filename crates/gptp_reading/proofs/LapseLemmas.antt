@@ -202,7 +202,8 @@ hears_announce : (p : ℕ) (a : AnnounceView) (now : ℕ) (s s' : SystemState) (
     → HearsMessage p (messages.Announce a) now s s' sends answer → Mild now s s'
 hears_announce p a now s s' sends answer (inl k) = rests now s s' sends k.becomes
 hears_announce p a now s s' sends answer (inr (inl k)) = rests now s s' sends k.becomes
-hears_announce p a now s s' sends answer (inr (inr k)) = go (replaces_held (comparison (held_at s p) (own s p) a)) k.selects
+hears_announce p a now s s' sends answer (inr (inr k)) = go
+    (replaces_held (comparison (held_at s p) (own s p) a)) k.selects
   where
     go : (b : Bool) → SelectsIf b now (compared p a now s) s' sends → Mild now s s'
     go true h = selects now s (compared p a now s) s' sends refl refl refl h refl

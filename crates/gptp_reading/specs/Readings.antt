@@ -68,7 +68,8 @@ WorldsReadExactly {F} answers = (timed : Timed) (fate fate_after : F) (w w' : Wo
 abbrev pub WorldsLeaveTime : {F : Type 0} → (Bounds → ℕ → F → Option ℕ → F → Type 0) → Type 0
 WorldsLeaveTime {F} answers = (timed : Timed) (fate fate_after : F) (w w' : WorldState) (done : Done) (number : ℕ)
     (s : SystemState)
-    → WorldInvariant w → WasDone answers timed fate fate_after w w' done → UsesFollowUp number done → ShowsLive number w' s
+    → WorldInvariant w → WasDone answers timed fate fate_after w w' done → UsesFollowUp number done
+    → ShowsLive number w' s
     → LeavesTime timed.at s
 
 -- In such a world each Follow_Up that is used leaves a reading, also where something can lapse: the numbers of the

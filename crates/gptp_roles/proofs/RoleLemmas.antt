@@ -35,7 +35,8 @@ master_is Slave e = absurd cc
 master_is Passive e = absurd cc
 
 -- a port keeps its role
-pub role_of-held_after : (v : Vector) (clock port : ℕ) (h : Held) → chosen_role v clock port (held_after_selection v clock port h)
+pub role_of-held_after : (v : Vector) (clock port : ℕ) (h : Held)
+    → chosen_role v clock port (held_after_selection v clock port h)
     ≡ chosen_role v clock port h
 role_of-held_after v clock port h =
     elim (cases_Bool (is_master (chosen_role v clock port h))) [
@@ -45,7 +46,8 @@ role_of-held_after v clock port h =
     ]
 
 -- what a port holds after a selection it holds after the next
-pub held_after-twice : (v : Vector) (clock port : ℕ) (h : Held) → held_after_selection v clock port (held_after_selection v clock port h)
+pub held_after-twice : (v : Vector) (clock port : ℕ) (h : Held)
+    → held_after_selection v clock port (held_after_selection v clock port h)
     ≡ held_after_selection v clock port h
 held_after-twice v clock port h =
     elim (cases_Bool (is_master (chosen_role v clock port h))) [
@@ -55,7 +57,8 @@ held_after-twice v clock port h =
     ]
 
 -- and it isn't fresh again
-pub is_fresh-held_after : (v : Vector) (clock port : ℕ) (h : Held) → is_fresh v clock port (held_after_selection v clock port h)
+pub is_fresh-held_after : (v : Vector) (clock port : ℕ) (h : Held)
+    → is_fresh v clock port (held_after_selection v clock port h)
     ≡ false
 is_fresh-held_after v clock port h =
     elim (cases_Bool (is_master (chosen_role v clock port h))) [
@@ -66,7 +69,8 @@ is_fresh-held_after v clock port h =
 
 -- a port then holds as received what it received before, or nothing
 pub received-held_after : (v : Vector) (clock port : ℕ) (h : Held)
-    → (received (held_after_selection v clock port h) ≡ received h) ⊎ (received (held_after_selection v clock port h) ≡ None)
+    → (received (held_after_selection v clock port h) ≡ received h)
+      ⊎ (received (held_after_selection v clock port h) ≡ None)
 received-held_after v clock port h =
     elim (cases_Bool (is_master (chosen_role v clock port h))) [
       | inl master ↦ inr (ap received (held_after-master v clock port h master))

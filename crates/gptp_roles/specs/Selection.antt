@@ -28,13 +28,15 @@ pub record IsSelection (identity : ℕ) (before : List Held) (s : Selected) (aft
 pub record SelectionIsAtRest (identity : ℕ) (before : List Held) (chosen : Vector) : Type 0 where
   pub placed : ArePlaced 1 (each_port (held_after_selection chosen (clock_of identity)) before)
   pub is_chosen : IsChosen identity (each_port (held_after_selection chosen (clock_of identity)) before) chosen
-  pub roles : each_port (chosen_role chosen (clock_of identity)) (each_port (held_after_selection chosen (clock_of identity)) before)
+  pub roles : each_port (chosen_role chosen (clock_of identity))
+      (each_port (held_after_selection chosen (clock_of identity)) before)
       ≡ each_port (chosen_role chosen (clock_of identity)) before
   pub held : each_port (held_after_selection chosen (clock_of identity))
       (each_port (held_after_selection chosen (clock_of identity)) before)
       ≡ each_port (held_after_selection chosen (clock_of identity)) before
   pub fresh : AllByRecursion (λ b. b ≡ false)
-      (each_port (is_fresh chosen (clock_of identity)) (each_port (held_after_selection chosen (clock_of identity)) before))
+      (each_port (is_fresh chosen (clock_of identity))
+        (each_port (held_after_selection chosen (clock_of identity)) before))
 
 -- how many ports are Slave
 abbrev pub slaves : List Role → ℕ

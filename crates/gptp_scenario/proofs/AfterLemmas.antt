@@ -52,7 +52,8 @@ up_fits : (test up : Bool) (w : LinkSpec) → Fit w.bounds → Fit (cond test (w
 up_fits true up w fit = fit
 up_fits false up w fit = fit
 
-set_fits : (test : Bool) (least greatest loss : ℕ) (w : LinkSpec) → Fit (member_with_bounds least greatest loss w).bounds
+set_fits : (test : Bool) (least greatest loss : ℕ) (w : LinkSpec)
+    → Fit (member_with_bounds least greatest loss w).bounds
     → Fit w.bounds → Fit (cond test (member_with_bounds least greatest loss w) w).bounds
 set_fits true least greatest loss w set fit = set
 set_fits false least greatest loss w set fit = fit
@@ -75,7 +76,8 @@ acted_fits (acts.Expire clock timer) w is fit = fit
 acted_fits (acts.Change change) w is fit = changed_fits change w is fit
 
 -- the bounds of a link stay ones that it can have
-pub after_fits : (events : List Timed) (w : LinkSpec) → AreAllowed events → Fit w.bounds → Fit (link_after events w).bounds
+pub after_fits : (events : List Timed) (w : LinkSpec) → AreAllowed events → Fit w.bounds
+    → Fit (link_after events w).bounds
 after_fits [] w allowed fit = fit
 after_fits (t ∷ ts) w allowed fit =
     after_fits ts (link_acted t.act w) (λ place timed there. allowed (suc place) timed there)

@@ -12,4 +12,5 @@ DelayFitsInterval most act = ⊤
 
 -- so it is in each act of a list
 abbrev pub ArePromptActs : ℕ → List Timed → Type 0
-ArePromptActs most acts = (place : ℕ) (timed : Timed) → slice_get acts place ≡ Some timed → DelayFitsInterval most timed.act
+ArePromptActs most acts = (place : ℕ) (timed : Timed) → slice_get acts place ≡ Some timed
+    → DelayFitsInterval most timed.act

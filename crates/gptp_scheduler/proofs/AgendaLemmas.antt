@@ -35,7 +35,8 @@ module _ {T : Type 0} where
   lives-number n e is = grind (arith, nat_tests)
 
   -- what stands at a key has the number, where that entry_lives
-  pub lives-held : (n : ℕ) (o : Option (AgendaEntry T)) (e : AgendaEntry T) → o ≡ Some e → entry_lives n o ≡ true → e.number ≡ n
+  pub lives-held : (n : ℕ) (o : Option (AgendaEntry T)) (e : AgendaEntry T) → o ≡ Some e → entry_lives n o ≡ true
+      → e.number ≡ n
   lives-held n o e is living = lives-number n e (sym (ap (entry_lives n) is) ∙ living)
 
   pub lives-some : (n : ℕ) (o : Option (AgendaEntry T)) → entry_lives n o ≡ true → (e : AgendaEntry T) × (o ≡ Some e)
@@ -57,7 +58,8 @@ module _ {T : Type 0} where
         ∙ ap (living e.number) is ∙ living-own e
 
     -- what stands at the key that a number was filed with
-    pub entry-filed : (n key : ℕ) → IsInSlab (filed_at n key) fs → entry_at (listed nodes fs) n ≡ living n (held nodes key)
+    pub entry-filed : (n key : ℕ) → IsInSlab (filed_at n key) fs
+      → entry_at (listed nodes fs) n ≡ living n (held nodes key)
     entry-filed n key at = entry-found nodes 0 fs next n key agenda.filed.rising at
 
     pub entry-filed-node : (n key : ℕ) (e : Node T) → IsInSlab (filed_at n key) fs → nodes key ≡ Some e → e.number ≡ n
@@ -114,7 +116,8 @@ module _ {T : Type 0} where
     pub rise : RiseFrom 0 (listed nodes fs) next
     rise = listed-rise nodes 0 fs next agenda.filed.rising
 
-    pub unique-held : (j k : ℕ) (d b : AgendaEntry T) → held nodes j ≡ Some d → held nodes k ≡ Some b → d.number ≡ b.number
+    pub unique-held : (j k : ℕ) (d b : AgendaEntry T) → held nodes j ≡ Some d → held nodes k ≡ Some b
+      → d.number ≡ b.number
         → j ≡ k
     unique-held j k d b at there same =
         let one = held-placed nodes j d at in let other = held-placed nodes k b there in

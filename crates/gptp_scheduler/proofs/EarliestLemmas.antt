@@ -227,7 +227,8 @@ module _ {T : Type 0} where
           (get_or_past ends slot no_ends past) some in cc)
     ]
 
-    pub wheel-known : (now : List Ends) → EntriesAreChained nodes now → length now ≡ length ends → IsWheel nodes base now
+    pub wheel-known : (now : List Ends) → EntriesAreChained nodes now → length now ≡ length ends
+      → IsWheel nodes base now
     wheel-known now chained len = record {
       chained = chained;
       made = λ k p at. let made = wheel.made k p at in omega arith;

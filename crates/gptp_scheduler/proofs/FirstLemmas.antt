@@ -8,7 +8,8 @@ use Rattle.gptp_scheduler.specs.Pending.{AgendaEntry, entry_at, IsFirst, IsNoEar
 
 module _ {T : Type 0} where
   -- what holds of all entries, or of each under its number, holds of the one that a number has
-  there-step : (P : AgendaEntry T → Type 0) (x : AgendaEntry T) (es : List (AgendaEntry T)) (n : ℕ) (e : AgendaEntry T) → All P (x ∷ es)
+  there-step : (P : AgendaEntry T → Type 0) (x : AgendaEntry T) (es : List (AgendaEntry T)) (n : ℕ) (e : AgendaEntry T)
+      → All P (x ∷ es)
       → entry_at (x ∷ es) n ≡ Some e → (entry_at es n ≡ Some e → P e × (e.number ≡ n)) → (t : Bool)
       → (x.number == n) ≡ t
       → P e × (e.number ≡ n)
@@ -19,7 +20,8 @@ module _ {T : Type 0} where
       (subst P head (All-head P x es all), ap (λ (y : AgendaEntry T). y.number) (sym head) ∙ same)
   there-step P x es n e all found ih false t = ih (rw t at found)
 
-  there : (P : AgendaEntry T → Type 0) (es : List (AgendaEntry T)) (n : ℕ) (e : AgendaEntry T) → All P es → entry_at es n ≡ Some e
+  there : (P : AgendaEntry T → Type 0) (es : List (AgendaEntry T)) (n : ℕ) (e : AgendaEntry T) → All P es
+      → entry_at es n ≡ Some e
       → P e × (e.number ≡ n)
   there P [] n e all found = absurd (grind (arith, found))
   there P (x ∷ es) n e all found =

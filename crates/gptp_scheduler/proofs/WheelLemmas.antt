@@ -338,7 +338,8 @@ module _ {T : Type 0} where
           ];
     }
 
-    module _ (came : Moves mid new key.place to) (last : EntriesAreChained new now) (len : length now ≡ length ends) where
+    module _ (came : Moves mid new key.place to) (last : EntriesAreChained new now)
+      (len : length now ≡ length ends) where
       new-key : placed_at new key.place ≡ Some (in_slot to p)
       new-key = came.moved ∙ ap (option_map (in_slot to)) mid-key
 
@@ -476,8 +477,10 @@ module _ {T : Type 0} where
         let within = place-within base one.0.time one.0.slot (wheel.places key one.0 one.1) in
         (one.0, one.1, omega arith)
 
-    pub earliest-left : (new : ℕ → Option (Node T)) (now : List Ends) (e : Node T) (gone : AgendaEntry T) → nodes key ≡ Some e
-        → TakesEntry nodes new key gone → IsWheel new base now → length now ≡ length ends → IsLeft new base e.time e.slot now
+    pub earliest-left : (new : ℕ → Option (Node T)) (now : List Ends) (e : Node T) (gone : AgendaEntry T)
+      → nodes key ≡ Some e
+        → TakesEntry nodes new key gone → IsWheel new base now → length now ≡ length ends
+        → IsLeft new base e.time e.slot now
     earliest-left new now e gone is takes after len = record {
       wheel = after;
       made = let made = wheel.made key (placed e) (held-node nodes key e is) in omega arith;

@@ -177,7 +177,8 @@ module _ (p : SettlingParams) (start : ℕ) (w : WorldState) (news : IsNews p st
 -- ---- the laws
 
 module _ {F : Type 0} (answers : Bounds → ℕ → F → Option ℕ → F → Type 0) where
-  idle_claimed : (p : SettlingParams) (time : ℕ) (change : Change) (fate fate_after : F) (w w' : WorldState) (done : Done)
+  idle_claimed : (p : SettlingParams) (time : ℕ) (change : Change) (fate fate_after : F) (w w' : WorldState)
+      (done : Done)
       → KeepsAll p w → IsIdle change (at_time time w) → SetsAnOctet (Changing change)
       → WasDone answers (record { at = time; act = Changing change }) fate fate_after w w' done → KeepsAll p w'
   idle_claimed p time change fate fate_after w w' done claim idle octet k =

@@ -35,7 +35,8 @@ record HasMeasuredAt (at : LinkPlace) (w : WorldState) : Type 0 where
   link : IsLinkOf at w
   measured : HasMeasured (link_setting at w link) (least_delay at w link) link.asking.state.peer.last
 
-ready_measured : (p : SettlingParams) (start : ℕ) (at : LinkPlace) (w : WorldState) → IsKnown p w → IsReadyBy p start at w
+ready_measured : (p : SettlingParams) (start : ℕ) (at : LinkPlace) (w : WorldState) → IsKnown p w
+    → IsReadyBy p start at w
     → start ≤ w.time → HasMeasuredAt at w
 ready_measured p start at w known (inl (first, (l, by))) late =
     record { link = l.link; measured = (first_full at first w l (omega (arith, by, late))).1 }
@@ -60,7 +61,8 @@ receiver_lives : (w : WorldState) (direction : Direction) (channel : Channel)
     → channel_is_used (live_stations w.stations) channel ≡ true → LivesSomewhere (receiver direction channel).clock w
 receiver_lives w direction channel used =
     let has = subst (λ (q : PortId). stations_have_clock (live_stations w.stations) q.clock ≡ true)
-    (sender_opposite direction channel) (sender_lives (live_stations w.stations) (other_direction direction) channel used) in
+    (sender_opposite direction channel) (sender_lives (live_stations w.stations)
+      (other_direction direction) channel used) in
     let (s, member, same) = clock_lives w.stations (receiver direction channel).clock has in
     let there = live_from w.stations s member in
     record {
@@ -77,7 +79,8 @@ module _ (p : SettlingParams) (start : ℕ) (w : WorldState) (is : IsWorld p w) 
     (quiet : HaveQuietLinks p.params w) (late : start ≤ w.time) (place : ℕ) (station : Station)
     (here : slice_get w.stations place ≡ Some station) (live : station.live ≡ true) where
   -- where a way from a port of the system stands
-  abbrev place_of_way : (n : ℕ) (to : PortIdentity) → IsWay w (port_identity_number (own station.system n)) to → LinkPlace
+  abbrev place_of_way : (n : ℕ) (to : PortIdentity) → IsWay w (port_identity_number (own station.system n)) to
+      → LinkPlace
   place_of_way n to way = record {
     link = way.link;
     direction = way.direction;

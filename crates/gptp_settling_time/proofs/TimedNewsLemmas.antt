@@ -44,7 +44,8 @@ used_within systems (first ∷ channels) bound each =
     by (channel_is_used systems first) refl (used_within systems channels bound (λ link. each (suc link)))
   where
     by : (used : Bool) → channel_is_used systems first ≡ used → greatest_channel_delay systems channels ≤ bound
-        → (if used then max first.bounds.max (greatest_channel_delay systems channels) else greatest_channel_delay systems channels)
+        → (if used then max first.bounds.max (greatest_channel_delay systems channels) else greatest_channel_delay
+          systems channels)
         ≤ bound
     by true is later = let one = each zero first refl is in omega (arith, one, later)
     by false is later = later
@@ -62,7 +63,8 @@ abbrev pub IsOldBy : SettlingParams → ℕ → WorldState → Type 0
 IsOldBy p settled w = w.last_change + largest_interval p ≤ settled
 
 -- ports are capable by then
-starts_before : (p : SettlingParams) (m start settled : ℕ) (w : WorldState) → CanSettle p m start settled w → start ≤ settled
+starts_before : (p : SettlingParams) (m start settled : ℕ) (w : WorldState) → CanSettle p m start settled w
+    → start ≤ settled
 starts_before p m start settled w can = by can.settles
   where
     by : SettlesBy p (paths_with m w) start settled → start ≤ settled
@@ -70,7 +72,8 @@ starts_before p m start settled w can = by can.settles
     by (inr (short, late)) = omega (arith, late)
 
 -- a world that settles later on in the same network settles so now
-can_back : (p : SettlingParams) (m start settled : ℕ) (w w' : WorldState) → KeepsNetwork w w' → CanSettle p m start settled w'
+can_back : (p : SettlingParams) (m start settled : ℕ) (w w' : WorldState) → KeepsNetwork w w'
+    → CanSettle p m start settled w'
     → CanSettle p m start settled w
 can_back p m start settled w w' k can = record {
   quiet = links_quiet w' w (kept_back w w' k) p.params can.quiet;
@@ -80,7 +83,8 @@ can_back p m start settled w w' k can = record {
 }
 
 -- so it is at another time
-can_earlier : (p : SettlingParams) (m start settled : ℕ) (w : WorldState) (time : ℕ) → CanSettle p m start settled (at time w)
+can_earlier : (p : SettlingParams) (m start settled : ℕ) (w : WorldState) (time : ℕ)
+    → CanSettle p m start settled (at time w)
     → CanSettle p m start settled w
 can_earlier p m start settled w time can =
     record { quiet = can.quiet; bounded = can.bounded; settles = can.settles }

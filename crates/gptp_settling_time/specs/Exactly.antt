@@ -92,7 +92,8 @@ StartsAreExact {F} answers = (n : NetworkState) (settled until m : ℕ) (told : 
 -- such is one in which a link comes up between live systems, where all that it holds is sound and it has been left
 -- alone for L + 5 announce intervals
 abbrev pub LinksUpAreExact : {F : Type 0} → (Bounds → ℕ → F → Option ℕ → F → Type 0) → Type 0
-LinksUpAreExact {F} answers = (p : SettlingParams) (number port time settled until m : ℕ) (told : List Told) (timed : Timed)
+LinksUpAreExact {F} answers = (p : SettlingParams) (number port time settled until m : ℕ) (told : List Told)
+    (timed : Timed)
     (fate drawn later fate_after : F) (w between now w' : WorldState) (made done : Done)
     → KeepsAll p w → IsSoundWorld w → w.last_change + capability_span p ≤ time
     → WasDone answers (record { at = time; act = Changing (LinkUp number port) }) fate drawn w between made

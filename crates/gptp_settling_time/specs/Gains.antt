@@ -24,7 +24,8 @@ use Rattle.gptp_model.specs.World.{port_id}
 
 -- after these events the link at the port is down
 abbrev pub IsDownAfter : NetworkState → List Timed → PortId → Type 0
-IsDownAfter n events port = (place : ℕ) (v : LinkSpec) → slice_get n.links place ≡ Some v → IsEnd port (link_after events v)
+IsDownAfter n events port = (place : ℕ) (v : LinkSpec) → slice_get n.links place ≡ Some v
+    → IsEnd port (link_after events v)
     → (link_after events v).up ≡ false
 
 -- the system with this clock lives after these events, and this priority1 makes its identity no worse
@@ -52,7 +53,8 @@ TakesNothing n events (Changing change) = IsGainAfter n events change
 
 -- after these events the link at the port is up
 abbrev pub IsUpAfter : NetworkState → List Timed → PortId → Type 0
-IsUpAfter n events port = (place : ℕ) (v : LinkSpec) → slice_get n.links place ≡ Some v → IsEnd port (link_after events v)
+IsUpAfter n events port = (place : ℕ) (v : LinkSpec) → slice_get n.links place ≡ Some v
+    → IsEnd port (link_after events v)
     → (link_after events v).up ≡ true
 
 -- The change finds all as it would make it: a link goes down that is down, or comes up that is up; a system fails that
@@ -113,7 +115,8 @@ exchanged_from p paths time =
 
 -- both ends of the link at the port live after these events
 abbrev pub JoinsLive : NetworkState → List Timed → PortId → Type 0
-JoinsLive n events port = (place : ℕ) (v : LinkSpec) → slice_get n.links place ≡ Some v → IsEnd port (link_after events v)
+JoinsLive n events port = (place : ℕ) (v : LinkSpec) → slice_get n.links place ≡ Some v
+    → IsEnd port (link_after events v)
     → IsLive n.systems events (link_after events v).a.clock × IsLive n.systems events (link_after events v).b.clock
 
 -- These changes leave other ports as capable as they are: a link between live systems that comes up, whose own two

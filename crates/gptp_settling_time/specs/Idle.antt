@@ -46,7 +46,8 @@ IsIdle (Inject number port octets) w = IsDownAt (port_id number port) w
 
 -- what is claimed of a world since news stays as it was, with the start that it had
 abbrev pub IdlesStayNews : {F : Type 0} → (Bounds → ℕ → F → Option ℕ → F → Type 0) → Type 0
-IdlesStayNews {F} answers = (p : SettlingParams) (start time : ℕ) (change : Change) (fate fate_after : F) (w w' : WorldState)
+IdlesStayNews {F} answers = (p : SettlingParams) (start time : ℕ) (change : Change) (fate fate_after : F)
+    (w w' : WorldState)
     (done : Done)
     → KeepsAll p w → IsNews p start w → IsIdle change (at_time time w) → SetsAnOctet (Changing change)
     → WasDone answers (record { at = time; act = Changing change }) fate fate_after w w' done

@@ -38,7 +38,8 @@ span_within timeout largest log least most k =
     (omega arith, omega arith)
 
 -- what a port of a network received stays there at most the longest span of the network
-pub span_longest : (p : SettlingParams) (log : ℤ) → IsLog p.largest → span_by p.params.timeout p.largest log ≤ longest_span p
+pub span_longest : (p : SettlingParams) (log : ℤ) → IsLog p.largest
+    → span_by p.params.timeout p.largest log ≤ longest_span p
 span_longest p log k =
     mul-le-mul_left p.params.timeout
     (interval_rises (kept_log p.largest log) p.largest (kept_is_log p.largest log k).most)

@@ -20,7 +20,8 @@ use Rattle.gptp_sync_machine.specs.Example.{SyncAndFollowUp, at_bridge, at_slave
 use Rattle.gptp_sync_machine.proofs.RunLemmas.{runs_keep_inv}
 use Rattle.gptp_sync_machine.proofs.TellingLemmas.{parent_tells_right, root_tells}
 
-module _ (k : FollowerSetting) (speaks : List ℕ → Message → Type 0) (x : SyncAndFollowUp) (order : (parent_link k).least ≤ (parent_link k).most)
+module _ (k : FollowerSetting) (speaks : List ℕ → Message → Type 0) (x : SyncAndFollowUp)
+  (order : (parent_link k).least ≤ (parent_link k).most)
     (one_sync : IsOneMessage speaks x.sync (Sync k.parent x.sequence))
     (one_follow_up : IsOneMessage speaks x.follow_up (FollowUp k.parent x.sequence x.told)) where
   -- the parent sends both
@@ -37,12 +38,14 @@ module _ (k : FollowerSetting) (speaks : List ℕ → Message → Type 0) (x : S
     right = right;
   }
     where
-      long : (f : LaneFrame) → In f (sync_frame k x ∷ example_follow_up_frame k x ∷ []) → x.sent + (parent_link k).least ≤ f.due
+      long : (f : LaneFrame) → In f (sync_frame k x ∷ example_follow_up_frame k x ∷ [])
+        → x.sent + (parent_link k).least ≤ f.due
       long f (inl e) = let is = ap (λ (g : LaneFrame). g.due) e in omega (arith, is)
       long f (inr (inl e)) = let is = ap (λ (g : LaneFrame). g.due) e in omega (arith, is, order)
       long f (inr (inr at)) = absurd at
 
-      short : (f : LaneFrame) → In f (sync_frame k x ∷ example_follow_up_frame k x ∷ []) → f.due ≤ x.sent + (parent_link k).most
+      short : (f : LaneFrame) → In f (sync_frame k x ∷ example_follow_up_frame k x ∷ [])
+        → f.due ≤ x.sent + (parent_link k).most
       short f (inl e) = let is = ap (λ (g : LaneFrame). g.due) e in omega (arith, is, order)
       short f (inr (inl e)) = let is = ap (λ (g : LaneFrame). g.due) e in omega (arith, is)
       short f (inr (inr at)) = absurd at
@@ -56,7 +59,8 @@ module _ (k : FollowerSetting) (speaks : List ℕ → Message → Type 0) (x : S
   hears_sync = record {
     nothing = λ none. absurd (none (Sync k.parent x.sequence) one_sync.said);
     sync = λ sequence says. record {
-      kept = ap (λ n. Some (kept_at_ingress k.parent n (own_clock k (came k x)))) (sym (same sequence (one_sync.only _ says)));
+      kept = ap (λ n. Some (kept_at_ingress k.parent n (own_clock k (came k x))))
+        (sym (same sequence (one_sync.only _ says)));
       still = record { known = refl; relay = refl };
     };
     follow_up = λ sequence example_told ingress says is. absurd (other sequence example_told (one_sync.only _ says));
@@ -66,7 +70,8 @@ module _ (k : FollowerSetting) (speaks : List ℕ → Message → Type 0) (x : S
       same : (sequence : ℕ) → Sync k.parent sequence ≡ Sync k.parent x.sequence → sequence ≡ x.sequence
       same sequence e = cc
 
-      other : (sequence : ℕ) (example_told : Relayed) → FollowUp k.parent sequence example_told ≡ Sync k.parent x.sequence → ⊥
+      other : (sequence : ℕ) (example_told : Relayed)
+        → FollowUp k.parent sequence example_told ≡ Sync k.parent x.sequence → ⊥
       other sequence example_told e = absurd cc
 
   -- and the Follow_Up
@@ -86,14 +91,16 @@ module _ (k : FollowerSetting) (speaks : List ℕ → Message → Type 0) (x : S
       other : (sequence : ℕ) → Sync k.parent sequence ≡ FollowUp k.parent x.sequence x.told → ⊥
       other sequence e = absurd cc
 
-      same : (sequence : ℕ) (example_told : Relayed) → FollowUp k.parent sequence example_told ≡ FollowUp k.parent x.sequence x.told
+      same : (sequence : ℕ) (example_told : Relayed)
+        → FollowUp k.parent sequence example_told ≡ FollowUp k.parent x.sequence x.told
           → example_told ≡ x.told
       same sequence example_told e = cc
 
       came_then : (sequence : ℕ) (ingress : ℤ) → Some (sync k x) ≡ Some (kept_at_ingress k.parent sequence ingress)
           → own_clock k (came k x) ≡ ingress
       came_then sequence ingress e =
-          let one : sync k x ≡ kept_at_ingress k.parent sequence ingress = cc in ap (λ (s : FollowerSync). s.ingress) one
+          let one : sync k x ≡ kept_at_ingress k.parent sequence ingress = cc
+              in ap (λ (s : FollowerSync). s.ingress) one
 
       anew : (i : SyncInfo) (t : ℕ) → Some (info k x) ≡ Some i → Some (example_due k x) ≡ Some t
           → (heard k x ≤ t) × (t ≤ heard k x + k.way.residence)

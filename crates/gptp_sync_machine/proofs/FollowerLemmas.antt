@@ -53,11 +53,13 @@ module _ (k : FollowerSetting) (says : List ℕ → Message → Type 0) where
   same_kept a now now' e is = subst (λ n. IsKept k a n) (sym e) is
 
   -- what is in flight after an act
-  flows_in : (a : Option Arrival) (lane lane' : List LaneFrame) → lane' ≡ lane → FramesFlow k says a lane → FramesFlow k says a lane'
+  flows_in : (a : Option Arrival) (lane lane' : List LaneFrame) → lane' ≡ lane → FramesFlow k says a lane
+      → FramesFlow k says a lane'
   flows_in a lane lane' e flows = subst (λ fs. FramesFlow k says a fs) (sym e) flows
 
   -- the oldest frame arrives
-  frame_arrived : (s s' : Follower) (act : FrameArrives k says s s') → FollowerInvariant k says s → FollowerInvariant k says s'
+  frame_arrived : (s s' : Follower) (act : FrameArrives k says s s') → FollowerInvariant k says s
+      → FollowerInvariant k says s'
   frame_arrived s s' act inv =
       by_frame inv.arrival inv.is_kept
       (subst (λ fs. FramesFlow k says inv.arrival fs) act.was inv.flows)
@@ -95,7 +97,8 @@ module _ (k : FollowerSetting) (says : List ℕ → Message → Type 0) where
           known_told s s' sequence told a (subst (λ t. TellsRight k (Some a) sequence t told) act.now is) knows
       told_or_none a sequence told is (inr none) = known_none s' none
 
-      by_frame : (a : Option Arrival) → IsKept k a s.kept → FramesFlow k says a (act.front ∷ act.rest) → FollowerInvariant k says s'
+      by_frame : (a : Option Arrival) → IsKept k a s.kept → FramesFlow k says a (act.front ∷ act.rest)
+        → FollowerInvariant k says s'
       by_frame a is (inl (old, behind)) = unkept behind (anyway old act.hears.anyway)
       by_frame a is (inr (inl (mute, behind))) = unmoved a is mute behind
       by_frame a is (inr (inr (inl (sequence, said, behind)))) =

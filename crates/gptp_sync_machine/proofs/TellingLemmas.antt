@@ -25,7 +25,8 @@ root_tells k stamp rest sent first split =
     (root_tells_right k.way k.phase stamp rest sent split)
 
 -- what comes to those that follow the system when it is right there was heard when what comes is right here
-parents_time : (k k' : FollowerSetting) (time : ℕ) → IsSetting k' → IsParentOf k k' → from k' ≤ time + (parent_link k').most
+parents_time : (k k' : FollowerSetting) (time : ℕ) → IsSetting k' → IsParentOf k k'
+    → from k' ≤ time + (parent_link k').most
     → from k + k.way.residence ≤ time
 parents_time k k' time is' parent late =
     let before : from k' ≡ k.settled + suc (suc k.place) * (k.longest + k.way.residence) = rw
@@ -59,7 +60,8 @@ module _ (k : FollowerSetting) (says : List ℕ → Message → Type 0) where
   info_is info due held i = ap (λ t. info_of (at_rate (follow_up_told info) held) t) (sym i.ingress)
 
   -- what is known and sent on is right as it is sent
-  pub relay_tells_right : (s : Follower) (info : SyncInfo) (rate delay held : ℤ) → IsSetting k → FollowerInvariant k says s
+  pub relay_tells_right : (s : Follower) (info : SyncInfo) (rate delay held : ℤ) → IsSetting k
+      → FollowerInvariant k says s
       → s.known ≡ Some info → s.relay ≡ Some s.time → from k + k.way.residence ≤ s.time
       → IsMeasuredAt k.way k.place rate delay → IsHeldAt k.way k.place info.rate rate held
       → let used = record info { rate = held } in
@@ -71,7 +73,8 @@ module _ (k : FollowerSetting) (says : List ℕ → Message → Type 0) where
       subst (λ (x : SyncInfo). FollowUpIsRight k.way k.phase (suc k.place)
       (relayed x (bridge x delay rate (own_clock k s.time))) s.time) (info_is info s.time held i) right
 
-  pub parents_numbers_fit : (s : Follower) (info : SyncInfo) (rate delay held : ℤ) → IsSetting k → FollowerInvariant k says s
+  pub parents_numbers_fit : (s : Follower) (info : SyncInfo) (rate delay held : ℤ) → IsSetting k
+      → FollowerInvariant k says s
       → s.known ≡ Some info → s.relay ≡ Some s.time → from k + k.way.residence ≤ s.time
       → IsMeasuredAt k.way k.place rate delay → IsHeldAt k.way k.place info.rate rate held
       → most_correction_at k.way (suc k.place) < 2 ^ 63
@@ -131,7 +134,8 @@ module _ (k : FollowerSetting) (says : List ℕ → Message → Type 0) where
           let carried = t.carried in
           let right = offset_is_right k.way k.phase k.place told t.sent t.came s.time rate delay held
           (on_way k told t.sent t.came s.time is carried
-          (subst (λ (m : Relayed). FollowUpIsRight k.way k.phase k.place m t.sent) e t.right)) measured held_at carried.behind
+          (subst (λ (m : Relayed). FollowUpIsRight k.way k.phase k.place m t.sent) e t.right)) measured held_at
+            carried.behind
           carried.short in
           subst (λ x. AreWithin (time_error_at k.way (suc k.place))
           (x -ℤ sync_received (info_of (at_rate told held) x) delay rate)
@@ -159,8 +163,10 @@ module _ (k : FollowerSetting) (says : List ℕ → Message → Type 0) where
           told_is : FollowUp k.parent sequence' told' ≡ FollowUp source sequence told → told' ≡ told
           told_is e = cc
 
-          ingress_is : Some (kept_at_ingress source sequence ingress) ≡ Some (kept_at_ingress k.parent a.sequence (own_clock k a.came))
+          ingress_is : Some (kept_at_ingress source sequence ingress) ≡ Some
+            (kept_at_ingress k.parent a.sequence (own_clock k a.came))
               → ingress ≡ own_clock k a.came
           ingress_is e =
-              let same : kept_at_ingress source sequence ingress ≡ kept_at_ingress k.parent a.sequence (own_clock k a.came) = cc in
+              let same : kept_at_ingress source sequence ingress ≡ kept_at_ingress k.parent a.sequence
+                  (own_clock k a.came) = cc in
               ap (λ (sync : FollowerSync). sync.ingress) same

@@ -41,10 +41,13 @@ pub record Knows (k : FollowerSetting) (told : Relayed) (ingress : ℤ) (s s' : 
   pub known : s'.known ≡ Some (info_of told ingress)
   pub anew : KnowsAnew k s s'
 
--- What the system makes of octets that it hears. Nothing, where they are neither message. A Sync of the parent is kept_at_ingress.
--- A Follow_Up of the parent with the number of the Sync that is kept_at_ingress is known; or, where a number doesn't fit, nothing
+-- What the system makes of octets that it hears. Nothing, where they are neither message. A Sync of the parent is
+-- kept_at_ingress.
+-- A Follow_Up of the parent with the number of the Sync that is kept_at_ingress is known; or, where a number doesn't
+-- fit, nothing
 -- is. Whatever they are, what is known stays, or is to be sent on in time.
-pub record FollowerHears (k : FollowerSetting) (says : List ℕ → Message → Type 0) (octets : List ℕ) (s s' : Follower) : Type 0 where
+pub record FollowerHears (k : FollowerSetting) (says : List ℕ → Message → Type 0) (octets : List ℕ)
+  (s s' : Follower) : Type 0 where
   pub nothing : ((m : Message) → says octets m → ⊥) → IsUnmoved s s'
   pub sync : (sequence : ℕ) → says octets (Sync k.parent sequence) → KeepsSync k sequence s s'
   pub follow_up : (sequence : ℕ) (told : Relayed) (ingress : ℤ) → says octets (FollowUp k.parent sequence told)

@@ -31,15 +31,18 @@ pub record IsParentOf (k k' : FollowerSetting) : Type 0 where
 module _ (says : List ℕ → Message → Type 0) where
   -- every act keeps the invariant
   abbrev pub FollowerInvariantIsKept : Type 0
-  FollowerInvariantIsKept = (k : FollowerSetting) (s s' : Follower) → FollowerActs k says s s' → FollowerInvariant k says s → FollowerInvariant k says s'
+  FollowerInvariantIsKept = (k : FollowerSetting) (s s' : Follower) → FollowerActs k says s s'
+      → FollowerInvariant k says s → FollowerInvariant k says s'
 
   -- time that passes keeps it
   abbrev pub FollowerInvariantHoldsLater : Type 0
-  FollowerInvariantHoldsLater = (k : FollowerSetting) (s s' : Follower) → FollowerWaits s s' → FollowerInvariant k says s → FollowerInvariant k says s'
+  FollowerInvariantHoldsLater = (k : FollowerSetting) (s s' : Follower) → FollowerWaits s s'
+      → FollowerInvariant k says s → FollowerInvariant k says s'
 
   -- it holds as the network becomes settled
   abbrev pub FollowerInvariantBegins : Type 0
-  FollowerInvariantBegins = (k : FollowerSetting) (s : Follower) → IsSetting k → IsJustSettled k s → FollowerInvariant k says s
+  FollowerInvariantBegins = (k : FollowerSetting) (s : Follower) → IsSetting k → IsJustSettled k s
+      → FollowerInvariant k says s
 
   -- What a bridge sends on is right for those that follow it, where it may come to them after what comes is right. So
   -- they have what `ParentTells` asks for.
@@ -63,10 +66,12 @@ module _ (says : List ℕ → Message → Type 0) where
       let hop = bridge used delay rate (own_clock k s.time) in
       BridgeFits hop (carried_on (carried used) hop)
 
-  -- At each Follow_Up that belongs to the Sync that is kept_at_ingress, from when on what comes is right, the offset that is
+  -- At each Follow_Up that belongs to the Sync that is kept_at_ingress, from when on what comes is right, the offset
+  -- that is
   -- computed is within the time error of the system of its clock less the root's.
   abbrev pub OffsetIsExact : Type 0
-  OffsetIsExact = (k : FollowerSetting) (s : Follower) (front : LaneFrame) (rest : List LaneFrame) (source : PortIdentity)
+  OffsetIsExact = (k : FollowerSetting) (s : Follower) (front : LaneFrame) (rest : List LaneFrame)
+      (source : PortIdentity)
       (sequence : ℕ) (told : Relayed) (ingress rate delay held : ℤ)
       → IsSetting k → FollowerInvariant k says s
       → s.lane ≡ front ∷ rest → front.due ≡ s.time → from k ≤ s.time

@@ -29,7 +29,8 @@ use Rattle.gptp_system.proofs.SentLemmas.{announcements_announce}
 
 -- ---- kinds
 
-announces_only : (body : Body) (kind : Kind) → message_kind body ≡ kind → (kind ≡ Announcing → ⊥) → is_announce body ≡ false
+announces_only : (body : Body) (kind : Kind) → message_kind body ≡ kind → (kind ≡ Announcing → ⊥)
+    → is_announce body ≡ false
 announces_only (bodies.Announce announce) kind is other = absurd (other (sym is))
 announces_only bodies.Sync kind is other = refl
 announces_only (bodies.FollowUp origin rate) kind is other = refl

@@ -276,7 +276,8 @@ selects_sound now s t u sends m k =
       rest = λ h r. choosing_rest v now t (m.held h) k.is_chosen;
     })
 
-pub selects_steady : (now : ℕ) (s t u : SystemState) (sends : List Sending) → TimersChanged s t → t.identity ≡ s.identity
+pub selects_steady : (now : ℕ) (s t u : SystemState) (sends : List Sending) → TimersChanged s t
+    → t.identity ≡ s.identity
     → Selects now t u sends
     → Steady s u
 selects_steady now s t u sends m same k =

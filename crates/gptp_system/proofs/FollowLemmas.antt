@@ -43,7 +43,8 @@ received_there hs i h r there holds = place_of hs i ∙ ap (option_and_then rece
 pub follows : (s : SystemState) → AreHeld s → IsAtRest s → SystemIsRoot s ⊎ SystemFollowsPort s
 follows s a r = go r.is_chosen.member
   where
-    go : (r.vector ≡ system_vector s.identity) ⊎ IsIn r.vector (path_vectors s.held) → SystemIsRoot s ⊎ SystemFollowsPort s
+    go : (r.vector ≡ system_vector s.identity) ⊎ IsIn r.vector (path_vectors s.held)
+      → SystemIsRoot s ⊎ SystemFollowsPort s
     go (inl own_one) =
         let slave : s.slave ≡ None = r.slave ∙ ap slave_port own_one in
         inl (record {

@@ -157,7 +157,8 @@ timer_covers timers.Sync s other off = (off, off)
 timer_covers timers.Relay s other off = (off, off)
 timer_covers timers.Lapse s other off = (off, not_lapse other off)
 
-pub timer_touches_these : (timer : Timer) (now : ℕ) (s s' : SystemState) (sends : List Sending) (touched : TimersChanged)
+pub timer_touches_these : (timer : Timer) (now : ℕ) (s s' : SystemState) (sends : List Sending)
+    (touched : TimersChanged)
     → IsTimerOf s timer → TimerExpires timer now s s' sends → touched ≡ timer_touches timer s
     → Touches (Expires timer) touched s s'
 timer_touches_these timer now s s' sends touched of k are =

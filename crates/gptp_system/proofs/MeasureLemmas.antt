@@ -126,7 +126,8 @@ turns_and_asks p step now s s' sends k i q' there =
     ask x = part_asked s now (λ y. y) x
 
     asks_same : (q : Port)
-        → measure_at (asking (local_time k.between now) (now + interval_of k.between.params.pdelay) q) ≡ ask (measure_at q)
+        → measure_at (asking (local_time k.between now) (now + interval_of k.between.params.pdelay) q) ≡ ask
+          (measure_at q)
     asks_same q = rw (kept.phase, kept.drift, kept.params) refl
 
     both : Parts (λ n x. only_at p ask n (only_at p (part_stepped step) n x)) s s'
@@ -151,7 +152,8 @@ hears_announce : (p : ℕ) (a : AnnounceView) (now : ℕ) (s s' : SystemState) (
 hears_announce p a now s s' sends answer (inl k) = becomes (λ n x. x) s s s' sends (still_ports s s refl) k.becomes
 hears_announce p a now s s' sends answer (inr (inl k)) =
     becomes (λ n x. x) s s s' sends (still_ports s s refl) k.becomes
-hears_announce p a now s s' sends answer (inr (inr k)) = go (replaces_held (comparison (held_at s p) (own s p) a)) k.selects
+hears_announce p a now s s' sends answer (inr (inr k)) = go
+    (replaces_held (comparison (held_at s p) (own s p) a)) k.selects
   where
     go : (b : Bool) → SelectsIf b now (compared p a now s) s' sends → Still s s'
     go true h = selects_parts now (compared p a now s) s' sends h
@@ -204,13 +206,15 @@ syncs_if false now s s' sends k =
 relays_by : (b : Bool) (info : SyncInfo) (now : ℕ) (s s' : SystemState) (sends : List Sending)
     → RelaysBy b info now s s' sends → Still s s'
 relays_by true info now s s' sends k = tells_on s (timer_stopped s) s' (still_ports s (timer_stopped s) refl) k.state
-relays_by false info now s s' sends (inl k) = tells_on s (timer_stopped s) s' (still_ports s (timer_stopped s) refl) k.state
+relays_by false info now s s' sends (inl k) = tells_on s (timer_stopped s) s'
+    (still_ports s (timer_stopped s) refl) k.state
 relays_by false info now s s' sends (inr k) =
     becomes (λ n x. x) s (timer_stopped s) s' sends (still_ports s (timer_stopped s) refl) k.becomes
 
 relays_if : (known : Option SyncInfo) (now : ℕ) (s s' : SystemState) (sends : List Sending)
     → RelaysIf known now s s' sends → Still s s'
-relays_if None now s s' sends k = becomes (λ n x. x) s (timer_stopped s) s' sends (still_ports s (timer_stopped s) refl) k
+relays_if None now s s' sends k = becomes (λ n x. x) s (timer_stopped s) s' sends
+    (still_ports s (timer_stopped s) refl) k
 relays_if (Some info) now s s' sends k = relays_by (has_sync_timeout s.params) info now s s' sends k
 
 -- ---- all steps

@@ -202,7 +202,8 @@ turned_mids p step now s shown is = go (number s.ports p) refl is
         here_mid n h mid true on same showing new = inl (same, showing.off (turned_from step q e on), new)
         here_mid n h mid false off same showing new = inl (same, new)
 
-        other_mid : (n : ℕ) (h mid : Held) (b : Bool) → (n ≢ p) → mid ≡ h → PortHoldsInTouch (clock s) n (turn_of p b) now h mid
+        other_mid : (n : ℕ) (h mid : Held) (b : Bool) → (n ≢ p) → mid ≡ h
+          → PortHoldsInTouch (clock s) n (turn_of p b) now h mid
         other_mid n h mid true elsewhere old = inr (elsewhere, old)
         other_mid n h mid false elsewhere old = inr (elsewhere, old)
 

@@ -217,7 +217,8 @@ hears_announce : (p : ℕ) (a : AnnounceView) (now : ℕ) (s s' : SystemState) (
     → HearsMessage p (messages.Announce a) now s s' sends answer → Goes reaches.All is_selected s s' sends
 hears_announce p a now s s' sends answer (inl k) = rests reaches.All is_selected s s' sends k.becomes
 hears_announce p a now s s' sends answer (inr (inl k)) = rests reaches.All is_selected s s' sends k.becomes
-hears_announce p a now s s' sends answer (inr (inr k)) = go (replaces_held (comparison (held_at s p) (own s p) a)) k.selects
+hears_announce p a now s s' sends answer (inr (inr k)) = go
+    (replaces_held (comparison (held_at s p) (own s p) a)) k.selects
   where
     go : (b : Bool) → SelectsIf b now (compared p a now s) s' sends → Goes reaches.All is_selected s s' sends
     go true h =

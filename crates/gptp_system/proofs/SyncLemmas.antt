@@ -16,7 +16,8 @@ use Rattle.gptp_system.specs.State.{SystemState, is_capable_at, is_mine}
 use Rattle.gptp_system.specs.Syncing.{counting, counted_by_rates, sync_of, follow_up_of, syncs, telling, delay_at, root_rate_at, said_on, offset_of, HearsFollowUp, IsOffset, KnowsBy, OffsetFits}
 
 -- ports keep their places
-pub length-counted : (hs : List Held) (qs : List Port) → length hs ≤ length qs → length (counted_by_rates hs qs) ≡ length qs
+pub length-counted : (hs : List Held) (qs : List Port) → length hs ≤ length qs
+    → length (counted_by_rates hs qs) ≡ length qs
 length-counted [] qs few = refl
 length-counted (h ∷ hs) [] few = refl
 length-counted (h ∷ hs) (q ∷ qs) few =

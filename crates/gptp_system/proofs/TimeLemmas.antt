@@ -195,7 +195,8 @@ hears_announce : (p : ℕ) (a : AnnounceView) (now : ℕ) (s s' : SystemState) (
 hears_announce p a now s s' sends answer (inl k) = rests s now s' sends k.becomes
 hears_announce p a now s s' sends answer (inr (inl k)) =
     rests s now s' sends k.becomes
-hears_announce p a now s s' sends answer (inr (inr k)) = go (replaces_held (comparison (held_at s p) (own s p) a)) k.selects
+hears_announce p a now s s' sends answer (inr (inr k)) = go
+    (replaces_held (comparison (held_at s p) (own s p) a)) k.selects
   where
     go : (b : Bool) → SelectsIf b now (compared p a now s) s' sends → RunsOn s now s'
     go true h = selects s now (compared p a now s) s' sends refl refl refl (λ m is. is) refl refl h

@@ -69,7 +69,8 @@ held_written s f p i xs d y least most items place value =
 -- ---- a state that is ready stays so
 
 -- where the port does
-pub port_ready : (p : ℕ) (f : Port → Port) (s : SystemState) → ((q : Port) → IsReadyPort q → IsReadyPort (f q)) → IsReady s
+pub port_ready : (p : ℕ) (f : Port → Port) (s : SystemState) → ((q : Port) → IsReadyPort q → IsReadyPort (f q))
+    → IsReady s
     → IsReady (on_port p f s)
 port_ready p f s keeps ready =
     let kept = change-length f p s.ports in

@@ -68,7 +68,8 @@ abbrev pub request_of : ℕ → SystemState → Sending
 request_of p s =
     pdelay_request (own s p) s.params.pdelay (option_map_or (λ (q : Port). q.peer.next) (number s.ports p) 0)
 
--- The measuring takes a step, and then the port port_asks: its pdelay_request goes behind what the step sends on this port and the
+-- The measuring takes a step, and then the port port_asks: its pdelay_request goes behind what the step sends on this
+-- port and the
 -- lower ones.
 pub record TurnsAndAsks (p : ℕ) (step : PeerState → PeerState) (now : ℕ) (s s' : SystemState)
     (sends : List Sending) : Type 0 where
@@ -115,7 +116,8 @@ pub record Responds (p now : ℕ) (s : SystemState) (owed : Owed) (sends : List 
   pub went-rest : ℕ
   pub came_is : IsSplit owed.t2 came came-rest
   pub went_is : IsSplit (local_time s now) went went-rest
-  pub sends_are : sends ≡ pdelay_response (own s p) owed came came-rest ∷ response_follow_up (own s p) owed went went-rest ∷ []
+  pub sends_are : sends ≡ pdelay_response (own s p) owed came came-rest ∷ response_follow_up
+      (own s p) owed went went-rest ∷ []
 
 abbrev pub RespondsIf : Option Owed → ℕ → ℕ → SystemState → List Sending → Type 0
 RespondsIf None p now s sends = sends ≡ []

@@ -104,7 +104,8 @@ quiet_link : (n : NetworkState) (events : List Timed) (w : WorldState) → Stand
     → channel_is_used (live_stations w.stations) channel ≡ true → IsQuietLink n.params channel
 quiet_link n events w so calm link channel here used =
     let systems = live_stations w.stations in
-    let (v, there, is) = alike (link_after events) channel_wire n.links w.net.channels (sym so.links) link channel here in
+    let (v, there, is) = alike (link_after events) channel_wire n.links w.net.channels
+        (sym so.links) link channel here in
     let rests = each_at (Rests n.params n.systems events) n.links calm.links link v there in
     let a = lives_so n events w so channel.a.clock (sender_lives systems FromA channel used) in
     let b = lives_so n events w so channel.b.clock (sender_lives systems FromB channel used) in
@@ -135,7 +136,8 @@ pace_stands n events w so place station here =
       largest = ap (λ (x : Shape). x.setup.largest) (sym of.is);
     }
 
-pub set_stands : (n : NetworkState) (events : List Timed) (w : WorldState) → StandsAsPlanned n events w → SettlingInvariant w
+pub set_stands : (n : NetworkState) (events : List Timed) (w : WorldState) → StandsAsPlanned n events w
+    → SettlingInvariant w
     → AreSet (pace_of n) w
 set_stands n events w so claimed place station here =
     let set = claimed.is.world.known.set place station here in

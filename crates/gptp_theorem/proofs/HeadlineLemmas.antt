@@ -60,7 +60,8 @@ quiet_as p w calm = record {
 calm_for : (p : SettlingParams) (m : ℕ) (w : WorldState) → WorldIsCalm p w → HasPassed p m w → IsCalmFor (span_over m) w
 calm_for p m w calm passed = record { pace = p; set = calm.of; quiet = quiet_as p w calm; late = passed }
 
-abbrev exact_for : (p : SettlingParams) (m steps time : ℕ) (w : WorldState) → WorldIsCalm p w → HasComeDown p m steps time w
+abbrev exact_for : (p : SettlingParams) (m steps time : ℕ) (w : WorldState) → WorldIsCalm p w
+    → HasComeDown p m steps time w
     → IsCalmFor (exact_span m steps) (at time w)
 exact_for p m steps time w calm come = record {
   pace = p;
@@ -88,7 +89,8 @@ module _ (w : WorldState) (claimed : SettlingInvariant w) (settled : Settled w) 
   is_settled = record { tree = settled_is_tree w claimed settled; certified = certified }
 
 -- a calm one is such
-pub settled_for : (m : ℕ) (w : WorldState) → SettlingInvariant w → BoundsPaths (snapshot_of w) m → IsCalmFor (span_over m) w
+pub settled_for : (m : ℕ) (w : WorldState) → SettlingInvariant w → BoundsPaths (snapshot_of w) m
+    → IsCalmFor (span_over m) w
     → IsSettled w
 settled_for m w claimed paths calm =
     is_settled w claimed (settled_by_paths m w claimed paths calm) (bounded_by_paths m w claimed paths calm)

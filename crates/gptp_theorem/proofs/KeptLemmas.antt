@@ -137,13 +137,15 @@ acts_keep (Changing change) w draws done w' none k = absurd none
 
 -- ---- it stands as it stood
 
-pub keeps_standing : (n : NetworkState) (events : List Timed) (w w' : WorldState) → Keeps w w' → StandsAsPlanned n events w
+pub keeps_standing : (n : NetworkState) (events : List Timed) (w w' : WorldState) → Keeps w w'
+    → StandsAsPlanned n events w
     → StandsAsPlanned n events w'
 keeps_standing n events w w' k so =
     record { systems = k.systems ∙ so.systems; links = k.links ∙ so.links; last = k.last ∙ so.last }
 
 pub acts_stand : (n : NetworkState) (events : List Timed) (act : Act) (w : WorldState) (draws : List Draw) (done : Done)
-    (w' : WorldState) → IsNoChange act → Acts act w draws done w' → StandsAsPlanned n events w → StandsAsPlanned n events w'
+    (w' : WorldState) → IsNoChange act → Acts act w draws done w' → StandsAsPlanned n events w
+      → StandsAsPlanned n events w'
 acts_stand n events act w draws done w' none k =
     keeps_standing n events w w' (acts_keep act w draws done w' none k)
 

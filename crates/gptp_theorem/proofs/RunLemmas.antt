@@ -44,7 +44,8 @@ module _ {F : Type 0} (answers : Bounds → ℕ → F → Option ℕ → F → T
     slow : NoneFaster least w
 
   kept_act : (timed : Timed) (fate fate_after : F) (w w' : WorldState) (done : Done) → IsFitAct timed.act
-      → DelaysFitIntervals w timed.act → SetsAnOctet timed.act → WasDone answers timed fate fate_after w w' done → IsKept w
+      → DelaysFitIntervals w timed.act → SetsAnOctet timed.act → WasDone answers timed fate fate_after w w' done
+      → IsKept w
       → IsKept w'
   kept_act timed fate fate_after w w' done fit prompt octet was kept = record {
     all = all_kept answers timed fate fate_after w w' done fit prompt octet was kept.all;

@@ -130,7 +130,8 @@ module _ {F : Type 0} (answers : Bounds → ℕ → F → Option ℕ → F → T
       (prompt_within least event.act k.between none_on event_fit.prompt) event_fit.octet k.changed on)
 
 pub played_claimed : {F : Type 0} (answers : Bounds → ℕ → F → Option ℕ → F → Type 0) (d : DocumentState) (until : ℕ)
-    (fate : F) (told : List Told) (w : WorldState) → IsPlayable d → PlaysRun answers d until fate told w → SettlingInvariant w
+    (fate : F) (told : List Told) (w : WorldState) → IsPlayable d → PlaysRun answers d until fate told w
+      → SettlingInvariant w
 played_claimed answers d until fate told w is k =
     let sound = initial_sound d.network is.network in
     let begins = claim_begins answers d.network fate k.started k.start is.network sound k.begun in

@@ -41,7 +41,8 @@ abbrev HaveTheirPorts : List Station → Type 0
 HaveTheirPorts stations = (place : ℕ) (station : Station) → slice_get stations place ≡ Some station
     → length station.system.ports ≡ station.setup.ports
 
-world_living : (stations : List Station) → HaveTheirPorts stations → live_stations stations ≡ living (map shape stations)
+world_living : (stations : List Station) → HaveTheirPorts stations
+    → live_stations stations ≡ living (map shape stations)
 world_living [] have = refl
 world_living (first ∷ stations) have =
     by first.live (have zero first refl) (world_living stations (λ place. have (suc place)))

@@ -41,7 +41,8 @@ world_delay : (systems : List System) (channels : List Channel)
     → greatest_channel_delay systems channels ≡ delay_by (stations_have_clock systems) (map channel_wire channels)
 world_delay systems [] = refl
 world_delay systems (first ∷ channels) =
-    ap (λ rest. if is_between (stations_have_clock systems) (channel_wire first) then max first.bounds.max rest else rest)
+    ap (λ rest. if is_between (stations_have_clock systems)
+      (channel_wire first) then max first.bounds.max rest else rest)
     (world_delay systems channels)
 
 and_both : (a b c : Bool) → ((a && b) && c) ≡ (a && (b && c))

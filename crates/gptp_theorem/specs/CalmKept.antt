@@ -9,6 +9,7 @@ use Rattle.gptp_invariants.specs.CalmFor.{IsCalmFor}
 
 -- A world that goes on by itself to a time has been calm then for each span that it had been calm for.
 abbrev pub CalmIsKept : {F : Type 0} → (Bounds → ℕ → F → Option ℕ → F → Type 0) → Type 0
-CalmIsKept {F} answers = (span : SettlingParams → SyncPaths → ℕ → ℕ) (until : ℕ) (told : List Told) (fate fate_after : F)
+CalmIsKept {F} answers = (span : SettlingParams → SyncPaths → ℕ → ℕ) (until : ℕ) (told : List Told)
+    (fate fate_after : F)
     (w w' : WorldState) → IsCalmFor span w → Advanced answers until told fate fate_after w w'
     → IsCalmFor span w'

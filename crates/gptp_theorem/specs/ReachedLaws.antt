@@ -38,5 +38,6 @@ TimeStands = (n : NetworkState) (events : List Timed) (w : WorldState) (time : �
 abbrev pub ChangesStand : Type 0
 ChangesStand = (n : NetworkState) (events : List Timed) (timed : Timed) (change : Change) (w : WorldState)
     (draws : List Draw) (done : Done) (w' : WorldState)
-    → timed.act ≡ Changing change → IsSound w → Acts timed.act (at timed.at w) draws done w' → StandsAsPlanned n events w
+    → timed.act ≡ Changing change → IsSound w → Acts timed.act (at timed.at w) draws done w'
+    → StandsAsPlanned n events w
     → StandsAsPlanned n (events ++ timed ∷ []) w'

@@ -26,5 +26,6 @@ DocumentsSettle = (d : DocumentState) (until : ℕ) (w : WorldState) (lines : Li
 abbrev pub PlayedSettle : {F : Type 0} → (Bounds → ℕ → F → Option ℕ → F → Type 0) → Type 0
 PlayedSettle {F} answers = (d : DocumentState) (until : ℕ) (fate : F) (told : List Told) (w : WorldState)
     (lines : List SystemLine) (g : Snapshot)
-    → IsPlayable d → PlaysRun answers d until fate told w → DocumentIsAtRest d until → States w lines → IsSnapshot d until g
+    → IsPlayable d → PlaysRun answers d until fate told w → DocumentIsAtRest d until → States w lines
+    → IsSnapshot d until g
     → IsSettledChoice g lines

@@ -64,7 +64,8 @@ LinksUpSettle {F} answers = (p : SettlingParams) (number port time : ℕ) (fate 
 -- from two announce intervals and three of peer delay after the gain, or L + 5 announce intervals beside failed
 -- systems.
 abbrev pub GainsSettle : {F : Type 0} → (Bounds → ℕ → F → Option ℕ → F → Type 0) → Type 0
-GainsSettle {F} answers = (p : SettlingParams) (change : Change) (time start : ℕ) (fate drawn fate_after : F) (until m : ℕ)
+GainsSettle {F} answers = (p : SettlingParams) (change : Change) (time start : ℕ) (fate drawn fate_after : F)
+    (until m : ℕ)
     (told : List Told) (done : Done) (w between w' : WorldState)
     → KeepsAll p w → IsSoundWorld w → IsGain change (at_time time w)
     → IsFitAct (Changing change) → DelaysFitIntervals w (Changing change) → SetsAnOctet (Changing change)

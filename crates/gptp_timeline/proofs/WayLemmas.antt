@@ -35,7 +35,8 @@ use Rattle.gptp_sync_machine.specs.Tree.{IsWayTo, last_link, Parts}
 use Rattle.gptp_sync_machine.proofs.TreeLemmas.{way_exists}
 use Rattle.gptp_vector.specs.declared.port.PortId.{PortId}
 
-module _ (n : NetworkState) (network : IsNetwork n) (events : List Timed) (w : WorldState) (so : StandsAsPlanned n events w)
+module _ (n : NetworkState) (network : IsNetwork n) (events : List Timed) (w : WorldState)
+  (so : StandsAsPlanned n events w)
     (sound : IsSound w) (legible : IsEncodable w) where
   abbrev x : Parts
   x = follower_parts n.params w
@@ -57,7 +58,8 @@ module _ (n : NetworkState) (network : IsNetwork n) (events : List Timed) (w : W
       ∙ ap (λ (s : Shape). s.setup.drift) same ∙ sym has.drift_is
 
   -- the end of a link that receives
-  is_end : (direction : Direction) (channel : Channel) (v : LinkSpec) (p : PortId) → link_after events v ≡ channel_wire channel
+  is_end : (direction : Direction) (channel : Channel) (v : LinkSpec) (p : PortId)
+      → link_after events v ≡ channel_wire channel
       → receiver direction channel ≡ p → IsEnd p v
   is_end FromA channel v p same to =
       inr (sym (after_keeps events v).b ∙ ap (λ (u : LinkSpec). u.b) same ∙ to)

@@ -118,14 +118,16 @@ has_error name t error is = by_own (live_system name t.after) refl is
 -- ---- clocks
 
 -- what the clock of a live system shows
-shown_by : (p : SettlingParams) (w : WorldState) → KeepsAll p w → (name : ℕ) (s : SystemState) → live_system name w ≡ Some s
+shown_by : (p : SettlingParams) (w : WorldState) → KeepsAll p w → (name : ℕ) (s : SystemState)
+    → live_system name w ≡ Some s
     → (time : ℕ) → local_time s time
     ≡ local_clock ((follower_parts p.params w).phase name) ((follower_parts p.params w).drift name) time
 shown_by p w claimed name s is time =
     let live = found_live name w.stations s is in
     ap (λ y. local_time y time) (sym live.state)
     ∙ clock_shown p.params w claimed.world.sound claimed.measured live.place live.station live.here time
-    ∙ ap (λ c. local_clock ((follower_parts p.params w).phase c) ((follower_parts p.params w).drift c) time) live.is_named
+    ∙ ap (λ c. local_clock ((follower_parts p.params w).phase c) ((follower_parts p.params w).drift c) time)
+      live.is_named
 
 -- ---- times
 
@@ -307,7 +309,8 @@ module _ {F : Type 0} (answers : Bounds → ℕ → F → Option ℕ → F → T
             subst (λ z. unsigned_abs z ≤ bound) (sym is_off) (size_within bound e.offset ahead within)
 
     passes_within : (until : ℕ) (ts : List Transition) (fate fate_after : F) (w w' : WorldState) → until ≤ 10 ^ 18
-        → Passes answers until ts fate fate_after w w' → Kept events w → AllByRecursion (ErrorIsWithin name from bound) ts
+        → Passes answers until ts fate fate_after w w' → Kept events w
+        → AllByRecursion (ErrorIsWithin name from bound) ts
     passes_within until [] fate fate_after w w' early k keeps = tt
     passes_within until (t ∷ ts) fate fate_after w w' early (drawn, before, happens, rest) keeps = (
       λ error late. act_within until t fate drawn w happens keeps late early error,

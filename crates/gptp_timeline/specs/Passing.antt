@@ -32,7 +32,8 @@ abbrev pub watch_at_start : TimelineOptions → WorldState → WatchState
 watch_at_start options w = see_all (event_look 0) w (watch_before options w)
 
 -- The acts of a stretch with these events were done before an observer for which it began, and this is told of them.
-pub record StretchIsSeen {F : Type 0} (answers : Bounds → ℕ → F → Option ℕ → F → Type 0) (plan : Plan) (events : List Timed)
+pub record StretchIsSeen {F : Type 0} (answers : Bounds → ℕ → F → Option ℕ → F → Type 0) (plan : Plan)
+  (events : List Timed)
     (fate fate_after : F) (w w' : WorldState) (o o_after : WatchState) (told : List (List ℕ)) : Type 0 where
   pub acts : List Transition
   pub courses : Courses answers plan.to events acts fate fate_after w w'
@@ -57,7 +58,8 @@ pub record IsSeenToEnd {F : Type 0} (answers : Bounds → ℕ → F → Option �
   pub are : lines ≡ told ++ end_lines plan o_after
 
 -- A stretch that breaks off: nothing is known of it, or some of its acts were done, or it ended.
-abbrev pub StretchBreaksOff : {F : Type 0} → (Bounds → ℕ → F → Option ℕ → F → Type 0) → Plan → List Timed → F → WorldState
+abbrev pub StretchBreaksOff : {F : Type 0} → (Bounds → ℕ → F → Option ℕ → F → Type 0) → Plan → List Timed → F
+    → WorldState
     → WatchState → List (List ℕ) → Type 0
 StretchBreaksOff answers plan events fate w o lines =
     IsSeenSoFar answers plan events fate w o lines ⊎ IsSeenToEnd answers plan events fate w o lines
@@ -66,4 +68,5 @@ abbrev pub StopsSeen : {F : Type 0} → (Bounds → ℕ → F → Option ℕ →
     → List Timed → F → WorldState → WatchState → List (List ℕ) → Type 0
 StopsSeen answers exact d from to events fate w o lines =
     (lines ≡ [])
-    ⊎ ((plan : Plan) × IsTimelinePlan exact d from to (is_begun events) plan × StretchBreaksOff answers plan events fate w o lines)
+    ⊎ ((plan : Plan) × IsTimelinePlan exact d from to (is_begun events) plan
+      × StretchBreaksOff answers plan events fate w o lines)

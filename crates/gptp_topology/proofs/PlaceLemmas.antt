@@ -34,7 +34,8 @@ pub record IsThere (members : List SystemSpec) (place identity : ℕ) : Type 0 w
   pub there : slice_get members place ≡ Some system
   pub is : identity ≡ system.identity
 
-pub system_there : {X : Type 0} (f : SystemSpec → X) (identity_in : X → ℕ) (members : List SystemSpec) (place : ℕ) (told : X)
+pub system_there : {X : Type 0} (f : SystemSpec → X) (identity_in : X → ℕ) (members : List SystemSpec) (place : ℕ)
+    (told : X)
     → ((m : SystemSpec) → identity_in (f m) ≡ m.identity) → Some told ≡ option_map f (slice_get members place)
     → IsThere members place (identity_in told)
 system_there {X} f identity_in members place told fits is = by (slice_get members place) refl is

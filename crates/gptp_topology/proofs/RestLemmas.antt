@@ -61,7 +61,8 @@ used_to members events w a b used =
           (live_from members events w.b b (sym (b_after events (first w)) ∙ right));
     }
 
-pub used_from : (members : List SystemSpec) (events : List Timed) (w : LinkSpec) → IsUsed members events (link_after events w)
+pub used_from : (members : List SystemSpec) (events : List Timed) (w : LinkSpec)
+    → IsUsed members events (link_after events w)
     → cable_is_used (after events (first w)) ≡ true
 used_from members events w used =
     let s = after events (first w) in

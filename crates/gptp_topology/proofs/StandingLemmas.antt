@@ -30,7 +30,8 @@ abbrev AreNumbered : ℕ → List LinkSpec → Type 0
 AreNumbered k [] = Unit {0}
 AreNumbered k (w ∷ ws) = (w.bounds.link ≡ k) × AreNumbered (suc k) ws
 
-numbered_from : (ws : List LinkSpec) (k : ℕ) → ((i : ℕ) (w : LinkSpec) → slice_get ws i ≡ Some w → w.bounds.link ≡ k + i)
+numbered_from : (ws : List LinkSpec) (k : ℕ) → ((i : ℕ) (w : LinkSpec) → slice_get ws i ≡ Some w
+    → w.bounds.link ≡ k + i)
     → AreNumbered k ws
 numbered_from [] k at = tt
 numbered_from (w ∷ ws) k at = (
@@ -170,7 +171,8 @@ module _ (events : List Timed) (cables : List Cable) (clock : ℕ) where
     where
       head : tables_seen o ≡ node_after events cables own
       head =
-          same_heads (tables_seen o) (node_after events cables own) (map tables_seen os) (map (node_after events cables) owns) are
+          same_heads (tables_seen o) (node_after events cables own) (map tables_seen os)
+            (map (node_after events cables) owns) are
 
       by : (test : Bool) → (o.clock == clock) ≡ test → Looked os owns
           → (cond test o.neighbours.items (neighbours_at clock os) ≡ neighbours_of clock cables)
@@ -237,9 +239,11 @@ nodes_more done t cables [] (own ∷ owns) are = absurd cc
 nodes_more done t cables (o ∷ os) [] are = absurd cc
 nodes_more done t cables (o ∷ os) (own ∷ owns) are =
     let head =
-    same_heads (tables_seen o) (node_after done cables own) (map tables_seen os) (map (node_after done cables) owns) are in
+    same_heads (tables_seen o) (node_after done cables own) (map tables_seen os)
+      (map (node_after done cables) owns) are in
     let tail =
-    same_tails (tables_seen o) (node_after done cables own) (map tables_seen os) (map (node_after done cables) owns) are in
+    same_tails (tables_seen o) (node_after done cables own) (map tables_seen os)
+      (map (node_after done cables) owns) are in
     ap₂ (λ x xs. x ∷ xs)
     (ap
     (λ (s : NodeState).

@@ -61,7 +61,8 @@ oldest_before stage stage' lane octets world oldest =
       oldest = oldest.oldest;
       rest = oldest.rest;
       front = sym (queue_same lane.direction made.one)
-          ∙ (ap (world_queue lane.direction) (sym made.is) ∙ (queue_same lane.direction oldest.joined_link ∙ oldest.front));
+          ∙ (ap (world_queue lane.direction) (sym made.is)
+          ∙ (queue_same lane.direction oldest.joined_link ∙ oldest.front));
       these = oldest.these;
     }
 

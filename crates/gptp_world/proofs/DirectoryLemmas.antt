@@ -21,7 +21,8 @@ use Rattle.gptp_lists.proofs.MappedLemmas.{same_there, mapped, mapped_there, con
 abbrev join_of : LinkSpec → Join
 join_of w = record { a = w.a; b = w.b }
 
-placed : (n : NetworkState) (p : PortId) → IsNetwork n → IsPort n.systems p → PortIsPlaced (directory_clocks n.systems) p
+placed : (n : NetworkState) (p : PortId) → IsNetwork n → IsPort n.systems p
+    → PortIsPlaced (directory_clocks n.systems) p
 placed n p h k = record {
   place = k.place;
   there = mapped_there (λ (m : SystemSpec). clock_of m.identity) n.systems k.place k.system k.there ∙ ap Some k.clock;
@@ -54,11 +55,15 @@ is_end FromB w p e = inr e
 one_lane : (n : NetworkState) → IsNetwork n → (p : PortId) (k l : Lane) → BeginsAt (joins_of n.links) p k
     → BeginsAt (joins_of n.links) p l → k ≡ l
 one_lane n h p k l bk bl =
-    let x = mapped (λ (w : LinkSpec). let j : Join = record { a = w.a; b = w.b } in j) n.links k.link bk.join bk.there in
-    let y = mapped (λ (w : LinkSpec). let j : Join = record { a = w.a; b = w.b } in j) n.links l.link bl.join bl.there in
-    let begins_k : direction_start k.direction (record { a = x.0.a; b = x.0.b }) ≡ p = ap (direction_start k.direction) x.2
+    let x = mapped (λ (w : LinkSpec). let j : Join = record { a = w.a; b = w.b } in j) n.links k.link bk.join
+        bk.there in
+    let y = mapped (λ (w : LinkSpec). let j : Join = record { a = w.a; b = w.b } in j) n.links l.link bl.join
+        bl.there in
+    let begins_k : direction_start k.direction (record { a = x.0.a; b = x.0.b }) ≡ p = ap
+        (direction_start k.direction) x.2
     ∙ bk.begins in
-    let begins_l : direction_start l.direction (record { a = y.0.a; b = y.0.b }) ≡ p = ap (direction_start l.direction) y.2
+    let begins_l : direction_start l.direction (record { a = y.0.a; b = y.0.b }) ≡ p = ap
+        (direction_start l.direction) y.2
     ∙ bl.begins in
     let link : k.link ≡ l.link =
     h.one_link k.link l.link x.0 y.0 p x.1 y.1 (is_end k.direction x.0 p begins_k)
@@ -106,7 +111,8 @@ bare a None e = absurd cc
 bare a (Some b) e = cc
 
 -- a place of the list is that of the number that stands there
-pub same_at : (clocks numbers places : List ℕ) (k p : ℕ) → ArePlacesOfClocks clocks numbers places → slice_get places k ≡ Some p
+pub same_at : (clocks numbers places : List ℕ) (k p : ℕ) → ArePlacesOfClocks clocks numbers places
+    → slice_get places k ≡ Some p
     → slice_get clocks p ≡ slice_get numbers k
 same_at clocks numbers places k p h e =
     let left : slice_get (map (slice_get clocks) places) k ≡ Some (slice_get clocks p) =
@@ -114,7 +120,8 @@ same_at clocks numbers places k p h e =
     bare (slice_get clocks p) (slice_get numbers k)
     (sym left ∙ ap (λ (v : List (Option ℕ)). slice_get v k) h ∙ slice_get-map Some numbers k)
 
-pub places_length : (clocks numbers places : List ℕ) → ArePlacesOfClocks clocks numbers places → length places ≡ length numbers
+pub places_length : (clocks numbers places : List ℕ) → ArePlacesOfClocks clocks numbers places
+    → length places ≡ length numbers
 places_length clocks numbers places h =
     sym (length-map places (slice_get clocks)) ∙ ap length h ∙ length-map numbers Some
 
@@ -152,7 +159,8 @@ end_b_at clocks joins ends i join e h at there =
 
 pub tables_of : (clocks : List ℕ) (joins : List Join) (ranked rising : List ℕ) (outs : List (Option Lane))
     (ends : List Ends)
-    → IsPlan clocks joins → AreRising clocks rising → ArePlacesOfClocks clocks rising ranked → AreEndPlaces clocks joins ends
+    → IsPlan clocks joins → AreRising clocks rising → ArePlacesOfClocks clocks rising ranked
+    → AreEndPlaces clocks joins ends
     → AreOuts (2 * length joins) clocks joins outs
     → AreDirectoryTables (record { clocks = clocks; joins = joins }) rising ranked outs ends
 tables_of clocks joins ranked rising outs ends plan r p e o = record {

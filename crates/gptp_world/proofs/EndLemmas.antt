@@ -16,12 +16,14 @@ use Rattle.gptp_world.proofs.NetLemmas.{from_map}
 use Rattle.gptp_lists.proofs.MappedLemmas.{mapped_there}
 
 -- the directory knows the ports that a link joins
-pub known_join : (net : Between) (link : ℕ) (joined_link : JoinedLink) → IsNet net → slice_get net.cables.items link ≡ Some joined_link
+pub known_join : (net : Between) (link : ℕ) (joined_link : JoinedLink) → IsNet net
+    → slice_get net.cables.items link ≡ Some joined_link
     → slice_get net.directory.joins link ≡ Some (join_of joined_link)
 known_join net link joined_link is here =
     ap (λ js. slice_get js link) (sym is.joins) ∙ mapped_there join_of net.cables.items link joined_link here
 
-pub end_same : (d : Direction) (joined_link : JoinedLink) → direction_end d (join_of joined_link) ≡ receiver d (channel_of joined_link)
+pub end_same : (d : Direction) (joined_link : JoinedLink)
+    → direction_end d (join_of joined_link) ≡ receiver d (channel_of joined_link)
 end_same FromA joined_link = refl
 end_same FromB joined_link = refl
 
@@ -40,7 +42,8 @@ pub station_at : (stage : Stage) (place number : ℕ) → IsStage stage
     → slice_get stage.net.directory.clocks place ≡ Some number
     → StandsAt stage place number
 station_at stage place number is there =
-    let made = from_map clock_at_place stage.stations.items place number (ap (λ cs. slice_get cs place) is.clocks ∙ there) in
+    let made = from_map clock_at_place stage.stations.items place number
+        (ap (λ cs. slice_get cs place) is.clocks ∙ there) in
     record { station = made.one; here = made.there; named = sym made.is }
 
 pub place_within : (stage : Stage) (place number : ℕ) → IsStage stage

@@ -60,7 +60,8 @@ credit_here (c ∷ cs) (f ∷ fs) (suc i) number frames differ here there =
     let other = not_first c cs i number differ here in rw other ih
 
 -- where the credit of one is set, that of all others stays
-unset : (clocks frame_budget : List ℕ) (place number more asked : ℕ) → slice_get clocks place ≡ Some number → asked ≢ number
+unset : (clocks frame_budget : List ℕ) (place number more asked : ℕ) → slice_get clocks place ≡ Some number
+    → asked ≢ number
     → credit_of clocks (slice_set frame_budget place more) asked ≡ credit_of clocks frame_budget asked
 unset [] frame_budget place number more asked here other = absurd (none-some number here)
 unset (c ∷ cs) [] place number more asked here other = refl
@@ -102,7 +103,8 @@ spent clocks frame_budget place number frames asked differ here there enough = b
     by true test =
         let same = eqb-true asked number test in
         let had : credit_of clocks frame_budget asked ≡ frames =
-        ap (credit_of clocks frame_budget) same ∙ credit_here clocks frame_budget place number frames differ here there in
+        ap (credit_of clocks frame_budget) same
+          ∙ credit_here clocks frame_budget place number frames differ here there in
         let left : credit_of clocks (slice_set frame_budget place (frames - 2)) asked ≡ frames - 2 =
         ap (credit_of clocks (slice_set frame_budget place (frames - 2))) same
         ∙ credit_here clocks (slice_set frame_budget place (frames - 2)) place number (frames - 2) differ here
@@ -146,7 +148,8 @@ zeros (c ∷ cs) (suc count) asked = by (asked == c) refl (zeros cs count asked)
 pub no_credit : (count : ℕ) → HasNoCredit (replicate count 0)
 no_credit count clocks asked = zeros clocks count asked
 
-pub none_covered : (frame_budget : List ℕ) (net : Between) → IsNet net → HasNoCredit frame_budget → IsCovered frame_budget net
+pub none_covered : (frame_budget : List ℕ) (net : Between) → IsNet net → HasNoCredit frame_budget
+    → IsCovered frame_budget net
 none_covered frame_budget net is none port lane begins =
     let without = none net.directory.clocks port.clock in rw without (no_frames net port lane is begins)
 
@@ -164,7 +167,8 @@ pub its_ports : (stage : Stage) (place : ℕ) (station : Station) → IsStage st
     → slice_get stage.stations.items place ≡ Some station → AreItsPorts place (length station.system.ports) stage.net
 its_ports stage place station is here number port lane known same begins =
     let stands : slice_get stage.net.directory.clocks place ≡ Some (clock station.system) =
-    ap (λ cs. slice_get cs place) (sym is.clocks) ∙ mapped_there clock_at_place stage.stations.items place station here in
+    ap (λ cs. slice_get cs place) (sym is.clocks)
+      ∙ mapped_there clock_at_place stage.stations.items place station here in
     let named : port.clock ≡ clock station.system =
     same ∙ same_Some number (clock station.system) (sym known ∙ stands) in
     is.ports place station port.port lane here
@@ -209,7 +213,8 @@ beyond_covers r place frame_budget net within has port lane begins =
 pub drawn : (place : ℕ) (frame_budget after : List ℕ) (net : Between) → IsDirectory net.directory
     → DrawsTwo place frame_budget after → IsCovered frame_budget net → HasReachBeyond reaches.All place after net
 drawn place frame_budget after net directory draws has number port lane known begins =
-    let clocks = net.directory.clocks in let frames = draws.frames in let left = slice_set frame_budget place (frames - 2) in
+    let clocks = net.directory.clocks in let frames = draws.frames
+        in let left = slice_set frame_budget place (frames - 2) in
     let is : after ≡ left = draws.is in
     rw is
     (fewer ((if port.clock == number then 2 else 0) + credit_of clocks left port.clock)
@@ -261,7 +266,8 @@ pub room_beyond : (stage : Stage) (r : Reach) (place : ℕ) (station : Station) 
     → HasReachBeyond r place frame_budget stage.net → HasRoomBeyond r place frame_budget stage
 room_beyond stage r place station frame_budget is here entries buffers has =
     let known : slice_get stage.net.directory.clocks place ≡ Some (clock station.system) =
-    ap (λ cs. slice_get cs place) (sym is.clocks) ∙ mapped_there clock_at_place stage.stations.items place station here in
+    ap (λ cs. slice_get cs place) (sym is.clocks)
+      ∙ mapped_there clock_at_place stage.stations.items place station here in
     record {
       station = station;
       here = here;
@@ -300,7 +306,8 @@ beyond_later : (r : Reach) (place : ℕ) (frame_budget : List ℕ) (stage : Stag
     → HasRoomBeyond r place frame_budget stage → HasRoomBeyond r place frame_budget (at_time time stage)
 beyond_later r place frame_budget stage time has = record { station = has.station; here = has.here; room = has.room }
 
-pub leaves_later : (target : ActTarget) (frame_budget : List ℕ) (stage : Stage) (time : ℕ) → LeavesCredit target frame_budget stage
+pub leaves_later : (target : ActTarget) (frame_budget : List ℕ) (stage : Stage) (time : ℕ)
+    → LeavesCredit target frame_budget stage
     → LeavesCredit target frame_budget (at_time time stage)
 leaves_later (aims.Arrival lane) frame_budget stage time has = λ join place octets there placed oldest.
     beyond_later (frame_reach octets) place frame_budget stage time (has join place octets there placed oldest)
@@ -339,7 +346,8 @@ covered_after (aims.LinkUp link) frame_budget stage net is leaves used = none_co
 covered_after (aims.LinkSet link bounds) frame_budget stage net is leaves used = none_covered frame_budget net is leaves
 covered_after (aims.Fail place) frame_budget stage net is leaves used = none_covered frame_budget net is leaves
 covered_after (aims.Recover place) frame_budget stage net is leaves used = none_covered frame_budget net is leaves
-covered_after (aims.Priority1 place value) frame_budget stage net is leaves used = none_covered frame_budget net is leaves
+covered_after (aims.Priority1 place value) frame_budget stage net is leaves used = none_covered frame_budget
+    net is leaves
 covered_after (aims.Inject lane) frame_budget stage net is leaves used = none_covered frame_budget net is leaves
 
 -- an act that is neither a delivery nor an expiry is a change
@@ -356,7 +364,8 @@ is_changing (aims.Priority1 place value) no_arrival no_timer = tt
 is_changing (aims.Inject lane) no_arrival no_timer = tt
 
 -- it leaves no credit, and uses what it likes
-pub change_leaves : (target : ActTarget) (frame_budget : List ℕ) (stage : Stage) → IsChange target → HasNoCredit frame_budget
+pub change_leaves : (target : ActTarget) (frame_budget : List ℕ) (stage : Stage) → IsChange target
+    → HasNoCredit frame_budget
     → LeavesCredit target frame_budget stage
 change_leaves (aims.Arrival lane) frame_budget stage change none = absurd change
 change_leaves (aims.Timer place timer) frame_budget stage change none = absurd change

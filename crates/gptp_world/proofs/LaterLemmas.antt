@@ -91,7 +91,8 @@ change_later (changes.Inject number port octets) w time (aims.Priority1 place se
 change_later (changes.Inject number port octets) w time (aims.Inject lane) is =
     record { channel = is.channel; here = is.here; begins = is.begins }
 
-pub aim_later : (act : Act) (w : WorldState) (time : ℕ) (target : ActTarget) → IsTargetOf act w target → IsTargetOf act (at time w) target
+pub aim_later : (act : Act) (w : WorldState) (time : ℕ) (target : ActTarget) → IsTargetOf act w target
+    → IsTargetOf act (at time w) target
 aim_later (Deliver on direction) w time (aims.Arrival lane) is = is
 aim_later (Deliver on direction) w time (aims.Timer place set) is = is
 aim_later (Deliver on direction) w time (aims.LinkDown link) is = is

@@ -32,7 +32,8 @@ pub record Covers (large small : Need) : Type 0 where
   pub buffers : small.buffers ≤ large.buffers
   pub frames : (port : PortId) → small.frames port ≤ large.frames port
 
-pub covered : (large small : Need) (net : Between) → Covers large small → WorldHasRoom large net → WorldHasRoom small net
+pub covered : (large small : Need) (net : Between) → Covers large small → WorldHasRoom large net
+    → WorldHasRoom small net
 covered large small net covers has = record {
   entries = let had = has.entries in let less = covers.entries in omega arith;
   buffers = let had = has.buffers in let less = covers.buffers in omega arith;
@@ -119,7 +120,8 @@ uses_timers used net net' only =
 
 -- ---- sends
 
-sends_at-append : (p : ℕ) (xs ys : List Sending) → count_sends_at p (xs ++ ys) ≡ count_sends_at p xs + count_sends_at p ys
+sends_at-append : (p : ℕ) (xs ys : List Sending)
+    → count_sends_at p (xs ++ ys) ≡ count_sends_at p xs + count_sends_at p ys
 sends_at-append p [] ys = omega arith
 sends_at-append p (x ∷ xs) ys = by (x.port == p) refl (sends_at-append p xs ys)
   where

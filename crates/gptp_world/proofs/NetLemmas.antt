@@ -30,7 +30,8 @@ from_map f (x ∷ xs) zero y is = record { one = x; there = refl; is = sym (same
 from_map f (x ∷ xs) (suc i) y is =
     let rest = from_map f xs i y is in record { one = rest.one; there = rest.there; is = rest.is }
 
-start_same : (d : Direction) (joined_link : JoinedLink) → direction_start d (join_of joined_link) ≡ sender d (channel_of joined_link)
+start_same : (d : Direction) (joined_link : JoinedLink)
+    → direction_start d (join_of joined_link) ≡ sender d (channel_of joined_link)
 start_same FromA joined_link = refl
 start_same FromB joined_link = refl
 
@@ -71,7 +72,8 @@ unlinked_none net port is none = λ place direction channel there begins.
 -- the one that does is of a link that is down
 pub unlinked_down : (net : Between) (port : PortId) (lane : Lane) (joined_link : JoinedLink) → IsNet net
     → ((other : Lane) → BeginsAt net.directory.joins port other → lane ≡ other)
-    → slice_get net.cables.items lane.link ≡ Some joined_link → joined_link.link.up ≡ false → IsUnlinkedPort (between net) port
+    → slice_get net.cables.items lane.link ≡ Some joined_link → joined_link.link.up ≡ false
+    → IsUnlinkedPort (between net) port
 unlinked_down net port lane joined_link is only here down = λ place direction channel there begins.
     let one : lane
     ≡ lane_of place direction =
@@ -79,7 +81,8 @@ unlinked_down net port lane joined_link is only here down = λ place direction c
     let made = from_map channel_of net.cables.items place channel there in
     let places : lane.link ≡ place = ap (λ (l : Lane). l.link) one in
     let same : made.one
-    ≡ joined_link = same_Some made.one joined_link (sym made.there ∙ (ap (slice_get net.cables.items) (sym places) ∙ here)) in
+    ≡ joined_link = same_Some made.one joined_link
+      (sym made.there ∙ (ap (slice_get net.cables.items) (sym places) ∙ here)) in
     ap (λ (w : Channel). w.up) made.is ∙ (ap (λ (c : JoinedLink). c.link.up) same ∙ down)
 
 -- links that were written through a slice

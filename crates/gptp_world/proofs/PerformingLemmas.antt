@@ -88,7 +88,8 @@ change_within (changes.Inject number port octets) (aims.Inject lane) stage at =
     link_within stage lane.link at.channel at.here
 change_within change target stage at = absurd at
 
-pub aim_within : (act : Act) (target : ActTarget) (stage : Stage) → IsTargetOf act (world_of stage) target → IsWithin target stage
+pub aim_within : (act : Act) (target : ActTarget) (stage : Stage) → IsTargetOf act (world_of stage) target
+    → IsWithin target stage
 aim_within (Deliver link direction) (aims.Arrival lane) stage (same, (way, at)) =
     subst (λ i. i < length stage.net.cables.items) (sym same) (link_within stage link at.channel at.here)
 aim_within (Expire number timer) (aims.Timer place set) stage (at, same) =
@@ -103,7 +104,8 @@ pub never_both : (net : Between) (link : ℕ) (up : Bool) → link < length net.
     → ((joined_link : JoinedLink) → slice_get net.cables.items link ≡ Some joined_link → up ≡ joined_link.link.up)
     → LinkIs (not up) link net → ⊥
 never_both net link up within found is =
-    let (joined_link, here) = member_there net.cables.items link within in by up (found joined_link here ∙ is joined_link here)
+    let (joined_link, here) = member_there net.cables.items link within
+        in by up (found joined_link here ∙ is joined_link here)
   where
     by : (up : Bool) → up ≡ not up → ⊥
     by true same = absurd cc
@@ -214,7 +216,8 @@ pub may_hear : (stage : Stage) (lane : Lane) (time : ℕ) → IsStage stage → 
 may_hear stage lane time is wired at = λ join place there placed station here live.
     let ends = end_is stage lane.link lane.direction join at.channel is there at.here in
     let known : slice_get stage.net.directory.clocks place ≡ Some (clock station.system) =
-    ap (λ cs. slice_get cs place) (sym is.clocks) ∙ mapped_there clock_at_place stage.stations.items place station here in
+    ap (λ cs. slice_get cs place) (sym is.clocks)
+      ∙ mapped_there clock_at_place stage.stations.items place station here in
     let named : clock station.system ≡ (direction_end lane.direction join).clock =
     same_Some (clock station.system) (direction_end lane.direction join).clock (sym known ∙ placed) in
     let up = carries_up lane.direction at.channel time (wired.flow lane.link lane.direction at.channel at.here) at.so in
@@ -226,7 +229,8 @@ may_hear stage lane time is wired at = λ join place there placed station here l
 pub arrived : {F : Type 0} (answers : Bounds → ℕ → F → Option ℕ → F → Type 0) (lane : Lane) (reached : PortId)
     (answer : Option Answer) (octets : List ℕ) (done : Done) (fate fate_after : F) (stage stage' : Stage)
     → IsStage stage
-    → TellsHearing reached answer octets done → Delivered answers lane reached answer octets fate fate_after stage stage'
+    → TellsHearing reached answer octets done
+    → Delivered answers lane reached answer octets fate fate_after stage stage'
     → ActIsDone answers (Deliver lane.link lane.direction) done fate fate_after stage stage'
 arrived answers lane reached answer octets done fate fate_after stage stage' is told delivered =
     let delivers = delivered.delivers in let channel = delivers.channel in
@@ -282,7 +286,8 @@ of_that w place one So there so = λ station here. subst So (same_Some one stati
 pub injected : {F : Type 0} (answers : Bounds → ℕ → F → Option ℕ → F → Type 0) (lane : Lane) (octets : List ℕ)
     (fate fate_after : F) (stage : Stage) (net : Between) (joined_link : JoinedLink)
     → slice_get stage.net.cables.items lane.link ≡ Some joined_link → joined_link.link.up ≡ true
-    → SentOne answers stage.now (sender lane.direction (channel_of joined_link)) octets fate fate_after (between stage.net)
+    → SentOne answers stage.now (sender lane.direction (channel_of joined_link)) octets fate fate_after
+      (between stage.net)
     (between net)
     → Injected answers lane octets fate fate_after stage (record stage { net = net })
 injected answers lane octets fate fate_after stage net joined_link here up sent =
@@ -300,7 +305,8 @@ injected answers lane octets fate fate_after stage net joined_link here up sent 
 -- none went onto one whose link is down
 pub not_injected : {F : Type 0} (answers : Bounds → ℕ → F → Option ℕ → F → Type 0) (lane : Lane) (octets : List ℕ)
     (fate : F) (stage : Stage)
-    → ((joined_link : JoinedLink) → slice_get stage.net.cables.items lane.link ≡ Some joined_link → false ≡ joined_link.link.up)
+    → ((joined_link : JoinedLink) → slice_get stage.net.cables.items lane.link ≡ Some joined_link
+    → false ≡ joined_link.link.up)
     → Injected answers lane octets fate fate stage stage
 not_injected answers lane octets fate stage down =
     let w = world_of stage in
@@ -358,7 +364,8 @@ changes_so (changes.Inject number port octets) (aims.Inject lane) stage draws w'
 changes_so change target stage draws w' at turns = absurd at
 
 -- what is changed can be changed
-pub can_change : (change : Change) (target : ActTarget) (stage : Stage) → IsSound (world_of stage) → IsFitAct (Changing change)
+pub can_change : (change : Change) (target : ActTarget) (stage : Stage) → IsSound (world_of stage)
+    → IsFitAct (Changing change)
     → ((lane : Lane) → target ≢ aims.Inject lane) → IsAimOfChange change (world_of stage) target
     → CanChange target (changed_now stage)
 can_change (changes.LinkDown number port) (aims.LinkDown link) stage sound fit other at =
@@ -415,7 +422,8 @@ same_room_within : (r : Reach) (place : ℕ) (stage : Stage) → HasRoomWithin r
     → HasRoomWithin r place (changed_now stage)
 same_room_within r place stage has = record { station = has.station; here = has.here; room = has.room }
 
-pub same_room : (target : ActTarget) (stage : Stage) → HasRoomForAim target stage → HasRoomForAim target (changed_now stage)
+pub same_room : (target : ActTarget) (stage : Stage) → HasRoomForAim target stage
+    → HasRoomForAim target (changed_now stage)
 same_room (aims.Arrival lane) stage has = λ join place octets there placed oldest.
     same_room_within (frame_reach octets) place stage (has join place octets there placed oldest)
 same_room (aims.Timer place timer) stage has = λ station here.
@@ -436,7 +444,8 @@ pub record IsSomeChange (act : Act) (target : ActTarget) (w : WorldState) : Type
   pub at : IsAimOfChange change w target
 
 pub is_change : (act : Act) (target : ActTarget) (w : WorldState) → ((lane : Lane) → target ≢ aims.Arrival lane)
-    → ((place : ℕ) (timer : Timer) → target ≢ aims.Timer place timer) → IsTargetOf act w target → IsSomeChange act target w
+    → ((place : ℕ) (timer : Timer) → target ≢ aims.Timer place timer) → IsTargetOf act w target
+    → IsSomeChange act target w
 is_change (Deliver link direction) (aims.Arrival lane) w no_arrival no_timer at = absurd (no_arrival lane refl)
 is_change (Expire number timer) (aims.Timer place set) w no_arrival no_timer at = absurd (no_timer place set refl)
 is_change (Changing change) target w no_arrival no_timer at = record { change = change; act_is = refl; at = at }

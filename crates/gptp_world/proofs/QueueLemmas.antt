@@ -15,13 +15,15 @@ use Rattle.gptp_world.specs.Chain.{chain_at, chain_head, no_chain, chain_numbers
 use Rattle.gptp_world.specs.PendingIndex.{FiledState, queue_at, filed_with_queue}
 use Rattle.gptp_world.proofs.ChainLemmas.{numbers-changed, numbers_there}
 
-pub queue-same : (pending_index : FiledState) (place : ℕ) (queue : List ℕ) (room : ℕ) → place < length pending_index.queues
+pub queue-same : (pending_index : FiledState) (place : ℕ) (queue : List ℕ) (room : ℕ)
+    → place < length pending_index.queues
     → queue_at place (filed_with_queue place queue room pending_index) ≡ queue
 queue-same pending_index place queue room within = get_or-set_same pending_index.queues place queue [] within
 
 pub queue-other : (pending_index : FiledState) (place other : ℕ) (queue : List ℕ) (room : ℕ) → (other ≡ place → ⊥)
     → queue_at other (filed_with_queue place queue room pending_index) ≡ queue_at other pending_index
-queue-other pending_index place other queue room differ = get_or-set_other pending_index.queues place other queue [] differ
+queue-other pending_index place other queue room differ = get_or-set_other pending_index.queues place other
+    queue [] differ
 
 -- the first number of a queue, and that there is none
 pub front_is : (ns : List ℕ) (n : ℕ) → Some n ≡ chain_head ns → (rest : List ℕ) × (ns ≡ n ∷ rest)
@@ -56,7 +58,8 @@ made timers queues room = record { timers = timers; queues = queues; room = room
 pub queue_changed : (timers : List (Option ArmedTimer)) (s t : Slab Node) (chains : List Chain) (place : ℕ)
     (after : Chain) (change : List ℕ → List ℕ) (room : ℕ) → AreChained s chains → place < length chains
     → ChangesOne (get s) (get t) (chain_at place chains) after
-    → chain_numbers (get t) after ≡ change (chain_numbers (get s) (chain_at place chains)) → t.capacity - slab_len t ≡ room
+    → chain_numbers (get t) after ≡ change (chain_numbers (get s) (chain_at place chains))
+    → t.capacity - slab_len t ≡ room
     → table timers t (slice_set chains place after)
     ≡ filed_with_queue place (change (queue_at place (table timers s chains))) room (table timers s chains)
 queue_changed timers s t chains place after change room are within changes numbers left =

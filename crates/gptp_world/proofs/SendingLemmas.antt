@@ -31,7 +31,8 @@ channel_sent FromB old new frames a b only is =
     let bounds = only.bounds in let up = only.up in
     rw (a, b, bounds, up, is, other) refl
 
-pub queue_same : (d : Direction) (joined_link : JoinedLink) → world_queue d (channel_of joined_link) ≡ (links.queue d joined_link.link).frames
+pub queue_same : (d : Direction) (joined_link : JoinedLink)
+    → world_queue d (channel_of joined_link) ≡ (links.queue d joined_link.link).frames
 queue_same FromA joined_link = refl
 queue_same FromB joined_link = refl
 

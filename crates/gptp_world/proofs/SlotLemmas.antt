@@ -102,7 +102,8 @@ in_slot-cut_other slot other (e ∷ es) differ = grind (arith, nat_tests, in_slo
 
 cut_same-step : (slot : ℕ) (x : Numbered Item) (es : List (Numbered Item)) (e : Numbered Item) (rest : List
     (Numbered Item))
-    → filed_in_slot slot (x ∷ es) ≡ e ∷ rest → (filed_in_slot slot es ≡ e ∷ rest → filed_in_slot slot (cut slot es) ≡ rest)
+    → filed_in_slot slot (x ∷ es) ≡ e ∷ rest → (filed_in_slot slot es ≡ e ∷ rest
+    → filed_in_slot slot (cut slot es) ≡ rest)
     → (t : Bool) → (slot == slot_of x.item) ≡ t → filed_in_slot slot (cut slot (x ∷ es)) ≡ rest
 cut_same-step slot x es e rest is ih true t =
     let heads : x ∷ filed_in_slot slot es ≡ e ∷ rest = rw t at is in rw t cc
@@ -208,7 +209,8 @@ times-plain systems links item [] known all = refl
 times-plain systems links item (e ∷ es) known all =
     let ih = times-plain systems links item es known all.1 in
     rw (← same_slot systems links item e.item known all.0, ih)
-    (sym (if_map (map (λ (x : Numbered Item). x.time)) (slot_of item == slot_of e.item) (e ∷ filed_in_slot (slot_of item) es)
+    (sym (if_map (map (λ (x : Numbered Item). x.time)) (slot_of item == slot_of e.item)
+      (e ∷ filed_in_slot (slot_of item) es)
     (filed_in_slot (slot_of item) es)))
 
 pub plain-cut : (systems links : ℕ) (item : Item) (es : List (Numbered Item)) → IsKnownItem systems links item

@@ -214,7 +214,8 @@ same_timers_of s s' timers.Sync ports is = tt
 same_timers_of s s' timers.Relay ports is = tt
 same_timers_of s s' timers.Lapse ports is = tt
 
-same_touched_of : (s s' : SystemState) (touched : TimersChanged) → length s'.ports ≡ length s.ports → IsTouchedOf s touched
+same_touched_of : (s s' : SystemState) (touched : TimersChanged) → length s'.ports ≡ length s.ports
+    → IsTouchedOf s touched
     → IsTouchedOf s' touched
 same_touched_of s s' touches.Nothing ports is = tt
 same_touched_of s s' (touches.One timer) ports is = same_timers_of s s' timer ports is

@@ -114,7 +114,8 @@ down_where (c ∷ cs) number port none =
 
 -- a lane of a link that is up begins there, or none does
 pub up_tells : (net : Between) (number port : ℕ) (lane : Option Lane) → IsNet net
-    → IfSome lane (IsUpLane net (port_id number port)) → IfNone lane (IsUnlinkedPort (between net) (port_id number port))
+    → IfSome lane (IsUpLane net (port_id number port))
+    → IfNone lane (IsUnlinkedPort (between net) (port_id number port))
     → is_up_at (between net).channels number port ≡ is_some lane
 up_tells net number port None is up none = down_where (between net).channels number port none
 up_tells net number port (Some lane) is up none =

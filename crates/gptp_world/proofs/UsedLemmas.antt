@@ -31,7 +31,8 @@ lives_by stations place number station true true own here named lives known = re
 lives_by stations place number station true false own here named lives known =
     let member = subst (λ n. stations_have_clock (live_stations stations) n ≡ true) named
     (clock_there (live_stations stations) (clock station.system)
-    (In-map clock_in (standing_system station) (live_stations stations) (live_there stations place station here lives))) in
+    (In-map clock_in (standing_system station) (live_stations stations) (live_there stations place station here lives)))
+      in
     absurd cc
 lives_by stations place number station false true own here named lives known =
     let (s, member, same) = clock_lives stations number known in
@@ -48,7 +49,8 @@ lives_by stations place number station false false own here named lives known = 
 pub lives_there : (stage : Stage) (lane : Lane) (place : ℕ) (joined_link : JoinedLink) → IsFounded stage
     → slice_get stage.net.cables.items lane.link ≡ Some joined_link → IsReceiver lane place stage.net.directory
     → (station : Station) → slice_get stage.stations.items place ≡ Some station
-    → station.live ≡ stations_have_clock (live_stations stage.stations.items) (receiver lane.direction (channel_of joined_link)).clock
+    → station.live ≡ stations_have_clock (live_stations stage.stations.items)
+      (receiver lane.direction (channel_of joined_link)).clock
 lives_there stage lane place joined_link is here receives station there =
     let known = receives (join_of joined_link) (known_join stage.net lane.link joined_link is.stage_kept.net here) in
     let at = station_at stage place (direction_end lane.direction (join_of joined_link)).clock is.stage_kept known in
@@ -94,7 +96,8 @@ used_here systems (x ∷ xs) (suc link) channel here is =
     by (channel_is_used systems x) refl (used_here systems xs link channel here is)
   where
     by : (used : Bool) → channel_is_used systems x ≡ used
-        → slice_get (used_channels systems xs) (length (used_channels systems (take link xs))) ≡ Some (standing_link channel)
+        → slice_get (used_channels systems xs) (length (used_channels systems (take link xs))) ≡ Some
+          (standing_link channel)
         → slice_get (used_channels systems (x ∷ xs)) (length (used_channels systems (take (suc link) (x ∷ xs))))
         ≡ Some (standing_link channel)
     by true used later = rw used later
@@ -137,7 +140,8 @@ abbrev pub used_before : Stage → ℕ → List Link
 used_before stage link =
     used_channels (live_stations stage.stations.items) (take link (map channel_of stage.net.cables.items))
 
-module _ (stage : Stage) (link : ℕ) (joined_link : JoinedLink) (here : slice_get stage.net.cables.items link ≡ Some joined_link) where
+module _ (stage : Stage) (link : ℕ) (joined_link : JoinedLink)
+  (here : slice_get stage.net.cables.items link ≡ Some joined_link) where
   abbrev systems : List System
   systems = live_stations stage.stations.items
 
@@ -150,7 +154,8 @@ module _ (stage : Stage) (link : ℕ) (joined_link : JoinedLink) (here : slice_g
   pub counted_more : channel_is_used systems (channel_of joined_link) ≡ true
       → length (used_before stage (link + 1)) ≡ length (used_before stage link) + 1
   counted_more is =
-      let if_used : used_if systems (channel_of joined_link) ≡ standing_link (channel_of joined_link) ∷ [] = rw is refl in
+      let if_used : used_if systems (channel_of joined_link) ≡ standing_link
+          (channel_of joined_link) ∷ [] = rw is refl in
       let more = ap (λ (ls : List Link). length ls)
       (one_more ∙ ap (λ (ls : List Link). used_before stage link ++ ls) if_used) in
       omega (arith, more, length-append (used_before stage link) (standing_link (channel_of joined_link) ∷ []))

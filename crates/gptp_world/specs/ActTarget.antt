@@ -42,7 +42,8 @@ IsAimOfChange (changes.LinkSet number port min max loss) w (aims.LinkSet link bo
     (at : IsLinkAt (port_id number port) w link) × (bounds ≡ set_to min max loss at.channel)
 IsAimOfChange (changes.Fail number) w (aims.Fail place) = PlaceHasClock number w place
 IsAimOfChange (changes.Recover number) w (aims.Recover place) = PlaceHasClock number w place
-IsAimOfChange (changes.Priority1 number value) w (aims.Priority1 place set) = PlaceHasClock number w place × (set ≡ value)
+IsAimOfChange (changes.Priority1 number value) w (aims.Priority1 place set) = PlaceHasClock number w place
+    × (set ≡ value)
 IsAimOfChange (changes.Inject number port octets) w (aims.Inject lane) = IsLaneAt (port_id number port) w lane
 IsAimOfChange change w target = ⊥
 

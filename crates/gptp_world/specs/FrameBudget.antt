@@ -65,7 +65,8 @@ HasReachBeyond r place frame_budget net = (number : ℕ) (port : PortId) (lane :
 pub record HasRoomBeyond (r : Reach) (place : ℕ) (frame_budget : List ℕ) (stage : Stage) : Type 0 where
   pub station : Station
   pub here : slice_get stage.stations.items place ≡ Some station
-  pub room : WorldHasRoom (both (for_reach r station.system) (for_credit stage.net.directory.clocks frame_budget)) stage.net
+  pub room : WorldHasRoom (both (for_reach r station.system)
+      (for_credit stage.net.directory.clocks frame_budget)) stage.net
 
 -- when the system at the end of a lane hears the oldest frame there
 abbrev pub HearsBeyond : Lane → List ℕ → Stage → Type 0

@@ -32,7 +32,8 @@ pub record OnlyEntries (used : ℕ) (net net' : Between) : Type 0 where
 
 -- the link at a place is up, or down
 abbrev pub LinkIs : Bool → ℕ → Between → Type 0
-LinkIs up link net = (joined_link : JoinedLink) → slice_get net.cables.items link ≡ Some joined_link → joined_link.link.up ≡ up
+LinkIs up link net = (joined_link : JoinedLink) → slice_get net.cables.items link ≡ Some joined_link
+    → joined_link.link.up ≡ up
 
 -- a lane of a link that is up begins at this port
 pub record IsUpLane (net : Between) (port : PortId) (lane : Lane) : Type 0 where

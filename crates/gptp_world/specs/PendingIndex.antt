@@ -22,7 +22,8 @@ queue_at place pending_index = slice_index_or pending_index.queues place []
 
 -- the queue at a place is this, and there is so much room
 abbrev pub filed_with_queue : ℕ → List ℕ → ℕ → FiledState → FiledState
-filed_with_queue place queue room pending_index = record pending_index { queues = slice_set pending_index.queues place queue; room = room }
+filed_with_queue place queue room pending_index = record pending_index
+    { queues = slice_set pending_index.queues place queue; room = room }
 
 -- ---- places
 
@@ -57,5 +58,6 @@ pub record PendingIsFiled (systems links : ℕ) (pending_index : FiledState) (es
   pub timers_len : length pending_index.timers ≡ systems * 119
   pub queues_len : length pending_index.queues ≡ links * 2
   pub known : AllByRecursion (λ (e : Numbered Item). IsKnownItem systems links e.item) es
-  pub timers : (place : ℕ) → map running (filed_in_slot (2 * place) es) ≡ one_or_none (slice_index_or pending_index.timers place None)
+  pub timers : (place : ℕ) → map running (filed_in_slot (2 * place) es) ≡ one_or_none
+      (slice_index_or pending_index.timers place None)
   pub queues : (place : ℕ) → map timer_number (filed_in_slot (2 * place + 1) es) ≡ queue_at place pending_index

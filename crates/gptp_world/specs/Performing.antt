@@ -70,7 +70,8 @@ TurnsOver (aims.Priority1 place value) w draws w' = OfSystem place w
 TurnsOver target w draws w' = ⊥
 
 -- it was changed so: the fate drew once for each send that a link carries
-pub record Turned {F : Type 0} (answers : Bounds → ℕ → F → Option ℕ → F → Type 0) (target : ActTarget) (fate fate_after : F)
+pub record Turned {F : Type 0} (answers : Bounds → ℕ → F → Option ℕ → F → Type 0) (target : ActTarget)
+  (fate fate_after : F)
     (stage stage_after : Stage) : Type 0 where
   pub draws : List Draw
   pub drawn : Draws answers fate draws fate_after

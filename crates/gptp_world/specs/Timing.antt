@@ -22,7 +22,8 @@ selected_from p (q ∷ qs) = timers.Announce p ∷ timers.Age p ∷ selected_fro
 -- each timer of a station is pending when it is due, those aside that may be otherwise
 abbrev pub AreSetBut : (Timer → Bool) → ℕ → Station → List Entry → Type 0
 AreSetBut otherwise place station es =
-    (timer : Timer) → otherwise timer ≡ false → times_of_item (Expiry place timer) es ≡ timer_time (station_due timer station)
+    (timer : Timer) → otherwise timer ≡ false
+      → times_of_item (Expiry place timer) es ≡ timer_time (station_due timer station)
 
 -- so is each of the system at a place
 abbrev pub AreSetAt : (Timer → Bool) → ℕ → Stage → Type 0

@@ -13,7 +13,8 @@ returns-in-Some c =
     let ms = c.args.network.now.systems in
     let cables = c.args.cables.now in
     let here =
-    system_there (λ (m : SystemSpec). (m.identity, m.ports, m.phase, m.drift, m.intervals)) (λ told. told.0) ms c.args.place
+    system_there (λ (m : SystemSpec). (m.identity, m.ports, m.phase, m.drift, m.intervals))
+      (λ told. told.0) ms c.args.place
     c.in-Some.system (λ m. refl) c.in-Some.ensures in
     on_ok_weaker c.push_unlinked.result
     (λ h. h
@@ -25,5 +26,6 @@ returns-in-Some c =
 
 pub returns-in-None : goal.returns-in-None
 returns-in-None c =
-    absurd (none_there (λ (m : SystemSpec). (m.identity, m.ports, m.phase, m.drift, m.intervals)) c.args.network.now.systems
+    absurd (none_there (λ (m : SystemSpec). (m.identity, m.ports, m.phase, m.drift, m.intervals))
+      c.args.network.now.systems
     c.args.place c.requires.place c.in-None.ensures)

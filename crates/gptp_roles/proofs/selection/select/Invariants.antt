@@ -8,5 +8,6 @@ invariant-loop-one l = record {
   roles : l.roles.items ≡ each_port (chosen_role l.chosen l.clock) (take l.one-index l.initial.held);
   fresh : l.fresh.items ≡ each_port (is_fresh l.chosen l.clock) (take l.one-index l.initial.held);
   held : l.held
-      ≡ each_port (held_after_selection l.chosen l.clock) (take l.one-index l.initial.held) ++ drop l.one-index l.initial.held;
+      ≡ each_port (held_after_selection l.chosen l.clock)
+        (take l.one-index l.initial.held) ++ drop l.one-index l.initial.held;
 }

@@ -11,7 +11,8 @@ there : (joins : List Join) (i : ℕ) (join : Join) → i < length joins → joi
     → slice_get joins i ≡ Some join
 there joins i join l e = slice_get_read joins (length joins) i join refl l e
 
-at : (clocks : List ℕ) (joins : List Join) (ends : List Ends) (i : ℕ) → AreEndPlaces clocks joins ends → i < length joins
+at : (clocks : List ℕ) (joins : List Join) (ends : List Ends) (i : ℕ) → AreEndPlaces clocks joins ends
+    → i < length joins
     → slice_get ends i ≡ Some (slice_index_or ends i (record { a = 0; b = 0 }))
 at clocks joins ends i h l = slice_get-get_or ends i _ (let e = ends_length clocks joins ends h in omega arith)
 

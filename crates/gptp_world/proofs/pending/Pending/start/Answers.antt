@@ -9,6 +9,8 @@ invariant_of-self c =
     let known = rw (← c.self.view_is) at c.requires.known in
     let stopped = rw (← c.self.view_is) at c.requires.stopped in
     rw (c.set_timer.ensures, c.timer_place.ensures, entries, number)
-    (pending_index-put_timer p.systems p.links p.pending_index p.agenda.entries c.self.invariant c.args.place c.args.timer c.args.time
+    (pending_index-put_timer p.systems p.links p.pending_index p.agenda.entries c.self.invariant c.args.place
+      c.args.timer c.args.time
     p.agenda.next known
-    (not_filed p.systems p.links p.pending_index p.agenda.entries c.self.invariant c.args.place c.args.timer known stopped))
+    (not_filed p.systems p.links p.pending_index p.agenda.entries c.self.invariant c.args.place c.args.timer
+      known stopped))

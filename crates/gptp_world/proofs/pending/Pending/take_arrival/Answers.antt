@@ -15,7 +15,8 @@ invariant_of-self c =
     let first = front_is (queue_at (arrival_place c.args.link c.args.direction) p.pending_index) c.in-Some.number
     (sym c.in-Some.is ∙ rw c.arrival_place.ensures at c.pop.ensures.number) in
     rw (c.pop.ensures.rest, c.arrival_place.ensures, c.take_out.ensures.taken)
-    (pending_index-taken p.systems p.links p.pending_index p.agenda.entries c.self.invariant c.args.link c.args.direction known
+    (pending_index-taken p.systems p.links p.pending_index p.agenda.entries c.self.invariant c.args.link
+      c.args.direction known
     c.in-Some.number first.0 c.pop.new.self.room first.1
     p.agenda.next c.numbers_rise.ensures)
 
@@ -38,7 +39,8 @@ returns-in-Some-clause-one c = λ _.
     let first = front_is (queue_at (arrival_place c.args.link c.args.direction) p.pending_index) c.in-Some.number
     (sym c.in-Some.is ∙ rw c.arrival_place.ensures at c.pop.ensures.number) in
     rw (← c.self.view_is, c.take_out.ensures.taken)
-    (shrinks-taken p.systems p.links p.pending_index p.agenda.entries c.self.invariant c.args.link c.args.direction known
+    (shrinks-taken p.systems p.links p.pending_index p.agenda.entries c.self.invariant c.args.link
+      c.args.direction known
     c.in-Some.number first.0 c.pop.new.self.room first.1
     p.agenda.next c.numbers_rise.ensures)
 
@@ -51,7 +53,8 @@ returns-in-None-clause-kept c =
     rw (← c.self.view_is)
     (same_state _ _ refl refl
     (sym (without_first-none (Arrival c.args.link c.args.direction) (plain p.agenda.entries)
-    (times-no_arrival p.systems p.links p.pending_index p.agenda.entries c.self.invariant c.args.link c.args.direction known
+    (times-no_arrival p.systems p.links p.pending_index p.agenda.entries c.self.invariant c.args.link
+      c.args.direction known
     none)))
     refl)
 
@@ -62,5 +65,6 @@ returns-in-None-clause-none c = λ _.
     let none = no_front (queue_at (arrival_place c.args.link c.args.direction) p.pending_index) (sym c.in-None.is
     ∙ rw c.arrival_place.ensures at c.pop.ensures.number) in
     rw (← c.self.view_is)
-    (times-no_arrival p.systems p.links p.pending_index p.agenda.entries c.self.invariant c.args.link c.args.direction known
+    (times-no_arrival p.systems p.links p.pending_index p.agenda.entries c.self.invariant c.args.link
+      c.args.direction known
     none)

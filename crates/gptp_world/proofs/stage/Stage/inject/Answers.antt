@@ -4,7 +4,8 @@ use Rattle.gptp_world.proofs.TellingLemmas.{net_becomes}
 use Rattle.gptp_world.proofs.stage.Stage.inject.Goals as goal
 
 pub inject-requires-clause-room : goal.inject-requires-clause-room
-inject-requires-clause-room g c = c.requires.room (λ joined_link here. sym (c.is_up.ensures joined_link here) ∙ c.if-is_up.true)
+inject-requires-clause-room g c = c.requires.room
+    (λ joined_link here. sym (c.is_up.ensures joined_link here) ∙ c.if-is_up.true)
 
 pub inject-requires-clause-up : goal.inject-requires-clause-up
 inject-requires-clause-up g c = λ joined_link here. sym (c.is_up.ensures joined_link here) ∙ c.if-is_up.true
@@ -19,7 +20,8 @@ returns-then-is_up-clause-injected g c =
     let room = c.requires.room (λ joined_link here. sym (c.is_up.ensures joined_link here) ∙ c.if-is_up.true) in
     let frame = room.frame in
     injected g.F.Fate.answers c.args.lane c.args.octets.now c.args.fate.now c.inject.new.fate c.args.self.now
-    c.inject.new.self frame.joined_link frame.here (sym (c.is_up.ensures frame.joined_link frame.here) ∙ c.if-is_up.true)
+    c.inject.new.self frame.joined_link frame.here
+      (sym (c.is_up.ensures frame.joined_link frame.here) ∙ c.if-is_up.true)
     (c.inject.ensures.sent frame.joined_link frame.here)
 
 pub returns-else-is_up-clause-injected : goal.returns-else-is_up-clause-injected

@@ -5,7 +5,8 @@ use Rattle.gptp_world.proofs.PerformingLemmas.{of_link, of_this}
 use Rattle.gptp_world.proofs.stage.Stage.take_link_down.Goals as goal
 
 pub link_down-requires-clause-room : goal.link_down-requires-clause-room
-link_down-requires-clause-room g c = c.requires.room (λ joined_link here. sym (c.is_up.ensures joined_link here) ∙ c.if-is_up.true)
+link_down-requires-clause-room g c = c.requires.room
+    (λ joined_link here. sym (c.is_up.ensures joined_link here) ∙ c.if-is_up.true)
 
 pub returns-then-is_up-clause-down : goal.returns-then-is_up-clause-down
 returns-then-is_up-clause-down g c =

@@ -77,6 +77,7 @@ returns-clause-went g c =
     let old = g.K.Sink.written c.args.sink.now in let new = g.K.Sink.written c.loop-due.sink in (
       c.loop-due.observer,
       follows_so g.F.Fate.answers g.O.Observer.tells c.args.time c.args.self.now.fate c.loop-due.self.fate
-          c.args.self.now.world_core c.loop-due.self.world_core c.args.observer.now c.loop-due.observer (Appends old new)
+          c.args.self.now.world_core c.loop-due.self.world_core c.args.observer.now c.loop-due.observer
+            (Appends old new)
           (AppendsSome old new) (all_of old new) c.loop-due.invariant.followed,
     )

@@ -26,7 +26,8 @@ returns-in_err-later-clause-went g c =
     let new = g.K.Sink.written c.finish_next.new.sink in let went = c.in_err-later.ensures.went in (
       went.0,
       follows_more g.F.Fate.answers g.O.Observer.tells c.args.until c.args.self.now.fate c.loop-from.self.fate
-          c.finish_next.new.self.fate c.args.self.now.world_core c.loop-from.self.world_core c.finish_next.new.self.world_core
+          c.finish_next.new.self.fate c.args.self.now.world_core c.loop-from.self.world_core
+            c.finish_next.new.self.world_core
           c.args.observer.now c.loop-from.observer went.0 (Appends old between) (AppendsSome between new)
           (AppendsSome old new) (some_behind old between new) c.loop-from.invariant.followed went.1,
     )
@@ -36,6 +37,7 @@ returns-clause-went g c =
     let old = g.K.Sink.written c.args.sink.now in let new = g.K.Sink.written c.loop-from.sink in (
       c.loop-from.observer,
       follows_so g.F.Fate.answers g.O.Observer.tells c.args.until c.args.self.now.fate c.loop-from.self.fate
-          c.args.self.now.world_core c.loop-from.self.world_core c.args.observer.now c.loop-from.observer (Appends old new)
+          c.args.self.now.world_core c.loop-from.self.world_core c.args.observer.now c.loop-from.observer
+            (Appends old new)
           (AppendsSome old new) (all_of old new) c.loop-from.invariant.followed,
     )

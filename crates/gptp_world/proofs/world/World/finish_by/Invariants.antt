@@ -7,7 +7,8 @@ use Rattle.gptp_world.proofs.world.World.finish_by.Given as goal
 -- it went on so far, nothing is pending before the time from which it goes on, and no write has failed
 abbrev pub invariant-loop-from : goal.invariant-loop-from
 invariant-loop-from g l = record {
-  followed : Follows g.F.Fate.answers g.O.Observer.tells l.until l.initial.self.fate l.self.fate l.initial.self.world_core
+  followed : Follows g.F.Fate.answers g.O.Observer.tells l.until l.initial.self.fate l.self.fate
+      l.initial.self.world_core
       l.self.world_core l.initial.observer l.observer
       (Appends (g.K.Sink.written l.initial.sink) (g.K.Sink.written l.sink));
   next : IsUpcoming l.next l.self.world_core.net.pending;

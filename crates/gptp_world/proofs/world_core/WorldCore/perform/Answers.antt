@@ -46,9 +46,12 @@ invariant_of-self-2 g c =
           c.requires.fit acted.acts;
       claimed = acted_claimed g.F.Fate.answers c.args.timed.now c.args.fate.now c.perform.new.fate c.args.self.now made
           (world_of c.perform.new.self) acted.draws c.perform.result
-          (subst WorldInvariant c.self.view_is c.self.invariant.claimed) (c.make_room_for.ensures.world ∙ c.self.view_is)
+          (subst WorldInvariant c.self.view_is c.self.invariant.claimed)
+            (c.make_room_for.ensures.world ∙ c.self.view_is)
           c.requires.fit c.requires.prompt c.requires.octet c.requires.ready acted.drawn acted.acts;
       covered = let stage = c.make_room_for.new.self in let frame_budget = c.make_room_for.new.frame_budget in
-          covered_after c.args.target frame_budget (at_time time stage) c.perform.new.self.net c.perform.ensures.stage.net
-          (leaves_later c.args.target frame_budget stage time c.in_ok-make_room_for.ensures.left) c.perform.ensures.uses;
+          covered_after c.args.target frame_budget
+            (at_time time stage) c.perform.new.self.net c.perform.ensures.stage.net
+          (leaves_later c.args.target frame_budget stage time c.in_ok-make_room_for.ensures.left)
+            c.perform.ensures.uses;
     }
