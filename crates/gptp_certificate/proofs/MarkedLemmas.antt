@@ -17,10 +17,10 @@ use Rattle.gptp_graph.proofs.RisingLemmas.{Different-rising}
 use Rattle.gptp_system.specs.State.{clock}
 use Rattle.gptp_model.specs.World.{WorldState}
 use Rattle.gptp_model.specs.declared.station.Station.{Station}
-use Rattle.gptp_invariants.specs.Bounded.{statement_of, statements_of}
-use Rattle.gptp_invariants.specs.Standing.{live_stations, snapshot_of}
-use Rattle.gptp_invariants.proofs.BoundedLemmas.{statement_from, statement_there, stated_lives}
-use Rattle.gptp_invariants.proofs.SystemLemmas.{clock_in, live_from}
+use Rattle.gptp_invariants.specs.WorldBounded.{statement_of, statements_of}
+use Rattle.gptp_invariants.specs.WorldStanding.{live_stations, snapshot_of}
+use Rattle.gptp_invariants.proofs.WorldBoundedLemmas.{statement_from, statement_there, stated_lives}
+use Rattle.gptp_invariants.proofs.WorldSystemLemmas.{clock_in, live_from}
 use Rattle.gptp_certificate.specs.Marking.{LinesAreMarked, ArePairs, AreStarts, IsFarBy, IsStart, Marks, line_roots}
 use Rattle.gptp_certificate.specs.Rounds.{AreLeast, LinksAreWithin, value}
 use Rattle.gptp_certificate.specs.Stated.{IsStatedLine, States, stated_line}

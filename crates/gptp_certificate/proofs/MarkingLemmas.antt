@@ -14,7 +14,7 @@ use Rattle.gptp_graph.specs.Order.{IsRising}
 use Rattle.gptp_graph.specs.Snapshot.{IsWellFormed, Snapshot, clocks}
 use Rattle.gptp_graph.proofs.LinkLemmas.{Joins-clock}
 use Rattle.gptp_vector.specs.declared.port.PortId.{PortId}
-use Rattle.gptp_invariants.specs.View.{port_identity_number}
+use Rattle.gptp_invariants.specs.ChoiceView.{port_identity_number}
 use Rattle.gptp_world.specs.Used.{snapshot_link}
 use Rattle.gptp_certificate_text.specs.Certificate.{line_of, lines_of}
 use Rattle.gptp_certificate_text.specs.declared.certificate.SystemLine.{SystemLine as Line}

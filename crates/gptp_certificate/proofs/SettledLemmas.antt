@@ -27,15 +27,15 @@ use Rattle.gptp_system.specs.Steps.{HasPortNumber}
 use Rattle.gptp_model.specs.Sound.{HaveOwnClocks}
 use Rattle.gptp_model.specs.World.{WorldState}
 use Rattle.gptp_model.specs.declared.station.Station.{Station}
-use Rattle.gptp_invariants.specs.Bounded.{IsBoundedWorld, statement_of, statements_of}
-use Rattle.gptp_invariants.specs.Standing.{snapshot_of, standing_system}
-use Rattle.gptp_invariants.proofs.BoundedLemmas.{claimed_bounded, statement_there, stated_lives}
-use Rattle.gptp_invariants.proofs.StandsLemmas.{stands_well}
-use Rattle.gptp_invariants.proofs.SystemLemmas.{clock_in, live_from, live_there}
-use Rattle.gptp_invariants.specs.Settled.{IsSettledSystem, Settled, followed_link}
-use Rattle.gptp_invariants.specs.Settled as graphs
-use Rattle.gptp_invariants.specs.SettlingInvariant.{SettlingInvariant}
-use Rattle.gptp_invariants.proofs.SettlingInvariantLemmas.{claimed_settled}
+use Rattle.gptp_invariants.specs.WorldBounded.{IsBoundedWorld, statement_of, statements_of}
+use Rattle.gptp_invariants.specs.WorldStanding.{snapshot_of, standing_system}
+use Rattle.gptp_invariants.proofs.WorldBoundedLemmas.{claimed_bounded, statement_there, stated_lives}
+use Rattle.gptp_invariants.proofs.WorldStandsLemmas.{stands_well}
+use Rattle.gptp_invariants.proofs.WorldSystemLemmas.{clock_in, live_from, live_there}
+use Rattle.gptp_invariants.specs.ChoiceSettled.{IsSettledSystem, Settled, followed_link}
+use Rattle.gptp_invariants.specs.ChoiceSettled as graphs
+use Rattle.gptp_invariants.specs.WorldSettlingInvariant.{SettlingInvariant}
+use Rattle.gptp_invariants.proofs.WorldSettlingInvariantLemmas.{claimed_settled}
 use Rattle.gptp_certificate_text.specs.Certificate.{IsCertificate, parent_of, role_of}
 use Rattle.gptp_certificate.specs.Settled.{IsRightInTime}
 use Rattle.gptp_certificate.specs.Stated.{IsFarLine, IsStatedLine, IsNearLine, States, stated_line, stated_port}
@@ -259,7 +259,7 @@ pub right_in_time : (w : WorldState) (lines : List SystemLine) → SettlingInvar
     → IsRightInTime w lines
 right_in_time w lines claimed states calm =
     let world = claimed.is.world in
-    settled_choice w (stands_well w world.sound world.between world.legible) (claimed_settled w claimed calm)
+    settled_choice w (stands_well w world.sound world.between world.encodable) (claimed_settled w claimed calm)
     (claimed_bounded w claimed calm) lines world.sound.wired.clocks states
 
 -- ---- they stand in order

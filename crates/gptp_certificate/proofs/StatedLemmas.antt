@@ -14,7 +14,7 @@ use Rattle.gptp_model.specs.Views.{rising_clocks}
 use Rattle.gptp_model.specs.World.{WorldState}
 use Rattle.gptp_model.specs.declared.station.Station.{Station}
 use Rattle.gptp_model.proofs.RisingLemmas.{rising_clocks-count}
-use Rattle.gptp_invariants.proofs.NameLemmas.{clock_of_station, clocks_rise, In-rising}
+use Rattle.gptp_invariants.proofs.WorldNameLemmas.{clock_of_station, clocks_rise, In-rising}
 use Rattle.gptp_certificate.specs.Stated.{stated_line, stated_port}
 use Rattle.gptp_certificate.specs.Stating.{stated_if, Adds, AreSaid}
 

@@ -11,8 +11,8 @@ use Rattle.gptp_system.specs.Start.{role_at}
 use Rattle.gptp_system.specs.State.{SystemState, clock, parent}
 use Rattle.gptp_model.specs.World.{WorldState}
 use Rattle.gptp_model.specs.declared.station.Station.{Station}
-use Rattle.gptp_invariants.specs.Bounded.{statement_of, statements_of}
-use Rattle.gptp_invariants.specs.Standing.{snapshot_of}
+use Rattle.gptp_invariants.specs.WorldBounded.{statement_of, statements_of}
+use Rattle.gptp_invariants.specs.WorldStanding.{snapshot_of}
 use Rattle.gptp_certificate_text.specs.Certificate.{parent_of, role_of}
 
 -- ---- what a system says

@@ -7,7 +7,7 @@ ghost use Rattle.gptp_graph.specs.Labelling.{line_clocks};
 ghost use Rattle.gptp_graph.specs.Order.{IsRising};
 ghost use Rattle.gptp_graph.specs.Snapshot.{clocks as all_clocks};
 ghost use Rattle.gptp_lists.specs.Members.{In};
-ghost use Rattle.gptp_invariants.specs.Standing.{snapshot_of};
+ghost use Rattle.gptp_invariants.specs.WorldStanding.{snapshot_of};
 ghost use Rattle.gptp_certificate_text.specs.Certificate.{line_of, lines_of};
 ghost use Rattle.gptp_certificate.specs.Marking.{AreAmong, LinesAreMarked, ArePairs, AreStarts, IsFarBy, IsStart, Marks, clocks_in, line_roots, port_clocks};
 ghost use Rattle.gptp_certificate.specs.Rounds.{AreLeast, LinksAreWithin, value};

@@ -24,7 +24,7 @@ use Rattle.gptp_network.specs.Events.{AreEvents}
 use Rattle.gptp_network.proofs.EventLemmas.{early_from, events_allowed}
 use Rattle.gptp_network.proofs.MeantLemmas.{meant_document}
 use Rattle.gptp_network.proofs.PassLemmas.{count_more}
-use Rattle.gptp_invariants.specs.SettlingInvariant.{SettlingInvariant}
+use Rattle.gptp_invariants.specs.WorldSettlingInvariant.{SettlingInvariant}
 use Rattle.gptp_certificate_text.specs.CertificateText.{certificate_lines}
 use Rattle.gptp_theorem.proofs.SettlingInvariantLemmas.{played_claimed}
 use Rattle.gptp_theorem.proofs.OctetLemmas.{documents_playable}

@@ -15,7 +15,7 @@ use Rattle.gptp_correction.specs.declared.correction.Hop.{Hop}
 use Rattle.gptp_correction.specs.declared.sync_in.SyncInfo.{SyncInfo}
 use Rattle.gptp_correction.specs.Correction.{carried, carried_on, link_time, passage, receipt, upstream_time, BridgeFits, SlaveFits}
 use Rattle.gptp_system.specs.Syncing.{offset_of, OffsetFits}
-use Rattle.gptp_invariants.proofs.OrderLemmas.{contains_in, in_contains}
+use Rattle.gptp_invariants.proofs.WorldOrderLemmas.{contains_in, in_contains}
 
 -- it is so, or it isn't
 abbrev pub Decided : Type 0 → Type 0

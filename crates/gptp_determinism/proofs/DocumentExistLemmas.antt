@@ -29,8 +29,8 @@ use Rattle.gptp_model.specs.Pending.{NothingBefore}
 use Rattle.gptp_model.specs.Sound.{IsSound}
 use Rattle.gptp_model.specs.World.{Channel, WorldState, port_id}
 use Rattle.gptp_model.proofs.AdvanceLemmas.{nothing_sooner}
-use Rattle.gptp_invariants.proofs.LinkLaneLemmas.{true_same}
-use Rattle.gptp_invariants.proofs.OutlineLemmas.{change_time, starts_are_last}
+use Rattle.gptp_invariants.proofs.DelayLinkLaneLemmas.{true_same}
+use Rattle.gptp_invariants.proofs.WorldOutlineLemmas.{change_time, starts_are_last}
 use Rattle.gptp_network.specs.Document.{DocumentState}
 use Rattle.gptp_network.specs.Events.{AreInOrder, IsPossibleChange, IsEvent}
 use Rattle.gptp_network.specs.Snapshot.{events_by}

@@ -16,8 +16,8 @@ use Rattle.gptp_graph.specs.Parent.{ParentLink}
 use Rattle.gptp_graph.specs.Snapshot.{Snapshot}
 use Rattle.gptp_graph.proofs.RisingLemmas.{same_rising}
 use Rattle.gptp_certificate.specs.Stated.{IsFarLine, IsStatedLine, States}
-use Rattle.gptp_invariants.specs.Bounded.{statement_of, statements_of}
-use Rattle.gptp_invariants.specs.Standing.{snapshot_of}
+use Rattle.gptp_invariants.specs.WorldBounded.{statement_of, statements_of}
+use Rattle.gptp_invariants.specs.WorldStanding.{snapshot_of}
 use Rattle.gptp_lists.specs.Members.{In}
 use Rattle.gptp_report.specs.declared.frame_line.FrameType.{FrameType}
 use Rattle.gptp_report.specs.FrameLine.{frame_line, frame_type_of, IsOfType}

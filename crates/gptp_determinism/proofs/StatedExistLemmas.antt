@@ -21,12 +21,12 @@ use Rattle.gptp_model.specs.Sound.{HaveOwnClocks}
 use Rattle.gptp_model.specs.Views.{rising_clocks}
 use Rattle.gptp_model.specs.World.{WorldState}
 use Rattle.gptp_model.proofs.RisingLemmas.{rising_clocks-at}
-use Rattle.gptp_invariants.specs.Bounded.{statement_of, statements_of}
-use Rattle.gptp_invariants.specs.SettlingInvariant.{SettlingInvariant}
-use Rattle.gptp_invariants.specs.Standing.{snapshot_of}
-use Rattle.gptp_invariants.proofs.BoundedLemmas.{statement_there, stated_lives}
-use Rattle.gptp_invariants.proofs.NameLemmas.{clock_of_station, clocks_rise, In-rising}
-use Rattle.gptp_invariants.proofs.StandsLemmas.{stands_well}
+use Rattle.gptp_invariants.specs.WorldBounded.{statement_of, statements_of}
+use Rattle.gptp_invariants.specs.WorldSettlingInvariant.{SettlingInvariant}
+use Rattle.gptp_invariants.specs.WorldStanding.{snapshot_of}
+use Rattle.gptp_invariants.proofs.WorldBoundedLemmas.{statement_there, stated_lives}
+use Rattle.gptp_invariants.proofs.WorldNameLemmas.{clock_of_station, clocks_rise, In-rising}
+use Rattle.gptp_invariants.proofs.WorldStandsLemmas.{stands_well}
 use Rattle.gptp_certificate.specs.Stated.{IsStatedLine, IsStated, States, stated_line}
 
 -- ---- far systems
@@ -294,7 +294,7 @@ module _ (w : WorldState) (wf : IsWellFormed (snapshot_of w)) where
 pub states_exist : (w : WorldState) → SettlingInvariant w → (lines : List SystemLine) × States w lines
 states_exist w claimed =
     let world = claimed.is.world in
-    let wf = stands_well w world.sound world.between world.legible in
+    let wf = stands_well w world.sound world.between world.encodable in
     let own = world.sound.wired.clocks in
     let whole = lines_exist w wf own (rising_clocks w) (clocks_rise w own) (rising_clocks-at w) in (
       whole.lines,

@@ -4,7 +4,7 @@ ghost use Rattle.std.specs.Prelude.{List};
 ghost use Rattle.gptp_model.specs.World.{WorldState};
 ghost use Rattle.gptp_certificate.specs.Stated.{States};
 ghost use Rattle.gptp_graph.specs.Labelling.{SystemLine};
-ghost use Rattle.gptp_invariants.specs.SettlingInvariant.{SettlingInvariant};
+ghost use Rattle.gptp_invariants.specs.WorldSettlingInvariant.{SettlingInvariant};
 ghost use Rattle.gptp_determinism.specs.ActLaws.{ActsKeepNames, ActsOnce, ActsOnceDrawn, InitialIsNamed, SoundIsNamed};
 ghost use Rattle.gptp_determinism.specs.CourseLaws.{AdvancesOnce, BeginsOnce, NextOnce, StopsOnTheWay};
 ghost use Rattle.gptp_determinism.specs.ExistenceLaws.{ActsExist, BeginningsExist, DocumentsLead, DocumentsUnfold, FramesAreJudged, StepsExist, WaysExist};

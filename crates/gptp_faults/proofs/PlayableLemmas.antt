@@ -4,7 +4,7 @@ use Rattle.std.specs.List.{list_any}
 use Rattle.std.proofs.lemmas.Bool.Decides.{nat_tests}
 use Rattle.std.proofs.lemmas.Option.{same_Some}
 use Rattle.gptp_graph.specs.Snapshot.{Link, Snapshot}
-use Rattle.gptp_invariants.specs.EncodableLaws.{SetsAnOctet}
+use Rattle.gptp_invariants.specs.WorldEncodableLaws.{SetsAnOctet}
 use Rattle.gptp_lists.specs.Members.{In}
 use Rattle.gptp_lists.proofs.SystemSpecLemmas.{from_map, In-parts}
 use Rattle.gptp_lists.proofs.PlaceLemmas.{behind}

@@ -29,23 +29,23 @@ use Rattle.gptp_bmca_machine.specs.Frame.{Sync, SyncId}
 use Rattle.gptp_bmca_machine.specs.Network.{Network}
 use Rattle.gptp_bmca_machine.specs.Station.{MachineState, Station as SeenStation}
 use Rattle.gptp_bmca_machine.specs.SyncActs.{FollowsOn, HearsFollowedSync, IsFollowed, SyncActs, SyncArrives, SyncDrops, SyncRuns, TimerStep}
-use Rattle.gptp_invariants.specs.Calm.{SettlingTimes, network_with}
-use Rattle.gptp_invariants.specs.Known.{AreSet, IsKnown}
-use Rattle.gptp_invariants.specs.Encodable.{IsEncodable}
-use Rattle.gptp_invariants.specs.SeenLaws.{IsNoChange}
+use Rattle.gptp_invariants.specs.ChoiceCalm.{SettlingTimes, network_with}
+use Rattle.gptp_invariants.specs.WorldKnown.{AreSet, IsKnown}
+use Rattle.gptp_invariants.specs.WorldEncodable.{IsEncodable}
+use Rattle.gptp_invariants.specs.ChoiceSeenLaws.{IsNoChange}
 use Rattle.gptp_invariants.specs.SyncView.{KnowTime, TakesTime}
-use Rattle.gptp_invariants.specs.View.{kept_view, says_announce, says_sync, station_view, sync_id, view}
+use Rattle.gptp_invariants.specs.ChoiceView.{kept_view, says_announce, says_sync, station_view, sync_id, view}
 use Rattle.gptp_bmca_machine.specs.Syncs.{HasSyncTimers, HaveSyncTimers, MayLead}
-use Rattle.gptp_invariants.proofs.PlaceLemmas.{station_from}
-use Rattle.gptp_invariants.proofs.SeenDeliveryLemmas.{IsArrivalAt, emptied_apart, failed_drops, receiver_arrives, receiver_up}
-use Rattle.gptp_invariants.proofs.SeenExpiryLemmas.{expires_at, expiry_timely}
-use Rattle.gptp_invariants.proofs.SendLemmas.{world_apart}
+use Rattle.gptp_invariants.proofs.ChoicePlaceLemmas.{station_from}
+use Rattle.gptp_invariants.proofs.ChoiceSeenDeliveryLemmas.{IsArrivalAt, emptied_apart, failed_drops, receiver_arrives, receiver_up}
+use Rattle.gptp_invariants.proofs.ChoiceSeenExpiryLemmas.{expires_at, expiry_timely}
+use Rattle.gptp_invariants.proofs.ChoiceSendLemmas.{world_apart}
 use Rattle.gptp_invariants.proofs.SyncCallLemmas.{TakesSyncs, kept_stays, slave_takes, timers_step}
 use Rattle.gptp_invariants.proofs.SyncHeardLemmas.{follow_ups_are_used, followed_here, syncs_are_kept}
-use Rattle.gptp_invariants.proofs.TimeStepLemmas.{KeepsSync}
+use Rattle.gptp_invariants.proofs.SyncTimeStepLemmas.{KeepsSync}
 
 module _ (p : SettlingParams) (m start : ℕ) (times : SettlingTimes) (w : WorldState) (sound : IsSound w)
-  (legible : IsEncodable w)
+    (encodable : IsEncodable w)
     (set : AreSet p w) (knows : KnowTime w) (above : 0 < p.params.sync_timeout) where
   abbrev n : Network
   n = network_with p m start times w
@@ -72,10 +72,10 @@ module _ (p : SettlingParams) (m start : ℕ) (times : SettlingTimes) (w : World
       let c = k.calls in
       let steady = (sound.on_time.stations place c.station c.here).steady in
       let its = sound.wired.setups place c.station c.here in
-      let timely = expiry_timely place timer w draws w' sound legible k in
+      let timely = expiry_timely place timer w draws w' sound encodable k in
       let time = knows place c.station c.here c.live in
-      let apart = world_apart w sound legible in
-      let run = expires_at place timer w draws w' sound legible k in
+      let apart = world_apart w sound encodable in
+      let run = expires_at place timer w draws w' sound encodable k in
       let so : RunsSo (station_view c.station) (station_view (in_state c.after c.station)) (view w') = (
         timers_step place (TimerExpires timer) (stopped place timer w) draws k.answer w' c steady its timely time
             (on place c.station c.here) apart n (span place c.station c.here),
@@ -102,7 +102,7 @@ module _ (p : SettlingParams) (m start : ℕ) (times : SettlingTimes) (w : World
     abbrev Heard : MachineState → SeenStation → SeenStation → ℕ → List ℕ → Type 0
     Heard mid s s' at said = TimerStep says_sync n mid (view w') s s'
         × (((i : ℕ) → s.slave ≡ Some (suc i) → at ≡ suc i → FollowsOn s s'
-          → HearsFollowedSync says_sync n w.time i said s s')
+        → HearsFollowedSync says_sync n w.time i said s s')
         × ((i : ℕ) → s.slave ≡ Some (suc i) → at ≢ suc i → FollowsOn s s' → s'.kept ≡ s.kept))
 
     module _ (one : Answer) (c : Calls k.place (FrameHeard port octets) emptied draws one w') where
@@ -113,7 +113,7 @@ module _ (p : SettlingParams) (m start : ℕ) (times : SettlingTimes) (w : World
       called = in_state c.after c.station
 
       arrival : IsArrivalAt c.station c.after emptied port octets w w'
-      arrival = receiver_arrives link direction octets w draws answer w' sound legible k one c
+      arrival = receiver_arrives link direction octets w draws answer w' sound encodable k one c
 
       steady : IsSteady s
       steady = (sound.on_time.stations k.place c.station c.here).steady
@@ -122,18 +122,18 @@ module _ (p : SettlingParams) (m start : ℕ) (times : SettlingTimes) (w : World
       timer_steps =
           timers_step k.place (FrameHeard port octets) emptied draws one w' c steady
           (sound.wired.setups k.place c.station c.here)
-          (receiver_up link direction octets w draws answer w' sound legible k one c)
+          (receiver_up link direction octets w draws answer w' sound encodable k one c)
           (knows k.place c.station c.here c.live) (on k.place c.station c.here)
-          (emptied_apart link direction octets w draws answer w' sound legible k) n (span k.place c.station c.here)
+          (emptied_apart link direction octets w draws answer w' sound encodable k) n (span k.place c.station c.here)
 
       stays : FollowsOn (station_view c.station) (station_view called)
           → (KeepsSync (FrameHeard port octets) s c.after → ⊥) → kept_view c.after ≡ kept_view s
       stays still none =
           kept_stays k.place (FrameHeard port octets) emptied draws one w' c steady
           (sound.wired.setups k.place c.station c.here)
-          (receiver_up link direction octets w draws answer w' sound legible k one c)
+          (receiver_up link direction octets w draws answer w' sound encodable k one c)
           (knows k.place c.station c.here c.live) (on k.place c.station c.here)
-          (emptied_apart link direction octets w draws answer w' sound legible k) n (span k.place c.station c.here)
+          (emptied_apart link direction octets w draws answer w' sound encodable k) n (span k.place c.station c.here)
           still none
 
       same_frame : (n p : ℕ) (x y : List ℕ) → FrameHeard n x ≡ FrameHeard p y → (n ≡ p) × (x ≡ y)
@@ -206,11 +206,11 @@ module _ (p : SettlingParams) (m start : ℕ) (times : SettlingTimes) (w : World
       where
         by : (o : Option Answer) → Hears k.place port octets emptied draws o w'
             → ((act : Arrives says_announce (view w) (view w'))
-              × SyncArrives says_announce says_sync n (view w) (view w') act)
+            × SyncArrives says_announce says_sync n (view w) (view w') act)
             ⊎ ((act : Drops says_announce (view w) (view w'))
-              × SyncDrops says_announce says_sync (view w) (view w') act)
+            × SyncDrops says_announce says_sync (view w) (view w') act)
         by None hears =
-            let drop = failed_drops link direction octets w draws answer w' sound legible k hears in
+            let drop = failed_drops link direction octets w draws answer w' sound encodable k hears in
             inr (drop.act, λ i m x at named live said. drop.failed i m at named live)
         by (Some one) hears = inl ((arrival one hears).act, arrives_so one hears)
 
@@ -222,7 +222,7 @@ module _ (p : SettlingParams) (m start : ℕ) (times : SettlingTimes) (w : World
       by (deliveries_tell link direction k.octets draws k.answer w' k.delivers)
     where
       by : ((act : Arrives says_announce (view w) (view w'))
-        × SyncArrives says_announce says_sync n (view w) (view w') act)
+          × SyncArrives says_announce says_sync n (view w) (view w') act)
           ⊎ ((act : Drops says_announce (view w) (view w')) × SyncDrops says_announce says_sync (view w) (view w') act)
           → SyncActs says_announce says_sync n (view w) (view w')
       by (inl arrives) = inl arrives

@@ -44,13 +44,13 @@ use Rattle.gptp_bmca_machine.specs.SyncActs.{FollowsOn, IsFollowed, SendsPairs, 
 use Rattle.gptp_bmca_machine.specs.Syncs.{MayLead}
 use Rattle.gptp_invariants.specs.SyncLaws.{TellsTime}
 use Rattle.gptp_invariants.specs.SyncView.{KnowsTime, TakesTime}
-use Rattle.gptp_invariants.specs.View.{port_identity_number, kept_view, lanes_view, reception_view, says_sync, span_at, station_view, system_view, view}
-use Rattle.gptp_invariants.proofs.PortLemmas.{held_from, holds_there}
+use Rattle.gptp_invariants.specs.ChoiceView.{port_identity_number, kept_view, lanes_view, reception_view, says_sync, span_at, station_view, system_view, view}
+use Rattle.gptp_invariants.proofs.ChoicePortLemmas.{held_from, holds_there}
 use Rattle.gptp_invariants.proofs.SyncHeardLemmas.{id_of}
 use Rattle.gptp_invariants.proofs.SyncLaneLemmas.{pairs_enter}
 use Rattle.gptp_invariants.proofs.SyncSaidLemmas.{leaders_tell, relays_tell}
-use Rattle.gptp_invariants.proofs.TakeUpLemmas.{BeginApart}
-use Rattle.gptp_invariants.proofs.TimeStepLemmas.{KeepsSync, TimeStep, can_lapse, time_steps}
+use Rattle.gptp_invariants.proofs.ChoiceTakeUpLemmas.{BeginApart}
+use Rattle.gptp_invariants.proofs.SyncTimeStepLemmas.{KeepsSync, TimeStep, can_lapse, time_steps}
 
 -- ---- timers
 

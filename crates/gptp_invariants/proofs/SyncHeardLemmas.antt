@@ -25,9 +25,9 @@ use Rattle.gptp_system.specs.Steps.{HearsFrame, HearsMessage}
 use Rattle.gptp_system.specs.Syncing.{HearsFollowUpIf, HearsSyncIf, IsKeptSync, KeepsIf, KnowsBy, KnowsIf, came_from, delay_at, is_followed, is_port, is_slave_at, root_rate_at, said_on}
 use Rattle.gptp_bmca_machine.specs.Frame.{FollowUp, Sync, SyncId}
 use Rattle.gptp_invariants.specs.SyncView.{IsHeard, TakesTime}
-use Rattle.gptp_invariants.specs.View.{port_identity_number, kept_view, says_sync, sync_id}
-use Rattle.gptp_invariants.proofs.SendLemmas.{same_identity}
-use Rattle.gptp_invariants.proofs.TimeStepLemmas.{can_lapse}
+use Rattle.gptp_invariants.specs.ChoiceView.{port_identity_number, kept_view, says_sync, sync_id}
+use Rattle.gptp_invariants.proofs.ChoiceSendLemmas.{same_identity}
+use Rattle.gptp_invariants.proofs.SyncTimeStepLemmas.{can_lapse}
 
 -- the Sync that is kept, as it is seen
 abbrev pub id_of : KeptSync → SyncId

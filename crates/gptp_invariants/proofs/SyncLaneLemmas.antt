@@ -18,17 +18,17 @@ use Rattle.gptp_model.specs.World.{Channel, Net, world_queue, sender}
 use Rattle.gptp_bmca_machine.specs.Frame.{FollowUp, AnnounceFrame as SeenFrame, Lane, Sync, SyncId}
 use Rattle.gptp_bmca_machine.specs.Matching.{HasPair}
 use Rattle.gptp_bmca_machine.specs.Station.{Mine, Port as SeenPort}
-use Rattle.gptp_invariants.specs.Said.{said_at}
+use Rattle.gptp_invariants.specs.ChoiceSaid.{said_at}
 use Rattle.gptp_invariants.specs.SyncLaws.{TellsTime}
 use Rattle.gptp_invariants.specs.SyncView.{ArePaired}
-use Rattle.gptp_invariants.specs.View.{frame_view, port_identity_number, lane_place, lane_view, lanes_view, says_sync, span_at, system_view}
-use Rattle.gptp_invariants.proofs.LinkLaneLemmas.{IsAlone, sends_grow}
-use Rattle.gptp_invariants.proofs.PlaceLemmas.{port_from}
-use Rattle.gptp_invariants.proofs.PortLemmas.{mine_back}
-use Rattle.gptp_invariants.proofs.SeenLaneLemmas.{IsLaneAt, lane_from, lane_there}
-use Rattle.gptp_invariants.proofs.SendLemmas.{same_identity}
-use Rattle.gptp_invariants.proofs.SentLemmas.{octets_of, same_first}
-use Rattle.gptp_invariants.proofs.TakeUpLemmas.{BeginApart}
+use Rattle.gptp_invariants.specs.ChoiceView.{frame_view, port_identity_number, lane_place, lane_view, lanes_view, says_sync, span_at, system_view}
+use Rattle.gptp_invariants.proofs.DelayLinkLaneLemmas.{IsAlone, sends_grow}
+use Rattle.gptp_invariants.proofs.ChoicePlaceLemmas.{port_from}
+use Rattle.gptp_invariants.proofs.ChoicePortLemmas.{mine_back}
+use Rattle.gptp_invariants.proofs.ChoiceSeenLaneLemmas.{IsLaneAt, lane_from, lane_there}
+use Rattle.gptp_invariants.proofs.ChoiceSendLemmas.{same_identity}
+use Rattle.gptp_invariants.proofs.DelaySentLemmas.{octets_of, same_first}
+use Rattle.gptp_invariants.proofs.ChoiceTakeUpLemmas.{BeginApart}
 
 -- ---- frames
 

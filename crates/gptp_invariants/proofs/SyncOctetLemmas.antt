@@ -24,8 +24,8 @@ use Rattle.gptp_system.proofs.TypeLemmas.{type_is, type_number}
 use Rattle.gptp_model.specs.Sends.{sent_message}
 use Rattle.gptp_bmca_machine.specs.Frame.{FollowUp, Sync}
 use Rattle.gptp_invariants.specs.SyncView.{IsTimeless}
-use Rattle.gptp_invariants.specs.View.{port_identity_number, says_sync}
-use Rattle.gptp_invariants.proofs.LinkOctetLemmas.{same_type}
+use Rattle.gptp_invariants.specs.ChoiceView.{port_identity_number, says_sync}
+use Rattle.gptp_invariants.proofs.DelayLinkOctetLemmas.{same_type}
 
 -- ---- headers
 

@@ -29,13 +29,13 @@ use Rattle.gptp_system.proofs.SentLemmas.{steps_send}
 use Rattle.gptp_model.specs.Sends.{written}
 use Rattle.gptp_model.specs.World.{port_id}
 use Rattle.gptp_model.proofs.SteadyLemmas.{same_clock}
-use Rattle.gptp_invariants.specs.Said.{said_at}
+use Rattle.gptp_invariants.specs.ChoiceSaid.{said_at}
 use Rattle.gptp_invariants.specs.SyncLaws.{TellsTime}
 use Rattle.gptp_invariants.specs.SyncView.{ArePaired, AreTimeless, IsTimeless, KnowsTime}
-use Rattle.gptp_invariants.specs.View.{port_identity_number}
-use Rattle.gptp_invariants.proofs.LinkLaneLemmas.{said_elsewhere, said_here}
-use Rattle.gptp_invariants.proofs.SentLemmas.{said_from}
-use Rattle.gptp_invariants.proofs.TimeStepLemmas.{can_lapse}
+use Rattle.gptp_invariants.specs.ChoiceView.{port_identity_number}
+use Rattle.gptp_invariants.proofs.DelayLinkLaneLemmas.{said_elsewhere, said_here}
+use Rattle.gptp_invariants.proofs.DelaySentLemmas.{said_from}
+use Rattle.gptp_invariants.proofs.SyncTimeStepLemmas.{can_lapse}
 use Rattle.gptp_invariants.proofs.SyncOctetLemmas.{follow_up_said, sync_said, timeless}
 
 -- ---- each port tells

@@ -22,13 +22,13 @@ use Rattle.gptp_model.specs.declared.done.Done.{Done}
 use Rattle.gptp_model.specs.Acts.{Acts}
 use Rattle.gptp_model.specs.Sound.{IsSound}
 use Rattle.gptp_model.specs.World.{WorldState}
-use Rattle.gptp_invariants.specs.Calm.{SettlingTimes, network_with}
-use Rattle.gptp_invariants.specs.Known.{IsKnown}
-use Rattle.gptp_invariants.specs.Encodable.{IsEncodable}
-use Rattle.gptp_invariants.specs.Said.{said_at}
-use Rattle.gptp_invariants.specs.SeenLaws.{IsNoChange}
+use Rattle.gptp_invariants.specs.ChoiceCalm.{SettlingTimes, network_with}
+use Rattle.gptp_invariants.specs.WorldKnown.{IsKnown}
+use Rattle.gptp_invariants.specs.WorldEncodable.{IsEncodable}
+use Rattle.gptp_invariants.specs.ChoiceSaid.{said_at}
+use Rattle.gptp_invariants.specs.ChoiceSeenLaws.{IsNoChange}
 use Rattle.gptp_invariants.specs.SyncView.{ArePaired, AreTimeless, IsHeard, KnowsTime, TakesTime}
-use Rattle.gptp_invariants.specs.View.{port_identity_number, kept_view, says_announce, says_sync, view}
+use Rattle.gptp_invariants.specs.ChoiceView.{port_identity_number, kept_view, says_announce, says_sync, view}
 
 -- at each port a step sends a Sync and its Follow_Up, or nothing of time
 abbrev pub TellsInPairs : Type 0

@@ -10,7 +10,7 @@ use Rattle.gptp_system.specs.State.{SystemState, can_lead, held_at, is_capable_a
 use Rattle.gptp_model.specs.declared.station.Station.{Station}
 use Rattle.gptp_model.specs.World.{WorldState}
 use Rattle.gptp_bmca_machine.specs.Frame.{FollowUp, Sync, SyncMessage}
-use Rattle.gptp_invariants.specs.View.{port_identity_number, says_sync}
+use Rattle.gptp_invariants.specs.ChoiceView.{port_identity_number, says_sync}
 
 -- octets tell no time
 abbrev pub IsTimeless : List ℕ → Type 0

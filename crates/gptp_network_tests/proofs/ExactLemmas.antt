@@ -23,14 +23,14 @@ use Rattle.gptp_graph.specs.PathBound.{BoundsPaths}
 use Rattle.gptp_graph.specs.SettledChoice.{IsBestIdentity}
 use Rattle.gptp_graph.specs.Snapshot.{Snapshot, System, port_of}
 use Rattle.gptp_graph.proofs.LinkLemmas.{Joins-sym}
-use Rattle.gptp_invariants.specs.Calm.{IsQuietWorld, sync_paths_of}
-use Rattle.gptp_invariants.specs.CalmFor.{IsCalmFor}
-use Rattle.gptp_invariants.specs.SettlingInvariant.{SettlingInvariant}
-use Rattle.gptp_invariants.specs.Exact.{IsAhead, IsWayError, IsExactInTime, IsHeardExact, exact_span}
-use Rattle.gptp_invariants.specs.Followers.{bound_at, follower_parts}
-use Rattle.gptp_invariants.specs.Standing.{live_stations, snapshot_of}
-use Rattle.gptp_invariants.proofs.FollowPartLemmas.{bound_is, clock_shown, set_up_is}
-use Rattle.gptp_invariants.proofs.WayLemmas.{way_of}
+use Rattle.gptp_invariants.specs.ChoiceCalm.{IsQuietWorld, sync_paths_of}
+use Rattle.gptp_invariants.specs.WorldCalmFor.{IsCalmFor}
+use Rattle.gptp_invariants.specs.WorldSettlingInvariant.{SettlingInvariant}
+use Rattle.gptp_invariants.specs.SyncExact.{IsAhead, IsWayError, IsExactInTime, IsHeardExact, exact_span}
+use Rattle.gptp_invariants.specs.SyncFollowers.{bound_at, follower_parts}
+use Rattle.gptp_invariants.specs.WorldStanding.{live_stations, snapshot_of}
+use Rattle.gptp_invariants.proofs.SyncFollowPartLemmas.{bound_is, clock_shown, set_up_is}
+use Rattle.gptp_invariants.proofs.WorldWayLemmas.{way_of}
 use Rattle.gptp_links.specs.declared.bounds.Bounds.{Bounds}
 use Rattle.gptp_lists.specs.Members.{In}
 use Rattle.gptp_lists.proofs.MappedLemmas.{alike}
@@ -195,7 +195,7 @@ module _ (w : WorldState) (time : ℕ) (k : IsPairSince 27000000000 w) (sound : 
           (sym k.stands.links)
       way.link way.channel way.here in
       ap (bound_at f (live_stations w.stations) w.net.channels) (sym way.to)
-      ∙ bound_is f w sound claimed.is.world.legible way.link way.direction way.channel way.here way.used
+      ∙ bound_is f w sound claimed.is.world.encodable way.link way.direction way.channel way.here way.used
       ∙ ap (λ (l : LinkSpec). f l.bounds) (sym same) ∙ ap (λ (l : LinkSpec). f l.bounds) (only_link way.link v at_place)
 
   -- ---- its way

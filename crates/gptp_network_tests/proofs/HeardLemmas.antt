@@ -17,10 +17,10 @@ use Rattle.gptp_model.specs.Prompt.{HavePace}
 use Rattle.gptp_model.specs.Sound.{IsSound}
 use Rattle.gptp_model.specs.Views.{ShowsLive}
 use Rattle.gptp_model.specs.World.{WorldState, port_id}
-use Rattle.gptp_invariants.specs.SettlingInvariant.{SettlingInvariant}
-use Rattle.gptp_invariants.specs.Standing.{snapshot_of}
-use Rattle.gptp_invariants.specs.Traces.{AreHeldCleanInTime, AreHeldWholeInTime, IsCalmWorld, IsFrameClean, IsHeardClean, IsHeldClean, IsHeldWhole, WasSentAfter, turns_span}
-use Rattle.gptp_invariants.specs.View.{said}
+use Rattle.gptp_invariants.specs.WorldSettlingInvariant.{SettlingInvariant}
+use Rattle.gptp_invariants.specs.WorldStanding.{snapshot_of}
+use Rattle.gptp_invariants.specs.ChoiceTraces.{AreHeldCleanInTime, AreHeldWholeInTime, IsCalmWorld, IsFrameClean, IsHeardClean, IsHeldClean, IsHeldWhole, WasSentAfter, turns_span}
+use Rattle.gptp_invariants.specs.ChoiceView.{said}
 use Rattle.gptp_theorem.proofs.CalmLemmas.{quiet_stands, set_stands}
 use Rattle.gptp_theorem.proofs.SyncPathLemmas.{paths_stand}
 use Rattle.gptp_network_tests.specs.Pair.{HearsAnnounce, HoldsFirstAlone, HoldsFromFirst, IsPairAt, IsPairSince, pair_network, pair_pace, pair_snapshot}

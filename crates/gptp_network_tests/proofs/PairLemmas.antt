@@ -48,13 +48,13 @@ use Rattle.gptp_bmca_machine.specs.Frame.{Announce}
 use Rattle.gptp_bmca_machine.specs.Settled.{IsSlaveOf}
 use Rattle.gptp_system.specs.State.{SystemState, clock, is_capable_at, trace}
 use Rattle.gptp_system.specs.Steps.{HasPortNumber}
-use Rattle.gptp_invariants.specs.SettlingInvariant.{SettlingInvariant}
-use Rattle.gptp_invariants.specs.Settled.{graph_role}
-use Rattle.gptp_invariants.specs.Shown.{AreCapable, FollowsByDistance, FollowsByPaths, FollowsInTime, IsCapableInTime, IsEnabledInTime, IsSettledFor, PlaysInTime, distance_span}
-use Rattle.gptp_invariants.specs.CalmFor.{capable_span, span_over}
-use Rattle.gptp_invariants.specs.Standing.{live_stations, snapshot_of, standing_system}
-use Rattle.gptp_invariants.specs.Traces.{IsCleanInTime, IsTraceClean, announced, turns_span}
-use Rattle.gptp_invariants.proofs.SystemLemmas.{live_from, live_there}
+use Rattle.gptp_invariants.specs.WorldSettlingInvariant.{SettlingInvariant}
+use Rattle.gptp_invariants.specs.ChoiceSettled.{graph_role}
+use Rattle.gptp_invariants.specs.WorldShown.{AreCapable, FollowsByDistance, FollowsByPaths, FollowsInTime, IsCapableInTime, IsEnabledInTime, IsSettledFor, PlaysInTime, distance_span}
+use Rattle.gptp_invariants.specs.WorldCalmFor.{capable_span, span_over}
+use Rattle.gptp_invariants.specs.WorldStanding.{live_stations, snapshot_of, standing_system}
+use Rattle.gptp_invariants.specs.ChoiceTraces.{IsCleanInTime, IsTraceClean, announced, turns_span}
+use Rattle.gptp_invariants.proofs.WorldSystemLemmas.{live_from, live_there}
 use Rattle.gptp_certificate.specs.Settled.{IsRightInTime}
 use Rattle.gptp_certificate.specs.Stated.{States}
 use Rattle.gptp_theorem.specs.PlayedLaws.{IsReached}

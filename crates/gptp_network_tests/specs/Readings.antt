@@ -9,7 +9,7 @@ use Rattle.gptp_model.specs.Course.{WasDone}
 use Rattle.gptp_model.specs.declared.done.Done.{Done}
 use Rattle.gptp_model.specs.World.{WorldState}
 use Rattle.gptp_report.specs.Transitions.{Transition, Unfolds}
-use Rattle.gptp_invariants.specs.TimedClaim.{WorldInvariant}
+use Rattle.gptp_invariants.specs.SyncTimedClaim.{WorldInvariant}
 use Rattle.gptp_reading.specs.Readings.{LeavesReading}
 use Rattle.gptp_network_tests.specs.Pair.{IsPairSince, pair_document}
 

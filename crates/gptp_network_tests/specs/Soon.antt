@@ -1,7 +1,7 @@
 -- The world of two systems soon after they began.
 use Rattle.std.specs.Prelude.{◌≤◌, ℕ, List, Option}
 use Rattle.gptp_model.specs.World.{WorldState}
-use Rattle.gptp_invariants.specs.Settled.{Settled}
+use Rattle.gptp_invariants.specs.ChoiceSettled.{Settled}
 use Rattle.gptp_links.specs.declared.bounds.Bounds.{Bounds}
 use Rattle.gptp_lists.specs.Members.{In}
 use Rattle.gptp_scenario.specs.Network.{IsNetwork}

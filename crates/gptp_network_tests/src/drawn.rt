@@ -4,8 +4,8 @@
 ghost use Rattle.std.specs.Prelude.{◌≡◌, ◌≢◌, ◌≤◌, ◌∷◌, [], true, IfOk, IfSome, None, OnOk, Some, pos};
 ghost use Rattle.gptp_model.specs.Views.{ShowsLive};
 ghost use Rattle.gptp_model.specs.World.{port_id};
-ghost use Rattle.gptp_invariants.specs.Shown.{IsCapableInTime};
-ghost use Rattle.gptp_invariants.specs.TimedLaws.{AreFollowUp};
+ghost use Rattle.gptp_invariants.specs.WorldShown.{IsCapableInTime};
+ghost use Rattle.gptp_invariants.specs.SyncTimedLaws.{AreFollowUp};
 ghost use Rattle.gptp_messages.specs.Grammar.{Reads};
 ghost use Rattle.gptp_messages.specs.declared.announce.AnnounceView.{AnnounceView};
 ghost use Rattle.gptp_messages.specs.declared.message.Message.TheVariants as messages;

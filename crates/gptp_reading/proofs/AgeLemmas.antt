@@ -27,22 +27,22 @@ use Rattle.gptp_bmca_machine.specs.Station as seen
 use Rattle.gptp_bmca_machine.specs.Syncs.{HaveSyncTimers, HearsBy, IsPrompt, SyncsAreExpected, TellsBy, wait}
 use Rattle.gptp_bmca_machine.proofs.SyncLemmas.{flight_left, known_station, parent_there}
 use Rattle.gptp_bmca_machine.proofs.SyncRunLemmas.{prompt}
-use Rattle.gptp_invariants.specs.Calm.{IsQuietWorld, in_turn, paths_with, sync_paths_of}
-use Rattle.gptp_invariants.specs.CalmFor.{IsCalmFor, span_over}
-use Rattle.gptp_invariants.specs.SettlingInvariant.{SettlingInvariant, KeepsAll}
-use Rattle.gptp_invariants.specs.SettlesAsMachine.{BecomeCapable, IsSettling, IsWorld, quick_network, settling_network, start_of}
-use Rattle.gptp_invariants.specs.Settled.{Settled}
-use Rattle.gptp_invariants.specs.Standing.{snapshot_of}
-use Rattle.gptp_invariants.specs.View.{says_sync, station_view, view}
-use Rattle.gptp_invariants.proofs.SettlingInvariantLemmas.{settled_by_paths}
-use Rattle.gptp_invariants.proofs.ClaimLemmas.{claim_capable}
-use Rattle.gptp_invariants.proofs.DelayLemmas.{delay_short}
-use Rattle.gptp_invariants.proofs.SettlesAsMachineLemmas.{is_calm, is_network, paths_bound}
-use Rattle.gptp_invariants.proofs.PlaceLemmas.{station_there}
-use Rattle.gptp_invariants.proofs.SettledLemmas.{span_ends}
-use Rattle.gptp_invariants.proofs.StandsLemmas.{stands_well}
+use Rattle.gptp_invariants.specs.ChoiceCalm.{IsQuietWorld, in_turn, paths_with, sync_paths_of}
+use Rattle.gptp_invariants.specs.WorldCalmFor.{IsCalmFor, span_over}
+use Rattle.gptp_invariants.specs.WorldSettlingInvariant.{SettlingInvariant, KeepsAll}
+use Rattle.gptp_invariants.specs.ChoiceSettlesAsMachine.{BecomeCapable, IsSettling, IsWorld, quick_network, settling_network, start_of}
+use Rattle.gptp_invariants.specs.ChoiceSettled.{Settled}
+use Rattle.gptp_invariants.specs.WorldStanding.{snapshot_of}
+use Rattle.gptp_invariants.specs.ChoiceView.{says_sync, station_view, view}
+use Rattle.gptp_invariants.proofs.WorldSettlingInvariantLemmas.{settled_by_paths}
+use Rattle.gptp_invariants.proofs.WorldClaimLemmas.{claim_capable}
+use Rattle.gptp_invariants.proofs.WorldGreatestDelayLemmas.{delay_short}
+use Rattle.gptp_invariants.proofs.ChoiceSettlesAsMachineLemmas.{is_calm, is_network, paths_bound}
+use Rattle.gptp_invariants.proofs.ChoicePlaceLemmas.{station_there}
+use Rattle.gptp_invariants.proofs.ChoiceSettledLemmas.{span_ends}
+use Rattle.gptp_invariants.proofs.WorldStandsLemmas.{stands_well}
 use Rattle.gptp_invariants.proofs.SyncActLemmas.{timers_seen}
-use Rattle.gptp_invariants.proofs.WaitLemmas.{step_long, wait_is}
+use Rattle.gptp_invariants.proofs.SyncWaitLemmas.{step_long, wait_is}
 use Rattle.gptp_theorem.specs.Headline.{WorldIsCalm}
 use Rattle.gptp_theorem.proofs.HeadlineLemmas.{quiet_as}
 use Rattle.gptp_reading.specs.Age.{WorldsAreRecent}
@@ -111,7 +111,7 @@ module _ (p : SettlingParams) (w : WorldState) (claimed : KeepsAll p w) (quiet :
   is = claimed.world
 
   wf : IsWellFormed g
-  wf = stands_well w is.sound is.between is.legible
+  wf = stands_well w is.sound is.between is.encodable
 
   bounded : BoundsPaths g m
   bounded = paths_bound p w is

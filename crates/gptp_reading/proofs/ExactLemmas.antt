@@ -44,29 +44,29 @@ use Rattle.gptp_model.specs.World.{Channel, WorldState, world_queue, receiver}
 use Rattle.gptp_sync_machine.specs.Follower.{from}
 use Rattle.gptp_sync_machine.specs.Tree.{IsWayTo}
 use Rattle.gptp_sync_machine.proofs.TreeLemmas.{way_ends_at_parent}
-use Rattle.gptp_invariants.specs.Calm.{clock_place, sync_paths_of}
-use Rattle.gptp_invariants.specs.CalmFor.{IsCalmFor, span_over}
-use Rattle.gptp_invariants.specs.SettlingInvariant.{KeepsAll}
-use Rattle.gptp_invariants.specs.Followers.{HasWay, IsFollower, follower_clock, follower_setting, follower_parts, follower_state}
-use Rattle.gptp_invariants.specs.LinkView.{LinkPlace, other_direction}
-use Rattle.gptp_invariants.specs.Standing.{snapshot_of}
-use Rattle.gptp_invariants.specs.Timed.{AllMeasureRight, IsSettledFrom}
-use Rattle.gptp_invariants.specs.TimedClaim.{WorldInvariant, CarriesWhereCalm, IsCalmBy}
-use Rattle.gptp_invariants.specs.TimedLaws.{IsRootOf}
-use Rattle.gptp_invariants.specs.View.{port_identity_number}
-use Rattle.gptp_invariants.proofs.CalmKeptLemmas.{acts_keep}
-use Rattle.gptp_invariants.proofs.SettlingInvariantLemmas.{over_capable}
-use Rattle.gptp_invariants.proofs.ExactLemmas.{all_later}
-use Rattle.gptp_invariants.proofs.FollowClaimLemmas.{settled_from}
-use Rattle.gptp_invariants.proofs.FollowDeliveryLemmas.{opposite_same}
-use Rattle.gptp_invariants.proofs.FollowMeasureLemmas.{measured_right}
-use Rattle.gptp_invariants.proofs.FollowTreeLemmas.{slave_is}
-use Rattle.gptp_invariants.proofs.FollowWayLemmas.{Follows, follows_parent}
-use Rattle.gptp_invariants.proofs.FoundLemmas.{place_is}
-use Rattle.gptp_invariants.proofs.LinkLemmas.{sender_opposite}
-use Rattle.gptp_invariants.proofs.MeasuredLinkLemmas.{claimed_measured}
-use Rattle.gptp_invariants.proofs.TimeStepLemmas.{knows_on}
-use Rattle.gptp_invariants.proofs.WayLemmas.{one_way}
+use Rattle.gptp_invariants.specs.ChoiceCalm.{clock_place, sync_paths_of}
+use Rattle.gptp_invariants.specs.WorldCalmFor.{IsCalmFor, span_over}
+use Rattle.gptp_invariants.specs.WorldSettlingInvariant.{KeepsAll}
+use Rattle.gptp_invariants.specs.SyncFollowers.{HasWay, IsFollower, follower_clock, follower_setting, follower_parts, follower_state}
+use Rattle.gptp_invariants.specs.DelayLinkView.{LinkPlace, other_direction}
+use Rattle.gptp_invariants.specs.WorldStanding.{snapshot_of}
+use Rattle.gptp_invariants.specs.SyncTimed.{AllMeasureRight, IsSettledFrom}
+use Rattle.gptp_invariants.specs.SyncTimedClaim.{WorldInvariant, CarriesWhereCalm, IsCalmBy}
+use Rattle.gptp_invariants.specs.SyncTimedLaws.{IsRootOf}
+use Rattle.gptp_invariants.specs.ChoiceView.{port_identity_number}
+use Rattle.gptp_invariants.proofs.ChoiceCalmKeptLemmas.{acts_keep}
+use Rattle.gptp_invariants.proofs.WorldSettlingInvariantLemmas.{over_capable}
+use Rattle.gptp_invariants.proofs.SyncExactLemmas.{all_later}
+use Rattle.gptp_invariants.proofs.SyncFollowClaimLemmas.{settled_from}
+use Rattle.gptp_invariants.proofs.SyncFollowDeliveryLemmas.{opposite_same}
+use Rattle.gptp_invariants.proofs.SyncFollowMeasureLemmas.{measured_right}
+use Rattle.gptp_invariants.proofs.SyncFollowTreeLemmas.{slave_is}
+use Rattle.gptp_invariants.proofs.SyncFollowWayLemmas.{Follows, follows_parent}
+use Rattle.gptp_invariants.proofs.ChoiceFoundLemmas.{place_is}
+use Rattle.gptp_invariants.proofs.DelayLinkLemmas.{sender_opposite}
+use Rattle.gptp_invariants.proofs.DelayMeasuredLinkLemmas.{claimed_measured}
+use Rattle.gptp_invariants.proofs.SyncTimeStepLemmas.{knows_on}
+use Rattle.gptp_invariants.proofs.WorldWayLemmas.{one_way}
 use Rattle.gptp_theorem.specs.Headline.{HasComeDown, WorldIsCalm, UsesFollowUp}
 use Rattle.gptp_theorem.proofs.HeadlineLemmas.{quiet_as}
 use Rattle.gptp_reading.specs.Reading.{IsBestsTime, reading, reading_error_at}
@@ -197,7 +197,7 @@ module _ (p : SettlingParams) (settled longest : ℕ) (w : WorldState) (is : IsS
       let same = ports in
       let ends : receiver direction u.channel ≡ receiver place.direction f.channel =
       λ i. record { clock = clocks i; port = sym same i } in
-      let lane = one_way w is.world.sound is.world.legible link place.link (other_direction direction)
+      let lane = one_way w is.world.sound is.world.encodable link place.link (other_direction direction)
       (other_direction place.direction) u.channel f.channel u.here f.here
       (ap port_identity_number (sender_opposite direction u.channel ∙ ends
         ∙ sym (sender_opposite place.direction f.channel)))

@@ -49,20 +49,20 @@ use Rattle.gptp_model.specs.World.{WorldState, receiver}
 use Rattle.gptp_world.proofs.InitialLemmas.{initial_sound}
 use Rattle.gptp_report.specs.Transitions.{Transition, transition}
 use Rattle.gptp_bmca_machine.specs.Settled.{IsSlaveOf}
-use Rattle.gptp_invariants.specs.Calm.{sync_paths_of}
-use Rattle.gptp_invariants.specs.CalmFor.{IsCalmFor, span_over}
-use Rattle.gptp_invariants.specs.SettlingInvariant.{KeepsAll}
-use Rattle.gptp_invariants.specs.SeenLaws.{IsNoChange}
-use Rattle.gptp_invariants.specs.Settled.{IsSettledSystem, Settled}
-use Rattle.gptp_invariants.specs.Standing.{snapshot_of}
-use Rattle.gptp_invariants.specs.TimedClaim.{IsCalmBy}
-use Rattle.gptp_invariants.proofs.CalmKeptLemmas.{KeepsNetwork, acts_keep, earlier_quiet, same_paths, same_snapshot, stays_quiet}
-use Rattle.gptp_invariants.proofs.SettlingInvariantLemmas.{settled_by_paths}
-use Rattle.gptp_invariants.proofs.ClaimLemmas.{claim_begins, claim_kept, claim_later}
-use Rattle.gptp_invariants.proofs.FollowClaimLemmas.{acts_time}
-use Rattle.gptp_invariants.proofs.SettlesAsMachineLemmas.{paths_bound}
-use Rattle.gptp_invariants.proofs.OutlineLemmas.{change_is_last, starts_are_last}
-use Rattle.gptp_invariants.proofs.StandsLemmas.{stands_well}
+use Rattle.gptp_invariants.specs.ChoiceCalm.{sync_paths_of}
+use Rattle.gptp_invariants.specs.WorldCalmFor.{IsCalmFor, span_over}
+use Rattle.gptp_invariants.specs.WorldSettlingInvariant.{KeepsAll}
+use Rattle.gptp_invariants.specs.ChoiceSeenLaws.{IsNoChange}
+use Rattle.gptp_invariants.specs.ChoiceSettled.{IsSettledSystem, Settled}
+use Rattle.gptp_invariants.specs.WorldStanding.{snapshot_of}
+use Rattle.gptp_invariants.specs.SyncTimedClaim.{IsCalmBy}
+use Rattle.gptp_invariants.proofs.ChoiceCalmKeptLemmas.{KeepsNetwork, acts_keep, earlier_quiet, same_paths, same_snapshot, stays_quiet}
+use Rattle.gptp_invariants.proofs.WorldSettlingInvariantLemmas.{settled_by_paths}
+use Rattle.gptp_invariants.proofs.WorldClaimLemmas.{claim_begins, claim_kept, claim_later}
+use Rattle.gptp_invariants.proofs.SyncFollowClaimLemmas.{acts_time}
+use Rattle.gptp_invariants.proofs.ChoiceSettlesAsMachineLemmas.{paths_bound}
+use Rattle.gptp_invariants.proofs.WorldOutlineLemmas.{change_is_last, starts_are_last}
+use Rattle.gptp_invariants.proofs.WorldStandsLemmas.{stands_well}
 use Rattle.gptp_theorem.specs.Headline.{HasPassed, WorldIsCalm, UsesFollowUp}
 use Rattle.gptp_theorem.proofs.HeadlineLemmas.{quiet_as}
 use Rattle.gptp_reading.specs.Age.{HeardWithin, RunsHearInTime}
@@ -271,7 +271,7 @@ module _ {F : Type 0} (answers' : Bounds → ℕ → F → Option ℕ → F → 
     wf : IsWellFormed g
     wf =
         let is = before.claimed.world in
-        stands_well then is.sound is.between is.legible
+        stands_well then is.sound is.between is.encodable
 
     choice : Settled then
     choice = settled_choice p m settled then before.claimed calm_then late_then

@@ -41,7 +41,7 @@ use Rattle.gptp_system.proofs.FollowLemmas.{follows}
 use Rattle.gptp_system.proofs.LapseLemmas.{followed}
 use Rattle.gptp_system.proofs.StepLemmas.{steps_sound}
 use Rattle.gptp_model.specs.Ahead.{IsSteady}
-use Rattle.gptp_invariants.proofs.TimeStepLemmas.{can_lapse}
+use Rattle.gptp_invariants.proofs.SyncTimeStepLemmas.{can_lapse}
 
 -- ---- the cases
 

@@ -32,17 +32,17 @@ use Rattle.gptp_model.specs.World.{WorldState}
 use Rattle.gptp_network.specs.Document.{DocumentState}
 use Rattle.gptp_report.specs.Transitions.{Transition, Unfolds, transition}
 use Rattle.gptp_sync_machine.specs.Tree.{IsWayTo}
-use Rattle.gptp_invariants.specs.Calm.{IsQuietWorld, sync_paths_of}
-use Rattle.gptp_invariants.specs.SettlingInvariant.{KeepsAll}
-use Rattle.gptp_invariants.specs.Followers.{follower_parts}
-use Rattle.gptp_invariants.specs.Standing.{snapshot_of}
-use Rattle.gptp_invariants.specs.TimedClaim.{WorldInvariant}
-use Rattle.gptp_invariants.proofs.CalmKeptLemmas.{KeepsNetwork, acts_keep, keeps_on, same_paths, same_snapshot, stays_quiet}
-use Rattle.gptp_invariants.proofs.ExactLemmas.{claimed_of}
-use Rattle.gptp_invariants.proofs.FollowClaimLemmas.{acts_time}
-use Rattle.gptp_invariants.proofs.FollowPartLemmas.{clock_shown, same_parts}
-use Rattle.gptp_invariants.proofs.OutlineLemmas.{change_is_last, change_time}
-use Rattle.gptp_invariants.proofs.SystemLemmas.{live_from}
+use Rattle.gptp_invariants.specs.ChoiceCalm.{IsQuietWorld, sync_paths_of}
+use Rattle.gptp_invariants.specs.WorldSettlingInvariant.{KeepsAll}
+use Rattle.gptp_invariants.specs.SyncFollowers.{follower_parts}
+use Rattle.gptp_invariants.specs.WorldStanding.{snapshot_of}
+use Rattle.gptp_invariants.specs.SyncTimedClaim.{WorldInvariant}
+use Rattle.gptp_invariants.proofs.ChoiceCalmKeptLemmas.{KeepsNetwork, acts_keep, keeps_on, same_paths, same_snapshot, stays_quiet}
+use Rattle.gptp_invariants.proofs.SyncExactLemmas.{claimed_of}
+use Rattle.gptp_invariants.proofs.SyncFollowClaimLemmas.{acts_time}
+use Rattle.gptp_invariants.proofs.SyncFollowPartLemmas.{clock_shown, same_parts}
+use Rattle.gptp_invariants.proofs.WorldOutlineLemmas.{change_is_last, change_time}
+use Rattle.gptp_invariants.proofs.WorldSystemLemmas.{live_from}
 use Rattle.gptp_theorem.specs.Headline.{HasComeDown, WorldIsCalm, UsesFollowUp}
 use Rattle.gptp_theorem.specs.PlayedLaws.{IsPlayable}
 use Rattle.gptp_theorem.proofs.HeadlineLemmas.{quiet_as}

@@ -5,10 +5,10 @@ use Rattle.gptp_graph.specs.PathBound.{BoundsPaths, path_bound}
 use Rattle.gptp_links.specs.declared.bounds.Bounds.{Bounds}
 use Rattle.gptp_scenario.specs.SyncWait.{sync_wait}
 use Rattle.gptp_setup.proofs.IntervalLemmas.{interval_positive}
-use Rattle.gptp_invariants.specs.Calm.{sync_paths_of}
-use Rattle.gptp_invariants.specs.Standing.{snapshot_of}
-use Rattle.gptp_invariants.proofs.ExactLemmas.{claimed_of}
-use Rattle.gptp_invariants.proofs.SettlesAsMachineLemmas.{paths_bound}
+use Rattle.gptp_invariants.specs.ChoiceCalm.{sync_paths_of}
+use Rattle.gptp_invariants.specs.WorldStanding.{snapshot_of}
+use Rattle.gptp_invariants.proofs.SyncExactLemmas.{claimed_of}
+use Rattle.gptp_invariants.proofs.ChoiceSettlesAsMachineLemmas.{paths_bound}
 use Rattle.gptp_reading.specs.Age.{RunsReadLately}
 use Rattle.gptp_reading.specs.Reading.{reading}
 use Rattle.gptp_reading.specs.Readings.{LeavesReading}

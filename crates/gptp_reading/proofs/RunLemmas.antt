@@ -23,9 +23,9 @@ use Rattle.gptp_world.proofs.InitialLemmas.{initial_sound}
 use Rattle.gptp_network.specs.Document.{DocumentState}
 use Rattle.gptp_network.specs.Snapshot.{events_by}
 use Rattle.gptp_report.specs.Transitions.{Courses, Makes, Passes, PassesTo, Transition, Unfolds, transition}
-use Rattle.gptp_invariants.specs.EncodableLaws.{SetsAnOctet}
-use Rattle.gptp_invariants.specs.TimedClaim.{WorldInvariant}
-use Rattle.gptp_invariants.proofs.ExactLemmas.{all_begins, all_kept, all_later}
+use Rattle.gptp_invariants.specs.WorldEncodableLaws.{SetsAnOctet}
+use Rattle.gptp_invariants.specs.SyncTimedClaim.{WorldInvariant}
+use Rattle.gptp_invariants.proofs.SyncExactLemmas.{all_begins, all_kept, all_later}
 use Rattle.gptp_theorem.specs.PlayedLaws.{IsPlayable}
 use Rattle.gptp_theorem.proofs.SettlingInvariantLemmas.{IsFitEvent, events_fit, least_of}
 use Rattle.gptp_reading.specs.Readings.{RunsReadExactly}

@@ -32,22 +32,22 @@ use Rattle.gptp_sync_machine.specs.Messages.{FollowUp, IsOneMessage}
 use Rattle.gptp_sync_machine.specs.Right.{IsHeldAt, IsMeasuredAt, at_rate, info_of}
 use Rattle.gptp_sync_machine.proofs.ModestLemmas.{rates_are_held, ways_are_modest}
 use Rattle.gptp_sync_machine.proofs.TreeLemmas.{way_leads_to}
-use Rattle.gptp_invariants.specs.FollowView.{kept_sync, tells, told_in}
-use Rattle.gptp_invariants.specs.Followers.{HasWay, IsFollower, follower, follower_clock, follower_setting, follower_parts, follower_state}
-use Rattle.gptp_invariants.specs.LinkView.{LinkPlace, link_frame_view}
-use Rattle.gptp_invariants.specs.Standing.{snapshot_of}
-use Rattle.gptp_invariants.specs.Timed.{AllMeasureRight, CarriesTime, IsSettledFrom}
-use Rattle.gptp_invariants.specs.TimedLaws.{IsRootOf}
-use Rattle.gptp_invariants.specs.View.{port_identity_number}
-use Rattle.gptp_invariants.proofs.FollowOctetLemmas.{told_alone}
-use Rattle.gptp_invariants.proofs.FollowOffsetLemmas.{IsUsed, is_used}
-use Rattle.gptp_invariants.proofs.FollowPartLemmas.{clock_shown}
-use Rattle.gptp_invariants.proofs.FollowSettingLemmas.{is_setting, own_shown}
-use Rattle.gptp_invariants.proofs.FollowSizeLemmas.{origin_fits}
-use Rattle.gptp_invariants.proofs.FollowTreeLemmas.{slave_is, well_formed}
-use Rattle.gptp_invariants.proofs.FollowWayLemmas.{correction_small, documented, few, long, own_time_fits, root_time_fits, short_way}
+use Rattle.gptp_invariants.specs.SyncFollowView.{kept_sync, tells, told_in}
+use Rattle.gptp_invariants.specs.SyncFollowers.{HasWay, IsFollower, follower, follower_clock, follower_setting, follower_parts, follower_state}
+use Rattle.gptp_invariants.specs.DelayLinkView.{LinkPlace, link_frame_view}
+use Rattle.gptp_invariants.specs.WorldStanding.{snapshot_of}
+use Rattle.gptp_invariants.specs.SyncTimed.{AllMeasureRight, CarriesTime, IsSettledFrom}
+use Rattle.gptp_invariants.specs.SyncTimedLaws.{IsRootOf}
+use Rattle.gptp_invariants.specs.ChoiceView.{port_identity_number}
+use Rattle.gptp_invariants.proofs.SyncFollowOctetLemmas.{told_alone}
+use Rattle.gptp_invariants.proofs.SyncFollowOffsetLemmas.{IsUsed, is_used}
+use Rattle.gptp_invariants.proofs.SyncFollowPartLemmas.{clock_shown}
+use Rattle.gptp_invariants.proofs.SyncFollowSettingLemmas.{is_setting, own_shown}
+use Rattle.gptp_invariants.proofs.SyncFollowSizeLemmas.{origin_fits}
+use Rattle.gptp_invariants.proofs.SyncFollowTreeLemmas.{slave_is, well_formed}
+use Rattle.gptp_invariants.proofs.SyncFollowWayLemmas.{correction_small, documented, few, long, own_time_fits, root_time_fits, short_way}
 use Rattle.gptp_invariants.proofs.SyncHeardLemmas.{heard_as}
-use Rattle.gptp_invariants.proofs.TimeStepLemmas.{can_lapse}
+use Rattle.gptp_invariants.proofs.SyncTimeStepLemmas.{can_lapse}
 use Rattle.gptp_reading.specs.Reading.{held_rates_error_at, read_after, read_from, reading, reading_error_at}
 use Rattle.gptp_reading.specs.Readings.{LeavesTime}
 use Rattle.gptp_reading.proofs.TellingLemmas.{IsAsSent, offset_fits, reading_is_exact, told_as_sent}

@@ -15,8 +15,8 @@ use Rattle.gptp_error_laws.specs.TimeError.{Way, jitter_at, rates_error_at, time
 use Rattle.gptp_model.specs.Views.{ShowsLive}
 use Rattle.gptp_model.specs.World.{WorldState}
 use Rattle.gptp_sync_machine.specs.Tree.{IsWayTo}
-use Rattle.gptp_invariants.specs.Followers.{follower_parts}
-use Rattle.gptp_invariants.specs.Standing.{snapshot_of}
+use Rattle.gptp_invariants.specs.SyncFollowers.{follower_parts}
+use Rattle.gptp_invariants.specs.WorldStanding.{snapshot_of}
 
 -- ---- what is read
 

@@ -14,7 +14,7 @@ use Rattle.gptp_scaled.specs.Counts.{AreWithin}
 use Rattle.gptp_setup.specs.SettlingParams.{SettlingParams}
 use Rattle.gptp_error_laws.specs.TimeError.{Way}
 use Rattle.gptp_sync_machine.specs.Tree.{IsWayTo}
-use Rattle.gptp_invariants.specs.Followers.{follower_parts}
+use Rattle.gptp_invariants.specs.SyncFollowers.{follower_parts}
 use Rattle.gptp_scenario.specs.declared.change.Timed.{Timed}
 use Rattle.gptp_system.specs.State.{SystemState, lapse_of}
 use Rattle.gptp_model.specs.Course.{WasDone}
@@ -23,8 +23,8 @@ use Rattle.gptp_model.specs.Views.{ShowsLive}
 use Rattle.gptp_model.specs.World.{WorldState}
 use Rattle.gptp_network.specs.Document.{DocumentState}
 use Rattle.gptp_report.specs.Transitions.{Transition, Unfolds}
-use Rattle.gptp_invariants.specs.Standing.{snapshot_of}
-use Rattle.gptp_invariants.specs.TimedClaim.{WorldInvariant}
+use Rattle.gptp_invariants.specs.WorldStanding.{snapshot_of}
+use Rattle.gptp_invariants.specs.SyncTimedClaim.{WorldInvariant}
 use Rattle.gptp_theorem.specs.Headline.{HasComeDown, WorldIsCalm, UsesFollowUp}
 use Rattle.gptp_theorem.specs.PlayedLaws.{IsPlayable}
 use Rattle.gptp_reading.specs.Reading.{IsBestsTime, IsReadingErrorOf, reading}

@@ -17,8 +17,8 @@ use Rattle.gptp_world.specs.Transitions.{Passes, PassesTo, Transition, transitio
 use Rattle.gptp_network.specs.Document.{DocumentState}
 use Rattle.gptp_network.specs.Snapshot.{events_by}
 use Rattle.gptp_report.specs.Transitions.{Courses, Makes, Unfolds}
-use Rattle.gptp_invariants.proofs.FollowClaimLemmas.{acts_time}
-use Rattle.gptp_invariants.proofs.OutlineLemmas.{change_time, starts_are_last}
+use Rattle.gptp_invariants.proofs.SyncFollowClaimLemmas.{acts_time}
+use Rattle.gptp_invariants.proofs.WorldOutlineLemmas.{change_time, starts_are_last}
 use Rattle.gptp_theorem.specs.PlayedLaws.{IsMade}
 use Rattle.gptp_theorem.proofs.BeginLemmas.{begun_stands}
 use Rattle.gptp_theorem.proofs.SettlingInvariantLemmas.{events_made}

@@ -17,9 +17,9 @@ use Rattle.gptp_world.specs.Transitions.{Transition}
 use Rattle.gptp_network.specs.Document.{DocumentState}
 use Rattle.gptp_network.specs.Snapshot.{events_by}
 use Rattle.gptp_report.specs.Transitions.{Courses, Unfolds}
-use Rattle.gptp_invariants.specs.SoundWorld.{IsSoundWorld}
-use Rattle.gptp_invariants.specs.Standing.{snapshot_of}
-use Rattle.gptp_invariants.proofs.StandsLemmas.{stands_well}
+use Rattle.gptp_invariants.specs.WorldSound.{IsSoundWorld}
+use Rattle.gptp_invariants.specs.WorldStanding.{snapshot_of}
+use Rattle.gptp_invariants.proofs.WorldStandsLemmas.{stands_well}
 use Rattle.gptp_theorem.specs.PlayedLaws.{IsMade, IsPlayable}
 use Rattle.gptp_theorem.proofs.CalmLemmas.{quiet_stands}
 use Rattle.gptp_theorem.proofs.SettlingInvariantLemmas.{IsFitEvent, events_fit, events_made, least_of}
@@ -83,7 +83,7 @@ module _ {F : Type 0} (answers : Bounds → ℕ → F → Option ℕ → F → T
       record {
         quiet = (quiet_stands n all v playable.network keeps.stands world.sound is.calm).links;
         bounded = subst (BoundsPaths (snapshot_of v)) (sym (ap (λ (x : SyncPaths). x.systems) paths))
-            (paths_within (snapshot_of v) (stands_well v world.sound world.between world.legible));
+            (paths_within (snapshot_of v) (stands_well v world.sound world.between world.encodable));
         settles = subst (λ delay. SettlesBy p (record { systems = m; delay = delay }) start settled)
             (ap (λ (x : SyncPaths). x.delay) paths) is.settles;
       }

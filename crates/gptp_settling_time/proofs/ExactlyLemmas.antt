@@ -14,16 +14,16 @@ use Rattle.gptp_model.specs.Initial.{initial}
 use Rattle.gptp_model.specs.World.{WorldState}
 use Rattle.gptp_world.proofs.SettlingInvariantLemmas.{next_octet}
 use Rattle.gptp_world.proofs.InitialLemmas.{initial_sound}
-use Rattle.gptp_invariants.specs.NewsCourse.{capable_from}
-use Rattle.gptp_invariants.specs.NewsWorld.{AreSilentBy}
-use Rattle.gptp_invariants.proofs.CalmKeptLemmas.{KeepsNetwork, acts_keep, delay_kept, keeps_on}
-use Rattle.gptp_invariants.proofs.ClaimLemmas.{claim_begins, claim_kept, claim_later}
-use Rattle.gptp_invariants.proofs.LinkUpNewsLemmas.{link_up_news}
-use Rattle.gptp_invariants.proofs.NewsActLemmas.{gain_news, unanswered_silent, watched_ready}
-use Rattle.gptp_invariants.proofs.NewsWorldLemmas.{none_silent}
-use Rattle.gptp_invariants.proofs.OutlineLemmas.{change_is_last, change_time, starts_are_last}
-use Rattle.gptp_invariants.proofs.SoundWorldLemmas.{sound_later}
-use Rattle.gptp_invariants.proofs.StartNewsLemmas.{start_news}
+use Rattle.gptp_invariants.specs.WorldNewsCourse.{capable_from}
+use Rattle.gptp_invariants.specs.WorldNews.{AreSilentBy}
+use Rattle.gptp_invariants.proofs.ChoiceCalmKeptLemmas.{KeepsNetwork, acts_keep, delay_kept, keeps_on}
+use Rattle.gptp_invariants.proofs.WorldClaimLemmas.{claim_begins, claim_kept, claim_later}
+use Rattle.gptp_invariants.proofs.WorldLinkUpNewsLemmas.{link_up_news}
+use Rattle.gptp_invariants.proofs.WorldNewsActLemmas.{gain_news, unanswered_silent, watched_ready}
+use Rattle.gptp_invariants.proofs.WorldNewsLemmas.{none_silent}
+use Rattle.gptp_invariants.proofs.WorldOutlineLemmas.{change_is_last, change_time, starts_are_last}
+use Rattle.gptp_invariants.proofs.WorldSoundLemmas.{sound_later}
+use Rattle.gptp_invariants.proofs.WorldStartNewsLemmas.{start_news}
 use Rattle.gptp_theorem.proofs.HeadlineLemmas.{quiet_as}
 use Rattle.gptp_theorem.proofs.PlayedLemmas.{no_change}
 use Rattle.gptp_settling_time.specs.Exactly.{GainsAreExact, IsSettledBy, LinksUpAreExact, NewsAreExact, StartsAreExact}

@@ -18,8 +18,8 @@ use Rattle.gptp_model.specs.Changing.{IsStation}
 use Rattle.gptp_model.specs.Sound.{IsItsSetup, IsSound}
 use Rattle.gptp_model.specs.World.{WorldState, port_id}
 use Rattle.gptp_network.proofs.SnapshotLemmas.{clock_after}
-use Rattle.gptp_invariants.specs.NewsWorld.{AllLive}
-use Rattle.gptp_invariants.specs.SoundWorld.{IsDownAt, IsGain}
+use Rattle.gptp_invariants.specs.WorldNews.{AllLive}
+use Rattle.gptp_invariants.specs.WorldSound.{IsDownAt, IsGain}
 use Rattle.gptp_theorem.specs.Reached.{Shape, StandsAsPlanned, shape, shape_after, channel_wire}
 use Rattle.gptp_settling_time.specs.Gains.{AllLiveAfter, IsDownAfter, IsGainAfter, IsIdleAfter, IsNoWorse, IsUpAfter}
 use Rattle.gptp_settling_time.specs.Idle.{IsIdle, IsUpAt}

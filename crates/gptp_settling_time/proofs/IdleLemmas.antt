@@ -17,17 +17,17 @@ use Rattle.gptp_bmca_machine.specs.Frame.{Lane}
 use Rattle.gptp_bmca_machine.specs.Network.{Network}
 use Rattle.gptp_bmca_machine.specs.Station.{MachineState, Station as SeenStation}
 use Rattle.gptp_bmca_machine.specs.Syncs.{SyncsAreExpected, TellsBy}
-use Rattle.gptp_invariants.specs.SettlingInvariant.{KeepsAll}
-use Rattle.gptp_invariants.specs.SettlesAsMachine.{IsWorld}
-use Rattle.gptp_invariants.specs.EncodableLaws.{SetsAnOctet}
-use Rattle.gptp_invariants.specs.LinkView.{LinkPlace}
-use Rattle.gptp_invariants.specs.Measured.{StationIsLiveAt, LinkIsMeasured, LinkStandsAt}
-use Rattle.gptp_invariants.specs.NewsWorld.{IsNews, IsReadyBy, turn_network}
-use Rattle.gptp_invariants.specs.Unanswered.{StandsUnanswered}
-use Rattle.gptp_invariants.specs.View.{says_sync, view}
-use Rattle.gptp_invariants.proofs.ClaimLemmas.{claim_kept}
-use Rattle.gptp_invariants.proofs.NewsCourseLemmas.{news_advance}
-use Rattle.gptp_invariants.proofs.NewsWorldLemmas.{news_go_on}
+use Rattle.gptp_invariants.specs.WorldSettlingInvariant.{KeepsAll}
+use Rattle.gptp_invariants.specs.ChoiceSettlesAsMachine.{IsWorld}
+use Rattle.gptp_invariants.specs.WorldEncodableLaws.{SetsAnOctet}
+use Rattle.gptp_invariants.specs.DelayLinkView.{LinkPlace}
+use Rattle.gptp_invariants.specs.DelayMeasured.{StationIsLiveAt, LinkIsMeasured, LinkStandsAt}
+use Rattle.gptp_invariants.specs.WorldNews.{IsNews, IsReadyBy, turn_network}
+use Rattle.gptp_invariants.specs.FailedUnanswered.{StandsUnanswered}
+use Rattle.gptp_invariants.specs.ChoiceView.{says_sync, view}
+use Rattle.gptp_invariants.proofs.WorldClaimLemmas.{claim_kept}
+use Rattle.gptp_invariants.proofs.WorldNewsCourseLemmas.{news_advance}
+use Rattle.gptp_invariants.proofs.WorldNewsLemmas.{news_go_on}
 use Rattle.gptp_theorem.proofs.SettlingInvariantLemmas.{advanced_claimed}
 use Rattle.gptp_theorem.proofs.HeadlineLemmas.{is_settled, quiet_as}
 use Rattle.gptp_settling_time.specs.Idle.{IdlesStayNews, IdlesStaySettled, IsIdle}

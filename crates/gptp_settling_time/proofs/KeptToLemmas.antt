@@ -17,11 +17,11 @@ use Rattle.gptp_model.proofs.StayLemmas.{done_stays}
 use Rattle.gptp_world.specs.Transitions.{Transition}
 use Rattle.gptp_world.proofs.SettlingInvariantLemmas.{next_octet}
 use Rattle.gptp_network.specs.Document.{DocumentState}
-use Rattle.gptp_invariants.specs.SettlingInvariant.{KeepsAll}
-use Rattle.gptp_invariants.specs.NewsWorld.{IsNews}
-use Rattle.gptp_invariants.proofs.ClaimLemmas.{claim_kept, claim_later}
-use Rattle.gptp_invariants.proofs.NewsActLemmas.{news_done}
-use Rattle.gptp_invariants.proofs.NewsWorldLemmas.{news_go_on}
+use Rattle.gptp_invariants.specs.WorldSettlingInvariant.{KeepsAll}
+use Rattle.gptp_invariants.specs.WorldNews.{IsNews}
+use Rattle.gptp_invariants.proofs.WorldClaimLemmas.{claim_kept, claim_later}
+use Rattle.gptp_invariants.proofs.WorldNewsActLemmas.{news_done}
+use Rattle.gptp_invariants.proofs.WorldNewsLemmas.{news_go_on}
 use Rattle.gptp_theorem.specs.Reached.{StandsAsPlanned}
 use Rattle.gptp_theorem.proofs.SettlingInvariantLemmas.{least_of}
 use Rattle.gptp_theorem.proofs.KeptLemmas.{acts_stand, time_stands}

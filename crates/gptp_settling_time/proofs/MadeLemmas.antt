@@ -25,21 +25,21 @@ use Rattle.gptp_model.specs.World.{Channel, WorldState, port_id, receiver}
 use Rattle.gptp_model.proofs.PromptLemmas.{prompt_within, stays_none_faster}
 use Rattle.gptp_model.proofs.StayLemmas.{acts_stay, done_stays}
 use Rattle.gptp_network.specs.Document.{DocumentState}
-use Rattle.gptp_invariants.specs.Calm.{delay_in}
-use Rattle.gptp_invariants.specs.SettlingInvariant.{KeepsAll}
-use Rattle.gptp_invariants.specs.SettlesAsMachine.{IsWorld}
-use Rattle.gptp_invariants.specs.EncodableLaws.{SetsAnOctet}
-use Rattle.gptp_invariants.specs.LinkView.{LinkPlace}
-use Rattle.gptp_invariants.specs.Measured.{LinkIsMeasured}
-use Rattle.gptp_invariants.specs.NewsWorld.{AreReadyBy, AreSilentBy, IsNews}
-use Rattle.gptp_invariants.specs.SoundWorld.{IsGain, IsSoundWorld}
-use Rattle.gptp_invariants.specs.Unanswered.{StandsUnanswered}
-use Rattle.gptp_invariants.proofs.ClaimLemmas.{claim_kept, claim_later}
-use Rattle.gptp_invariants.proofs.LinkUpNewsLemmas.{link_up_news}
-use Rattle.gptp_invariants.proofs.NewsActLemmas.{gain_news, priority_news, ready_later, unanswered_silent, watched_ready}
-use Rattle.gptp_invariants.proofs.NewsWorldLemmas.{news_go_on, none_silent}
-use Rattle.gptp_invariants.proofs.OutlineLemmas.{change_is_last, change_time}
-use Rattle.gptp_invariants.proofs.SoundWorldLemmas.{sound_later}
+use Rattle.gptp_invariants.specs.ChoiceCalm.{delay_in}
+use Rattle.gptp_invariants.specs.WorldSettlingInvariant.{KeepsAll}
+use Rattle.gptp_invariants.specs.ChoiceSettlesAsMachine.{IsWorld}
+use Rattle.gptp_invariants.specs.WorldEncodableLaws.{SetsAnOctet}
+use Rattle.gptp_invariants.specs.DelayLinkView.{LinkPlace}
+use Rattle.gptp_invariants.specs.DelayMeasured.{LinkIsMeasured}
+use Rattle.gptp_invariants.specs.WorldNews.{AreReadyBy, AreSilentBy, IsNews}
+use Rattle.gptp_invariants.specs.WorldSound.{IsGain, IsSoundWorld}
+use Rattle.gptp_invariants.specs.FailedUnanswered.{StandsUnanswered}
+use Rattle.gptp_invariants.proofs.WorldClaimLemmas.{claim_kept, claim_later}
+use Rattle.gptp_invariants.proofs.WorldLinkUpNewsLemmas.{link_up_news}
+use Rattle.gptp_invariants.proofs.WorldNewsActLemmas.{gain_news, priority_news, ready_later, unanswered_silent, watched_ready}
+use Rattle.gptp_invariants.proofs.WorldNewsLemmas.{news_go_on, none_silent}
+use Rattle.gptp_invariants.proofs.WorldOutlineLemmas.{change_is_last, change_time}
+use Rattle.gptp_invariants.proofs.WorldSoundLemmas.{sound_later}
 use Rattle.gptp_theorem.specs.PlayedLaws.{IsMade, IsPlayable}
 use Rattle.gptp_theorem.specs.Reached.{StandsAsPlanned, channel_wire}
 use Rattle.gptp_theorem.proofs.ChangeLemmas.{changes_stand}

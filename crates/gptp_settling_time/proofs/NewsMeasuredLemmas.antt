@@ -12,21 +12,21 @@ use Rattle.gptp_system.specs.State.{clock, number, own}
 use Rattle.gptp_model.specs.declared.station.Station.{Station}
 use Rattle.gptp_model.specs.World.{Channel, WorldState, receiver, sender}
 use Rattle.gptp_pdelay_machine.specs.Measured.{HasMeasured}
-use Rattle.gptp_invariants.specs.Calm.{HaveQuietLinks}
-use Rattle.gptp_invariants.specs.SettlesAsMachine.{IsWorld}
-use Rattle.gptp_invariants.specs.Known.{IsKnown}
-use Rattle.gptp_invariants.specs.LinkView.{IsLinkOf, LinkPlace, least_delay, other_direction, link_setting}
-use Rattle.gptp_invariants.specs.Measured.{StationIsLiveAt, LinkStandsAt}
-use Rattle.gptp_invariants.specs.MeasuredLinks.{HasMeasuredLink, HaveMeasuredLinks}
-use Rattle.gptp_invariants.specs.NewsWorld.{AreReadyBy, IsNews, IsReadyBy}
-use Rattle.gptp_invariants.specs.Standing.{stations_have_clock, channel_is_used, live_stations, snapshot_of}
-use Rattle.gptp_invariants.specs.View.{port_identity_number}
-use Rattle.gptp_invariants.proofs.ElsewhereLemmas.{watched_stay_capable}
-use Rattle.gptp_invariants.proofs.FirstAtLemmas.{first_full}
-use Rattle.gptp_invariants.proofs.LinkLemmas.{sender_opposite}
-use Rattle.gptp_invariants.proofs.StandsLemmas.{sender_lives, stands_well, used_up}
-use Rattle.gptp_invariants.proofs.SystemLemmas.{clock_lives, live_from}
-use Rattle.gptp_invariants.proofs.WayLemmas.{IsWay, way_of}
+use Rattle.gptp_invariants.specs.ChoiceCalm.{HaveQuietLinks}
+use Rattle.gptp_invariants.specs.ChoiceSettlesAsMachine.{IsWorld}
+use Rattle.gptp_invariants.specs.WorldKnown.{IsKnown}
+use Rattle.gptp_invariants.specs.DelayLinkView.{IsLinkOf, LinkPlace, least_delay, other_direction, link_setting}
+use Rattle.gptp_invariants.specs.DelayMeasured.{StationIsLiveAt, LinkStandsAt}
+use Rattle.gptp_invariants.specs.DelayMeasuredLinks.{HasMeasuredLink, HaveMeasuredLinks}
+use Rattle.gptp_invariants.specs.WorldNews.{AreReadyBy, IsNews, IsReadyBy}
+use Rattle.gptp_invariants.specs.WorldStanding.{stations_have_clock, channel_is_used, live_stations, snapshot_of}
+use Rattle.gptp_invariants.specs.ChoiceView.{port_identity_number}
+use Rattle.gptp_invariants.proofs.DelayElsewhereLemmas.{watched_stay_capable}
+use Rattle.gptp_invariants.proofs.DelayFirstAtLemmas.{first_full}
+use Rattle.gptp_invariants.proofs.DelayLinkLemmas.{sender_opposite}
+use Rattle.gptp_invariants.proofs.WorldStandsLemmas.{sender_lives, stands_well, used_up}
+use Rattle.gptp_invariants.proofs.WorldSystemLemmas.{clock_lives, live_from}
+use Rattle.gptp_invariants.proofs.WorldWayLemmas.{IsWay, way_of}
 
 -- ---- a link that is ready
 
@@ -112,7 +112,8 @@ module _ (p : SettlingParams) (start : ℕ) (w : WorldState) (is : IsWorld p w) 
             let alike : station ≡ other.at.station =
             same_there w.stations place station other.at.station here
             (subst (λ at. slice_get w.stations at ≡ Some other.at.station) (sym same) other.at.here) in
-            (stands_well w is.sound is.between is.legible).apart (port_identity_number (own station.system n)) to joins
+            (stands_well w is.sound is.between is.encodable).apart
+              (port_identity_number (own station.system n)) to joins
             (ap (λ (x : Station). clock x.system) alike
             ∙ other.at.named
             ∙ ap (λ (x : PortIdentity). x.clock) way.to);

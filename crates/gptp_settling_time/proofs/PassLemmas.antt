@@ -9,7 +9,7 @@ use Rattle.gptp_model.specs.Views.{IsNextAct}
 use Rattle.gptp_model.specs.World.{WorldState}
 use Rattle.gptp_model.proofs.AdvanceLemmas.{nothing_sooner}
 use Rattle.gptp_world.specs.Transitions.{Passes, PassesTo, Transition}
-use Rattle.gptp_invariants.proofs.FollowClaimLemmas.{acts_time}
+use Rattle.gptp_invariants.proofs.SyncFollowClaimLemmas.{acts_time}
 use Rattle.gptp_theorem.proofs.PlayedLemmas.{no_change}
 
 -- this is so of the worlds before and after an act, which was done at its time

@@ -30,16 +30,16 @@ use Rattle.gptp_model.specs.World.{WorldState, port_id}
 use Rattle.gptp_sync_machine.proofs.TreeLemmas.{way_ends_at_parent, way_leads_to}
 use Rattle.gptp_sync_machine.specs.Follower.{from}
 use Rattle.gptp_sync_machine.specs.Tree.{IsWayTo}
-use Rattle.gptp_invariants.specs.Calm.{clock_place}
-use Rattle.gptp_invariants.specs.Exact.{IsAhead, IsWayError}
-use Rattle.gptp_invariants.specs.Followers.{HasWay, follower_clock, follower_setting, follower_parts}
-use Rattle.gptp_invariants.specs.Standing.{snapshot_of}
-use Rattle.gptp_invariants.specs.Timed.{AllMeasureRight, CarriesTime, IsSettledFrom}
-use Rattle.gptp_invariants.specs.TimedLaws.{IsRootOf}
-use Rattle.gptp_invariants.proofs.CalmKeptLemmas.{acts_keep}
-use Rattle.gptp_invariants.proofs.FollowOffsetLemmas.{offsets_are_exact}
-use Rattle.gptp_invariants.proofs.FollowWayLemmas.{Follows, follows_parent}
-use Rattle.gptp_invariants.proofs.FoundLemmas.{place_is}
+use Rattle.gptp_invariants.specs.ChoiceCalm.{clock_place}
+use Rattle.gptp_invariants.specs.SyncExact.{IsAhead, IsWayError}
+use Rattle.gptp_invariants.specs.SyncFollowers.{HasWay, follower_clock, follower_setting, follower_parts}
+use Rattle.gptp_invariants.specs.WorldStanding.{snapshot_of}
+use Rattle.gptp_invariants.specs.SyncTimed.{AllMeasureRight, CarriesTime, IsSettledFrom}
+use Rattle.gptp_invariants.specs.SyncTimedLaws.{IsRootOf}
+use Rattle.gptp_invariants.proofs.ChoiceCalmKeptLemmas.{acts_keep}
+use Rattle.gptp_invariants.proofs.SyncFollowOffsetLemmas.{offsets_are_exact}
+use Rattle.gptp_invariants.proofs.SyncFollowWayLemmas.{Follows, follows_parent}
+use Rattle.gptp_invariants.proofs.ChoiceFoundLemmas.{place_is}
 use Rattle.gptp_theorem.specs.Headline.{UsesFollowUp}
 use Rattle.gptp_settling_time.specs.Exactly.{AreExactFrom}
 use Rattle.gptp_settling_time.proofs.TimedNewsLemmas.{CanSettle, IsOldBy, IsTimed, can_later, right_from, settled_from, timed_later}

@@ -12,23 +12,23 @@ use Rattle.gptp_model.specs.Course.{WasDone}
 use Rattle.gptp_model.specs.declared.done.Done.{Done}
 use Rattle.gptp_model.specs.Pending.{NothingBefore}
 use Rattle.gptp_model.specs.World.{Channel, WorldState}
-use Rattle.gptp_invariants.specs.Bounded.{IsBoundedWorld}
-use Rattle.gptp_invariants.specs.Calm.{HaveQuietLinks, delay_in, greatest_channel_delay, paths_with, step_with}
-use Rattle.gptp_invariants.specs.EncodableLaws.{SetsAnOctet}
-use Rattle.gptp_invariants.specs.NewsWorld.{IsNews}
-use Rattle.gptp_invariants.specs.SeenLaws.{IsNoChange}
-use Rattle.gptp_invariants.specs.Settled.{Settled}
-use Rattle.gptp_invariants.specs.Standing.{channel_is_used, live_stations, snapshot_of}
-use Rattle.gptp_invariants.specs.Timed.{AllMeasureRight, CarriesTime, IsSettledFrom}
-use Rattle.gptp_invariants.proofs.BoundedLemmas.{bounded_by}
-use Rattle.gptp_invariants.proofs.CalmKeptLemmas.{KeepsNetwork, acts_keep, delay_kept, links_quiet, same_snapshot}
-use Rattle.gptp_invariants.proofs.FollowClaimLemmas.{acts_time}
-use Rattle.gptp_invariants.proofs.FollowLaterLemmas.{time_begins, time_carries}
-use Rattle.gptp_invariants.proofs.FollowMeasureLemmas.{measured_right}
-use Rattle.gptp_invariants.proofs.FollowWorldLemmas.{done_carries}
-use Rattle.gptp_invariants.proofs.SettlesAsMachineLemmas.{kept_back}
-use Rattle.gptp_invariants.proofs.NewsActLemmas.{news_done}
-use Rattle.gptp_invariants.proofs.NewsWorldLemmas.{news_above, news_above_in_turn, news_go_on, news_worlds_settle, news_worlds_settle_in_turn}
+use Rattle.gptp_invariants.specs.WorldBounded.{IsBoundedWorld}
+use Rattle.gptp_invariants.specs.ChoiceCalm.{HaveQuietLinks, delay_in, greatest_channel_delay, paths_with, step_with}
+use Rattle.gptp_invariants.specs.WorldEncodableLaws.{SetsAnOctet}
+use Rattle.gptp_invariants.specs.WorldNews.{IsNews}
+use Rattle.gptp_invariants.specs.ChoiceSeenLaws.{IsNoChange}
+use Rattle.gptp_invariants.specs.ChoiceSettled.{Settled}
+use Rattle.gptp_invariants.specs.WorldStanding.{channel_is_used, live_stations, snapshot_of}
+use Rattle.gptp_invariants.specs.SyncTimed.{AllMeasureRight, CarriesTime, IsSettledFrom}
+use Rattle.gptp_invariants.proofs.WorldBoundedLemmas.{bounded_by}
+use Rattle.gptp_invariants.proofs.ChoiceCalmKeptLemmas.{KeepsNetwork, acts_keep, delay_kept, links_quiet, same_snapshot}
+use Rattle.gptp_invariants.proofs.SyncFollowClaimLemmas.{acts_time}
+use Rattle.gptp_invariants.proofs.SyncFollowLaterLemmas.{time_begins, time_carries}
+use Rattle.gptp_invariants.proofs.SyncFollowMeasureLemmas.{measured_right}
+use Rattle.gptp_invariants.proofs.SyncFollowWorldLemmas.{done_carries}
+use Rattle.gptp_invariants.proofs.ChoiceSettlesAsMachineLemmas.{kept_back}
+use Rattle.gptp_invariants.proofs.WorldNewsActLemmas.{news_done}
+use Rattle.gptp_invariants.proofs.WorldNewsLemmas.{news_above, news_above_in_turn, news_go_on, news_worlds_settle, news_worlds_settle_in_turn}
 use Rattle.gptp_settling_time.specs.Exactly.{SettlesBy}
 use Rattle.gptp_settling_time.proofs.NewsMeasuredLemmas.{news_measured}
 

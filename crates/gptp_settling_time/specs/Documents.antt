@@ -17,7 +17,7 @@ use Rattle.gptp_model.specs.World.{WorldState}
 use Rattle.gptp_network.specs.Document.{DocumentState}
 use Rattle.gptp_network.specs.Snapshot.{events_by}
 use Rattle.gptp_report.specs.Transitions.{Transition, Unfolds}
-use Rattle.gptp_invariants.specs.SoundWorld.{IsSoundWorld}
+use Rattle.gptp_invariants.specs.WorldSound.{IsSoundWorld}
 use Rattle.gptp_theorem.specs.Headline.{IsSettled}
 use Rattle.gptp_theorem.specs.HeadlineLaws.{HasSnapshotOf}
 use Rattle.gptp_theorem.specs.PlayedLaws.{IsPlayable}

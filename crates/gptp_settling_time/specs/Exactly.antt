@@ -27,17 +27,17 @@ use Rattle.gptp_model.specs.Course.{Begun, WasDone}
 use Rattle.gptp_model.specs.declared.done.Done.{Done}
 use Rattle.gptp_model.specs.Prompt.{DelaysFitIntervals}
 use Rattle.gptp_model.specs.World.{WorldState, port_id}
-use Rattle.gptp_invariants.specs.Calm.{paths_with, step_with}
-use Rattle.gptp_invariants.specs.SettlingInvariant.{KeepsAll}
-use Rattle.gptp_invariants.specs.Elsewhere.{IsOtherLink}
-use Rattle.gptp_invariants.specs.Exact.{IsAhead, IsWayError}
-use Rattle.gptp_invariants.specs.EncodableLaws.{SetsAnOctet}
-use Rattle.gptp_invariants.specs.LinkView.{LinkPlace}
-use Rattle.gptp_invariants.specs.NewsCourse.{SettlesFrom, capable_from}
-use Rattle.gptp_invariants.specs.NewsWorld.{IsNews}
-use Rattle.gptp_invariants.specs.SoundWorld.{IsGain, IsSoundWorld}
-use Rattle.gptp_invariants.specs.Standing.{snapshot_of}
-use Rattle.gptp_invariants.specs.Unanswered.{StandsUnanswered}
+use Rattle.gptp_invariants.specs.ChoiceCalm.{paths_with, step_with}
+use Rattle.gptp_invariants.specs.WorldSettlingInvariant.{KeepsAll}
+use Rattle.gptp_invariants.specs.DelayElsewhere.{IsOtherLink}
+use Rattle.gptp_invariants.specs.SyncExact.{IsAhead, IsWayError}
+use Rattle.gptp_invariants.specs.WorldEncodableLaws.{SetsAnOctet}
+use Rattle.gptp_invariants.specs.DelayLinkView.{LinkPlace}
+use Rattle.gptp_invariants.specs.WorldNewsCourse.{SettlesFrom, capable_from}
+use Rattle.gptp_invariants.specs.WorldNews.{IsNews}
+use Rattle.gptp_invariants.specs.WorldSound.{IsGain, IsSoundWorld}
+use Rattle.gptp_invariants.specs.WorldStanding.{snapshot_of}
+use Rattle.gptp_invariants.specs.FailedUnanswered.{StandsUnanswered}
 use Rattle.gptp_theorem.specs.Headline.{WorldIsCalm, LeavesOffset}
 
 -- ---- times

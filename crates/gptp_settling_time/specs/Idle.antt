@@ -14,12 +14,12 @@ use Rattle.gptp_model.specs.Course.{WasDone}
 use Rattle.gptp_model.specs.declared.done.Done.{Done}
 use Rattle.gptp_model.specs.declared.station.Station.{Station}
 use Rattle.gptp_model.specs.World.{Channel, WorldState, port_id}
-use Rattle.gptp_invariants.specs.SettlingInvariant.{KeepsAll}
-use Rattle.gptp_invariants.specs.EncodableLaws.{SetsAnOctet}
-use Rattle.gptp_invariants.specs.NewsCourse.{HasSettledBy}
-use Rattle.gptp_invariants.specs.NewsWorld.{IsNews}
-use Rattle.gptp_invariants.specs.SoundWorld.{IsDownAt}
-use Rattle.gptp_invariants.specs.Standing.{snapshot_of}
+use Rattle.gptp_invariants.specs.WorldSettlingInvariant.{KeepsAll}
+use Rattle.gptp_invariants.specs.WorldEncodableLaws.{SetsAnOctet}
+use Rattle.gptp_invariants.specs.WorldNewsCourse.{HasSettledBy}
+use Rattle.gptp_invariants.specs.WorldNews.{IsNews}
+use Rattle.gptp_invariants.specs.WorldSound.{IsDownAt}
+use Rattle.gptp_invariants.specs.WorldStanding.{snapshot_of}
 use Rattle.gptp_theorem.specs.Headline.{WorldIsCalm, IsSettled}
 
 -- a link at the port is up

@@ -12,7 +12,7 @@ use Rattle.gptp_graph.specs.SettledRole.{Disabled, IsMasterPort, IsSettledRole, 
 use Rattle.gptp_graph.specs.Snapshot.{IsLinked, Joins, Link, PortIdentity, Snapshot, System, clocks, port_of}
 use Rattle.gptp_lists.proofs.SystemSpecLemmas.{In-map, from_map}
 use Rattle.gptp_network.proofs.SnapshotLemmas.{In-permutation}
-use Rattle.gptp_invariants.proofs.SystemLemmas.{clock_in}
+use Rattle.gptp_invariants.proofs.WorldSystemLemmas.{clock_in}
 use Rattle.gptp_theorem.specs.AlikeLaws.{AreAlike}
 
 -- ---- members

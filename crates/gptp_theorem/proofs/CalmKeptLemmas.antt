@@ -14,11 +14,11 @@ use Rattle.gptp_model.specs.Advancing.{Advances, Told}
 use Rattle.gptp_model.specs.Prompt.{HavePace}
 use Rattle.gptp_model.specs.Views.{IsActOf}
 use Rattle.gptp_model.specs.World.{WorldState}
-use Rattle.gptp_invariants.specs.Calm.{sync_paths_of}
-use Rattle.gptp_invariants.specs.CalmFor.{IsCalmFor}
-use Rattle.gptp_invariants.specs.SeenLaws.{IsNoChange}
-use Rattle.gptp_invariants.specs.Standing.{snapshot_of}
-use Rattle.gptp_invariants.proofs.CalmKeptLemmas.{KeepsNetwork, acts_keep, keeps_on, same_paths, same_snapshot, stays_quiet}
+use Rattle.gptp_invariants.specs.ChoiceCalm.{sync_paths_of}
+use Rattle.gptp_invariants.specs.WorldCalmFor.{IsCalmFor}
+use Rattle.gptp_invariants.specs.ChoiceSeenLaws.{IsNoChange}
+use Rattle.gptp_invariants.specs.WorldStanding.{snapshot_of}
+use Rattle.gptp_invariants.proofs.ChoiceCalmKeptLemmas.{KeepsNetwork, acts_keep, keeps_on, same_paths, same_snapshot, stays_quiet}
 use Rattle.gptp_theorem.specs.CalmKept.{CalmIsKept}
 
 -- what is pending is no change

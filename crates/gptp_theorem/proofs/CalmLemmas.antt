@@ -22,13 +22,13 @@ use Rattle.gptp_network.specs.Document.{DocumentState}
 use Rattle.gptp_network.specs.Snapshot as network
 use Rattle.gptp_network.specs.Snapshot.{events_by}
 use Rattle.gptp_network.proofs.SnapshotLemmas.{clock_after}
-use Rattle.gptp_invariants.specs.Calm.{IsQuietLink, IsQuietWorld, sync_paths_of}
-use Rattle.gptp_invariants.specs.CalmFor.{IsCalmFor}
-use Rattle.gptp_invariants.specs.SettlingInvariant.{SettlingInvariant}
-use Rattle.gptp_invariants.specs.Known.{AreSet, IsSetTo}
-use Rattle.gptp_invariants.specs.Standing.{channel_is_used, stations_have_clock, live_stations, snapshot_of}
-use Rattle.gptp_invariants.proofs.StandsLemmas.{sender_lives, used_up}
-use Rattle.gptp_invariants.proofs.SystemLemmas.{clock_in, clock_lives, live_from}
+use Rattle.gptp_invariants.specs.ChoiceCalm.{IsQuietLink, IsQuietWorld, sync_paths_of}
+use Rattle.gptp_invariants.specs.WorldCalmFor.{IsCalmFor}
+use Rattle.gptp_invariants.specs.WorldSettlingInvariant.{SettlingInvariant}
+use Rattle.gptp_invariants.specs.WorldKnown.{AreSet, IsSetTo}
+use Rattle.gptp_invariants.specs.WorldStanding.{channel_is_used, stations_have_clock, live_stations, snapshot_of}
+use Rattle.gptp_invariants.proofs.WorldStandsLemmas.{sender_lives, used_up}
+use Rattle.gptp_invariants.proofs.WorldSystemLemmas.{clock_in, clock_lives, live_from}
 use Rattle.gptp_links.specs.declared.link.Direction.TheVariants.{FromA, FromB}
 use Rattle.gptp_theorem.specs.Reached.{Shape, StandsAsPlanned, shape, shape_after, channel_wire}
 use Rattle.gptp_theorem.specs.PlayedLaws.{DocumentIsAtRest, IsReached}
@@ -105,7 +105,7 @@ quiet_link : (n : NetworkState) (events : List Timed) (w : WorldState) → Stand
 quiet_link n events w so calm link channel here used =
     let systems = live_stations w.stations in
     let (v, there, is) = alike (link_after events) channel_wire n.links w.net.channels
-        (sym so.links) link channel here in
+    (sym so.links) link channel here in
     let rests = each_at (Rests n.params n.systems events) n.links calm.links link v there in
     let a = lives_so n events w so channel.a.clock (sender_lives systems FromA channel used) in
     let b = lives_so n events w so channel.b.clock (sender_lives systems FromB channel used) in

@@ -98,7 +98,7 @@ goes_down_becomes true place channel w draws w' here is k =
     }
 goes_down_becomes false place channel w draws w' here is k =
     subst (LinkBecomes place (with_up false (channel_wire channel)) w) (sym k.1)
-      (stays_so false place channel w here is)
+    (stays_so false place channel w here is)
 
 comes_up_becomes : (up : Bool) (place : ℕ) (channel : Channel) (w : WorldState) (draws : List Draw) (w' : WorldState)
     → slice_get w.net.channels place ≡ Some channel → channel.up ≡ up → ComesUpIf up place channel w draws w'
@@ -280,10 +280,10 @@ changed_stands (LinkSet number port min max loss) n events timed w draws w' act 
     let change = LinkSet number port min max loss in
     let new : Channel = record k.channel { bounds = set_to min max loss k.channel } in
     link_stands n events timed change w w' act sound so number port k.place k.channel
-      (member_with_bounds min max loss) k.is
+    (member_with_bounds min max loss) k.is
     (λ v. refl) (shape_more n events timed change w w' act sound so)
     (subst (LinkBecomes k.place (member_with_bounds min max loss (channel_wire k.channel)) (marked timed w))
-      (sym k.so.1)
+    (sym k.so.1)
     (record { systems = refl; links = map-set channel_wire w.net.channels k.place new; last = refl }))
 changed_stands (Fail number) n events timed w draws w' act sound so k =
     let change = Fail number in

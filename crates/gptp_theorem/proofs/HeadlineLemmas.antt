@@ -20,21 +20,21 @@ use Rattle.gptp_model.specs.World.{WorldState}
 use Rattle.gptp_network.specs.Document.{DocumentState}
 use Rattle.gptp_network.specs.Snapshot.{events_by}
 use Rattle.gptp_report.specs.Run.{PlaysRun}
-use Rattle.gptp_invariants.specs.Bounded.{IsBoundedWorld}
-use Rattle.gptp_invariants.specs.Calm.{IsQuietWorld}
-use Rattle.gptp_invariants.specs.CalmFor.{IsCalmFor, at_once_span, span_over}
-use Rattle.gptp_invariants.specs.SettlingInvariant.{SettlingInvariant}
-use Rattle.gptp_invariants.specs.Exact.{IsHeardExact, exact_span}
-use Rattle.gptp_invariants.specs.Known.{AreSet}
-use Rattle.gptp_invariants.specs.Settled.{Settled}
-use Rattle.gptp_invariants.specs.Standing.{snapshot_of}
-use Rattle.gptp_invariants.proofs.BoundedLemmas.{bounded_at_once, bounded_by_paths}
-use Rattle.gptp_invariants.proofs.CalmKeptLemmas.{later_quiet}
-use Rattle.gptp_invariants.proofs.SettlingInvariantLemmas.{settled_at_once, settled_by_paths}
-use Rattle.gptp_invariants.proofs.ExactLemmas.{receipts_are_exact}
+use Rattle.gptp_invariants.specs.WorldBounded.{IsBoundedWorld}
+use Rattle.gptp_invariants.specs.ChoiceCalm.{IsQuietWorld}
+use Rattle.gptp_invariants.specs.WorldCalmFor.{IsCalmFor, at_once_span, span_over}
+use Rattle.gptp_invariants.specs.WorldSettlingInvariant.{SettlingInvariant}
+use Rattle.gptp_invariants.specs.SyncExact.{IsHeardExact, exact_span}
+use Rattle.gptp_invariants.specs.WorldKnown.{AreSet}
+use Rattle.gptp_invariants.specs.ChoiceSettled.{Settled}
+use Rattle.gptp_invariants.specs.WorldStanding.{snapshot_of}
+use Rattle.gptp_invariants.proofs.WorldBoundedLemmas.{bounded_at_once, bounded_by_paths}
+use Rattle.gptp_invariants.proofs.ChoiceCalmKeptLemmas.{later_quiet}
+use Rattle.gptp_invariants.proofs.WorldSettlingInvariantLemmas.{settled_at_once, settled_by_paths}
+use Rattle.gptp_invariants.proofs.SyncExactLemmas.{receipts_are_exact}
 use Rattle.gptp_invariants.proofs.HoldsLemmas.{systems_bound}
-use Rattle.gptp_invariants.proofs.StandsLemmas.{stands_well}
-use Rattle.gptp_invariants.proofs.TreeLemmas.{settled_is_tree}
+use Rattle.gptp_invariants.proofs.WorldStandsLemmas.{stands_well}
+use Rattle.gptp_invariants.proofs.WorldTreeLemmas.{settled_is_tree}
 use Rattle.gptp_certificate.specs.Stated.{States}
 use Rattle.gptp_certificate.proofs.SettledLemmas.{settled_choice}
 use Rattle.gptp_theorem.specs.Headline.{HasComeDown, HasPassed, Headline, HeadlineAtOnce, HeadlineByNeighbours, HeadlineBySystems, WorldIsCalm, IsCertified, IsSettled, UsesFollowUp}
@@ -75,7 +75,7 @@ module _ (w : WorldState) (claimed : SettlingInvariant w) (settled : Settled w) 
   wf : IsWellFormed (snapshot_of w)
   wf =
       let is = claimed.is.world in
-      stands_well w is.sound is.between is.legible
+      stands_well w is.sound is.between is.encodable
 
   certified : (lines : List SystemLine) → States w lines → IsCertified w lines
   certified lines states =
@@ -113,7 +113,7 @@ pub by_neighbours : (w : WorldState) → SettlingInvariant w → HeadlineByNeigh
 by_neighbours w claimed p calm passed =
     let is = claimed.is.world in
     worlds_settle w claimed p (path_bound (snapshot_of w)) calm
-    (paths_within (snapshot_of w) (stands_well w is.sound is.between is.legible)) passed
+    (paths_within (snapshot_of w) (stands_well w is.sound is.between is.encodable)) passed
 
 pub worlds_are_exact : {F : Type 0} (answers : Bounds → ℕ → F → Option ℕ → F → Type 0) → WorldsAreExact answers
 worlds_are_exact answers timed fate fate_after w w' done all k moment p m steps number error offset ahead calm bounded
@@ -162,7 +162,7 @@ documents_at_once answers d until fate told w is plays rest =
     let so = reached.stands in
     let m = path_bound (snapshot_of w) in
     let world = claimed.is.world in
-    let bounded = paths_within (snapshot_of w) (stands_well w world.sound world.between world.legible) in
+    let bounded = paths_within (snapshot_of w) (stands_well w world.sound world.between world.encodable) in
     let calm : IsCalmFor (at_once_span m) w = record {
       pace = pace_of n;
       set = pace_stands n events w so;

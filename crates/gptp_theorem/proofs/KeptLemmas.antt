@@ -20,7 +20,7 @@ use Rattle.gptp_scenario.specs.Network.{NetworkState}
 use Rattle.gptp_model.specs.World.{Channel, WorldState, receiver}
 use Rattle.gptp_model.proofs.BareLemmas.{DifferInFlight, calls_bare, same_but_flight, sends_one_bare, takes_bare}
 use Rattle.gptp_lists.proofs.PlaceLemmas.{map-set_same}
-use Rattle.gptp_invariants.specs.SeenLaws.{IsNoChange}
+use Rattle.gptp_invariants.specs.ChoiceSeenLaws.{IsNoChange}
 use Rattle.gptp_theorem.specs.Reached.{StandsAsPlanned, shape, channel_wire}
 
 -- ---- links
@@ -145,7 +145,7 @@ keeps_standing n events w w' k so =
 
 pub acts_stand : (n : NetworkState) (events : List Timed) (act : Act) (w : WorldState) (draws : List Draw) (done : Done)
     (w' : WorldState) → IsNoChange act → Acts act w draws done w' → StandsAsPlanned n events w
-      → StandsAsPlanned n events w'
+    → StandsAsPlanned n events w'
 acts_stand n events act w draws done w' none k =
     keeps_standing n events w w' (acts_keep act w draws done w' none k)
 

@@ -8,7 +8,7 @@ use Rattle.gptp_scenario.specs.Network.{IsNetwork}
 use Rattle.gptp_network.specs.Document.{DocumentState, Means}
 use Rattle.gptp_network.specs.Events.{AreEvents}
 use Rattle.gptp_network.proofs.MeantLemmas.{SetsOctets, meant_octets}
-use Rattle.gptp_invariants.specs.EncodableLaws.{SetsAnOctet}
+use Rattle.gptp_invariants.specs.WorldEncodableLaws.{SetsAnOctet}
 use Rattle.gptp_theorem.specs.PlayedLaws.{IsPlayable}
 use Rattle.gptp_theorem.proofs.SettlingInvariantLemmas.{each_there}
 

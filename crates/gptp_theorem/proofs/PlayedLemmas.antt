@@ -24,7 +24,7 @@ use Rattle.gptp_world.proofs.InitialLemmas.{initial_sound}
 use Rattle.gptp_network.specs.Document.{DocumentState}
 use Rattle.gptp_network.specs.Snapshot.{events_by}
 use Rattle.gptp_report.specs.Run.{Goes, PlaysRun}
-use Rattle.gptp_invariants.specs.SeenLaws.{IsNoChange}
+use Rattle.gptp_invariants.specs.ChoiceSeenLaws.{IsNoChange}
 use Rattle.gptp_theorem.specs.Reached.{StandsAsPlanned}
 use Rattle.gptp_theorem.specs.PlayedLaws.{IsMade, IsReached}
 use Rattle.gptp_theorem.proofs.BeginLemmas.{begun_stands}

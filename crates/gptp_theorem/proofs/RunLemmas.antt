@@ -19,9 +19,9 @@ use Rattle.gptp_world.proofs.SettlingInvariantLemmas.{next_octet}
 use Rattle.gptp_world.proofs.InitialLemmas.{initial_sound}
 use Rattle.gptp_network.specs.Snapshot.{events_by}
 use Rattle.gptp_report.specs.Transitions.{Courses, Makes, Passes, PassesTo, Transition, transition}
-use Rattle.gptp_invariants.specs.EncodableLaws.{SetsAnOctet}
-use Rattle.gptp_invariants.specs.TimedClaim.{WorldInvariant}
-use Rattle.gptp_invariants.proofs.ExactLemmas.{all_begins, all_kept, all_later}
+use Rattle.gptp_invariants.specs.WorldEncodableLaws.{SetsAnOctet}
+use Rattle.gptp_invariants.specs.SyncTimedClaim.{WorldInvariant}
+use Rattle.gptp_invariants.proofs.SyncExactLemmas.{all_begins, all_kept, all_later}
 use Rattle.gptp_theorem.specs.Headline.{HeadlineOnTime}
 use Rattle.gptp_theorem.specs.HeadlineLaws.{RunsAreExact}
 use Rattle.gptp_theorem.proofs.SettlingInvariantLemmas.{IsFitEvent, events_fit, least_of}

@@ -10,8 +10,8 @@ use Rattle.gptp_scenario.specs.Network.{IsNetwork}
 use Rattle.gptp_network.specs.Document.{DocumentState}
 use Rattle.gptp_network.specs.Snapshot.{IsSnapshot, events_by}
 use Rattle.gptp_report.specs.Run.{PlaysRun}
-use Rattle.gptp_invariants.specs.SettlingInvariant.{SettlingInvariant}
-use Rattle.gptp_invariants.specs.Standing.{snapshot_of}
+use Rattle.gptp_invariants.specs.WorldSettlingInvariant.{SettlingInvariant}
+use Rattle.gptp_invariants.specs.WorldStanding.{snapshot_of}
 use Rattle.gptp_certificate.specs.Stated.{States}
 use Rattle.gptp_certificate.proofs.SettledLemmas.{right_in_time}
 use Rattle.gptp_theorem.specs.AlikeLaws.{AreAlike}

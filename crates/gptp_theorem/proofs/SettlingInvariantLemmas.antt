@@ -23,9 +23,9 @@ use Rattle.gptp_network.specs.Events.{AreEvents, IsEvent}
 use Rattle.gptp_network.specs.Snapshot.{events_by}
 use Rattle.gptp_network.proofs.EventLemmas.{events_allowed, events_prompt}
 use Rattle.gptp_report.specs.Run.{Goes, PlaysRun}
-use Rattle.gptp_invariants.specs.SettlingInvariant.{SettlingInvariant, KeepsAll}
-use Rattle.gptp_invariants.specs.EncodableLaws.{SetsAnOctet}
-use Rattle.gptp_invariants.proofs.ClaimLemmas.{claim_begins, claim_kept, claim_later}
+use Rattle.gptp_invariants.specs.WorldSettlingInvariant.{SettlingInvariant, KeepsAll}
+use Rattle.gptp_invariants.specs.WorldEncodableLaws.{SetsAnOctet}
+use Rattle.gptp_invariants.proofs.WorldClaimLemmas.{claim_begins, claim_kept, claim_later}
 use Rattle.gptp_theorem.specs.PlayedLaws.{IsMade, IsPlayable}
 
 -- ---- the events of a document
@@ -131,7 +131,7 @@ module _ {F : Type 0} (answers : Bounds → ℕ → F → Option ℕ → F → T
 
 pub played_claimed : {F : Type 0} (answers : Bounds → ℕ → F → Option ℕ → F → Type 0) (d : DocumentState) (until : ℕ)
     (fate : F) (told : List Told) (w : WorldState) → IsPlayable d → PlaysRun answers d until fate told w
-      → SettlingInvariant w
+    → SettlingInvariant w
 played_claimed answers d until fate told w is k =
     let sound = initial_sound d.network is.network in
     let begins = claim_begins answers d.network fate k.started k.start is.network sound k.begun in

@@ -22,7 +22,7 @@ use Rattle.gptp_model.specs.Sound.{IsSound}
 use Rattle.gptp_model.specs.World.{Channel, WorldState}
 use Rattle.gptp_network.specs.Snapshot as network
 use Rattle.gptp_network.specs.Snapshot.{StandsAfter, joins_two, link_of}
-use Rattle.gptp_invariants.specs.Standing.{stations_have_clock, live_stations, snapshot_of, standing_system, used_channels}
+use Rattle.gptp_invariants.specs.WorldStanding.{stations_have_clock, live_stations, snapshot_of, standing_system, used_channels}
 use Rattle.gptp_theorem.specs.Reached.{Shape, StandsAsPlanned, shape, shape_after, channel_wire}
 
 -- ---- systems

@@ -13,17 +13,17 @@ use Rattle.gptp_model.proofs.AdvanceLemmas.{next_fits}
 use Rattle.gptp_model.proofs.PromptLemmas.{next_prompt}
 use Rattle.gptp_world.proofs.SettlingInvariantLemmas.{next_octet}
 use Rattle.gptp_world.proofs.InitialLemmas.{initial_sound}
-use Rattle.gptp_invariants.specs.Bounded.{IsBoundedWorld}
-use Rattle.gptp_invariants.specs.Calm.{HaveQuietLinks}
-use Rattle.gptp_invariants.specs.SettlingInvariant.{SettlingInvariant, KeepsAll}
-use Rattle.gptp_invariants.specs.Settled.{Settled}
-use Rattle.gptp_invariants.specs.SoundWorld.{IsSoundWorld}
-use Rattle.gptp_invariants.specs.Standing.{snapshot_of}
-use Rattle.gptp_invariants.proofs.ClaimLemmas.{claim_begins, claim_kept, claim_later}
+use Rattle.gptp_invariants.specs.WorldBounded.{IsBoundedWorld}
+use Rattle.gptp_invariants.specs.ChoiceCalm.{HaveQuietLinks}
+use Rattle.gptp_invariants.specs.WorldSettlingInvariant.{SettlingInvariant, KeepsAll}
+use Rattle.gptp_invariants.specs.ChoiceSettled.{Settled}
+use Rattle.gptp_invariants.specs.WorldSound.{IsSoundWorld}
+use Rattle.gptp_invariants.specs.WorldStanding.{snapshot_of}
+use Rattle.gptp_invariants.proofs.WorldClaimLemmas.{claim_begins, claim_kept, claim_later}
 use Rattle.gptp_invariants.proofs.HoldsLemmas.{paths_bound}
-use Rattle.gptp_invariants.proofs.NewsCourseLemmas.{begun_settles, gain_settles, link_up_settles}
-use Rattle.gptp_invariants.proofs.RestSoundLemmas.{rest_sound}
-use Rattle.gptp_invariants.proofs.SoundWorldLemmas.{sound_acts, sound_begins, sound_gains, sound_later}
+use Rattle.gptp_invariants.proofs.WorldNewsCourseLemmas.{begun_settles, gain_settles, link_up_settles}
+use Rattle.gptp_invariants.proofs.ChoiceRestSoundLemmas.{rest_sound}
+use Rattle.gptp_invariants.proofs.WorldSoundLemmas.{sound_acts, sound_begins, sound_gains, sound_later}
 use Rattle.gptp_theorem.specs.Headline.{WorldIsCalm, IsSettled}
 use Rattle.gptp_theorem.specs.Soon.{GainsAreSound, GainsSettle, LinksUpSettle, RestsAreSound, SoundGoesOn, StartsAreSound, StartsSettle}
 use Rattle.gptp_theorem.proofs.SettlingInvariantLemmas.{advanced_claimed}

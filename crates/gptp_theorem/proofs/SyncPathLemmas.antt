@@ -21,8 +21,8 @@ use Rattle.gptp_network.specs.Snapshot.{StandsAfter}
 use Rattle.gptp_network.proofs.ExistenceLemmas.{stands_after}
 use Rattle.gptp_network.proofs.InUseLemmas.{live_there, paths_are, there_live}
 use Rattle.gptp_network.proofs.PassLemmas.{same_tests}
-use Rattle.gptp_invariants.specs.Calm.{delay_in, greatest_channel_delay, sync_paths_of}
-use Rattle.gptp_invariants.specs.Standing.{stations_have_clock, live_stations, snapshot_of}
+use Rattle.gptp_invariants.specs.ChoiceCalm.{delay_in, greatest_channel_delay, sync_paths_of}
+use Rattle.gptp_invariants.specs.WorldStanding.{stations_have_clock, live_stations, snapshot_of}
 use Rattle.gptp_theorem.specs.Reached.{StandsAsPlanned, channel_wire}
 use Rattle.gptp_theorem.proofs.SnapshotLemmas.{clocks_stand, snapshots_stand}
 
@@ -42,7 +42,7 @@ world_delay : (systems : List System) (channels : List Channel)
 world_delay systems [] = refl
 world_delay systems (first ∷ channels) =
     ap (λ rest. if is_between (stations_have_clock systems)
-      (channel_wire first) then max first.bounds.max rest else rest)
+    (channel_wire first) then max first.bounds.max rest else rest)
     (world_delay systems channels)
 
 and_both : (a b c : Bool) → ((a && b) && c) ≡ (a && (b && c))

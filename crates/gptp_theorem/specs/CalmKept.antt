@@ -5,7 +5,7 @@ use Rattle.gptp_setup.specs.SettlingParams.{SettlingParams}
 use Rattle.gptp_scenario.specs.declared.sync_wait.SyncPaths.{SyncPaths}
 use Rattle.gptp_model.specs.Advancing.{Advanced, Told}
 use Rattle.gptp_model.specs.World.{WorldState}
-use Rattle.gptp_invariants.specs.CalmFor.{IsCalmFor}
+use Rattle.gptp_invariants.specs.WorldCalmFor.{IsCalmFor}
 
 -- A world that goes on by itself to a time has been calm then for each span that it had been calm for.
 abbrev pub CalmIsKept : {F : Type 0} → (Bounds → ℕ → F → Option ℕ → F → Type 0) → Type 0

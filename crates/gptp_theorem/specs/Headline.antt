@@ -27,10 +27,10 @@ use Rattle.gptp_model.specs.declared.done.Done.TheVariants.{Quiet, Heard}
 use Rattle.gptp_model.specs.Prompt.{HavePace}
 use Rattle.gptp_model.specs.Views.{ShowsLive}
 use Rattle.gptp_model.specs.World.{Channel, WorldState}
-use Rattle.gptp_invariants.specs.Calm.{delay_in, sync_paths_of}
-use Rattle.gptp_invariants.specs.Exact.{IsAhead, IsWayError}
-use Rattle.gptp_invariants.specs.Standing.{channel_is_used, live_stations, snapshot_of}
-use Rattle.gptp_invariants.specs.Tree.{IsTree}
+use Rattle.gptp_invariants.specs.ChoiceCalm.{delay_in, sync_paths_of}
+use Rattle.gptp_invariants.specs.SyncExact.{IsAhead, IsWayError}
+use Rattle.gptp_invariants.specs.WorldStanding.{channel_is_used, live_stations, snapshot_of}
+use Rattle.gptp_invariants.specs.WorldTree.{IsTree}
 use Rattle.gptp_certificate.specs.Stated.{States}
 
 -- ---- what is asked

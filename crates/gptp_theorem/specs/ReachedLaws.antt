@@ -12,7 +12,7 @@ use Rattle.gptp_model.specs.Course.{Begun}
 use Rattle.gptp_scenario.specs.Network.{NetworkState}
 use Rattle.gptp_model.specs.Sound.{IsSound}
 use Rattle.gptp_model.specs.World.{WorldState}
-use Rattle.gptp_invariants.specs.SeenLaws.{IsNoChange}
+use Rattle.gptp_invariants.specs.ChoiceSeenLaws.{IsNoChange}
 use Rattle.gptp_theorem.specs.Reached.{StandsAsPlanned}
 
 -- the world of a network as it begins

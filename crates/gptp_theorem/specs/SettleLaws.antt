@@ -10,7 +10,7 @@ use Rattle.gptp_scenario.specs.Network.{IsNetwork}
 use Rattle.gptp_network.specs.Document.{DocumentState}
 use Rattle.gptp_network.specs.Snapshot.{IsSnapshot}
 use Rattle.gptp_report.specs.Run.{PlaysRun}
-use Rattle.gptp_invariants.specs.SettlingInvariant.{SettlingInvariant}
+use Rattle.gptp_invariants.specs.WorldSettlingInvariant.{SettlingInvariant}
 use Rattle.gptp_certificate.specs.Stated.{States}
 use Rattle.gptp_theorem.specs.PlayedLaws.{DocumentIsAtRest, IsPlayable, IsReached}
 

@@ -10,10 +10,10 @@ use Rattle.gptp_scenario.specs.SyncWait.{sync_paths}
 use Rattle.gptp_model.specs.Sound.{IsSound}
 use Rattle.gptp_model.specs.World.{WorldState}
 use Rattle.gptp_network.specs.Snapshot.{StandsAfter}
-use Rattle.gptp_invariants.specs.Calm.{IsQuietWorld, sync_paths_of}
-use Rattle.gptp_invariants.specs.SettlingInvariant.{SettlingInvariant}
-use Rattle.gptp_invariants.specs.Known.{AreSet}
-use Rattle.gptp_invariants.specs.Standing.{snapshot_of}
+use Rattle.gptp_invariants.specs.ChoiceCalm.{IsQuietWorld, sync_paths_of}
+use Rattle.gptp_invariants.specs.WorldSettlingInvariant.{SettlingInvariant}
+use Rattle.gptp_invariants.specs.WorldKnown.{AreSet}
+use Rattle.gptp_invariants.specs.WorldStanding.{snapshot_of}
 use Rattle.gptp_theorem.specs.Reached.{StandsAsPlanned}
 
 -- its snapshot is that of the network after those events, but for the order of the systems

@@ -10,8 +10,8 @@ use Rattle.gptp_model.specs.declared.done.Done.TheVariants.{Heard, Quiet}
 use Rattle.gptp_model.specs.Views.{ShowsLive}
 use Rattle.gptp_model.specs.World.{WorldState}
 use Rattle.gptp_model.specs.World.{receiver_clock as to}
-use Rattle.gptp_invariants.specs.Exact.{IsExactInTime, IsHeardExact}
-use Rattle.gptp_invariants.specs.TimedLaws.{AreFollowUp}
+use Rattle.gptp_invariants.specs.SyncExact.{IsExactInTime, IsHeardExact}
+use Rattle.gptp_invariants.specs.SyncTimedLaws.{AreFollowUp}
 use Rattle.gptp_links.specs.Fate.{Draw}
 use Rattle.gptp_messages.specs.declared.message.Message.{Message}
 use Rattle.gptp_messages.specs.declared.message.Message.TheVariants as messages

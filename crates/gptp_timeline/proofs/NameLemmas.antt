@@ -13,7 +13,7 @@ use Rattle.gptp_lists.specs.Members.{In}
 use Rattle.gptp_lists.proofs.SystemSpecLemmas.{In-map, In-slice_get}
 use Rattle.gptp_scenario.specs.declared.change.Act.{Act}
 use Rattle.gptp_system.specs.State.{clock}
-use Rattle.gptp_invariants.proofs.NameLemmas.{clock_of_station, clocks_rise, In-rising}
+use Rattle.gptp_invariants.proofs.WorldNameLemmas.{clock_of_station, clocks_rise, In-rising}
 use Rattle.gptp_timeline.specs.Watch.{WatchedRise, unseen}
 use Rattle.gptp_timeline.specs.declared.watched.Watched.{Watched}
 

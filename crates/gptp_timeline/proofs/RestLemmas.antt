@@ -19,14 +19,14 @@ use Rattle.gptp_graph.proofs.DistanceLemmas.{IsDistance-unique}
 use Rattle.gptp_graph.proofs.ParentLemmas.{IsParent-unique}
 use Rattle.gptp_graph.proofs.RoleLemmas.{RoleBy-unique}
 use Rattle.gptp_graph.proofs.SystemLemmas.{same_clock}
-use Rattle.gptp_invariants.specs.CalmFor.{IsCalmFor, span_over}
-use Rattle.gptp_invariants.specs.SettlingInvariant.{SettlingInvariant}
-use Rattle.gptp_invariants.specs.Settled.{IsSettledSystem, graph_role}
-use Rattle.gptp_invariants.specs.Shown.{AreCapable}
-use Rattle.gptp_invariants.specs.Standing.{snapshot_of, standing_system}
-use Rattle.gptp_invariants.proofs.SettlingInvariantLemmas.{over_capable, settled_by_paths}
-use Rattle.gptp_invariants.proofs.ShownLemmas.{capable_shown}
-use Rattle.gptp_invariants.proofs.SystemLemmas.{live_from, live_there}
+use Rattle.gptp_invariants.specs.WorldCalmFor.{IsCalmFor, span_over}
+use Rattle.gptp_invariants.specs.WorldSettlingInvariant.{SettlingInvariant}
+use Rattle.gptp_invariants.specs.ChoiceSettled.{IsSettledSystem, graph_role}
+use Rattle.gptp_invariants.specs.WorldShown.{AreCapable}
+use Rattle.gptp_invariants.specs.WorldStanding.{snapshot_of, standing_system}
+use Rattle.gptp_invariants.proofs.WorldSettlingInvariantLemmas.{over_capable, settled_by_paths}
+use Rattle.gptp_invariants.proofs.WorldShownLemmas.{capable_shown}
+use Rattle.gptp_invariants.proofs.WorldSystemLemmas.{live_from, live_there}
 use Rattle.gptp_lists.specs.Members.{In}
 use Rattle.gptp_roles.specs.declared.role.Role.{Role}
 use Rattle.gptp_roles.specs.declared.role.Role.TheVariants as roles

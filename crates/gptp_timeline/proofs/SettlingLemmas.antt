@@ -25,16 +25,16 @@ use Rattle.gptp_model.proofs.StayLemmas.{done_stays}
 use Rattle.gptp_graph.specs.PathBound.{BoundsPaths, path_bound}
 use Rattle.gptp_graph.specs.Snapshot.{clocks, IsWellFormed, Snapshot, System}
 use Rattle.gptp_graph.proofs.PathBoundLemmas.{paths_within}
-use Rattle.gptp_invariants.specs.CalmFor.{IsCalmFor, span_over}
-use Rattle.gptp_invariants.specs.SettlingInvariant.{KeepsAll}
-use Rattle.gptp_invariants.specs.EncodableLaws.{SetsAnOctet}
-use Rattle.gptp_invariants.specs.SeenLaws.{IsNoChange}
-use Rattle.gptp_invariants.specs.Standing.{snapshot_of}
-use Rattle.gptp_invariants.specs.TimedClaim.{CarriesWhereCalm}
-use Rattle.gptp_invariants.proofs.CalmKeptLemmas.{acts_keep, same_snapshot}
-use Rattle.gptp_invariants.proofs.ClaimLemmas.{claim_begins, claim_kept, claim_later}
-use Rattle.gptp_invariants.proofs.FollowClaimLemmas.{carries_begins, carries_kept, carries_later}
-use Rattle.gptp_invariants.proofs.StandsLemmas.{stands_well}
+use Rattle.gptp_invariants.specs.WorldCalmFor.{IsCalmFor, span_over}
+use Rattle.gptp_invariants.specs.WorldSettlingInvariant.{KeepsAll}
+use Rattle.gptp_invariants.specs.WorldEncodableLaws.{SetsAnOctet}
+use Rattle.gptp_invariants.specs.ChoiceSeenLaws.{IsNoChange}
+use Rattle.gptp_invariants.specs.WorldStanding.{snapshot_of}
+use Rattle.gptp_invariants.specs.SyncTimedClaim.{CarriesWhereCalm}
+use Rattle.gptp_invariants.proofs.ChoiceCalmKeptLemmas.{acts_keep, same_snapshot}
+use Rattle.gptp_invariants.proofs.WorldClaimLemmas.{claim_begins, claim_kept, claim_later}
+use Rattle.gptp_invariants.proofs.SyncFollowClaimLemmas.{carries_begins, carries_kept, carries_later}
+use Rattle.gptp_invariants.proofs.WorldStandsLemmas.{stands_well}
 use Rattle.gptp_links.specs.declared.bounds.Bounds.{Bounds}
 use Rattle.gptp_lists.specs.Members.{In}
 use Rattle.gptp_lists.proofs.SystemSpecLemmas.{In-map}
@@ -266,7 +266,7 @@ module _ {F : Type 0} (answers : Bounds → ℕ → F → Option ℕ → F → T
     pub bounded : (w : WorldState) → Keeps events w → BoundsPaths (snapshot_of w) m
     bounded w keeps =
         let is = keeps.claimed.world in let alike = alike_after events g w stands keeps in
-        let own = stands_well w is.sound is.between is.legible in
+        let own = stands_well w is.sound is.between is.encodable in
         let well : IsWellFormed g =
         snapshots.stands_well d.network playable.network events g stands (λ s member.
         (own.identified s (In-permutation s g.systems (snapshot_of w).systems
@@ -323,7 +323,7 @@ module _ {F : Type 0} (answers : Bounds → ℕ → F → Option ℕ → F → T
         let same : snapshot_of t.after ≡ snapshot_of moved = same_snapshot moved t.after network in
         let world = keeps_then.claimed.world in
         let shows = λ (name : ℕ).
-        shown_same (snapshot_of moved) (stands_well moved world.sound world.between world.legible) moved t.after refl
+        shown_same (snapshot_of moved) (stands_well moved world.sound world.between world.encodable) moved t.after refl
         same
         world.sound.wired.clocks keeps_after.claimed.world.sound.wired.clocks name
         (all_rest moved keeps_then late near name)

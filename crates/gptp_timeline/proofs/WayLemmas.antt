@@ -10,11 +10,11 @@ use Rattle.gptp_graph.specs.Parent.{IsParent, ParentLink}
 use Rattle.gptp_graph.specs.Snapshot.{IsWellFormed, Joins, PortIdentity, port_of, Snapshot}
 use Rattle.gptp_graph.proofs.LinkLemmas.{Joins-sym}
 use Rattle.gptp_graph.proofs.ParentLemmas.{IsParent-unique}
-use Rattle.gptp_invariants.specs.Followers.{bound_at, follower_parts}
-use Rattle.gptp_invariants.specs.Encodable.{IsEncodable}
-use Rattle.gptp_invariants.specs.Standing.{live_stations, snapshot_of}
-use Rattle.gptp_invariants.proofs.FollowPartLemmas.{bound_is, set_up_is}
-use Rattle.gptp_invariants.proofs.WayLemmas.{way_of}
+use Rattle.gptp_invariants.specs.SyncFollowers.{bound_at, follower_parts}
+use Rattle.gptp_invariants.specs.WorldEncodable.{IsEncodable}
+use Rattle.gptp_invariants.specs.WorldStanding.{live_stations, snapshot_of}
+use Rattle.gptp_invariants.proofs.SyncFollowPartLemmas.{bound_is, set_up_is}
+use Rattle.gptp_invariants.proofs.WorldWayLemmas.{way_of}
 use Rattle.gptp_links.specs.declared.bounds.Bounds.{Bounds}
 use Rattle.gptp_links.specs.declared.link.Direction.{Direction}
 use Rattle.gptp_links.specs.declared.link.Direction.TheVariants.{FromA, FromB}
@@ -37,7 +37,7 @@ use Rattle.gptp_vector.specs.declared.port.PortId.{PortId}
 
 module _ (n : NetworkState) (network : IsNetwork n) (events : List Timed) (w : WorldState)
   (so : StandsAsPlanned n events w)
-    (sound : IsSound w) (legible : IsEncodable w) where
+    (sound : IsSound w) (encodable : IsEncodable w) where
   abbrev x : Parts
   x = follower_parts n.params w
 
@@ -83,7 +83,7 @@ module _ (n : NetworkState) (network : IsNetwork n) (events : List Timed) (w : W
       network.one_link way.link place u v p there at (is_end way.direction way.channel u p same ends) end in
       let link : u ≡ v = same_Some u v (sym there ∙ ap (slice_get n.links) one ∙ at) in
       ap (bound_at f (live_stations w.stations) w.net.channels) (sym to)
-      ∙ bound_is f w sound legible way.link way.direction way.channel way.here way.used
+      ∙ bound_is f w sound encodable way.link way.direction way.channel way.here way.used
       ∙ ap (λ (l : LinkSpec). f l.bounds) (sym same) ∙ ap (λ l. f (link_after events l).bounds) link
 
   link_there : (clock : ℕ) (follows : ParentLink) (l : WayLink) → IsLinkTo n events clock follows l

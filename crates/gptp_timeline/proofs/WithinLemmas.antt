@@ -14,16 +14,16 @@ use Rattle.gptp_graph.specs.Distance.{IsDistance, IsNear}
 use Rattle.gptp_graph.specs.PathBound.{BoundsPaths, path_bound}
 use Rattle.gptp_graph.specs.Snapshot.{IsWellFormed, Snapshot, System}
 use Rattle.gptp_graph.proofs.DistanceLemmas.{best_at_zero}
-use Rattle.gptp_invariants.specs.CalmFor.{IsCalmFor}
-use Rattle.gptp_invariants.specs.SettlingInvariant.{KeepsAll}
-use Rattle.gptp_invariants.specs.Exact.{exact_span, IsWayError, IsExactInTime}
-use Rattle.gptp_invariants.specs.Followers.{follower_parts}
-use Rattle.gptp_invariants.specs.Standing.{snapshot_of}
-use Rattle.gptp_invariants.specs.TimedClaim.{WorldInvariant}
-use Rattle.gptp_invariants.proofs.CalmKeptLemmas.{acts_keep, KeepsNetwork, same_snapshot}
-use Rattle.gptp_invariants.proofs.ExactLemmas.{receipts_are_exact}
-use Rattle.gptp_invariants.proofs.FollowPartLemmas.{clock_shown, same_parts}
-use Rattle.gptp_invariants.proofs.StandsLemmas.{stands_well}
+use Rattle.gptp_invariants.specs.WorldCalmFor.{IsCalmFor}
+use Rattle.gptp_invariants.specs.WorldSettlingInvariant.{KeepsAll}
+use Rattle.gptp_invariants.specs.SyncExact.{exact_span, IsWayError, IsExactInTime}
+use Rattle.gptp_invariants.specs.SyncFollowers.{follower_parts}
+use Rattle.gptp_invariants.specs.WorldStanding.{snapshot_of}
+use Rattle.gptp_invariants.specs.SyncTimedClaim.{WorldInvariant}
+use Rattle.gptp_invariants.proofs.ChoiceCalmKeptLemmas.{acts_keep, KeepsNetwork, same_snapshot}
+use Rattle.gptp_invariants.proofs.SyncExactLemmas.{receipts_are_exact}
+use Rattle.gptp_invariants.proofs.SyncFollowPartLemmas.{clock_shown, same_parts}
+use Rattle.gptp_invariants.proofs.WorldStandsLemmas.{stands_well}
 use Rattle.gptp_links.specs.declared.bounds.Bounds.{Bounds}
 use Rattle.gptp_lists.specs.Members.{In}
 use Rattle.gptp_lists.proofs.SystemSpecLemmas.{slice_get-In}
@@ -202,7 +202,7 @@ module _ {F : Type 0} (answers : Bounds → ℕ → F → Option ℕ → F → T
         alike = alike_after answers d playable names events g w has.stands keeps
 
         well : IsWellFormed (snapshot_of w)
-        well = let is = keeps.claimed.world in stands_well w is.sound is.between is.legible
+        well = let is = keeps.claimed.world in stands_well w is.sound is.between is.encodable
 
         far : IsDistance (snapshot_of w) name (suc has.steps)
         far = distance g (snapshot_of w) (turned (snapshot_of w) g alike) name (suc has.steps) has.far
@@ -251,7 +251,7 @@ module _ {F : Type 0} (answers : Bounds → ℕ → F → Option ℕ → F → T
         error_is : IsWayError calm.0.pace.params w name (suc has.steps) bound
         error_is =
             let is = keeps.claimed.world in
-            let (phase, leads) = way_there n playable.network events w keeps.stands is.sound is.legible g alike
+            let (phase, leads) = way_there n playable.network events w keeps.stands is.sound is.encodable g alike
             (suc has.steps) name has.way well has.far has.leads in
             subst (λ (p : SettlingParams). IsWayError p.params w name (suc has.steps) bound) (sym calm.1)
             (record { way = has.way; phase = phase; leads = leads; is = has.bound_is })

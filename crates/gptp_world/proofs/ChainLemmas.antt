@@ -93,7 +93,7 @@ module _ (s t : ℕ → Option Node) where
     numbers-kept : chain_numbers t chain ≡ chain_numbers s chain
     numbers-kept = rw places-kept (numbers-same (chain_places s chain)
         (all-map (λ p. t p ≡ s p) (λ p. number_at t p ≡ number_at s p) (chain_places s chain)
-          (λ p is. rw is refl) same))
+        (λ p is. rw is refl) same))
 
     chained-kept : IsChained s chain → IsChained t chain
     chained-kept chained = record {
@@ -128,7 +128,7 @@ module _ (s t : ℕ → Option Node) (place tail : ℕ) where
   places-longer (suc n) p ends differ free joined others =
       let no_tail : p ≢ tail = λ same.
       ends-all (λ q. q ≢ p) tail (next_number_at s p) (places s n (next_number_at s (next_number_at s p))) ends differ.0
-        (sym same) in
+      (sym same) in
       let step = others p no_tail free.0 in
       ap (λ (q : ℕ). p ∷ places t (suc (suc n)) q) step
       ∙ ap (λ (ps : List ℕ). p ∷ ps) (places-longer n (next_number_at s p) ends differ.1 free.1 joined others)

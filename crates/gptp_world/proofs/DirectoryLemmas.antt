@@ -56,14 +56,14 @@ one_lane : (n : NetworkState) → IsNetwork n → (p : PortId) (k l : Lane) → 
     → BeginsAt (joins_of n.links) p l → k ≡ l
 one_lane n h p k l bk bl =
     let x = mapped (λ (w : LinkSpec). let j : Join = record { a = w.a; b = w.b } in j) n.links k.link bk.join
-        bk.there in
+    bk.there in
     let y = mapped (λ (w : LinkSpec). let j : Join = record { a = w.a; b = w.b } in j) n.links l.link bl.join
-        bl.there in
+    bl.there in
     let begins_k : direction_start k.direction (record { a = x.0.a; b = x.0.b }) ≡ p = ap
-        (direction_start k.direction) x.2
+    (direction_start k.direction) x.2
     ∙ bk.begins in
     let begins_l : direction_start l.direction (record { a = y.0.a; b = y.0.b }) ≡ p = ap
-        (direction_start l.direction) y.2
+    (direction_start l.direction) y.2
     ∙ bl.begins in
     let link : k.link ≡ l.link =
     h.one_link k.link l.link x.0 y.0 p x.1 y.1 (is_end k.direction x.0 p begins_k)

@@ -43,7 +43,7 @@ pub station_at : (stage : Stage) (place number : ℕ) → IsStage stage
     → StandsAt stage place number
 station_at stage place number is there =
     let made = from_map clock_at_place stage.stations.items place number
-        (ap (λ cs. slice_get cs place) is.clocks ∙ there) in
+    (ap (λ cs. slice_get cs place) is.clocks ∙ there) in
     record { station = made.one; here = made.there; named = sym made.is }
 
 pub place_within : (stage : Stage) (place number : ℕ) → IsStage stage

@@ -104,7 +104,7 @@ spent clocks frame_budget place number frames asked differ here there enough = b
         let same = eqb-true asked number test in
         let had : credit_of clocks frame_budget asked ≡ frames =
         ap (credit_of clocks frame_budget) same
-          ∙ credit_here clocks frame_budget place number frames differ here there in
+        ∙ credit_here clocks frame_budget place number frames differ here there in
         let left : credit_of clocks (slice_set frame_budget place (frames - 2)) asked ≡ frames - 2 =
         ap (credit_of clocks (slice_set frame_budget place (frames - 2))) same
         ∙ credit_here clocks (slice_set frame_budget place (frames - 2)) place number (frames - 2) differ here
@@ -168,7 +168,7 @@ pub its_ports : (stage : Stage) (place : ℕ) (station : Station) → IsStage st
 its_ports stage place station is here number port lane known same begins =
     let stands : slice_get stage.net.directory.clocks place ≡ Some (clock station.system) =
     ap (λ cs. slice_get cs place) (sym is.clocks)
-      ∙ mapped_there clock_at_place stage.stations.items place station here in
+    ∙ mapped_there clock_at_place stage.stations.items place station here in
     let named : port.clock ≡ clock station.system =
     same ∙ same_Some number (clock station.system) (sym known ∙ stands) in
     is.ports place station port.port lane here
@@ -214,7 +214,7 @@ pub drawn : (place : ℕ) (frame_budget after : List ℕ) (net : Between) → Is
     → DrawsTwo place frame_budget after → IsCovered frame_budget net → HasReachBeyond reaches.All place after net
 drawn place frame_budget after net directory draws has number port lane known begins =
     let clocks = net.directory.clocks in let frames = draws.frames
-        in let left = slice_set frame_budget place (frames - 2) in
+    in let left = slice_set frame_budget place (frames - 2) in
     let is : after ≡ left = draws.is in
     rw is
     (fewer ((if port.clock == number then 2 else 0) + credit_of clocks left port.clock)
@@ -267,7 +267,7 @@ pub room_beyond : (stage : Stage) (r : Reach) (place : ℕ) (station : Station) 
 room_beyond stage r place station frame_budget is here entries buffers has =
     let known : slice_get stage.net.directory.clocks place ≡ Some (clock station.system) =
     ap (λ cs. slice_get cs place) (sym is.clocks)
-      ∙ mapped_there clock_at_place stage.stations.items place station here in
+    ∙ mapped_there clock_at_place stage.stations.items place station here in
     record {
       station = station;
       here = here;

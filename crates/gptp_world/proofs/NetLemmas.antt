@@ -82,7 +82,7 @@ unlinked_down net port lane joined_link is only here down = λ place direction c
     let places : lane.link ≡ place = ap (λ (l : Lane). l.link) one in
     let same : made.one
     ≡ joined_link = same_Some made.one joined_link
-      (sym made.there ∙ (ap (slice_get net.cables.items) (sym places) ∙ here)) in
+    (sym made.there ∙ (ap (slice_get net.cables.items) (sym places) ∙ here)) in
     ap (λ (w : Channel). w.up) made.is ∙ (ap (λ (c : JoinedLink). c.link.up) same ∙ down)
 
 -- links that were written through a slice

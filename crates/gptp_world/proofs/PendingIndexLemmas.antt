@@ -84,7 +84,7 @@ module _ (systems links : ℕ) (pending_index : FiledState) (es : List (Numbered
       → length (times_of_item (Expiry place timer) (plain es)) ≤ 1
   times-once place timer known =
       let is = times-timer place timer (slice_index_or pending_index.timers (timer_place place timer) None)
-          known refl in
+      known refl in
       rw is (one_at_most (slice_index_or pending_index.timers (timer_place place timer) None))
 
   -- a direction of a link with no number has nothing pending
@@ -94,7 +94,7 @@ module _ (systems links : ℕ) (pending_index : FiledState) (es : List (Numbered
   times-no_arrival link direction known none =
       times-plain systems links (Arrival link direction) es known are.known
       ∙ ap (map (λ (e : Numbered Item). e.time))
-        (map-empty timer_number (filed_in_slot (slot_of (Arrival link direction)) es)
+      (map-empty timer_number (filed_in_slot (slot_of (Arrival link direction)) es)
       (are.queues (arrival_place link direction) ∙ none))
 
   unfiled : (slot : Option ArmedTimer) → map (λ (r : ArmedTimer). r.due) (one_or_none slot) ≡ [] → slot ≡ None
@@ -108,7 +108,7 @@ module _ (systems links : ℕ) (pending_index : FiledState) (es : List (Numbered
   not_filed place timer known none =
       unfiled (slice_index_or pending_index.timers (timer_place place timer) None)
       (sym (times-timer place timer (slice_index_or pending_index.timers (timer_place place timer) None) known refl)
-        ∙ none)
+      ∙ none)
 
   -- one that isn't filed can't be taken
   pub plain-not_filed : (place : ℕ) (timer : Timer) → IsKnownItem systems links (Expiry place timer)
@@ -134,7 +134,7 @@ module _ (systems links : ℕ) (pending_index : FiledState) (es : List (Numbered
         omega (arith, are.timers_len, timer_within systems links place timer known) in
         let slot : slice_index_or with_timer p None ≡ Some (running put_timer) =
         rw same (get_or-set_same pending_index.timers (timer_place place timer) (Some (running put_timer)) None within)
-          in
+        in
         let before : map running (filed_in_slot (2 * p) es) ≡ [] = are.timers p
         ∙ ap one_or_none (ap (λ i. slice_index_or pending_index.timers i None) same ∙ none) in
         ap (map running) (in_slot-push_same (2 * p) es put_timer (ap (λ i. 2 * i) same))
@@ -148,12 +148,12 @@ module _ (systems links : ℕ) (pending_index : FiledState) (es : List (Numbered
         (running put_timer)) None differ))
 
     pub pending_index-put_timer : PendingIsFiled systems links (record pending_index { timers = with_timer })
-      (es ++ put_timer ∷ [])
+        (es ++ put_timer ∷ [])
     pending_index-put_timer = record {
       few_systems = are.few_systems;
       few_links = are.few_links;
       timers_len = length-set pending_index.timers (timer_place place timer) (Some (running put_timer))
-        ∙ are.timers_len;
+          ∙ are.timers_len;
       queues_len = are.queues_len;
       known = all-push _ es put_timer are.known known;
       timers = λ p. timers-put p (p == timer_place place timer) refl;
@@ -165,7 +165,7 @@ module _ (systems links : ℕ) (pending_index : FiledState) (es : List (Numbered
   module _ (place : ℕ) (timer : Timer) (known : IsKnownItem systems links (Expiry place timer)) (r : ArmedTimer)
       (runs : slice_index_or pending_index.timers (timer_place place timer) None ≡ Some r) where
     its : (e : Numbered Item) × (rest : List (Numbered Item))
-      × (filed_in_slot (slot_of (Expiry place timer)) es ≡ e ∷ rest)
+        × (filed_in_slot (slot_of (Expiry place timer)) es ≡ e ∷ rest)
         × (running e ≡ r) × (map running rest ≡ [])
     its = map-cons running (filed_in_slot (slot_of (Expiry place timer)) es) r [] (are.timers (timer_place place timer)
         ∙ ap one_or_none runs)
@@ -231,7 +231,7 @@ module _ (systems links : ℕ) (pending_index : FiledState) (es : List (Numbered
 
     abbrev longer : FiledState
     longer = filed_with_queue (arrival_place link direction)
-      (queue_at (arrival_place link direction) pending_index ++ number ∷ [])
+        (queue_at (arrival_place link direction) pending_index ++ number ∷ [])
         room pending_index
 
     queues-put : (p : ℕ) (t : Bool) → (p == arrival_place link direction) ≡ t
@@ -241,7 +241,7 @@ module _ (systems links : ℕ) (pending_index : FiledState) (es : List (Numbered
         let within : arrival_place link direction < length pending_index.queues =
         omega (arith, are.queues_len, arrival_within links link direction known) in
         let now = queue-same pending_index (arrival_place link direction)
-            (queue_at (arrival_place link direction) pending_index
+        (queue_at (arrival_place link direction) pending_index
         ++ number ∷ []) room within in
         ap (map timer_number) (in_slot-push_same (2 * p + 1) es put_arrival (ap (λ i. 2 * i + 1) same))
         ∙ map-push timer_number (filed_in_slot (2 * p + 1) es) put_arrival
@@ -273,7 +273,7 @@ module _ (systems links : ℕ) (pending_index : FiledState) (es : List (Numbered
     front : (e : Numbered Item) × (rest : List (Numbered Item)) × (filed_in_slot arrival_slot es ≡ e ∷ rest)
         × (timer_number e ≡ n) × (map timer_number rest ≡ ns)
     front = map-cons timer_number (filed_in_slot arrival_slot es) n ns
-      (are.queues (arrival_place link direction) ∙ first)
+        (are.queues (arrival_place link direction) ∙ first)
 
     pub removed-arrival : (next : ℕ) → RiseFrom 0 es next → without_number n es ≡ cut arrival_slot es
     removed-arrival next rises =
@@ -281,7 +281,7 @@ module _ (systems links : ℕ) (pending_index : FiledState) (es : List (Numbered
 
     abbrev shorter : FiledState
     shorter = filed_with_queue (arrival_place link direction)
-      (rest_of (queue_at (arrival_place link direction) pending_index)) room
+        (rest_of (queue_at (arrival_place link direction) pending_index)) room
         pending_index
 
     queues-cut : (p : ℕ) (t : Bool) → (p == arrival_place link direction) ≡ t
@@ -315,7 +315,7 @@ module _ (systems links : ℕ) (pending_index : FiledState) (es : List (Numbered
     }
 
     pub pending_index-taken : (next : ℕ) → RiseFrom 0 es next
-      → PendingIsFiled systems links shorter (without_number n es)
+        → PendingIsFiled systems links shorter (without_number n es)
     pending_index-taken next rises = rw (removed-arrival next rises) pending_index-cut_arrival
 
     pub plain-taken : (next : ℕ) → RiseFrom 0 es next

@@ -105,7 +105,7 @@ pub never_both : (net : Between) (link : ℕ) (up : Bool) → link < length net.
     → LinkIs (not up) link net → ⊥
 never_both net link up within found is =
     let (joined_link, here) = member_there net.cables.items link within
-        in by up (found joined_link here ∙ is joined_link here)
+    in by up (found joined_link here ∙ is joined_link here)
   where
     by : (up : Bool) → up ≡ not up → ⊥
     by true same = absurd cc
@@ -217,7 +217,7 @@ may_hear stage lane time is wired at = λ join place there placed station here l
     let ends = end_is stage lane.link lane.direction join at.channel is there at.here in
     let known : slice_get stage.net.directory.clocks place ≡ Some (clock station.system) =
     ap (λ cs. slice_get cs place) (sym is.clocks)
-      ∙ mapped_there clock_at_place stage.stations.items place station here in
+    ∙ mapped_there clock_at_place stage.stations.items place station here in
     let named : clock station.system ≡ (direction_end lane.direction join).clock =
     same_Some (clock station.system) (direction_end lane.direction join).clock (sym known ∙ placed) in
     let up = carries_up lane.direction at.channel time (wired.flow lane.link lane.direction at.channel at.here) at.so in
@@ -287,7 +287,7 @@ pub injected : {F : Type 0} (answers : Bounds → ℕ → F → Option ℕ → F
     (fate fate_after : F) (stage : Stage) (net : Between) (joined_link : JoinedLink)
     → slice_get stage.net.cables.items lane.link ≡ Some joined_link → joined_link.link.up ≡ true
     → SentOne answers stage.now (sender lane.direction (channel_of joined_link)) octets fate fate_after
-      (between stage.net)
+    (between stage.net)
     (between net)
     → Injected answers lane octets fate fate_after stage (record stage { net = net })
 injected answers lane octets fate fate_after stage net joined_link here up sent =

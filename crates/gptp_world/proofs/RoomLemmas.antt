@@ -51,7 +51,7 @@ kept_on cables link old new here roomier =
         → HasRoomOn more lane (slice_set cables link new)
     by more lane has (inl places) =
         let same : has.joined_link ≡ old = same_Some has.joined_link old
-            (sym has.here ∙ (ap (slice_get cables) places ∙ here)) in
+        (sym has.here ∙ (ap (slice_get cables) places ∙ here)) in
         let room : more ≤ (links.queue lane.direction old.link).room = rw (← same) has.room in
         let more_room = queue_roomier lane.direction old.link new.link roomier in
         record {
@@ -190,7 +190,7 @@ frames_from stage more place station is here has port lane begins =
     by (inl (test, same)) =
         let known : slice_get stage.net.directory.clocks place ≡ Some (clock station.system) =
         ap (λ cs. slice_get cs place) (sym is.clocks)
-          ∙ mapped_there clock_at_place stage.stations.items place station here in
+        ∙ mapped_there clock_at_place stage.stations.items place station here in
         let starts : BeginsAt stage.net.directory.joins (port_id (clock station.system) port.port) lane =
         subst (λ number. BeginsAt stage.net.directory.joins (port_id number port.port) lane) same begins in
         let range = is.ports place station port.port lane here starts in

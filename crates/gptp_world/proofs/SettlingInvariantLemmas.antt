@@ -20,9 +20,9 @@ use Rattle.gptp_model.specs.Views.{IsActOf}
 use Rattle.gptp_model.specs.World.{WorldState}
 use Rattle.gptp_model.proofs.AdvanceLemmas.{leaves_less, next_fits}
 use Rattle.gptp_model.proofs.SoundLemmas.{acts_sound, later_sound}
-use Rattle.gptp_invariants.specs.EncodableLaws.{SetsAnOctet}
-use Rattle.gptp_invariants.specs.TimedClaim.{WorldInvariant}
-use Rattle.gptp_invariants.proofs.ExactLemmas.{all_begins, all_kept}
+use Rattle.gptp_invariants.specs.WorldEncodableLaws.{SetsAnOctet}
+use Rattle.gptp_invariants.specs.SyncTimedClaim.{WorldInvariant}
+use Rattle.gptp_invariants.proofs.SyncExactLemmas.{all_begins, all_kept}
 use Rattle.gptp_world.specs.declared.stage.Stage.{Stage}
 use Rattle.gptp_world.specs.WorldCore.{SystemsStarted}
 use Rattle.gptp_world.specs.Stage.{world_of}

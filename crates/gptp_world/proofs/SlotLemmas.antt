@@ -210,7 +210,7 @@ times-plain systems links item (e ∷ es) known all =
     let ih = times-plain systems links item es known all.1 in
     rw (← same_slot systems links item e.item known all.0, ih)
     (sym (if_map (map (λ (x : Numbered Item). x.time)) (slot_of item == slot_of e.item)
-      (e ∷ filed_in_slot (slot_of item) es)
+    (e ∷ filed_in_slot (slot_of item) es)
     (filed_in_slot (slot_of item) es)))
 
 pub plain-cut : (systems links : ℕ) (item : Item) (es : List (Numbered Item)) → IsKnownItem systems links item

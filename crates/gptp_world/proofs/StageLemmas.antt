@@ -55,7 +55,7 @@ at_most_all p [] = omega arith
 at_most_all p (x ∷ xs) = by (x.port == p) refl (at_most_all p xs)
   where
     by : (test : Bool) → (x.port == p) ≡ test → count_sends_at p xs ≤ length xs
-      → count_sends_at p (x ∷ xs) ≤ length (x ∷ xs)
+        → count_sends_at p (x ∷ xs) ≤ length (x ∷ xs)
     by true is ih = rw is (omega (arith, ih))
     by false is ih = rw is (omega (arith, ih))
 

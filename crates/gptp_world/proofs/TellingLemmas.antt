@@ -243,7 +243,7 @@ room_second first second stage stage' same uses has =
 -- no other system changes
 elsewhere : {F : Type 0} (answers : Bounds → ℕ → F → Option ℕ → F → Type 0) (place other : ℕ) (input : Input)
     (fate fate_after : F) (stage stage' : Stage) → WasTold answers place input fate fate_after stage stage'
-      → other ≢ place
+    → other ≢ place
     → slice_get stage'.stations.items other ≡ slice_get stage.stations.items other
 elsewhere answers place other input fate fate_after stage stage' told apart = by told.calls
   where

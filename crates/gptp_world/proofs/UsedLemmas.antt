@@ -9,8 +9,8 @@ use Rattle.gptp_lists.proofs.SystemSpecLemmas.{In-map}
 use Rattle.gptp_model.specs.World.{Channel, receiver}
 use Rattle.gptp_model.specs.declared.station.Station.{Station}
 use Rattle.gptp_system.specs.State.{clock}
-use Rattle.gptp_invariants.specs.Standing.{stations_have_clock, channel_is_used, standing_link, live_stations, standing_system, used_channels}
-use Rattle.gptp_invariants.proofs.SystemLemmas.{OwnClocks, clock_in, clock_lives, clock_there, live_from, live_there}
+use Rattle.gptp_invariants.specs.WorldStanding.{stations_have_clock, channel_is_used, standing_link, live_stations, standing_system, used_channels}
+use Rattle.gptp_invariants.proofs.WorldSystemLemmas.{OwnClocks, clock_in, clock_lives, clock_there, live_from, live_there}
 use Rattle.gptp_world.specs.declared.joined_link.JoinedLink.{JoinedLink}
 use Rattle.gptp_world.specs.declared.joined_link.Lane.{Lane}
 use Rattle.gptp_world.specs.declared.stage.Stage.{Stage}
@@ -32,7 +32,7 @@ lives_by stations place number station true false own here named lives known =
     let member = subst (λ n. stations_have_clock (live_stations stations) n ≡ true) named
     (clock_there (live_stations stations) (clock station.system)
     (In-map clock_in (standing_system station) (live_stations stations) (live_there stations place station here lives)))
-      in
+    in
     absurd cc
 lives_by stations place number station false true own here named lives known =
     let (s, member, same) = clock_lives stations number known in
@@ -50,7 +50,7 @@ pub lives_there : (stage : Stage) (lane : Lane) (place : ℕ) (joined_link : Joi
     → slice_get stage.net.cables.items lane.link ≡ Some joined_link → IsReceiver lane place stage.net.directory
     → (station : Station) → slice_get stage.stations.items place ≡ Some station
     → station.live ≡ stations_have_clock (live_stations stage.stations.items)
-      (receiver lane.direction (channel_of joined_link)).clock
+    (receiver lane.direction (channel_of joined_link)).clock
 lives_there stage lane place joined_link is here receives station there =
     let known = receives (join_of joined_link) (known_join stage.net lane.link joined_link is.stage_kept.net here) in
     let at = station_at stage place (direction_end lane.direction (join_of joined_link)).clock is.stage_kept known in
@@ -97,7 +97,7 @@ used_here systems (x ∷ xs) (suc link) channel here is =
   where
     by : (used : Bool) → channel_is_used systems x ≡ used
         → slice_get (used_channels systems xs) (length (used_channels systems (take link xs))) ≡ Some
-          (standing_link channel)
+        (standing_link channel)
         → slice_get (used_channels systems (x ∷ xs)) (length (used_channels systems (take (suc link) (x ∷ xs))))
         ≡ Some (standing_link channel)
     by true used later = rw used later
@@ -141,7 +141,7 @@ used_before stage link =
     used_channels (live_stations stage.stations.items) (take link (map channel_of stage.net.cables.items))
 
 module _ (stage : Stage) (link : ℕ) (joined_link : JoinedLink)
-  (here : slice_get stage.net.cables.items link ≡ Some joined_link) where
+    (here : slice_get stage.net.cables.items link ≡ Some joined_link) where
   abbrev systems : List System
   systems = live_stations stage.stations.items
 
@@ -155,7 +155,7 @@ module _ (stage : Stage) (link : ℕ) (joined_link : JoinedLink)
       → length (used_before stage (link + 1)) ≡ length (used_before stage link) + 1
   counted_more is =
       let if_used : used_if systems (channel_of joined_link) ≡ standing_link
-          (channel_of joined_link) ∷ [] = rw is refl in
+      (channel_of joined_link) ∷ [] = rw is refl in
       let more = ap (λ (ls : List Link). length ls)
       (one_more ∙ ap (λ (ls : List Link). used_before stage link ++ ls) if_used) in
       omega (arith, more, length-append (used_before stage link) (standing_link (channel_of joined_link) ∷ []))

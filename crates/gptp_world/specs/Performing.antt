@@ -71,7 +71,7 @@ TurnsOver target w draws w' = ⊥
 
 -- it was changed so: the fate drew once for each send that a link carries
 pub record Turned {F : Type 0} (answers : Bounds → ℕ → F → Option ℕ → F → Type 0) (target : ActTarget)
-  (fate fate_after : F)
+    (fate fate_after : F)
     (stage stage_after : Stage) : Type 0 where
   pub draws : List Draw
   pub drawn : Draws answers fate draws fate_after

@@ -23,7 +23,7 @@ selected_from p (q ∷ qs) = timers.Announce p ∷ timers.Age p ∷ selected_fro
 abbrev pub AreSetBut : (Timer → Bool) → ℕ → Station → List Entry → Type 0
 AreSetBut otherwise place station es =
     (timer : Timer) → otherwise timer ≡ false
-      → times_of_item (Expiry place timer) es ≡ timer_time (station_due timer station)
+    → times_of_item (Expiry place timer) es ≡ timer_time (station_due timer station)
 
 -- so is each of the system at a place
 abbrev pub AreSetAt : (Timer → Bool) → ℕ → Stage → Type 0

@@ -3,8 +3,8 @@ use Rattle.std.specs.Prelude.{List, [], ◌∷◌, map, Option, Some, None, if�
 use Rattle.gptp_graph.specs.Snapshot.{Link, System}
 use Rattle.gptp_vector.specs.declared.port.PortId.{PortId}
 use Rattle.gptp_model.specs.World.{Channel}
-use Rattle.gptp_invariants.specs.Standing.{channel_is_used, standing_link, live_stations, used_channels}
-use Rattle.gptp_invariants.specs.View.{port_identity_number}
+use Rattle.gptp_invariants.specs.WorldStanding.{channel_is_used, standing_link, live_stations, used_channels}
+use Rattle.gptp_invariants.specs.ChoiceView.{port_identity_number}
 use Rattle.gptp_world.specs.declared.stage.Stage.{Stage}
 use Rattle.gptp_world.specs.JoinedLink.{channel_of}
 

@@ -8,7 +8,7 @@ use Rattle.gptp_model.specs.Changing.{StartsAll}
 use Rattle.gptp_model.specs.Sound.{IsSound}
 use Rattle.gptp_world.specs.FrameBudget.{IsCovered}
 use Rattle.gptp_world.specs.Stage.{world_of, IsStage}
-use Rattle.gptp_invariants.specs.TimedClaim.{WorldInvariant}
+use Rattle.gptp_invariants.specs.SyncTimedClaim.{WorldInvariant}
 
 -- what the code keeps of a world while its systems start
 pub record IsFounded (stage : Stage) : Type 0 where

@@ -1,6 +1,6 @@
 //! Whether an act can be done.
 
-ghost use Rattle.gptp_invariants.specs.EncodableLaws.{SetsAnOctet};
+ghost use Rattle.gptp_invariants.specs.WorldEncodableLaws.{SetsAnOctet};
 
 use crate::stage::Stage;
 use crate::target::ActTarget;

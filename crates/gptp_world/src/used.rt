@@ -1,7 +1,7 @@
 //! The links of a world's snapshot: those that are up between two live systems.
 
 ghost use Rattle.std.specs.Prelude.{◌≡◌, ◌<◌, ◌++◌, length, map, option_map, slice_get, IfOk, OnOk, Some};
-ghost use Rattle.gptp_invariants.specs.Standing.{snapshot_of};
+ghost use Rattle.gptp_invariants.specs.WorldStanding.{snapshot_of};
 
 use crate::joined_link::Lane;
 use crate::stage::Stage;
@@ -13,7 +13,7 @@ use std::alloc::{AllocError, Global};
 impl Stage {
     ghost use Rattle.std.specs.Prelude.{◌≡◌, ◌<◌, ◌++◌, ◌&&◌, length, map, option_map, slice_get, IfOk, OnOk, Some};
     ghost use Rattle.gptp_model.specs.World.{receiver};
-    ghost use Rattle.gptp_invariants.specs.Standing.{stations_have_clock, channel_is_used, live_stations};
+    ghost use Rattle.gptp_invariants.specs.WorldStanding.{stations_have_clock, channel_is_used, live_stations};
     ghost use Rattle.gptp_world.specs.declared.joined_link.JoinedLink.{JoinedLink};
     ghost use Rattle.gptp_world.specs.JoinedLink.{channel_of};
     ghost use Rattle.gptp_world.specs.WorldCore.{IsFounded};
@@ -132,7 +132,7 @@ impl Stage {
 
 impl WorldCore {
     ghost use Rattle.std.specs.Prelude.{◌≡◌, length, map, option_map, slice_get, IfOk};
-    ghost use Rattle.gptp_invariants.specs.Standing.{snapshot_of};
+    ghost use Rattle.gptp_invariants.specs.WorldStanding.{snapshot_of};
     ghost use Rattle.gptp_world.specs.Used.{snapshot_link};
 
     /// How many links are up between two live systems.

@@ -23,12 +23,12 @@ impl WorldCore {
     ghost use Rattle.gptp_model.specs.Prompt.{DelaysFitIntervals};
     ghost use Rattle.gptp_model.specs.Sound.{IsSound};
     ghost use Rattle.gptp_model.specs.Views.{FollowsRoot, HasPort, HasRole, IsLiveSystem, IsNextAct, ShowsLive, rising_clocks};
-    ghost use Rattle.gptp_invariants.specs.SettlingInvariant.{SettlingInvariant};
-    ghost use Rattle.gptp_invariants.specs.Shown.{FollowsAtOnce, FollowsByDistance, FollowsByPaths, FollowsInTime};
-    ghost use Rattle.gptp_invariants.specs.Shown.{IsCapableInTime, IsEnabledInTime};
-    ghost use Rattle.gptp_invariants.specs.Shown.{PlaysAtOnce, PlaysByDistance, PlaysByPaths, PlaysInTime};
-    ghost use Rattle.gptp_invariants.specs.TimedClaim.{WorldInvariant};
-    ghost use Rattle.gptp_invariants.specs.Traces.{AreHeldCleanInTime, AreHeldWholeInTime, AreHeldWholeSooner, IsCleanInTime};
+    ghost use Rattle.gptp_invariants.specs.WorldSettlingInvariant.{SettlingInvariant};
+    ghost use Rattle.gptp_invariants.specs.WorldShown.{FollowsAtOnce, FollowsByDistance, FollowsByPaths, FollowsInTime};
+    ghost use Rattle.gptp_invariants.specs.WorldShown.{IsCapableInTime, IsEnabledInTime};
+    ghost use Rattle.gptp_invariants.specs.WorldShown.{PlaysAtOnce, PlaysByDistance, PlaysByPaths, PlaysInTime};
+    ghost use Rattle.gptp_invariants.specs.SyncTimedClaim.{WorldInvariant};
+    ghost use Rattle.gptp_invariants.specs.ChoiceTraces.{AreHeldCleanInTime, AreHeldWholeInTime, AreHeldWholeSooner, IsCleanInTime};
 
     /// The time, in ns.
     pub(crate) fn now(&self) -> u64

@@ -64,9 +64,9 @@ impl WorldCore {
     ghost use Rattle.gptp_scenario.specs.Allowed.{IsFitAct};
     ghost use Rattle.gptp_model.specs.Acts.{IsReadyAct, Refuses};
     ghost use Rattle.gptp_model.specs.Prompt.{DelaysFitIntervals};
-    ghost use Rattle.gptp_invariants.specs.EncodableLaws.{SetsAnOctet};
-    ghost use Rattle.gptp_invariants.specs.Exact.{IsHeardExact};
-    ghost use Rattle.gptp_invariants.specs.Traces.{IsHeardClean};
+    ghost use Rattle.gptp_invariants.specs.WorldEncodableLaws.{SetsAnOctet};
+    ghost use Rattle.gptp_invariants.specs.SyncExact.{IsHeardExact};
+    ghost use Rattle.gptp_invariants.specs.ChoiceTraces.{IsHeardClean};
     ghost use Rattle.gptp_world.specs.ActTarget.{IsTargetOf};
     ghost use Rattle.gptp_world.specs.Memory.{AsksForNoMemory};
     ghost use Rattle.gptp_model.specs.Course.{Begun, WasDone};

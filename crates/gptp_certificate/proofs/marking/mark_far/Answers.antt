@@ -5,8 +5,8 @@ use Rattle.gptp_graph.specs.Order.{IsRising}
 use Rattle.gptp_lists.specs.Members.{In}
 use Rattle.gptp_certificate_text.specs.Certificate.{line_of, lines_of}
 use Rattle.gptp_certificate_text.specs.declared.certificate.SystemLine.{SystemLine as Line}
-use Rattle.gptp_invariants.specs.Standing.{snapshot_of}
-use Rattle.gptp_invariants.proofs.StandsLemmas.{stands_well}
+use Rattle.gptp_invariants.specs.WorldStanding.{snapshot_of}
+use Rattle.gptp_invariants.proofs.WorldStandsLemmas.{stands_well}
 use Rattle.gptp_certificate.specs.Marking.{LinesAreMarked, ArePairs, AreStarts, line_roots}
 use Rattle.gptp_certificate.specs.Rounds.{AreLeast, value}
 use Rattle.gptp_certificate.proofs.MarkedLemmas.{marked_states, pairs_within, said_all, starts_few}
@@ -98,7 +98,7 @@ returns g c =
     let starts = c.in_ok-links.links.items in let numbers = c.settle_numbers.new.values.items in
     let after = lines_of c.mark_each.new.lines.items in
     let world = c.well_formed-2.ensures.claimed.is.world in
-    let wf = stands_well w world.sound world.between world.legible in
+    let wf = stands_well w world.sound world.between world.encodable in
     let low : AreLeast 0 pairs systems (line_roots own) lowest =
     subst (λ ps. AreLeast 0 ps systems (line_roots own) lowest) c.deref-4.ensures.value
     (subst (λ ls. AreLeast 0 c.deref-4.result.now systems (line_roots (lines_of ls)) lowest) c.deref-3.ensures.value

@@ -1,7 +1,7 @@
 use Rattle.std.proofs.Common.{Some, ap, subst, ◌∙◌}
 use Rattle.gptp_model.specs.Acts.{AtSystem}
 use Rattle.gptp_model.specs.Views.{FollowsRoot, ShowsLive}
-use Rattle.gptp_invariants.specs.Shown.{FollowsInTime}
+use Rattle.gptp_invariants.specs.WorldShown.{FollowsInTime}
 use Rattle.gptp_network_tests.proofs.PairLemmas.{lives, second_announces}
 use Rattle.gptp_network_tests.proofs.drawn.second_announces.Goals as goal
 

@@ -1,6 +1,6 @@
 use Rattle.std.proofs.Common.{subst, arith}
 use Rattle.gptp_model.specs.Views.{ShowsLive}
-use Rattle.gptp_invariants.specs.Traces.{AreHeldCleanInTime, AreHeldWholeInTime}
+use Rattle.gptp_invariants.specs.ChoiceTraces.{AreHeldCleanInTime, AreHeldWholeInTime}
 use Rattle.gptp_network_tests.specs.Pair.{HoldsFirstAlone, HoldsFromFirst}
 use Rattle.gptp_network_tests.proofs.HeardLemmas.{for_some_both, pair_since, second_holds, second_holds_from}
 use Rattle.gptp_network_tests.proofs.drawn.second_then.Goals as goal

@@ -32,7 +32,7 @@ returns-clause-joins g c =
     let here = stands cables link room.joined_link d room.here in
     let e = c.send_on-due.ensures in
     map-set_same join_of cables link (slice_index_or cables link d) c.send_on-due.new.joined_link here
-      (ap₂ made e.a e.b)
+    (ap₂ made e.a e.b)
 
 pub returns-clause-room : goal.returns-clause-room
 returns-clause-room g c = λ more other has.
@@ -41,7 +41,7 @@ returns-clause-room g c = λ more other has.
     let here = stands cables link room.joined_link d room.here in
     let e = c.send_on-due.ensures in
     room_left more c.args.lane other cables (slice_index_or cables link d) c.send_on-due.new.joined_link here
-      e.others e.room
+    e.others e.room
     has
 
 pub returns-clause-elsewhere : goal.returns-clause-elsewhere

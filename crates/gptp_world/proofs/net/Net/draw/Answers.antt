@@ -18,4 +18,4 @@ returns-in-true-clause-covered c =
 pub make_room_ahead-requires-clause-covered : goal.make_room_ahead-requires-clause-covered
 make_room_ahead-requires-clause-covered c =
     subst (λ frame_budget. IsCovered frame_budget c.args.self.now)
-      (sym (c.draw.ensures.kept c.in-false.is)) c.requires.covered
+    (sym (c.draw.ensures.kept c.in-false.is)) c.requires.covered

@@ -12,7 +12,7 @@ pub returns-clause-net : goal.returns-clause-net
 returns-clause-net c =
     let one = c.index_mut.result.now in let cables = c.args.self.now.cables.items in let due = c.requires.due in
     let is : one ≡ due.joined_link = c.index_mut.ensures.value
-        ∙ read cables c.args.lane.link due.joined_link one due.here in
+    ∙ read cables c.args.lane.link due.joined_link one due.here in
     let here = due.here ∙ ap Some (sym is) in
     let e = c.deliver_on-octets.ensures in
     let links = ap (λ (p : PendingView). p.links) c.take_arrival.ensures.kept in
@@ -32,7 +32,7 @@ returns-clause-takes c = λ joined_link there.
     let e = c.deliver_on-octets.ensures in
     let entries = ap (λ (p : PendingView). p.entries) c.take_arrival.ensures.kept in
     rw (← is) (taken c.args.lane c.args.now c.deliver_on-octets.result.items cables one
-      c.deliver_on-octets.new.joined_link
+    c.deliver_on-octets.new.joined_link
     c.args.self.now.pending c.take_arrival.new.self due.oldest due.rest here e.a e.b e.others
     (rw (← same) due.front) due.due_now e.taken entries)
 
@@ -40,7 +40,7 @@ pub returns-clause-uses : goal.returns-clause-uses
 returns-clause-uses c =
     let one = c.index_mut.result.now in let cables = c.args.self.now.cables.items in let due = c.requires.due in
     let is : one ≡ due.joined_link = c.index_mut.ensures.value
-        ∙ read cables c.args.lane.link due.joined_link one due.here in
+    ∙ read cables c.args.lane.link due.joined_link one due.here in
     let here = due.here ∙ ap Some (sym is) in
     let e = c.deliver_on-octets.ensures in let gone = c.take_arrival.ensures in
     let systems = ap (λ (p : PendingView). p.systems) gone.kept in

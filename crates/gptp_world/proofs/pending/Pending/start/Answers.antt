@@ -10,7 +10,7 @@ invariant_of-self c =
     let stopped = rw (← c.self.view_is) at c.requires.stopped in
     rw (c.set_timer.ensures, c.timer_place.ensures, entries, number)
     (pending_index-put_timer p.systems p.links p.pending_index p.agenda.entries c.self.invariant c.args.place
-      c.args.timer c.args.time
+    c.args.timer c.args.time
     p.agenda.next known
     (not_filed p.systems p.links p.pending_index p.agenda.entries c.self.invariant c.args.place c.args.timer
-      known stopped))
+    known stopped))

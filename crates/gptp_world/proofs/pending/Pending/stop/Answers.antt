@@ -10,7 +10,7 @@ invariant_of-self c =
     let runs = sym (rw c.timer_place-pending_index.ensures at c.timer.ensures) ∙ c.in-Some.is in
     rw (c.set_timer.ensures, c.timer_place-pending_index.ensures, c.take_out.ensures.taken)
     (pending_index-stopped p.systems p.links p.pending_index p.agenda.entries c.self.invariant c.args.place
-      c.args.timer known
+    c.args.timer known
     c.in-Some.running
     runs p.agenda.next c.numbers_rise.ensures)
 
@@ -40,7 +40,7 @@ returns-in-None-clause-kept c =
     rw (← c.self.view_is)
     (same_state _ _ refl refl
     (sym (plain-not_filed p.systems p.links p.pending_index p.agenda.entries c.self.invariant c.args.place
-      c.args.timer known
+    c.args.timer known
     none))
     refl)
 

@@ -16,7 +16,7 @@ invariant_of-self c =
     (sym c.in-Some.is ∙ rw c.arrival_place.ensures at c.pop.ensures.number) in
     rw (c.pop.ensures.rest, c.arrival_place.ensures, c.take_out.ensures.taken)
     (pending_index-taken p.systems p.links p.pending_index p.agenda.entries c.self.invariant c.args.link
-      c.args.direction known
+    c.args.direction known
     c.in-Some.number first.0 c.pop.new.self.room first.1
     p.agenda.next c.numbers_rise.ensures)
 
@@ -40,7 +40,7 @@ returns-in-Some-clause-one c = λ _.
     (sym c.in-Some.is ∙ rw c.arrival_place.ensures at c.pop.ensures.number) in
     rw (← c.self.view_is, c.take_out.ensures.taken)
     (shrinks-taken p.systems p.links p.pending_index p.agenda.entries c.self.invariant c.args.link
-      c.args.direction known
+    c.args.direction known
     c.in-Some.number first.0 c.pop.new.self.room first.1
     p.agenda.next c.numbers_rise.ensures)
 
@@ -54,7 +54,7 @@ returns-in-None-clause-kept c =
     (same_state _ _ refl refl
     (sym (without_first-none (Arrival c.args.link c.args.direction) (plain p.agenda.entries)
     (times-no_arrival p.systems p.links p.pending_index p.agenda.entries c.self.invariant c.args.link
-      c.args.direction known
+    c.args.direction known
     none)))
     refl)
 
@@ -66,5 +66,5 @@ returns-in-None-clause-none c = λ _.
     ∙ rw c.arrival_place.ensures at c.pop.ensures.number) in
     rw (← c.self.view_is)
     (times-no_arrival p.systems p.links p.pending_index p.agenda.entries c.self.invariant c.args.link
-      c.args.direction known
+    c.args.direction known
     none)

@@ -28,5 +28,5 @@ returns-else-not-is_up-clause-up g c =
       drawn = refl;
       turns = of_link c.args.self.now c.args.link true (λ is channel. ComesUpIf is c.args.link channel w [] w)
           (λ joined_link here. sym c.if-not-is_up.false ∙ c.is_up.ensures joined_link here)
-            (λ channel here. (refl, refl));
+          (λ channel here. (refl, refl));
     }

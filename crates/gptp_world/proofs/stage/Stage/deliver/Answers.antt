@@ -88,7 +88,7 @@ returns-clause-delivered g c =
     let place = c.receiver-place.ensures join after in
     let at = c.port_at-at.ensures join after in
     let stands = station_at c.args.self.now c.receiver-place.result
-        (direction_end lane.direction join).clock c.requires.stage
+    (direction_end lane.direction join).clock c.requires.stage
     (ap (λ (d : DirectoryState). slice_get d.clocks c.receiver-place.result) (sym same) ∙ place) in
     let ends = end_same lane.direction due.joined_link in
     let port = c.narrowed.ensures ∙ ap (λ (p : PortId). p.port) (at ∙ ends) in
@@ -122,7 +122,7 @@ returns-clause-uses g c =
     let octets = c.deref.result.now in
     let takes = c.take_frame-frame.ensures.takes due.joined_link due.here in
     let stands = station_at c.args.self.now c.receiver-place.result
-        (direction_end lane.direction join).clock c.requires.stage
+    (direction_end lane.direction join).clock c.requires.stage
     placed in
     record {
       join = join;

@@ -21,7 +21,7 @@ returns-then-is_up-clause-injected g c =
     let frame = room.frame in
     injected g.F.Fate.answers c.args.lane c.args.octets.now c.args.fate.now c.inject.new.fate c.args.self.now
     c.inject.new.self frame.joined_link frame.here
-      (sym (c.is_up.ensures frame.joined_link frame.here) ∙ c.if-is_up.true)
+    (sym (c.is_up.ensures frame.joined_link frame.here) ∙ c.if-is_up.true)
     (c.inject.ensures.sent frame.joined_link frame.here)
 
 pub returns-else-is_up-clause-injected : goal.returns-else-is_up-clause-injected

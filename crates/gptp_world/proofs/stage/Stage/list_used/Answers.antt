@@ -1,7 +1,7 @@
 use Rattle.std.proofs.Common.{◌<◌, ◌++◌, List, length, ap, sym, ◌∙◌, arith}
 use Rattle.gptp_graph.specs.Snapshot.{Link}
 use Rattle.gptp_lists.proofs.PlaceLemmas.{member_there}
-use Rattle.gptp_invariants.specs.Standing.{live_stations}
+use Rattle.gptp_invariants.specs.WorldStanding.{live_stations}
 use Rattle.gptp_world.specs.JoinedLink.{channel_of}
 use Rattle.gptp_world.specs.Used.{used_if}
 use Rattle.gptp_world.proofs.UsedLemmas.{one_more}

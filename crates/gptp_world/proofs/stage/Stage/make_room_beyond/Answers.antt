@@ -12,7 +12,7 @@ returns-in_err-reserve-clause-stage c =
 pub returns-in_err-reserve-clause-covered : goal.returns-in_err-reserve-clause-covered
 returns-in_err-reserve-clause-covered c =
     covered_kept c.args.frame_budget.now c.args.self.now.net c.reserve.new.self c.reserve.ensures.only
-      c.requires.covered
+    c.requires.covered
 
 pub draw_within-requires-clause-ports : goal.draw_within-requires-clause-ports
 draw_within-requires-clause-ports c =
@@ -27,7 +27,7 @@ draw_within-requires-clause-ports c =
 pub draw_within-requires-clause-covered : goal.draw_within-requires-clause-covered
 draw_within-requires-clause-covered c =
     covered_kept c.args.frame_budget.now c.args.self.now.net c.reserve.new.self c.reserve.ensures.only
-      c.requires.covered
+    c.requires.covered
 
 pub returns-clause-stage : goal.returns-clause-stage
 returns-clause-stage c =

@@ -12,7 +12,7 @@ pub make_room_to_hear-requires-clause-link : goal.make_room_to_hear-requires-cla
 make_room_to_hear-requires-clause-link c =
     let stage = c.args.self.now in
     subst (λ target. IsWithin target stage) c.in-Arrival.is
-      (aim_within c.args.act.now c.args.target stage c.requires.target)
+    (aim_within c.args.act.now c.args.target stage c.requires.target)
 
 pub make_room_to_expire-requires-clause-timer : goal.make_room_to_expire-requires-clause-timer
 make_room_to_expire-requires-clause-timer c =
@@ -32,7 +32,7 @@ pub returns-in-Arrival-clause-left : goal.returns-in-Arrival-clause-left
 returns-in-Arrival-clause-left c =
     let stage = c.make_room_to_hear.new.self in let frame_budget = c.make_room_to_hear.new.frame_budget in
     on_ok c.make_room_to_hear.result _ _ (λ has. subst (λ target. LeavesCredit target frame_budget stage)
-      (sym c.in-Arrival.is) has)
+    (sym c.in-Arrival.is) has)
     c.make_room_to_hear.ensures.room
 
 pub returns-in-Arrival-clause-free : goal.returns-in-Arrival-clause-free
@@ -54,7 +54,7 @@ pub returns-in-Timer-clause-left : goal.returns-in-Timer-clause-left
 returns-in-Timer-clause-left c =
     let stage = c.make_room_to_expire.new.self in let frame_budget = c.make_room_to_expire.new.frame_budget in
     on_ok c.make_room_to_expire.result _ _ (λ has. subst (λ target. LeavesCredit target frame_budget stage)
-      (sym c.in-Timer.is) has)
+    (sym c.in-Timer.is) has)
     c.make_room_to_expire.ensures.room
 
 pub returns-in-Timer-clause-free : goal.returns-in-Timer-clause-free

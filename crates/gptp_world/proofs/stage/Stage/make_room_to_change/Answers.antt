@@ -7,31 +7,31 @@ pub make_room_to_take_down-requires-clause-link : goal.make_room_to_take_down-re
 make_room_to_take_down-requires-clause-link c =
     let stage = c.args.self.now in
     subst (λ target. IsWithin target stage) c.in-LinkDown.is
-      (aim_within c.args.act.now c.args.target stage c.requires.target)
+    (aim_within c.args.act.now c.args.target stage c.requires.target)
 
 pub make_room_to_bring_up-requires-clause-link : goal.make_room_to_bring_up-requires-clause-link
 make_room_to_bring_up-requires-clause-link c =
     let stage = c.args.self.now in
     subst (λ target. IsWithin target stage) c.in-LinkUp.is
-      (aim_within c.args.act.now c.args.target stage c.requires.target)
+    (aim_within c.args.act.now c.args.target stage c.requires.target)
 
 pub make_room_to_recover-requires-clause-place : goal.make_room_to_recover-requires-clause-place
 make_room_to_recover-requires-clause-place c =
     let stage = c.args.self.now in
     subst (λ target. IsWithin target stage) c.in-Recover.is
-      (aim_within c.args.act.now c.args.target stage c.requires.target)
+    (aim_within c.args.act.now c.args.target stage c.requires.target)
 
 pub make_room-requires-clause-place : goal.make_room-requires-clause-place
 make_room-requires-clause-place c =
     let stage = c.args.self.now in
     subst (λ target. IsWithin target stage) c.in-Priority1.is
-      (aim_within c.args.act.now c.args.target stage c.requires.target)
+    (aim_within c.args.act.now c.args.target stage c.requires.target)
 
 pub make_room_to_inject-requires-clause-link : goal.make_room_to_inject-requires-clause-link
 make_room_to_inject-requires-clause-link c =
     let stage = c.args.self.now in
     subst (λ target. IsWithin target stage) c.in-Inject.is
-      (aim_within c.args.act.now c.args.target stage c.requires.target)
+    (aim_within c.args.act.now c.args.target stage c.requires.target)
 
 pub returns-in-LinkDown-clause-free : goal.returns-in-LinkDown-clause-free
 returns-in-LinkDown-clause-free c = λ asks.

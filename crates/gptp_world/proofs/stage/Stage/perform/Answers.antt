@@ -58,9 +58,9 @@ returns-in_default g c =
 pub returns-in-Arrival-clause-uses : goal.returns-in-Arrival-clause-uses
 returns-in-Arrival-clause-uses g c =
     subst (λ target. UsesForAim target c.args.self.now c.arrive.new.self.net)
-      (sym c.in-Arrival.is) c.arrive.ensures.uses
+    (sym c.in-Arrival.is) c.arrive.ensures.uses
 
 pub returns-in-Timer-clause-uses : goal.returns-in-Timer-clause-uses
 returns-in-Timer-clause-uses g c =
     subst (λ target. UsesForAim target c.args.self.now c.run_out.new.self.net)
-      (sym c.in-Timer.is) c.run_out.ensures.uses
+    (sym c.in-Timer.is) c.run_out.ensures.uses

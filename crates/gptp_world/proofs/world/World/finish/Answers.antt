@@ -78,6 +78,6 @@ returns-clause-went g c =
       c.loop-due.observer,
       follows_so g.F.Fate.answers g.O.Observer.tells c.args.time c.args.self.now.fate c.loop-due.self.fate
           c.args.self.now.world_core c.loop-due.self.world_core c.args.observer.now c.loop-due.observer
-            (Appends old new)
+          (Appends old new)
           (AppendsSome old new) (all_of old new) c.loop-due.invariant.followed,
     )

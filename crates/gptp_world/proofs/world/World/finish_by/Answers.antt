@@ -27,7 +27,7 @@ returns-in_err-later-clause-went g c =
       went.0,
       follows_more g.F.Fate.answers g.O.Observer.tells c.args.until c.args.self.now.fate c.loop-from.self.fate
           c.finish_next.new.self.fate c.args.self.now.world_core c.loop-from.self.world_core
-            c.finish_next.new.self.world_core
+          c.finish_next.new.self.world_core
           c.args.observer.now c.loop-from.observer went.0 (Appends old between) (AppendsSome between new)
           (AppendsSome old new) (some_behind old between new) c.loop-from.invariant.followed went.1,
     )
@@ -38,6 +38,6 @@ returns-clause-went g c =
       c.loop-from.observer,
       follows_so g.F.Fate.answers g.O.Observer.tells c.args.until c.args.self.now.fate c.loop-from.self.fate
           c.args.self.now.world_core c.loop-from.self.world_core c.args.observer.now c.loop-from.observer
-            (Appends old new)
+          (Appends old new)
           (AppendsSome old new) (all_of old new) c.loop-from.invariant.followed,
     )

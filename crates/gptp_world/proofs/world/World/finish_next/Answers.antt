@@ -40,7 +40,7 @@ pub returns-in_ok-further-in-Some-clause-later : goal.returns-in_ok-further-in-S
 returns-in_ok-further-in-Some-clause-later g c =
     let next = c.in-Some.ensures.next in
     let late = next_not_before c.args.from c.args.self.now.world_core.net.pending c.in-Some.time
-        c.in-Some.field-0-1 next
+    c.in-Some.field-0-1 next
     c.requires.first in
     omega (arith, late)
 

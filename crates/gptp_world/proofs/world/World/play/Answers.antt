@@ -24,7 +24,7 @@ loop-place-preserved g c =
     record {
       played = rw front (plays_more g.F.Fate.answers (take i acts) x c.args.self.now.fate c.loop-place.self.fate
           c.play_next.new.self.fate c.args.self.now.world_core c.loop-place.self.world_core
-            c.play_next.new.self.world_core was.done
+          c.play_next.new.self.world_core was.done
           so_far.played was.was);
       prompt = stay_prompt acts c.loop-place.self.world_core c.play_next.new.self.world_core
           (done_stays g.F.Fate.answers x c.loop-place.self.fate c.play_next.new.self.fate c.loop-place.self.world_core

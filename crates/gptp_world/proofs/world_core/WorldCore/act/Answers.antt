@@ -1,6 +1,6 @@
 use Rattle.std.proofs.Common.{◌≤◌, ◌^◌, arith}
-use Rattle.gptp_invariants.proofs.ExactLemmas.{receipts_are_exact}
-use Rattle.gptp_invariants.proofs.TraceLemmas.{frames_become_clean}
+use Rattle.gptp_invariants.proofs.SyncExactLemmas.{receipts_are_exact}
+use Rattle.gptp_invariants.proofs.ChoiceTraceLemmas.{frames_become_clean}
 use Rattle.gptp_world.proofs.world_core.WorldCore.act.Goals as goal
 
 pub returns-in-Ok-perform-clause-clean : goal.returns-in-Ok-perform-clause-clean

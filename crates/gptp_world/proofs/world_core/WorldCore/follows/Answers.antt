@@ -1,4 +1,4 @@
-use Rattle.gptp_invariants.proofs.ShownLemmas.{choice_at_once, choice_by_distance, choice_by_paths, choice_shown}
+use Rattle.gptp_invariants.proofs.WorldShownLemmas.{choice_at_once, choice_by_distance, choice_by_paths, choice_shown}
 use Rattle.gptp_world.proofs.ViewLemmas.{follows_shown}
 use Rattle.gptp_world.proofs.world_core.WorldCore.follows.Goals as goal
 

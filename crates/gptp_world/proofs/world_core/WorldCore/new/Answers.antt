@@ -24,5 +24,5 @@ invariant_of-result g c =
           (begun_from g.F.Fate.answers n c.args.fate.now c.start_all.new.fate c.in_ok-stage.stage after
           c.in_ok-stage.ensures.world done.started);
       covered = none_covered c.in_ok-frame_budget.frame_budget after.net done.world_core.stage_kept.net
-        c.in_ok-frame_budget.ensures;
+          c.in_ok-frame_budget.ensures;
     }

@@ -4,7 +4,7 @@ use Rattle.gptp_world.specs.ActTarget.{IsTargetOf}
 use Rattle.gptp_world.specs.Memory.{AsksForNoMemory}
 use Rattle.gptp_model.specs.Sound.{IsSound}
 use Rattle.gptp_world.specs.Stage.{world_of}
-use Rattle.gptp_invariants.specs.TimedClaim.{WorldInvariant}
+use Rattle.gptp_invariants.specs.SyncTimedClaim.{WorldInvariant}
 use Rattle.gptp_world.proofs.SettlingInvariantLemmas.{acted_claimed}
 use Rattle.gptp_world.proofs.FrameBudgetLemmas.{covered_after, leaves_later}
 use Rattle.gptp_world.proofs.LaterLemmas.{aim_later, at_time, room_later}
@@ -47,11 +47,11 @@ invariant_of-self-2 g c =
       claimed = acted_claimed g.F.Fate.answers c.args.timed.now c.args.fate.now c.perform.new.fate c.args.self.now made
           (world_of c.perform.new.self) acted.draws c.perform.result
           (subst WorldInvariant c.self.view_is c.self.invariant.claimed)
-            (c.make_room_for.ensures.world ∙ c.self.view_is)
+          (c.make_room_for.ensures.world ∙ c.self.view_is)
           c.requires.fit c.requires.prompt c.requires.octet c.requires.ready acted.drawn acted.acts;
       covered = let stage = c.make_room_for.new.self in let frame_budget = c.make_room_for.new.frame_budget in
           covered_after c.args.target frame_budget
-            (at_time time stage) c.perform.new.self.net c.perform.ensures.stage.net
+          (at_time time stage) c.perform.new.self.net c.perform.ensures.stage.net
           (leaves_later c.args.target frame_budget stage time c.in_ok-make_room_for.ensures.left)
-            c.perform.ensures.uses;
+          c.perform.ensures.uses;
     }

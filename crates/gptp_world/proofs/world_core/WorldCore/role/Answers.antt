@@ -1,6 +1,6 @@
 use Rattle.std.proofs.lemmas.Option.{IfSome_then}
-use Rattle.gptp_invariants.proofs.ShownLemmas.{enabled_shown, role_at_once, role_by_distance, role_by_paths}
-use Rattle.gptp_invariants.proofs.ShownLemmas.{role_shown as role_settled}
+use Rattle.gptp_invariants.proofs.WorldShownLemmas.{enabled_shown, role_at_once, role_by_distance, role_by_paths}
+use Rattle.gptp_invariants.proofs.WorldShownLemmas.{role_shown as role_settled}
 use Rattle.gptp_world.proofs.ViewLemmas.{no_port, on_none, role_shown}
 use Rattle.gptp_world.proofs.world_core.WorldCore.role.Goals as goal
 

@@ -1,6 +1,6 @@
 use Rattle.std.proofs.lemmas.Option.{IfSome_then}
-use Rattle.gptp_invariants.proofs.ShownLemmas.{capable_shown}
-use Rattle.gptp_invariants.proofs.TraceLemmas.{held_becomes_clean, held_becomes_whole, held_becomes_whole_sooner, traces_become_clean}
+use Rattle.gptp_invariants.proofs.WorldShownLemmas.{capable_shown}
+use Rattle.gptp_invariants.proofs.ChoiceTraceLemmas.{held_becomes_clean, held_becomes_whole, held_becomes_whole_sooner, traces_become_clean}
 use Rattle.gptp_world.proofs.world_core.WorldCore.system.Goals as goal
 
 pub returns-clause-capable : goal.returns-clause-capable

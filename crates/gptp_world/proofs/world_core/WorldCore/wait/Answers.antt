@@ -3,7 +3,7 @@ use Rattle.gptp_model.specs.Pending.{NothingBefore}
 use Rattle.gptp_model.specs.World.{WorldState}
 use Rattle.gptp_model.proofs.AdvanceLemmas.{nothing_sooner}
 use Rattle.gptp_model.proofs.SoundLemmas.{later_sound}
-use Rattle.gptp_invariants.proofs.ExactLemmas.{all_later}
+use Rattle.gptp_invariants.proofs.SyncExactLemmas.{all_later}
 use Rattle.gptp_world.specs.Stage.{world_of}
 use Rattle.gptp_world.proofs.LaterLemmas.{stage_later}
 use Rattle.gptp_world.proofs.world_core.WorldCore.wait.Goals as goal

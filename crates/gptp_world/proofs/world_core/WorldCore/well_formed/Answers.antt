@@ -1,4 +1,4 @@
-use Rattle.gptp_invariants.proofs.ExactLemmas.{claimed_of}
+use Rattle.gptp_invariants.proofs.SyncExactLemmas.{claimed_of}
 use Rattle.gptp_world.proofs.world_core.WorldCore.well_formed.Goals as goal
 
 pub returns-clause-claimed : goal.returns-clause-claimed

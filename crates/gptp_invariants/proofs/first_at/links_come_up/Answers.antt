@@ -1,5 +1,0 @@
-use Rattle.gptp_invariants.proofs.FirstUpLemmas.{link_up_first}
-use Rattle.gptp_invariants.proofs.first_at.links_come_up.Goals as goal
-
-pub returns : goal.returns
-returns c = link_up_first

@@ -1,5 +1,0 @@
-use Rattle.gptp_invariants.proofs.DueLemmas.{unlinked_disabled}
-use Rattle.gptp_invariants.proofs.known.ports_without_link_are_disabled.Goals as goal
-
-pub returns : goal.returns
-returns c = unlinked_disabled

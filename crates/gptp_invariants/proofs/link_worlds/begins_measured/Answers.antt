@@ -1,8 +1,0 @@
-use Rattle.gptp_invariants.proofs.ChangeKeptLemmas.{initially_measured, starts_measured}
-use Rattle.gptp_invariants.proofs.link_worlds.begins_measured.Goals as goal
-
-pub returns-clause-initially : goal.returns-clause-initially
-returns-clause-initially c = initially_measured
-
-pub returns-clause-starts : goal.returns-clause-starts
-returns-clause-starts c = starts_measured

@@ -1,8 +1,0 @@
-use Rattle.gptp_invariants.proofs.ShortLemmas.{initially_short, starts_short}
-use Rattle.gptp_invariants.proofs.link_worlds.begins_short.Goals as goal
-
-pub returns-clause-initially : goal.returns-clause-initially
-returns-clause-initially c = initially_short
-
-pub returns-clause-starts : goal.returns-clause-starts
-returns-clause-starts c = starts_short

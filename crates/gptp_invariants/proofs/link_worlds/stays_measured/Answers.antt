@@ -1,8 +1,0 @@
-use Rattle.gptp_invariants.proofs.ChangeKeptLemmas.{acts_measured, later_measured}
-use Rattle.gptp_invariants.proofs.link_worlds.stays_measured.Goals as goal
-
-pub returns-clause-acts : goal.returns-clause-acts
-returns-clause-acts c = acts_measured
-
-pub returns-clause-later : goal.returns-clause-later
-returns-clause-later c = later_measured

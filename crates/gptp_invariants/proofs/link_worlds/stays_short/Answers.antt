@@ -1,8 +1,0 @@
-use Rattle.gptp_invariants.proofs.ShortLemmas.{acts_short, later_short}
-use Rattle.gptp_invariants.proofs.link_worlds.stays_short.Goals as goal
-
-pub returns-clause-acts : goal.returns-clause-acts
-returns-clause-acts c = acts_short
-
-pub returns-clause-later : goal.returns-clause-later
-returns-clause-later c = later_short

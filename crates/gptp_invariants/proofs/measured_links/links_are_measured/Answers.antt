@@ -1,5 +1,0 @@
-use Rattle.gptp_invariants.proofs.MeasuredLinkLemmas.{claimed_measured}
-use Rattle.gptp_invariants.proofs.measured_links.links_are_measured.Goals as goal
-
-pub returns : goal.returns
-returns c = claimed_measured

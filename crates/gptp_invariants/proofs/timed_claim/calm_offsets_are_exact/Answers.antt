@@ -1,5 +1,0 @@
-use Rattle.gptp_invariants.proofs.FollowClaimLemmas.{calm_offsets_are_exact}
-use Rattle.gptp_invariants.proofs.timed_claim.calm_offsets_are_exact.Goals as goal
-
-pub returns : goal.returns
-returns c = calm_offsets_are_exact

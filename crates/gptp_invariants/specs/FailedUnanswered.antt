@@ -1,0 +1,75 @@
+-- A world as the machine of gptp_pdelay_machine sees a port of a live station on a link whose other end has failed.
+use Rattle.std.specs.Prelude.{◌≡◌, ◌≤◌, ◌+◌, ℕ, true, false, List, Some, slice_get}
+use Rattle.gptp_lists.specs.Members.{In}
+use Rattle.gptp_links.specs.Queue.{Frame}
+use Rattle.gptp_setup.specs.Intervals.{interval_of}
+use Rattle.gptp_setup.specs.SettlingParams.{SettlingParams, largest_interval}
+use Rattle.gptp_system.specs.Measures.{measure_at}
+use Rattle.gptp_system.specs.State.{clock}
+use Rattle.gptp_model.specs.declared.station.Station.{Station}
+use Rattle.gptp_model.specs.World.{Channel, WorldState, world_queue, receiver, sender}
+use Rattle.gptp_pdelay_machine.specs.Setting.{Setting}
+use Rattle.gptp_pdelay_machine.specs.Silence.{InvUnanswered, Unanswered}
+use Rattle.gptp_invariants.specs.DelayMeasured.{StationIsLiveAt}
+use Rattle.gptp_invariants.specs.DelayLinkView.{IsEndAmong, LinkPlace, asker_view, other_direction, setting_view}
+
+-- the station at a place has failed, and has this clock
+pub record IsFailedAmong (place number : ℕ) (stations : List Station) : Type 0 where
+  pub station : Station
+  pub here : slice_get stations place ≡ Some station
+  pub failed : station.live ≡ false
+  pub named : clock station.system ≡ number
+
+-- Where all stands: a link that is up, a live station at its one end, and one that has failed at its other.
+pub record StandsUnanswered (at : LinkPlace) (w : WorldState) : Type 0 where
+  pub channel : Channel
+  pub here : slice_get w.net.channels at.link ≡ Some channel
+  pub up : channel.up ≡ true
+  pub asking : StationIsLiveAt at.asking (sender at.direction channel).clock w
+  pub answering : IsFailedAmong at.answering (receiver at.direction channel).clock w.stations
+
+-- the same with the port of the live station, which measures
+pub record IsUnansweredAmong (at : LinkPlace) (channels : List Channel) (stations : List Station) : Type 0 where
+  pub channel : Channel
+  pub here : slice_get channels at.link ≡ Some channel
+  pub up : channel.up ≡ true
+  pub asking : IsEndAmong at.asking (sender at.direction channel) stations
+  pub answering : IsFailedAmong at.answering (receiver at.direction channel).clock stations
+
+abbrev pub IsUnansweredAt : LinkPlace → WorldState → Type 0
+IsUnansweredAt at w = IsUnansweredAmong at w.net.channels w.stations
+
+-- what the machine takes as settled there
+abbrev pub silent_setting : (at : LinkPlace) (w : WorldState) → IsUnansweredAt at w → Setting
+silent_setting at w l = setting_view at.direction l.channel l.asking.station.setup l.answering.station.setup
+
+-- and what it sees: the time, and the port that asks
+abbrev pub silent_view : (at : LinkPlace) (w : WorldState) → IsUnansweredAt at w → Unanswered
+silent_view at w l = record {
+  time = w.time;
+  asker = asker_view (interval_of l.asking.station.setup.params.pdelay) (measure_at l.asking.state);
+}
+
+-- what is in flight from the failed end is due by this time
+abbrev pub IsOldBy : ℕ → (at : LinkPlace) (w : WorldState) → IsUnansweredAt at w → Type 0
+IsOldBy gone at w l = (f : Frame) → In f (world_queue (other_direction at.direction) l.channel) → f.due ≤ gone
+
+-- the port stands there, old frames are gone by a time, and the invariant of the machine holds
+pub record IsSilent (gone : ℕ) (at : LinkPlace) (w : WorldState) : Type 0 where
+  pub link : IsUnansweredAt at w
+  pub old : IsOldBy gone at w link
+  pub inv : InvUnanswered (silent_setting at w link) gone (silent_view at w link)
+
+-- wherever all stands so, old frames are gone the largest announce interval after the last change
+abbrev pub FailedNeighboursAreSilent : SettlingParams → WorldState → Type 0
+FailedNeighboursAreSilent p w = (at : LinkPlace) → StandsUnanswered at w
+    → IsSilent (w.last_change + largest_interval p) at w
+
+-- the link stands as it did, no frame comes from the failed end, and what is seen becomes what this allows
+pub record IsSeenUnanswered (So : Setting → Unanswered → Unanswered → Type 0) (gone : ℕ) (at : LinkPlace)
+    (w w' : WorldState)
+    (l : IsUnansweredAt at w) : Type 0 where
+  pub after : IsUnansweredAt at w'
+  pub settled : silent_setting at w' after ≡ silent_setting at w l
+  pub old : IsOldBy gone at w' after
+  pub so : So (silent_setting at w l) (silent_view at w l) (silent_view at w' after)

@@ -1,0 +1,16 @@
+//! Laws on links that a change leaves alone.
+
+ghost use Rattle.gptp_invariants.specs.DelayElsewhereLaws.{WatchGoesThrough, WatchSurvives, WatchedPortsStayCapable};
+
+/// A change that leaves a link alone leaves it watched, with the times that it had, and so does every act but such a
+/// change.
+pub fn watch_survives()
+    ensures changes { WatchSurvives }
+    ensures acts { WatchGoesThrough }
+{}
+
+/// So its ports stay capable, and what they measured stays that of two exchanges over the link, whatever is changed
+/// elsewhere.
+pub fn ports_stay_capable()
+    ensures { WatchedPortsStayCapable }
+{}

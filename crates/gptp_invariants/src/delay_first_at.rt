@@ -1,0 +1,28 @@
+//! Laws on a link from its first request on.
+
+ghost use Rattle.gptp_invariants.specs.DelayFirstAtLaws.{FirstGoesOn, FirstGoesThrough, FirstIsFull, LinkUpIsFirst, StartIsFirst};
+
+use gptp_links::Fate;
+
+/// Every act that leaves the link alone keeps what is known of it since its first request, a change elsewhere too, and
+/// so does time that passes, up to when something is due.
+pub fn first_goes_on()
+    ensures acts { FirstGoesThrough }
+    ensures later { FirstGoesOn }
+{}
+
+/// One interval between requests and one exchange after that request the port is capable, and has measured the link.
+pub fn first_is_full()
+    ensures { FirstIsFull }
+{}
+
+/// Each link that comes up is such a one, in both directions, where it loses nothing, is good and lies between two
+/// live systems.
+pub fn links_come_up()
+    ensures { LinkUpIsFirst }
+{}
+
+/// So is each link in use as a world begins.
+pub fn starts_are_first<F: Fate>()
+    ensures { StartIsFirst F.answers }
+{}
