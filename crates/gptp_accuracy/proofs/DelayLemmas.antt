@@ -31,7 +31,7 @@ alike_up false up v w h = h
 -- and so do both where they get other bounds
 set_alike : (test : Bool) (least greatest loss : ℕ) (v w : LinkSpec) → AreAlike v w
     → AreAlike (cond test (member_with_bounds least greatest loss v) v)
-      (cond test (member_with_bounds least greatest loss w) w)
+    (cond test (member_with_bounds least greatest loss w) w)
 set_alike true least greatest loss v w h = record {
   a = h.a;
   b = h.b;

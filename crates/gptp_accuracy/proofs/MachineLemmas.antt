@@ -74,7 +74,7 @@ unlike_back s rate true unlike within e f low high g =
 
 -- what `behind` is made of
 pub record IsMade (p : Params) (s : Sums) (l : WayLink) (interval rate_error hop rates wait : ℕ)
-  (steady rate : ℤ) : Type 0
+    (steady rate : ℤ) : Type 0
   where
     pub interval_is : interval ≡ interval_of (back w8 p.pdelay)
     pub rate_error_is : rate_error ≡ ceil_div (2202000000000 * (l.most - l.least)) interval + 4

@@ -73,7 +73,7 @@ module _ (n : NetworkState) (network : HasOneEach n) where
         let same = one_wire clock parent.own_port k.least k.most l.least l.most one.delays other.delays in
         let least : k.least ≡ l.least =
         one.delays.least_is ∙ ap (λ (w : LinkSpec). (link_after events w).bounds.min) same
-          ∙ sym other.delays.least_is in
+        ∙ sym other.delays.least_is in
         let most : k.most ≡ l.most =
         one.delays.most_is ∙ ap (λ (w : LinkSpec). (link_after events w).bounds.max) same ∙ sym other.delays.most_is in
         let drift : k.drift ≡ l.drift = one_drift clock k.drift l.drift one.drift other.drift in

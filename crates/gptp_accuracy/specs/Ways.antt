@@ -38,7 +38,7 @@ pub record HasDelays (n : NetworkState) (events : List Timed) (clock port least 
 
 -- the last link of the way to a system: it is at the own port by which the system follows its parent
 pub record IsLinkTo (n : NetworkState) (events : List Timed) (clock : ℕ) (parent : ParentLink)
-  (l : WayLink) : Type 0 where
+    (l : WayLink) : Type 0 where
   pub delays : HasDelays n events clock parent.own_port l.least l.most
   pub drift : HasDrift n clock l.drift
 

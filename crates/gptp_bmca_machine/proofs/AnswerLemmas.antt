@@ -16,7 +16,7 @@ use Rattle.gptp_bmca_machine.proofs.StageLemmas.{enters, begins, tells, keeps, h
 use Rattle.gptp_bmca_machine.proofs.HearingLemmas.{mid_stays, mid_mine, final_taken, mid_on, final_kept}
 
 module _ (says : Spelling) (k : Wiring) (touch : StationTouch) (w w' : MachineState)
-  (call : StationAnswers says touch w w') (ends : Ends k w)
+    (call : StationAnswers says touch w w') (ends : Ends k w)
     (ends' : Ends k w') (since : k.from ≤ w.time) (lasts : StaysOn k w w') where
   -- whatever stands at the teller's place has settled
   abbrev Settled : MachineState → Type 0
@@ -126,7 +126,7 @@ module _ (says : Spelling) (k : Wiring) (touch : StationTouch) (w w' : MachineSt
   TellerStep pv' news = (v : Station) × (pv : Port) × (slice_get w.stations k.teller_place ≡ Some v)
       × (slice_get v.ports k.teller_port ≡ Some pv)
       × ((TellerIsReady k v pv × ((pv'.announce ≡ pv.announce)
-        ⊎ ((f : AnnounceFrame) × In f news × FrameSaysAnnounce says f)))
+      ⊎ ((f : AnnounceFrame) × In f news × FrameSaysAnnounce says f)))
       ⊎ ((TellerIsReady k v pv → ⊥) × ((f : AnnounceFrame) × In f news × FrameSaysAnnounce says f)))
 
   teller_step : Settled w' → (v' : Station) (pv' : Port) (l l' : Lane) → pv'.held ≢ Disabled

@@ -31,7 +31,7 @@ known_clock : (k : NetworkSetting) (now : ℕ) (s : Station) → IsLiveStationSt
 known_clock k now s is = In-clocks k.graph (station_system s) is.known
 
 module _ (k : NetworkSetting) (now : ℕ) (s : Station) (is : IsLiveStationState k now s)
-  (clean : StationIsClean k s) where
+    (clean : StationIsClean k s) where
   -- what follows a port goes on what the port received, which was sent a turn earlier at most
   follows_clean : (c : ℕ) (p : FollowsPort s) (n : ℕ) (a : Announce) → IsOwn s n a → k.start + c * turn k ≤ now
       → Clean k.graph (suc c) s.clock a.path ⊎ Whole k.graph s.clock a
@@ -123,7 +123,7 @@ module _ (says : Spelling) (k : NetworkSetting) (s s' : Station) (touch : Statio
 
       -- an Announce that entered after c turns
       sent_good : (f : AnnounceFrame) (a : Announce) (c : ℕ) → In f step.news → says f.octets a
-        → k.start + c * turn k ≤ now
+          → k.start + c * turn k ≤ now
           → Good k.graph (suc c) l'.from a
       sent_good f a c new said late =
           let (x, x_in, from, octets) = step.sent f new in

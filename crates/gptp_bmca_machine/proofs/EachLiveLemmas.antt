@@ -10,7 +10,7 @@ use Rattle.gptp_bmca_machine.specs.HeldLaws.{OfEachLive}
 module _ (says : Spelling) (P : ℕ → Station → Type 0)
     (waits : (now later : ℕ) (s : Station) → now ≤ later → P now s → P later s)
     (answers : (touch : StationTouch) (now : ℕ) (s s' : Station) (sends : List Send)
-      → StationReacts says s touch now s' sends
+    → StationReacts says s touch now s' sends
     → P now s → P now s') where
   -- a system answers
   called : (touch : StationTouch) (w w' : MachineState) → StationAnswers says touch w w' → OfEachLive P w

@@ -273,7 +273,7 @@ module _ (n : Network) (net : IsSettlingNetwork n) (w : MachineState) (calm : Ca
 
     -- the port that hears is on where it must be
     pub hears_on : (says : Spelling) (w' : MachineState) → EarlyPortsHear says n w w'
-      → HearsOn says (wiring n d best v p u q) w
+        → HearsOn says (wiring n d best v p u q) w
     hears_on says w' waking l f fs a s pu late lane_at frames due said at port =
         elim (dec_le (n.ready (port_of u (suc q))) w.time) [
           | yes ready ↦ capable_at u q (port_of v (suc p)) s pu to_known back at port ready

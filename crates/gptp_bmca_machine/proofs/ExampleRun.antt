@@ -60,7 +60,7 @@ module _ (now : ℕ) (second : Station) where
       own : (x : Send) (a : Announce) → x ≡ sent → a ≡ announce
           → IsOwn (first_system (4 + now)) x.port a × IsMasterAt (first_system (4 + now)) x.port
       own x a e f = subst (λ (y : Send). IsOwn (first_system (4 + now)) y.port a
-        × IsMasterAt (first_system (4 + now)) y.port) (sym e)
+          × IsMasterAt (first_system (4 + now)) y.port) (sym e)
           (subst (λ b. IsOwn (first_system (4 + now)) 1 b × IsMasterAt (first_system (4 + now)) 1) (sym f) (
             record { root = refl; steps = refl; source = refl; log = own_log; path = refl },
             (0, first_port (4 + now), refl, refl, refl),
@@ -134,7 +134,7 @@ module _ (now : ℕ) (second : Station) where
 hears : (now timer : ℕ) (second : Station) (q : Port) → second.live ≡ true → second.clock ≡ 2
     → second.ports ≡ q ∷ [] → q.interval ≡ 4 → q.held ≢ Disabled → Replaces 2 1 announce q.held
     → MachineSteps example_says (example_state now timer second (example_frame now ∷ []))
-      (example_state now timer (following now) [])
+    (example_state now timer (following now) [])
 hears now timer second q live clock ports interval on replaces = inr (inl (record {
   j = 0;
   l = lane_out (example_frame now ∷ []);
@@ -265,12 +265,12 @@ one_in_flight now due left soon f (inr none) = absurd none
 -- the first_system system announces itself, with the times worked out
 tells_at : (now timer due : ℕ) (second : Station) → timer ≡ 4 + now → due ≡ 1 + now
     → MachineSteps example_says (example_state now now second [])
-      (example_state now timer second (example_frame due ∷ []))
+    (example_state now timer second (example_frame due ∷ []))
 tells_at now timer due second e f =
     subst (λ t. MachineSteps example_says (example_state now now second [])
-      (example_state now t second (example_frame due ∷ []))) (sym e)
+    (example_state now t second (example_frame due ∷ []))) (sym e)
     (subst (λ t. MachineSteps example_says (example_state now now second [])
-      (example_state now (4 + now) second (example_frame t ∷ []))) (sym f)
+    (example_state now (4 + now) second (example_frame t ∷ []))) (sym f)
     (tells now second))
 
 -- any number of turns is a run
@@ -299,7 +299,7 @@ turns_run at (suc count) = (
             (record { held = Received (heard_at at); log = pos 2; interval = 4; announce = 4 }) refl refl refl refl
             (λ e. absurd cc) (inl refl),
         subst (λ t. IsRun example_says network (example_state (4 + at) t (following (4 + at)) [])
-          (turns (4 + at) count))
+            (turns (4 + at) count))
             (let same : 3 + (4 + at) ≡ 7 + at = omega arith in same) (turns_run (4 + at) count),
       ),
     ),
@@ -326,7 +326,7 @@ example_runs = (
             (one_in_flight 2 2 (omega arith) (omega arith)),
         nothing_lapses 2 5 lone_system (example_frame 2 ∷ []) refl,
         hears 2 5 lone_system (record { held = Mine second_identity 0; log = pos 2; interval = 4; announce = 4 }) refl
-          refl
+            refl
             refl refl (mine_disabled second_identity 0) (inl (omega arith)),
         turns_run 2 10,
       ),

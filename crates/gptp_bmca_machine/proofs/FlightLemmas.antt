@@ -32,7 +32,7 @@ module _ (says : Spelling) (n : Network) (net : IsSettlingNetwork n) where
   module _ (near : AllAreNear n.graph) where
     -- one system answers
     called : (touch : StationTouch) (w w' : MachineState) → StationAnswers says touch w w' → Calm n w'
-      → Invariant says n w'
+        → Invariant says n w'
         → FlightNamesBest says n w → FlightNamesBest says n w'
     called touch w w' call calm' invariant' flight j l' f a best at flies said joins late is_best =
         let (l, stood, step) = call.lanes j l' at in
@@ -75,7 +75,7 @@ module _ (says : Spelling) (n : Network) (net : IsSettlingNetwork n) where
     ]
 
     pub flight_kept : (w w' : MachineState) → Calm n w' → Invariant says n w' → MachineSteps says w w'
-      → FlightNamesBest says n w
+        → FlightNamesBest says n w
         → FlightNamesBest says n w'
     flight_kept w w' calm' invariant' (inl wait) flight =
         subst (FlightNamesBest says n) (sym wait.is) (λ j l f a best. flight j l f a best)

@@ -178,7 +178,7 @@ module _ (says : Spelling) (n : Network) (net : IsSettlingNetwork n) where
   module _ (w w' : MachineState) (calm : Calm n w) (calm' : Calm n w') (nothing : NothingNearLapses n w)
       (waking : EarlyPortsHear says n w w')
       (step : MachineSteps says w w') (time : w.time ≤ w'.time) (sound' : RunIsSound n w')
-        (invariant : Invariant says n w) where
+      (invariant : Invariant says n w) where
     -- one level is kept, where those below it are
     level_kept : (d : ℕ) → ((e : ℕ) → e < d → LevelSettles says n e w') → LevelSettles says n d w'
     level_kept d below best v p u q near leads =
@@ -224,7 +224,7 @@ module _ (says : Spelling) (n : Network) (net : IsSettlingNetwork n) where
   clean_sound w calm traces clean late i s place r at live holds =
       let came =
       held_whole says (network_setting n) n.reach w net.paths calm.facts traces
-        (omega arith) i s place r at live holds in
+      (omega arith) i s place r at live holds in
       came_fits n.graph s.clock (suc place) r net.graph
       (record { from = came.from; joins = came.joins; source = came.source; sound = inr came.whole })
 

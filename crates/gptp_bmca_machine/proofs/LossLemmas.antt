@@ -309,7 +309,7 @@ loss_fits says n n' w w' net loss = record {
 -- ---- a loss that moves nothing
 
 module _ (says : Spelling) (n n' : Network) (net : IsSettlingNetwork n) (net' : IsSettlingNetwork n')
-  (w w' : MachineState)
+    (w w' : MachineState)
     (moved : NothingMoved says n n' w w') (calm' : Calm n' w') where
   rests : IsResting says n w
   rests = moved.loss.rests

@@ -31,7 +31,7 @@ use Rattle.gptp_bmca_machine.proofs.NewsLemmas.{rest_settles, rest_goes_on, firs
 use Rattle.gptp_bmca_machine.proofs.RestingLemmas.{all_choose, by_then_at, best_clock, nearer_now, leads_before, stage_on}
 
 module _ (says : Spelling) (n n' : Network) (net : IsSettlingNetwork n) (net' : IsSettlingNetwork n')
-  (w w' : MachineState)
+    (w w' : MachineState)
     (k : ReactsAtRest says n n' w w') (calm' : Calm n' w') where
   rests : IsResting says n w
   rests = k.rests

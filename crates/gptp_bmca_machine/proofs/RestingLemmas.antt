@@ -34,7 +34,7 @@ use Rattle.gptp_bmca_machine.proofs.NewsLemmas.{rest_settles, rest_goes_on}
 -- ---- rest is reached
 
 module _ (says : Spelling) (n : Network) (net : IsSettlingNetwork n) (w : MachineState) (calm : Calm n w)
-  (invariant : Invariant says n w)
+    (invariant : Invariant says n w)
     (late : settled_from n ≤ w.time) where
   pub by_then_at : (e : ℕ) → suc e ≤ n.reach → since n e ≤ w.time
   by_then_at e h =
@@ -194,7 +194,7 @@ module _ (g g' : Snapshot) (wf : IsWellFormed g) (wf' : IsWellFormed g') (news :
 -- ---- a run from rest
 
 module _ (says : Spelling) (n n' : Network) (net : IsSettlingNetwork n) (net' : IsSettlingNetwork n')
-  (w w' : MachineState)
+    (w w' : MachineState)
     (rests : IsResting says n w) (news : HasNews n.graph n'.graph) (same : SameWiring n n') where
   -- a link that was there is at its last stage
   pub stage_on : (v p u q : ℕ) → Joins n.graph (port_of v (suc p)) (port_of u (suc q)) → StandsAsBefore n w w' v p u
@@ -243,7 +243,7 @@ module _ (says : Spelling) (n n' : Network) (net : IsSettlingNetwork n) (net' : 
           }
 
 module _ (says : Spelling) (n n' : Network) (net : IsSettlingNetwork n) (net' : IsSettlingNetwork n')
-  (w w' : MachineState)
+    (w w' : MachineState)
     (finds : NewsAtRest says n n' w w') where
   levels : (d : ℕ) → LevelSettles says n' d w'
   levels d best v p u q close leads = elim (finds.links v p u q leads.joins) [

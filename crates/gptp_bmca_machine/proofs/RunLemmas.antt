@@ -14,7 +14,7 @@ use Rattle.gptp_bmca_machine.proofs.LevelLemmas.{no_early_ports, clean_sound, in
 use Rattle.gptp_bmca_machine.proofs.SettledLemmas.{network_settles}
 
 module _ (says : Spelling) (n : Network) (net : IsSettlingNetwork n) (cleans : BecomesClean n)
-  (ready : ClaimsWhenReady n) where
+    (ready : ClaimsWhenReady n) where
   -- the first state of a run is calm
   first_calm : (w : MachineState) (ws : List MachineState) → IsRun says n w ws → Calm n w
   first_calm w [] run = run

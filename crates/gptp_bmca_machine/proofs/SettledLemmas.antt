@@ -36,7 +36,7 @@ pub since_grows : (n : Network) (d e : ℕ) → d ≤ e → since n d ≤ since 
 since_grows n d e h = let more : d * n.step ≤ e * n.step = mul-le-mul_right n.step h in omega arith
 
 module _ (says : Spelling) (n : Network) (net : IsSettlingNetwork n) (w : MachineState) (calm : Calm n w)
-  (invariant : Invariant says n w)
+    (invariant : Invariant says n w)
     (i : ℕ) (s : Station) (at : slice_get w.stations i ≡ Some s) (live : s.live ≡ true) (d : ℕ)
     (here : IsDistance n.graph s.clock d) (near : d < 255) where
   stands : slice_get w.stations (n.place s.clock) ≡ Some s
@@ -429,7 +429,7 @@ module _ (says : Spelling) (n : Network) (net : IsSettlingNetwork n) (w : Machin
 
 -- by the end each distance has settled, and so have the Passive ends
 module _ (n : Network) (net : IsSettlingNetwork n) (w : MachineState) (d : ℕ) (s : Station)
-  (here : IsDistance n.graph s.clock d)
+    (here : IsDistance n.graph s.clock d)
     (late : settled_from n ≤ w.time) where
   by_then : (e : ℕ) → suc e ≤ n.reach → since n e ≤ w.time
   by_then e h =

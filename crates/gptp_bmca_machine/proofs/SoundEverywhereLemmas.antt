@@ -296,7 +296,7 @@ everywhere_sound says n w net calm traces gone late = record {
   stations = λ i s at live place r holds.
       let came =
       held_whole says (network_setting n) n.reach w net.paths calm.facts traces
-        (omega (arith, late)) i s place r at live
+      (omega (arith, late)) i s place r at live
       holds in
       record { from = came.from; joins = came.joins; source = came.source; sound = inr came.whole };
 }

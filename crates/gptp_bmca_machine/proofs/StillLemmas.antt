@@ -183,7 +183,7 @@ module _ (g : Snapshot) (s : Station) (clear : IsClear g s) (best : System)
       omega (arith, length-append port.r.said.path (s.clock ∷ [])))
 
 module _ (g : Snapshot) (n : Network) (wf : IsWellFormed n.graph) (left : IsWhatIsLeft g n) (w : MachineState)
-  (kept : IsAfterLoss n w)
+    (kept : IsAfterLoss n w)
     (all : ReceivedFits g w) where
   calm : Calm n w
   calm = kept.calm
@@ -516,7 +516,7 @@ module _ (says : Spelling) (g : Snapshot) (n : Network) (wf : IsWellFormed n.gra
 
   -- each step keeps that
   module _ (w w' : MachineState) (kept : IsAfterLoss n w) (kept' : IsAfterLoss n w') (all : ReceivedFits g w)
-    (all' : ReceivedFits g w')
+      (all' : ReceivedFits g w')
       (step : MachineSteps says w w') (levels : (d : ℕ) → StillSettles says g n d w) where
     level_kept : (d : ℕ) → ((e : ℕ) → e < d → StillSettles says g n e w') → StillSettles says g n d w'
     level_kept d below best v p u q near leads =
@@ -583,7 +583,7 @@ still_stays says n d best v p u q announce held fs stays = record {
     }
 
 module _ (says : Spelling) (n n' : Network) (net : IsSettlingNetwork n) (wf : IsWellFormed n'.graph)
-  (w w' : MachineState)
+    (w w' : MachineState)
     (loss : IsLoss says n n' w w') (kept' : IsAfterLoss n' w') where
   all : EverythingFits says n.graph n' w'
   all = loss_fits says n n' w w' net loss

@@ -62,7 +62,7 @@ same_root g v a b wf (best, is_best, root) (other, is_other, other_root) =
     root ∙ ap (λ (x : System). x.identity) (IsBest-unique g v best other wf is_best is_other) ∙ sym other_root
 
 module _ (says : Spelling) (says_sync : SaysSync) (n : Network) (net : IsSettlingNetwork n) (w w' : MachineState)
-  (calm : Calm n w)
+    (calm : Calm n w)
     (calm' : Calm n w') (facts : HaveSyncTimers n w) (facts' : HaveSyncTimers n w') (time : w'.time ≡ w.time)
     (steps : StationsStep says_sync n w w') (invariant : Invariant says n w) (invariant' : Invariant says n w')
     (bare : n.bare ≤ since n 0) where

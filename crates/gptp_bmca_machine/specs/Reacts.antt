@@ -32,7 +32,7 @@ pub record BecomesMaster (says : Spelling) (c n now root steps : ℕ) (mid : Hel
 
 -- one port's part in the answer: what the touch leaves it with, and what it holds once roles are selected
 pub record PortStep (says : Spelling) (c n now : ℕ) (touch : StationTouch) (root steps : ℕ) (q q' : Port)
-  (sends : List Send)
+    (sends : List Send)
     : Type 0 where
   pub interval : q'.interval ≡ q.interval
   pub mid : Held
@@ -55,7 +55,7 @@ IsMasterAt s n = (i : ℕ) × (q : Port) × (n ≡ suc i) × (slice_get s.ports 
 -- The system s answers to the touch by becoming s' and sending these. Each port makes its step, and each Announce
 -- sent is the system's own, from a master port.
 pub record StationReacts (says : Spelling) (s : Station) (touch : StationTouch) (now : ℕ) (s' : Station)
-  (sends : List Send)
+    (sends : List Send)
     : Type 0 where
   pub clock : s'.clock ≡ s.clock
   pub live : s'.live ≡ s.live

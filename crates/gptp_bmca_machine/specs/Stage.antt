@@ -61,7 +61,7 @@ FinalTail says k before (f ∷ fs) =
 -- The port holds a final Announce, every Announce in flight is final, and the next one comes in time: the teller's
 -- timer is due by then, or a frame in flight says it.
 pub record FinalAnnounceStays (says : Spelling) (k : Wiring) (announce : ℕ) (held : Held)
-  (fs : List AnnounceFrame) : Type 0 where
+    (fs : List AnnounceFrame) : Type 0 where
   pub what : Reception
   pub holds : held ≡ Received what
   pub final : IsFinal k what.said

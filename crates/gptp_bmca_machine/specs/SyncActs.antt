@@ -42,14 +42,14 @@ IsFollowed s i id = (r : Reception) → HoldsAt s i r → r.said.source ≡ id.s
 -- What a frame is to a system that goes on following over its port at place i, and hears it there: a Sync that is
 -- followed is kept, the Follow_Up of the one that is kept is heard, and nothing but such a Sync changes what is kept.
 pub record HearsFollowedSync (says_sync : SaysSync) (n : Network) (now i : ℕ) (octets : List ℕ)
-  (s s' : Station) : Type 0 where
+    (s s' : Station) : Type 0 where
   pub sync : (id : SyncId) → says_sync octets (Sync id) → IsFollowed s i id → s'.kept ≡ Some id
   pub follow_up : (id : SyncId) → says_sync octets (FollowUp id) → s.kept ≡ Some id → FollowUpIsHeard n now s'
   pub other : ((id : SyncId) → says_sync octets (Sync id) → IsFollowed s i id → ⊥) → s'.kept ≡ s.kept
 
 -- a frame arrives: at the slave port it is heard, at any other what is kept stays
 pub record SyncArrives (says : Spelling) (says_sync : SaysSync) (n : Network) (w w' : MachineState)
-  (act : Arrives says w w')
+    (act : Arrives says w w')
     : Type 0 where
   pub timers : TimerStep says_sync n act.mid w' act.call.s act.call.s'
   pub hears : (i : ℕ) → act.call.s.slave ≡ Some (suc i) → act.l.to.port ≡ suc i → FollowsOn act.call.s act.call.s'

@@ -47,7 +47,7 @@ pub record LeavesHeld (c n : ℕ) (a : Announce) (held mid : Held) : Type 0 wher
 abbrev pub HeldInTouch : ℕ → ℕ → StationTouch → ℕ → Held → Held → Type 0
 HeldInTouch c n (Hear m a) now held mid =
     ((n ≡ m) × (held ≢ Disabled) × (TakesAnnounce c n a now held mid ⊎ LeavesHeld c n a held mid))
-      ⊎ ((n ≢ m) × (mid ≡ held))
+    ⊎ ((n ≢ m) × (mid ≡ held))
 HeldInTouch c n (Tick m) now held mid = mid ≡ held
 HeldInTouch c n (Grow m) now held mid = ((n ≡ m) × (mid ≡ Aged)) ⊎ ((n ≢ m) × (mid ≡ held))
 HeldInTouch c n (Enable m) now held mid = ((n ≡ m) × (held ≡ Disabled) × (mid ≡ Aged)) ⊎ ((n ≢ m) × (mid ≡ held))

@@ -178,7 +178,7 @@ module _ (text : List ℕ) (version : ℕ) (is_version : IsVersion version) wher
             readable = readable;
             fits = subst (FitsHere version (ends_far before))
                 (one_form has.form (spelled_line entry) has.words (entry_words version entry readable)
-                  (sym has.is ∙ is))
+                (sym has.is ∙ is))
                 has.fits;
             is = is;
             order = out;

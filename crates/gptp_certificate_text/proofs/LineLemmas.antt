@@ -189,7 +189,7 @@ misspelled version after_far line form (Err e) words fits is fault none = inr (
   record { form = form; words = words; fits = fits; is = is },
   λ entry readable same.
       none entry readable (one_form (spelled_line entry) form (entry_words version entry readable) words
-        (sym same ∙ is)),
+      (sym same ∙ is)),
 )
 
 -- a line with no words of any form

@@ -75,7 +75,7 @@ last_entry line = last_of (entries.system_entry line) (map (entries.PortEntry li
 
 -- one line more, in order
 pub record Appends (before : List entries.LineKey) (entry : entries.LineKey)
-  (after : List entries.LineKey) : Type 0 where
+    (after : List entries.LineKey) : Type 0 where
   pub is : after ≡ before ++ entry ∷ []
   pub order : entries.StandInOrder after
 

@@ -211,7 +211,7 @@ module _ (g : Snapshot) (wf : IsWellFormed g) (rising : IsRising (clocks g)) (li
   }
     where
       numbers_rise : (s : System) (line : SystemLine) → IsChosenLine g s.clock s.ports line → (far : Bool)
-        → line.far ≡ far
+          → line.far ≡ far
           → IsRising (port_numbers line)
       numbers_rise s line is true far =
           subst (λ (ports : List PortLine). IsRising (map (λ (port : PortLine). port.number) ports))

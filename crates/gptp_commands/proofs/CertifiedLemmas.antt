@@ -72,7 +72,7 @@ module _ (options : RunOptions) (input : List ℕ) (d : DocumentState) (at : Opt
         → QuestionText (Choice at) input certificate Done
     right_chosen certificate (stated, right, is_certificate, lines) =
         in_size document_limit (questions.AnswersQuestionInput (Choice at))
-          (RefusesFault TooMany) input certificate Done
+        (RefusesFault TooMany) input certificate Done
         asks.size
         (inl (
           d,

@@ -56,11 +56,11 @@ words_of_parts (x ∷ xs) text rest parts some front back =
 -- a text that doesn't begin with a blank begins with the word before its first blank
 words_front : (text : List ℕ) → 0 < length text → 0 < position_or_len is_space_or_tab text
     → words text ≡ take (position_or_len is_space_or_tab text) text ∷ words
-      (drop (position_or_len is_space_or_tab text) text)
+    (drop (position_or_len is_space_or_tab text) text)
 words_front text some long =
     let split = splits_at is_space_or_tab text in
     words_of_parts (take (position_or_len is_space_or_tab text) text) text
-      (drop (position_or_len is_space_or_tab text) text)
+    (drop (position_or_len is_space_or_tab text) text)
     split.parts
     (grind (arith, common_steps)) split.front split.back
 
@@ -72,7 +72,7 @@ pub words_found : (text behind word rest : List ℕ) → behind ≡ drop (prefix
     → words text ≡ word ∷ words rest
 words_found text behind word rest behind-is some word-is rest-is =
     let long : 0 < position_or_len is_space_or_tab behind = rw behind-is
-        (word_behind_blanks text (rw behind-is at some)) in
+    (word_behind_blanks text (rw behind-is at some)) in
     words_behind_blanks text ∙ rw (← behind-is, word-is, rest-is) (words_front behind some long)
 
 pub words_absent : (text : List ℕ) → drop (prefix_len is_space_or_tab text) text ≡ [] → words text ≡ []

@@ -84,7 +84,7 @@ clock_named g wf root clock is s live same =
 
 module _ (g : Snapshot) (wf : IsWellFormed g) (ids : List ℕ) (ranked : AreByRank g ids) (rank root : ℕ)
     (at : slice_get ids rank ≡ Some root) (found : List (Option Distance))
-      (so_far : ComponentsAreFound g ids rank found) where
+    (so_far : ComponentsAreFound g ids rank found) where
   -- the system of this rank
   own : (s : System) × In s g.systems × (s.identity ≡ root)
   own = ranked.only root (In-slice_get root ids rank at)

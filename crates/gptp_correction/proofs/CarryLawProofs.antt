@@ -54,7 +54,7 @@ carry_keeps_time hops left came last e w =
     let correction = correction_is hops left came w last (omega arith) in
     let link : scaled_by (rate_at hops last) (link_time_at hops last) ≡ came last -ℤ left last =
     rw zero_rate (rate_zero_is_identity.scaled (link_time_at hops last))
-      ∙ link_is hops left came w last (omega arith) in
+    ∙ link_is hops left came w last (omega arith) in
     carry_of-last (left 0) hops last e ∙ arrives (left 0) (left last) (came last) correction link
   where
     arrives : {a b : ℤ} (x y z : ℤ) → a ≡ y -ℤ x → b ≡ z -ℤ y → (x +ℤ a) +ℤ b ≡ z

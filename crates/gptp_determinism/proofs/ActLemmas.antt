@@ -222,7 +222,7 @@ module _ {F : Type 0} (answers : Bounds → ℕ → F → Option ℕ → F → T
       quiet_once ds es done said v u k.0 l.0
       (expires_once k.1.place timer w v u ds es is both k.1.so
       (system_too number w (λ place station. TimerRunsOut place timer w ds v)
-        (λ place station. TimerRunsOut place timer w es u)
+      (λ place station. TimerRunsOut place timer w es u)
       is.clocks k.1 l.1))
   acts_drawn_once (Changing c) w v u ds es done said is both k l =
       quiet_once ds es done said v u k.0 l.0

@@ -64,7 +64,7 @@ module _ (n : NetworkState) (events : List Timed) (w : WorldState) (so : StandsA
       let (v, member, is) = passes (λ (x : LinkSpec). same_port x.a port || same_port x.b port) n.links taken in
       let (place, there) = slice_get-In v n.links member in
       let (channel, here, same) = alike channel_wire
-          (link_after events) w.net.channels n.links so.links place v there in
+      (link_after events) w.net.channels n.links so.links place v there in
       let keeps = after_keeps events v in
       let a : channel.a ≡ v.a = ap (λ (x : LinkSpec). x.a) same ∙ keeps.a in
       let b : channel.b ≡ v.b = ap (λ (x : LinkSpec). x.b) same ∙ keeps.b in

@@ -56,7 +56,7 @@ module _ (t u : SystemState) (xs ys : List Sending) where
   selects_once : (now : ℕ) (s : SystemState) → Selects now s t xs → Selects now s u ys → Same t u xs ys
   selects_once now s k l =
       let same = one_least (system_vector s.identity ∷ path_vectors s.held) k.vector l.vector k.is_chosen
-          l.is_chosen in (
+      l.is_chosen in (
         k.state ∙ ap (λ (v : Vector). choosing v now s) same ∙ sym l.state,
         k.sends_are
             ∙ ap (λ (v : Vector). announcements (clock s) v.root v.steps 1 (fresh_ports v s) s.ports) same

@@ -181,7 +181,7 @@ expires_ready : (timer : Timer) (now : ℕ) (s s' : SystemState) (sends : List S
 expires_ready (timers.Announce p) now s s' sends ready placed k =
     subst IsReady (sym k.state)
     (port_ready p (announced_again now) s (λ q is.
-      record { log_interval = is.log_interval; waiting = is.waiting }) ready)
+    record { log_interval = is.log_interval; waiting = is.waiting }) ready)
 expires_ready (timers.Age p) now s s' sends ready placed k =
     selects_ready now (aged_at p now s) s' sends (aged_ready p now s ready) placed k
 expires_ready (timers.Pdelay p) now s s' sends ready placed k =

@@ -80,7 +80,7 @@ module _ (d : DocumentState) (once : RunsEndOnce d) where
       → IsOutcome d t number p b → a ≡ b
   outcome_once t number p a b k l =
       let runs = each_once (CaseRunEnds d t p) (run_once t p) _ (k.first ∷ k.others)
-          (l.first ∷ l.others) k.runs l.runs in
+      (l.first ∷ l.others) k.runs l.runs in
       let first : k.first ≡ l.first = cc in
       let others : k.others ≡ l.others = cc in
       let numbers : a.number ≡ b.number = k.number_is ∙ sym l.number_is in

@@ -71,7 +71,7 @@ module _ (d : DocumentState) (t : Times) (p : Planned) where
     first = tried.first;
     others = tried.others ++ ends ∷ [];
     runs = subst (λ ns. Each (CaseRunEnds d t p) ns (tried.first ∷ tried.others ++ ends ∷ []))
-      (sym (range_with_one count))
+        (sym (range_with_one count))
         (each_more (CaseRunEnds d t p) (range_with_len 0 count) (tried.first ∷ tried.others) count ends tried.runs run);
     down_is = down_is ∙ ap (λ e. greatest_of_two e (of_one ends.0.stretch)) tried.down_is
         ∙ sym (greatest_more (of_one tried.first.0.stretch) (downs tried.others) ends.0.stretch)

@@ -245,7 +245,7 @@ module _ (s one t : ℕ → Option Flight) (lane : Lane) (key : Key) (f : Flight
       (by (s lane.tail.place)
       (last-all s (λ k. IsSome (s k)) lane.tail.place lane.count lane.head.place some chained.tail chained.there)) where
         by : (o : Option Flight) → IsSome o → next_at
-          (λ j. option_map (with_next_flight key) o) lane.tail.place ≡ key.place
+            (λ j. option_map (with_next_flight key) o) lane.tail.place ≡ key.place
         by None some = absurd (vacant_has_none None some refl)
         by (Some e) some = refl
 
@@ -341,7 +341,7 @@ newest-rest e f fs = refl
 -- The frame at the head of a direction is gone.
 module _ (s t : ℕ → Option Flight) (lane : Lane) (f : Flight) (found : s lane.head.place ≡ Some f)
     (same : (k : ℕ) → k ≢ lane.head.place → t k ≡ s k) (some : 0 < lane.count)
-      (chained : DirectionIsChained s lane) where
+    (chained : DirectionIsChained s lane) where
   abbrev shorter : Lane
   shorter = without_first_flight t f.next lane
 
@@ -557,7 +557,7 @@ linked-roomy s t one other more most h kept fits =
     } in
     subst
     (λ (u : Slab Flight). FlightsAreLinked u (with_limit (one.count + more) one)
-      (with_limit (other.count + most) other))
+    (with_limit (other.count + most) other))
     (sym kept) same
 
 -- ---- one change after another

@@ -113,7 +113,7 @@ pub few_lossies : (d : DocumentState) (ws : List LinkSpec) → length d.events �
     → length (lossies_of d ws) ≤ length ws * 4097
 few_lossies d ws few =
     few_flat (λ (w : LinkSpec). stretches w.bounds.link 0 (course_of d.events w)) 4097 ws
-      (λ w member. few_of_link d w few)
+    (λ w member. few_of_link d w few)
 
 pub few_times : (at : ℕ) (ts : List Timed) → length (times_from at ts) ≤ suc (length ts)
 few_times at [] = omega arith

@@ -60,7 +60,7 @@ stands_first n cables g are first = record {
   edges = first.edges ∙ ap (map (edge_of g.nodes.items)) are
       ∙ ap (λ os. map (edge_of os) (map cable_of n.links)) first.nodes
       ∙ map_map cable_of (edge_of (map (λ (m : SystemSpec). first_node m.identity) n.systems)) (edge_after n [])
-        (λ w. refl)
+      (λ w. refl)
       n.links;
 }
 

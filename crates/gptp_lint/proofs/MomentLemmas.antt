@@ -94,7 +94,7 @@ module _ (n : NetworkState) (network : IsNetwork n) (events : List Timed) (graph
 -- the moment of a time
 pub is_moment : (d : DocumentState) (network : IsNetwork d.network) (done : List Timed) (graph : Graph) (at : ℕ)
     (m : Moment) → Stands d.network done graph → IsMomentOf graph at m → events_by at d.events ≡ done
-      → IsBestsMoment d m
+    → IsBestsMoment d m
 is_moment d network done graph at m stands of now =
     let (g, is, bests) = bests_then d.network network done graph stands of.bests.octets m.bests.items of.bests in
     record {

@@ -78,7 +78,7 @@ module _ {X : Type 0} (Told : ℕ → List Standing → X)
     where
       by : (same : Bool)
           → Told loss (s ∷ (cond same [] (course_at_time at s ∷ []) ++ course_from
-            (acted u.act (course_at_time u.at s)) us))
+          (acted u.act (course_at_time u.at s)) us))
           ≡ Told loss (s ∷ course_from (acted u.act (course_at_time u.at s)) us)
       by true = refl
       by false = repeats loss at s (course_from (acted u.act (course_at_time u.at s)) us)
@@ -104,11 +104,11 @@ module _ {X : Type 0} (Told : ℕ → List Standing → X)
       let later = behind t ts order in
       let in_order = order_behind t ts order in
       by at_it (thin (acted t.act (course_at_time t.at s)) ts
-        (still_of c t (course_at_time t.at s) at_it) later in_order)
+      (still_of c t (course_at_time t.at s) at_it) later in_order)
       (thin (course_at_time t.at s) ts at_it later in_order) (is_cable_end c (named t.act)) refl
     where
       by : IsOf c (course_at_time t.at s) → Same (acted t.act (course_at_time t.at s)) ts
-        → Same (course_at_time t.at s) ts
+          → Same (course_at_time t.at s) ts
           → (test : Bool) → is_cable_end c (named t.act) ≡ test
           → Told loss (course_from s (t ∷ ts))
           ≡ Told loss (course_from s (cond test (t ∷ naming c ts) (naming c ts)))

@@ -51,7 +51,7 @@ linked_to n clock is =
 linked_from : (n : NetworkState) (clock : ℕ) → LinksName n clock → is_linked (map cable_of n.links) clock ≡ true
 linked_from n clock (w, among, at) =
     passes_at (λ (c : Cable). is_cable_end c clock) (map cable_of n.links) (cable_of w)
-      (In-map cable_of w n.links among)
+    (In-map cable_of w n.links among)
     (elim at [
       | inl a ↦ or_left (clock == w.a.clock) (clock == w.b.clock) (eq-eqb clock w.a.clock (sym a))
       | inr b ↦ or_right (clock == w.a.clock) (clock == w.b.clock) (eq-eqb clock w.b.clock (sym b))

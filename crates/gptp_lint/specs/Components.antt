@@ -94,7 +94,7 @@ octet_at place identity = slice_index (bytes_high_first 14 identity) place
 abbrev pub are_alike : ℕ → ℕ → Bool
 are_alike a b =
     octet_at 0 a == octet_at 0 b && octet_at 1 a == octet_at 1 b && octet_at 2 a == octet_at 2 b && octet_at 3 a ==
-      octet_at 3 b
+    octet_at 3 b
     && octet_at 4 a == octet_at 4 b
     && octet_at 5 a == octet_at 5 b
 

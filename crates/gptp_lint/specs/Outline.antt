@@ -144,8 +144,10 @@ after_table o row = with_header o row.key (table_context row.key)
 
 -- `[[system]]` begins a member in its line
 abbrev pub opened : Section → ℕ → OutlineState → OutlineState
-opened System line o = record o { context = Some (SystemSpec System (length o.systems));
-    systems = o.systems ++ line ∷ [] }
+opened System line o = record o {
+  context = Some (SystemSpec System (length o.systems));
+  systems = o.systems ++ line ∷ [];
+}
 opened Link line o = record o { context = Some (SystemSpec Link (length o.links)); links = o.links ++ line ∷ [] }
 opened Event line o = record o { context = Some (SystemSpec Event (length o.events)); events = o.events ++ line ∷ [] }
 

@@ -145,7 +145,7 @@ relinked_agrees place w old new es here own only agrees (Arrival link direction)
   where
     by : (link ≡ place) ⊎ (link ≢ place)
         → times_of_item (Arrival link direction) es ≡ arriving direction
-          (slice_get (slice_set w.net.channels place new) link)
+        (slice_get (slice_set w.net.channels place new) link)
     by (inl same) = let there = get-set_same w.net.channels place old new here in rw (same, there) (own direction)
     by (inr apart) =
         only.arrivals link direction apart ∙ agrees (Arrival link direction)
@@ -167,7 +167,7 @@ both_ways place FromB FromB channel frames es es' own others before = own
 -- the frames in flight in one direction of a link become others, and what is pending of them follows
 pub queue_agrees : (place : ℕ) (direction : Direction) (w : WorldState) (channel : Channel) (frames : List Frame)
     (es : List Entry) → slice_get w.net.channels place ≡ Some channel
-      → times_of_item (Arrival place direction) es ≡ dues frames
+    → times_of_item (Arrival place direction) es ≡ dues frames
     → ((i : Item) → same_item i (Arrival place direction) ≡ false → times_of_item i es ≡ times_of_item i w.net.pending)
     → Agrees w
     → Agrees (record w {
@@ -194,12 +194,12 @@ entered_agrees place direction channel now octets (Some delay) w here agrees =
     let sent : Frame = frame at octets in
     let i : Item = Arrival place direction in
     let before : times_of_item i w.net.pending ≡ dues (world_queue direction channel) = agrees i
-        ∙ ap (arriving direction) here in
+    ∙ ap (arriving direction) here in
     let after : times_of_item i (put at i w.net.pending) ≡ dues (world_queue direction channel ++ sent ∷ []) =
     times-put_same i at w.net.pending ∙ ap (λ ts. ts ++ at ∷ []) before
     ∙ sym (map-append (λ (f : Frame). f.due) (world_queue direction channel) (sent ∷ [])) in
     queue_agrees place direction w channel (world_queue direction channel ++ sent ∷ [])
-      (put at i w.net.pending) here after
+    (put at i w.net.pending) here after
     (λ j differ. times-put_other i j at w.net.pending differ) agrees
 
 pub sends_one_agrees : (now : ℕ) (from : PortId) (octets : List ℕ) (draw : Draw) (w : WorldState) (net' : Net)
@@ -235,7 +235,7 @@ calls_agree place input w draws answer w' calls but =
 -- the oldest frame leaves
 pub takes_agree : (place : ℕ) (direction : Direction) (now : ℕ) (octets : List ℕ) (channel : Channel) (w : WorldState)
     (net' : Net) → Agrees w → TakesFrame place direction now octets channel w.net net'
-      → Agrees (record w { net = net' })
+    → Agrees (record w { net = net' })
 takes_agree place direction now octets channel w net' agrees takes =
     let i : Item = Arrival place direction in
     let before : times_of_item i w.net.pending ≡ dues (frame now octets ∷ takes.rest) =

@@ -109,7 +109,7 @@ entered_later now place direction channel octets (Some delay) net fit here lawfu
     let late : now ≤ time = omega arith in
     record {
       links = requeued_fit net.channels place direction
-        (world_queue direction channel ++ frame time octets ∷ []) channel
+          (world_queue direction channel ++ frame time octets ∷ []) channel
           here fit;
       pending = nothing_before-put now time (Arrival place direction) net.pending late;
       due = due_by-put now time (Arrival place direction) net.pending later;

@@ -168,7 +168,7 @@ same_due_agrees place w old new here same agrees (Expiry other timer) = by (same
   where
     by : (other ≡ place) ⊎ (other ≢ place)
         → times_of_item (Expiry other timer) w.net.pending ≡ running timer
-          (slice_get (slice_set w.stations place new) other)
+        (slice_get (slice_set w.stations place new) other)
     by (inl there) =
         let now_here = get-set_same w.stations place old new here in
         rw (there, now_here) (agrees (Expiry place timer) ∙ ap (running timer) here ∙ ap timer_time (sym (same timer)))

@@ -106,7 +106,7 @@ module _ (time : ℕ) where
   due_by-set_due i due es ahead = by (same_times (times_of_item i es) (timer_time due)) refl
     where
       by : (b : Bool) → same_times (times_of_item i es) (timer_time due) ≡ b
-        → due_by time (set_due i due es) ≤ due_by time es
+          → due_by time (set_due i due es) ≤ due_by time es
       by true b = let same : due_by time es ≤ due_by time es = omega arith in rw b same
       by false b = rw b (put_if-step i due es ahead b)
 

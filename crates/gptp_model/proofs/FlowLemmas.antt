@@ -84,7 +84,7 @@ calls_flow place input w draws answer w' flow calls =
 -- the oldest frame leaves
 takes_flow : (place : ℕ) (direction : Direction) (now : ℕ) (octets : List ℕ) (channel : Channel) (w : WorldState)
     (net' : Net) → AllFlow w → TakesFrame place direction now octets channel w.net net'
-      → AllFlow (record w { net = net' })
+    → AllFlow (record w { net = net' })
 takes_flow place direction now octets channel w net' flow takes =
     let flows = flow place direction channel takes.here in
     let front : AreDueInOrder (frame now octets ∷ takes.rest) = subst AreDueInOrder takes.front flows.order in

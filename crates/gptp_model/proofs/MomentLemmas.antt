@@ -84,11 +84,11 @@ times-all P i (e ∷ es) all =
 -- the next is pending at its time, and before that only later
 pub times-next : (es : List Entry) (time : ℕ) (i : Item) → IsNext es time i
     → (front : List ℕ) × (rest : List ℕ) × (times_of_item i es ≡ front ++ time ∷ rest)
-      × AllByRecursion (λ u. time < u) front
+    × AllByRecursion (λ u. time < u) front
 times-next es time i next =
     let same = same_itself i in
     let here : times_of_item i (pending_entry time i ∷ next.after) ≡ time ∷ times_of_item i next.after = rw
-        same refl in (
+    same refl in (
       times_of_item i next.before,
       times_of_item i next.after,
       ap (times_of_item i) next.is ∙ times-append i next.before (pending_entry time i ∷ next.after)

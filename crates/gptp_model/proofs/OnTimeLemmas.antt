@@ -168,7 +168,7 @@ module _ (link : ℕ) (direction : Direction) (octets : List ℕ) (w : WorldStat
       → (k.station.live ≡ true → IsUp k.station.system (receiver direction k.channel).port) → AreFit w.net.channels
       → ((t : Timer) → times_of_item (Expiry k.place t) w.net.pending ≡ timer_time (station_due t k.station))
       → times_of_item (Arrival link direction) w.net.pending ≡ map (λ (f : Frame). f.due)
-        (world_queue direction k.channel)
+      (world_queue direction k.channel)
       → due_by w.time w'.net.pending < due_by w.time w.net.pending
   delivers_due_by steady up fit agree arrivals = by answer k.hears
     where

@@ -151,7 +151,7 @@ pub only_same_count : (place : ℕ) (ps qs : List Port) (es : List Entry) → le
     → OnlyItsTimers place ps es → OnlyItsTimers place qs es
 only_same_count place ps qs es same only timer =
     subst (λ ts. In timer ts ⊎ (times_of_item (Expiry place timer) es ≡ [])) (sym (same_timers 1 ps qs same))
-      (only timer)
+    (only timer)
 
 -- nothing of an item is pending once an entry is taken, if nothing was before
 none_left : (i j : Item) (es : List Entry) → times_of_item j es ≡ [] → times_of_item j (without_first_entry i es) ≡ []
@@ -161,7 +161,7 @@ none_left i j es none = by (same_item j i) refl
     by true same =
         let is : i ≡ j = sym (item_is j i same) in
         subst (λ x. times_of_item j (without_first_entry x es) ≡ []) (sym is)
-          (times-without_first_same j es ∙ ap (drop 1) none)
+        (times-without_first_same j es ∙ ap (drop 1) none)
     by false differ = times-without_first_other i j es differ ∙ none
 
 pub only_without_first : (place : ℕ) (ps : List Port) (i : Item) (es : List Entry) → OnlyItsTimers place ps es

@@ -25,7 +25,7 @@ times-append i [] fs = refl
 times-append i (e ∷ es) fs = by_test (same_item i e.item) refl (times-append i es fs)
   where
     by_test : (t : Bool) → same_item i e.item ≡ t
-      → times_of_item i (es ++ fs) ≡ times_of_item i es ++ times_of_item i fs
+        → times_of_item i (es ++ fs) ≡ times_of_item i es ++ times_of_item i fs
         → times_of_item i ((e ∷ es) ++ fs) ≡ times_of_item i (e ∷ es) ++ times_of_item i fs
     by_test true t ih = rw t (ap (λ ts. e.time ∷ ts) ih)
     by_test false t ih = rw t ih
@@ -41,14 +41,14 @@ pub times-put_other : (i j : Item) (time : ℕ) (es : List Entry) → same_item 
 times-put_other i j time es differ =
     let none : times_of_item j (pending_entry time i ∷ []) ≡ [] = rw differ refl in
     times-append j es (pending_entry time i ∷ []) ∙ ap (λ ts. times_of_item j es ++ ts) none
-      ∙ append-nil (times_of_item j es)
+    ∙ append-nil (times_of_item j es)
 
 pub times-without_same : (i : Item) (es : List Entry) → times_of_item i (without i es) ≡ []
 times-without_same i [] = refl
 times-without_same i (e ∷ es) = by_test (same_item i e.item) refl (times-without_same i es)
   where
     by_test : (t : Bool) → same_item i e.item ≡ t → times_of_item i (without i es) ≡ []
-      → times_of_item i (without i (e ∷ es)) ≡ []
+        → times_of_item i (without i (e ∷ es)) ≡ []
     by_test true t ih = rw t ih
     by_test false t ih = rw t (rw t ih)
 
@@ -69,7 +69,7 @@ times-without_first_same i [] = refl
 times-without_first_same i (e ∷ es) = by_test (same_item i e.item) refl (times-without_first_same i es)
   where
     by_test : (t : Bool) → same_item i e.item ≡ t
-      → times_of_item i (without_first_entry i es) ≡ drop 1 (times_of_item i es)
+        → times_of_item i (without_first_entry i es) ≡ drop 1 (times_of_item i es)
         → times_of_item i (without_first_entry i (e ∷ es)) ≡ drop 1 (times_of_item i (e ∷ es))
     by_test true t ih = rw t refl
     by_test false t ih = rw t (rw t ih)
@@ -97,7 +97,7 @@ without-none i [] none = refl
 without-none i (e ∷ es) none = by_test (same_item i e.item) refl (without-none i es)
   where
     by_test : (t : Bool) → same_item i e.item ≡ t → (times_of_item i es ≡ [] → without i es ≡ es)
-      → without i (e ∷ es) ≡ e ∷ es
+        → without i (e ∷ es) ≡ e ∷ es
     by_test true t ih = let some : e.time ∷ times_of_item i es ≡ [] = rw t at none in absurd (grind (arith, some))
     by_test false t ih = let rest : times_of_item i es ≡ [] = rw t at none in rw t (ap (λ xs. e ∷ xs) (ih rest))
 
@@ -117,12 +117,12 @@ without-once i [] once = refl
 without-once i (e ∷ es) once = by_test (same_item i e.item) refl (without-once i es)
   where
     by_test : (t : Bool) → same_item i e.item ≡ t
-      → (length (times_of_item i es) ≤ 1 → without i es ≡ without_first_entry i es)
+        → (length (times_of_item i es) ≤ 1 → without i es ≡ without_first_entry i es)
         → without i (e ∷ es) ≡ without_first_entry i (e ∷ es)
     by_test true t ih =
         let least : length (e.time ∷ times_of_item i es) ≤ 1 = rw t at once in
         let none : times_of_item i es ≡ [] = is_empty (times_of_item i es) (omega arith)
-            in rw t (without-none i es none)
+        in rw t (without-none i es none)
     by_test false t ih = let rest : length (times_of_item i es) ≤ 1 = rw t at once in rw t (ap (λ xs. e ∷ xs) (ih rest))
 
 pub without-first : (i : Item) (es : List Entry) → without i (without_first_entry i es) ≡ without i es
@@ -154,7 +154,7 @@ pub set_due-kept : (i : Item) (due : Option ℕ) (es : List Entry) → times_of_
     → set_due i due es ≡ es
 set_due-kept i due es is =
     let same : same_times (times_of_item i es) (timer_time due) ≡ true = rw is (same_times-refl (timer_time due))
-        in rw same refl
+    in rw same refl
 
 set_due-moved_step : (i : Item) (due : Option ℕ) (es : List Entry) → (times_of_item i es ≡ timer_time due → ⊥)
     → (t : Bool)

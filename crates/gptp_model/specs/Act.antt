@@ -53,7 +53,7 @@ pub record HasFailed (place : ℕ) (w : WorldState) : Type 0 where
 
 -- the oldest frame of a link in a direction is due now, and leaves it
 pub record TakesFrame (place : ℕ) (direction : Direction) (now : ℕ) (octets : List ℕ) (channel : Channel)
-  (net net' : Net) :
+    (net net' : Net) :
     Type 0 where
   pub rest : List Frame
   pub here : slice_get net.channels place ≡ Some channel
@@ -83,11 +83,11 @@ pub record Delivers (link : ℕ) (direction : Direction) (octets : List ℕ) (w 
 
 -- a timer of a live system runs out now
 pub record TimerRunsOut (place : ℕ) (timer : Timer) (w : WorldState) (draws : List Draw)
-  (w' : WorldState) : Type 0 where
+    (w' : WorldState) : Type 0 where
   pub station : Station
   pub answer : Answer
   pub here : slice_get w.stations place ≡ Some station
   pub now_due : station_due timer station ≡ Some w.time
   pub calls : Calls place (TimerExpires timer)
       (record w { net = record w.net { pending = without_first_entry (Expiry place timer) w.net.pending } })
-        draws answer w'
+      draws answer w'

@@ -19,7 +19,7 @@ expected w (Expiry place timer) =
     option_map_or (λ station. timer_time (station_due timer station)) (slice_get w.stations place) []
 expected w (Arrival link direction) =
     option_map_or (λ channel. map (λ (f : Frame). f.due) (world_queue direction channel))
-      (slice_get w.net.channels link) []
+    (slice_get w.net.channels link) []
 
 -- What is pending agrees with the state: each item is pending at just those times_of_item, in order of putting.
 abbrev pub Agrees : WorldState → Type 0

@@ -72,7 +72,7 @@ abbrev pub is_up_at : List Channel → ℕ → ℕ → Bool
 is_up_at [] number port = false
 is_up_at (channel ∷ channels) number port =
     (channel.up && (is_link_end number port channel.a || is_link_end number port channel.b)) || is_up_at channels
-      number port
+    number port
 
 -- the numbers of a system's ports whose links are up, rising
 abbrev pub up_ports : Station → Net → List ℕ

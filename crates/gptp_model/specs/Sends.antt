@@ -41,7 +41,7 @@ entered place direction channel now octets (Some delay) net = record {
   channels = slice_set net.channels place
       (with_queue direction
       (world_queue direction channel ++ frame
-        (due_after (world_queue direction channel) now delay) octets ∷ []) channel);
+      (due_after (world_queue direction channel) now delay) octets ∷ []) channel);
   pending = put (due_after (world_queue direction channel) now delay) (Arrival place direction) net.pending;
 }
 

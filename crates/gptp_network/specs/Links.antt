@@ -25,8 +25,14 @@ link_of t = do
   greatest ← natural (codes "max") 1 16000000000 None t
   loss ← natural (codes "loss") 0 1000 (Some 0) t
   up ← flag (codes "up") true t
-  Ok (record { a = port_numbered a a_port; b = port_numbered b b_port; min = least; max = greatest; loss = loss;
-      up = up })
+  Ok (record {
+    a = port_numbered a a_port;
+    b = port_numbered b b_port;
+    min = least;
+    max = greatest;
+    loss = loss;
+    up = up;
+  })
 
 -- links are numbered from 0 in their order
 abbrev pub wire_of : ℕ → Link → LinkSpec

@@ -33,8 +33,14 @@ read_link t = do
   greatest ← natural_at MAX t
   loss ← natural_at LOSS t
   up ← flag_at names.Up true t
-  Ok (record { a = port_numbered a a_port; b = port_numbered b b_port; min = least; max = greatest; loss = loss;
-      up = up })
+  Ok (record {
+    a = port_numbered a a_port;
+    b = port_numbered b b_port;
+    min = least;
+    max = greatest;
+    loss = loss;
+    up = up;
+  })
 
 -- no system has the port, or its system has fewer
 abbrev pub no_port : PortId → Option (ℕ × ℕ) → Why

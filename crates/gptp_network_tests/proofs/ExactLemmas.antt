@@ -192,7 +192,7 @@ module _ (w : WorldState) (time : ℕ) (k : IsPairSince 27000000000 w) (sound : 
       let way = way_of w (port_of 1 1) (port_of 2 1)
       (Joins-sym (snapshot_of w) (port_of 2 1) (port_of 1 1) parent.nearer.joins) in
       let (v, at_place, same) = alike (link_after []) channel_wire pair_network.links w.net.channels
-          (sym k.stands.links)
+      (sym k.stands.links)
       way.link way.channel way.here in
       ap (bound_at f (live_stations w.stations) w.net.channels) (sym way.to)
       ∙ bound_is f w sound claimed.is.world.encodable way.link way.direction way.channel way.here way.used
@@ -234,7 +234,7 @@ module _ (w : WorldState) (time : ℕ) (k : IsPairSince 27000000000 w) (sound : 
   first_is best (inl same) is = sym (ap (λ (s : System). s.clock) same)
   first_is best (inr (inl same)) is =
       let other : first_member ≡ second_member = is ∙ ap (λ (s : System). s.identity) same
-          in absurd (omega (arith, other))
+      in absurd (omega (arith, other))
   first_is best (inr (inr none)) is = absurd none
 
   ahead : IsAhead w 2 time (pos 0)

@@ -5,7 +5,7 @@ use Rattle.gptp_pdelay.specs.Measured.{AreExchangeSpans, WeightedMean, MeanIsBel
 
 pub mean_low : (least most turnaround whole arrivals sendings : ℕ) →
     AreExchangeSpans least most turnaround whole arrivals sendings
-      → arrivals * (turnaround + 2 * least) ≤ sendings * whole
+    → arrivals * (turnaround + 2 * least) ≤ sendings * whole
 mean_low least most turnaround whole arrivals sendings s =
     let a : arrivals * (turnaround + 2 * least) ≡ (s.gap + whole) * (turnaround + 2 * least) =
     ap (λ n. n * (turnaround + 2 * least)) s.arrivals_is in
@@ -21,7 +21,7 @@ mean_low least most turnaround whole arrivals sendings s =
 
 pub mean_high : (least most turnaround whole arrivals sendings : ℕ) →
     AreExchangeSpans least most turnaround whole arrivals sendings
-      → sendings * whole ≤ arrivals * (turnaround + 2 * most)
+    → sendings * whole ≤ arrivals * (turnaround + 2 * most)
 mean_high least most turnaround whole arrivals sendings s =
     let a : arrivals * (turnaround + 2 * most) ≡ (s.gap + whole) * (turnaround + 2 * most) =
     ap (λ n. n * (turnaround + 2 * most)) s.arrivals_is in

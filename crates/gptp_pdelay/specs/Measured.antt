@@ -45,10 +45,10 @@ pub record AreExchangeSpans (least most turnaround : ℕ) (whole arrivals sendin
 pub record WeightedMean : Type 0 where
   pub low : (least most turnaround whole arrivals sendings : ℕ) →
       AreExchangeSpans least most turnaround whole arrivals sendings
-        → arrivals * (turnaround + 2 * least) ≤ sendings * whole
+      → arrivals * (turnaround + 2 * least) ≤ sendings * whole
   pub high : (least most turnaround whole arrivals sendings : ℕ) →
       AreExchangeSpans least most turnaround whole arrivals sendings
-        → sendings * whole ≤ arrivals * (turnaround + 2 * most)
+      → sendings * whole ≤ arrivals * (turnaround + 2 * most)
 
 -- What the requester's clock counts from request to response, y, brought to the responder's rate by a ratio r, in units
 -- of 2^-41, that isn't above the measured one, e3 / e4: it isn't above what the responder's clock counts in the

@@ -132,8 +132,10 @@ module _ (x : Start) where
       as_recorded : (sequence : ℕ) (t1 t2 : ℤ) → x.sequence ≡ sequence → example_link.asking_clock x.sent ≡ t1
           → example_link.answering_clock (frame_came x) ≡ t2
           → recorded x
-          ≡ record (asking_port x) { progress = Answered sequence example_link.answering t1 t2
-            (example_link.asking_clock (home x)) }
+          ≡ record (asking_port x) {
+            progress = Answered sequence example_link.answering t1 t2
+                (example_link.asking_clock (home x));
+          }
       as_recorded sequence t1 t2 same one two = rw (← same, ← one, ← two)
 
   -- the follow-up completes the exchange

@@ -300,7 +300,7 @@ module _ (k : Setting) (least : ℕ) (asks : List ℕ → Request → Type 0) (r
         old,
         omega (arith, now, due),
         asked_first gone p m'.pair m'.last act.sequence
-          (asker_after_interval k.allowed p.asker.progress p.asker) act.news
+            (asker_after_interval k.allowed p.asker.progress p.asker) act.news
             (omega (arith, short)) old act.time facts' there act.asker act.waits act.back act.out act.sent clear,
       )
 

@@ -273,7 +273,7 @@ meter_later k least asks replies gone calm m m' (time, on, is) inv =
     subst (λ (n : Meter). MeterInv k least asks replies gone calm n) (sym is)
     (record {
       phases = inv_from_later k least asks replies gone calm m.pair (pair_at_time m.pair time)
-        (time, on, refl) inv.phases;
+          (time, on, refl) inv.phases;
       measured = inv.measured;
     })
 
@@ -344,6 +344,6 @@ runs_end_measured k least asks replies threshold change interval m n run link sh
 -- the invariant of capability
 pub meter_is_inv : (k : Setting) (least : ℕ) (asks : List ℕ → Request → Type 0) (replies : List ℕ → Reply → Type 0)
     (gone calm : ℕ) (m : Meter) → MeterInv k least asks replies gone calm m
-      → PortInvariant k asks replies gone calm m.pair
+    → PortInvariant k asks replies gone calm m.pair
 meter_is_inv k least asks replies gone calm m inv =
     inv_forgets k asks replies gone calm least m.pair inv.phases

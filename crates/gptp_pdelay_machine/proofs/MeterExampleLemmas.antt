@@ -38,7 +38,7 @@ module _ (x : Start) (last : Option Measurement) where
   }
     where
       measures : (t1 t2 t3 t4 : ℤ) → example_link.asking_clock x.sent ≡ t1
-        → example_link.answering_clock (frame_came x) ≡ t2
+          → example_link.answering_clock (frame_came x) ≡ t2
           → example_link.answering_clock (answered_port x) ≡ t3 → example_link.asking_clock (home x) ≡ t4
           → Measures last (Some (measured_meter x last)) t1 t2 t3 t4
       measures t1 t2 t3 t4 first_is second_is third_is fourth_is = rw (← first_is, ← second_is, ← third_is, ← fourth_is)
@@ -66,9 +66,9 @@ module _ (x : Start) (last : Option Measurement) where
   -- the exchange is a run, and what comes after it goes on
   measures_on : (rest : List Meter) → x.before.asked + example_link.period ≡ x.sent
       → IsMeterRun example_link 500 spells_request replies second
-        (example_meter (next_due x) (Some (measured_meter x last))) rest
+      (example_meter (next_due x) (Some (measured_meter x last))) rest
       → IsMeterRun example_link 500 spells_request replies second (example_meter (timer_due x) last)
-        (metered x last ++ rest)
+      (metered x last ++ rest)
   unfolding hears_response hears_follow_up
   measures_on rest now on = (
     at_timer x now,

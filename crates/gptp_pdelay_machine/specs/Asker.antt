@@ -52,7 +52,7 @@ asker_completed good a =
 -- good at least where the four times are those of one exchange over the link. Other replies send no request; no more is
 -- said of them.
 pub record TakesReply (k : Setting) (replies : List ℕ → Reply → Type 0) (time : ℕ) (octets : List ℕ)
-  (a a' : Asker) : Type 0
+    (a a' : Asker) : Type 0
   where
     pub nothing : ((r : Reply) → replies octets r → ⊥) → a' ≡ a
     pub asked : a'.asked ≡ a.asked

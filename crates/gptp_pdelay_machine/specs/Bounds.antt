@@ -16,7 +16,7 @@ pub record Bounds (k : Setting) (asks : List ℕ → Request → Type 0) (replie
     (p : Pair) : Type 0
   where
     pub request : (f : LaneFrame) (request : Request) → In f p.out → asks f.octets request
-      → f.due ≤ last_arrival k gone p
+        → f.due ≤ last_arrival k gone p
     pub waiting : (w : Waiting) → p.waits ≡ Some w → w.due ≤ last_arrival k gone p + k.turnaround
     pub reply : (f : LaneFrame) (reply : Reply) → In f p.back → replies f.octets reply
         → f.due ≤ last_arrival k gone p + k.turnaround + k.most

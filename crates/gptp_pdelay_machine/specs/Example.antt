@@ -103,7 +103,7 @@ module _ (x : Start) where
   abbrev pub recorded : Asker
   recorded = record asking_port {
     progress = Answered x.sequence example_link.answering (example_link.asking_clock x.sent)
-      (example_link.answering_clock frame_came)
+        (example_link.answering_clock frame_came)
         (example_link.asking_clock home);
   }
 

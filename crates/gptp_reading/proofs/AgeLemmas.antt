@@ -50,7 +50,7 @@ use Rattle.gptp_reading.specs.Age.{WorldsAreRecent}
 -- ---- Syncs that are expected
 
 module _ (tells : SaysSync) (n : Network) (net : IsSettlingNetwork n) (w : MachineState) (calm : Calm n w)
-  (sound : RunIsSound n w)
+    (sound : RunIsSound n w)
     (facts : HaveSyncTimers n w) where
   -- when a system tells time by some time, that hasn't passed
   tells_later : (d v by : ℕ) → IsDistance n.graph v d → TellsBy tells n w.stations w.lanes d v by → w.time ≤ by

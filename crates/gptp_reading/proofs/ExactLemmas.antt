@@ -174,7 +174,7 @@ record IsUsedHere (w : WorldState) (place : LinkPlace) (f : IsFollower place w) 
   used : IsUsedBy (receiver place.direction f.channel).port m w.time (follower_state place w f) after
 
 module _ (p : SettlingParams) (settled longest : ℕ) (w : WorldState) (is : IsSettledFrom p settled longest w)
-  (place : LinkPlace)
+    (place : LinkPlace)
     (f : IsFollower place w) (link : ℕ) (direction : Direction) (w' : WorldState) (number : ℕ)
     (u : HasUser direction link w w' number) (own : f.own.station ≡ u.station)
     (named : follower_clock place w f ≡ number) where
@@ -200,7 +200,7 @@ module _ (p : SettlingParams) (settled longest : ℕ) (w : WorldState) (is : IsS
       let lane = one_way w is.world.sound is.world.encodable link place.link (other_direction direction)
       (other_direction place.direction) u.channel f.channel u.here f.here
       (ap port_identity_number (sender_opposite direction u.channel ∙ ends
-        ∙ sym (sender_opposite place.direction f.channel)))
+      ∙ sym (sender_opposite place.direction f.channel)))
       in
       record {
         rest = u.rest;
@@ -216,7 +216,7 @@ module _ (link : ℕ) (direction : Direction) (w w' : WorldState) (draws : List 
     (p : SettlingParams) (m steps : ℕ) (system : SystemState) (way : Way) (phase : ℕ → ℕ)
     (k : Acts (Deliver link direction) w draws done w') (uses : UsesFollowUp number done)
     (shows : ShowsLive number w' system) (claimed : KeepsAll p w) (carries : CarriesWhereCalm p w)
-      (calm : WorldIsCalm p w)
+    (calm : WorldIsCalm p w)
     (bounded : BoundsPaths (snapshot_of w) m) (come : HasComeDown p m (suc steps) w.time w)
     (early : w.time ≤ 10 ^ 18) (near : IsNear (snapshot_of w) number)
     (leads : IsWayTo (follower_parts p.params w) (snapshot_of w) (suc steps) number way phase) where

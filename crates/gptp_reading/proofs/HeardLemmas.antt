@@ -416,7 +416,7 @@ timed_begins answers' n fate fate_after w network k =
     }
 
 module _ (p : SettlingParams) (acts : List Transition) (w : WorldState) (are : AreTimed p acts w)
-  (calm : WorldIsCalm p w)
+    (calm : WorldIsCalm p w)
     (earlier number port : ℕ) (s : SystemState) (above : 0 < p.params.sync_timeout)
     (passed : HasPassed p (path_bound (snapshot_of w)) (at earlier w))
     (waited : earlier + sync_wait p.params (sync_paths_of w) < w.time) (near : IsNear (snapshot_of w) number)
@@ -492,5 +492,5 @@ runs_hear_in_time answers' d until fate start w ts p earlier number port s playa
     let largest = sym known.largest ∙ starts.largest in
     let pace : pace_of n ≡ p = λ i. record { params = params i; largest = largest i } in
     heard_lately p ts w (subst (λ (q : SettlingParams). AreTimed q ts w) pace are) calm earlier number port s above
-      passed waited
+    passed waited
     near shows slave can

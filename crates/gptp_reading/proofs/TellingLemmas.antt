@@ -88,11 +88,11 @@ module _ (k : FollowerSetting) (says : List ℕ → Message → Type 0) where
           came_is e = cc
 
           ingress_is : Some (kept_at_ingress source sequence ingress) ≡ Some
-            (kept_at_ingress k.parent a.sequence (own_clock k a.came))
+              (kept_at_ingress k.parent a.sequence (own_clock k a.came))
               → ingress ≡ own_clock k a.came
           ingress_is e =
               let same : kept_at_ingress source sequence ingress ≡ kept_at_ingress k.parent a.sequence
-                  (own_clock k a.came) = cc in
+              (own_clock k a.came) = cc in
               ap (λ (sync : FollowerSync). sync.ingress) same
 
   pub reading_is_exact : (s : Follower) (front : LaneFrame) (rest : List LaneFrame) (source : PortIdentity)

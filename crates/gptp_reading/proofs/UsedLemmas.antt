@@ -309,7 +309,7 @@ module _ (p : SettlingParams) (settled longest : ℕ) (w : WorldState) (is : IsS
   exact later =
       reading_is_exact k tells (follower place w f) (link_frame_view (frame w.time octets)) (map link_frame_view rest)
       (port_identity_number sync.source) sync.sequence (told_in m) sync.ingress (root_rate_at x n)
-        (delay_at x n) held later
+      (delay_at x n) held later
       (is_setting p settled longest w is place f steps h) (carries.follow place f steps h)
       (ap (map link_frame_view) front) refl late one (ap (option_map kept_sync) used.keeps) measured allowed
 
@@ -318,7 +318,7 @@ module _ (p : SettlingParams) (settled longest : ℕ) (w : WorldState) (is : IsS
       → read_then t ≡ read_from said offset (slave_rate s') (local_time s' t)
   read_is offset t is_offset =
       let received_is : sync_received (held_sum said (root_rate_at x n)) (delay_at x n)
-          (root_rate_at x n) ≡ sync.ingress -ℤ offset =
+      (root_rate_at x n) ≡ sync.ingress -ℤ offset =
       less_by sync.ingress (sync_received (held_sum said (root_rate_at x n)) (delay_at x n) (root_rate_at x n)) offset
       (used.left.offset offset is_offset) in
       let rate_is : held +ℤ root_rate_at x n ≡ nearest_rate (m.rate +ℤ slave_rate s') =

@@ -25,7 +25,7 @@ each_from-each_from {X} f g change same port (h ∷ hs) =
 -- no port is fresh
 none_fresh : (v : Vector) (clock port : ℕ) (hs : List Held)
     → AllByRecursion (λ b. b ≡ false) (each_from (is_fresh v clock) port
-      (each_from (held_after_selection v clock) port hs))
+    (each_from (held_after_selection v clock) port hs))
 none_fresh v clock port [] = tt
 none_fresh v clock port (h ∷ hs) = (is_fresh-held_after v clock port h, none_fresh v clock (port + 1) hs)
 
@@ -37,7 +37,7 @@ placed_after v clock port (h ∷ hs) placed =
     (here (received-held_after v clock port h), placed_after v clock (port + 1) hs placed.1)
   where
     here : ((received (held_after_selection v clock port h) ≡ received h)
-      ⊎ (received (held_after_selection v clock port h) ≡ None))
+        ⊎ (received (held_after_selection v clock port h) ≡ None))
         → ForSome (received (held_after_selection v clock port h)) (IsPlaced port)
     here (inl same) = λ r is. placed.0 r (sym same ∙ is)
     here (inr none) = λ r is. absurd cc
@@ -66,10 +66,10 @@ paths_after-step : (P : Vector → Type 0) (v : Vector) (clock port : ℕ) (h : 
     → (AllByRecursion P (path_vectors hs)
     → AllByRecursion P (path_vectors (each_from (held_after_selection v clock) (port + 1) hs)))
     → ((received (held_after_selection v clock port h) ≡ received h)
-      ⊎ (received (held_after_selection v clock port h) ≡ None))
+    ⊎ (received (held_after_selection v clock port h) ≡ None))
     → AllByRecursion P
     (with_path (received (held_after_selection v clock port h))
-      (path_vectors (each_from (held_after_selection v clock) (port + 1) hs)))
+    (path_vectors (each_from (held_after_selection v clock) (port + 1) hs)))
 paths_after-step P v clock port h hs all others (inl same) =
     rw same (with_path-more P (received h) (path_vectors hs)
     (path_vectors (each_from (held_after_selection v clock) (port + 1) hs)) others all)
@@ -116,10 +116,10 @@ at_rest identity held v placed chosen =
         least = (chosen.least.0, paths_after (λ w. lower w v ≡ false) v clock 1 held chosen.least.1);
       };
       roles = each_from-each_from (chosen_role v clock) (chosen_role v clock) (held_after_selection v clock)
-        (role_of-held_after v clock)
+          (role_of-held_after v clock)
           1 held;
       held = each_from-each_from (held_after_selection v clock) (held_after_selection v clock)
-        (held_after_selection v clock)
+          (held_after_selection v clock)
           (held_after-twice v clock) 1 held;
       fresh = none_fresh v clock 1 held;
     }

@@ -70,7 +70,7 @@ is_fresh-held_after v clock port h =
 -- a port then holds as received what it received before, or nothing
 pub received-held_after : (v : Vector) (clock port : ℕ) (h : Held)
     → (received (held_after_selection v clock port h) ≡ received h)
-      ⊎ (received (held_after_selection v clock port h) ≡ None)
+    ⊎ (received (held_after_selection v clock port h) ≡ None)
 received-held_after v clock port h =
     elim (cases_Bool (is_master (chosen_role v clock port h))) [
       | inl master ↦ inr (ap received (held_after-master v clock port h master))

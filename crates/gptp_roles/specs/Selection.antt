@@ -36,7 +36,7 @@ pub record SelectionIsAtRest (identity : ℕ) (before : List Held) (chosen : Vec
       ≡ each_port (held_after_selection chosen (clock_of identity)) before
   pub fresh : AllByRecursion (λ b. b ≡ false)
       (each_port (is_fresh chosen (clock_of identity))
-        (each_port (held_after_selection chosen (clock_of identity)) before))
+      (each_port (held_after_selection chosen (clock_of identity)) before))
 
 -- how many ports are Slave
 abbrev pub slaves : List Role → ℕ

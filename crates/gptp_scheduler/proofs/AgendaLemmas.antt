@@ -59,7 +59,7 @@ module _ {T : Type 0} where
 
     -- what stands at the key that a number was filed with
     pub entry-filed : (n key : ℕ) → IsInSlab (filed_at n key) fs
-      → entry_at (listed nodes fs) n ≡ living n (held nodes key)
+        → entry_at (listed nodes fs) n ≡ living n (held nodes key)
     entry-filed n key at = entry-found nodes 0 fs next n key agenda.filed.rising at
 
     pub entry-filed-node : (n key : ℕ) (e : Node T) → IsInSlab (filed_at n key) fs → nodes key ≡ Some e → e.number ≡ n
@@ -117,7 +117,7 @@ module _ {T : Type 0} where
     rise = listed-rise nodes 0 fs next agenda.filed.rising
 
     pub unique-held : (j k : ℕ) (d b : AgendaEntry T) → held nodes j ≡ Some d → held nodes k ≡ Some b
-      → d.number ≡ b.number
+        → d.number ≡ b.number
         → j ≡ k
     unique-held j k d b at there same =
         let one = held-placed nodes j d at in let other = held-placed nodes k b there in

@@ -228,7 +228,7 @@ module _ {T : Type 0} where
     ]
 
     pub wheel-known : (now : List Ends) → EntriesAreChained nodes now → length now ≡ length ends
-      → IsWheel nodes base now
+        → IsWheel nodes base now
     wheel-known now chained len = record {
       chained = chained;
       made = λ k p at. let made = wheel.made k p at in omega arith;

@@ -189,7 +189,7 @@ module _ {T : Type 0} where
 
     -- what holds of each entry holds of what is listed
     pub listed-all : (P : AgendaEntry T → Type 0) → ((k : ℕ) (e : AgendaEntry T) → held nodes k ≡ Some e → P e)
-      → (fs : List Filed)
+        → (fs : List Filed)
         → All P (listed nodes fs)
     listed-all P each [] = All-nil P
     listed-all P each (f ∷ fs) =
@@ -206,7 +206,7 @@ module _ {T : Type 0} where
     rise-weaken less (e ∷ es) low next h up = let from : low ≤ e.number = up.0 in (omega arith, up.1)
 
     rise-step : (low n next : ℕ) (o : Option (AgendaEntry T)) (es : List (AgendaEntry T)) → low ≤ n
-      → RiseFrom (n + 1) es next
+        → RiseFrom (n + 1) es next
         → RiseFrom low (live n o ++ es) next
     rise-step low n next None es from rest = rise-weaken low es (n + 1) next (omega arith) rest
     rise-step low n next (Some e) es from rest = one (e.number == n) refl where
@@ -327,7 +327,7 @@ module _ {T : Type 0} where
 
     module _ (key : ℕ) (e : AgendaEntry T) (takes : TakesEntry old new key e) (next : ℕ)
         (unique : (j k : ℕ) (d b : AgendaEntry T) → held old j ≡ Some d → held old k ≡ Some b
-          → d.number ≡ b.number → j ≡ k)
+        → d.number ≡ b.number → j ≡ k)
       where
         live-taken : (f : Filed) (es : List (AgendaEntry T)) → (f.number ≡ e.number → entry_at es e.number ≡ None)
             → live f.number (held new f.key.place) ++ without_number e.number es

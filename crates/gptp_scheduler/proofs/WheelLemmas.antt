@@ -339,7 +339,7 @@ module _ {T : Type 0} where
     }
 
     module _ (came : Moves mid new key.place to) (last : EntriesAreChained new now)
-      (len : length now ≡ length ends) where
+        (len : length now ≡ length ends) where
       new-key : placed_at new key.place ≡ Some (in_slot to p)
       new-key = came.moved ∙ ap (option_map (in_slot to)) mid-key
 
@@ -478,7 +478,7 @@ module _ {T : Type 0} where
         (one.0, one.1, omega arith)
 
     pub earliest-left : (new : ℕ → Option (Node T)) (now : List Ends) (e : Node T) (gone : AgendaEntry T)
-      → nodes key ≡ Some e
+        → nodes key ≡ Some e
         → TakesEntry nodes new key gone → IsWheel new base now → length now ≡ length ends
         → IsLeft new base e.time e.slot now
     earliest-left new now e gone is takes after len = record {

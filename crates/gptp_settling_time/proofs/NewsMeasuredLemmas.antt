@@ -62,7 +62,7 @@ receiver_lives : (w : WorldState) (direction : Direction) (channel : Channel)
 receiver_lives w direction channel used =
     let has = subst (λ (q : PortId). stations_have_clock (live_stations w.stations) q.clock ≡ true)
     (sender_opposite direction channel) (sender_lives (live_stations w.stations)
-      (other_direction direction) channel used) in
+    (other_direction direction) channel used) in
     let (s, member, same) = clock_lives w.stations (receiver direction channel).clock has in
     let there = live_from w.stations s member in
     record {
@@ -113,7 +113,7 @@ module _ (p : SettlingParams) (start : ℕ) (w : WorldState) (is : IsWorld p w) 
             same_there w.stations place station other.at.station here
             (subst (λ at. slice_get w.stations at ≡ Some other.at.station) (sym same) other.at.here) in
             (stands_well w is.sound is.between is.encodable).apart
-              (port_identity_number (own station.system n)) to joins
+            (port_identity_number (own station.system n)) to joins
             (ap (λ (x : Station). clock x.system) alike
             ∙ other.at.named
             ∙ ap (λ (x : PortIdentity). x.clock) way.to);

@@ -145,14 +145,14 @@ module _ (link : ℕ) (direction : Direction) (w w' : WorldState) (draws : List 
   pub used_exactly : AreWithin error offset ahead
   used_exactly =
       let told : TellsHearing (port_id (follower_clock followed.at w followed.follower) port)
-          (Some answers.Used) octets done =
+      (Some answers.Used) octets done =
       subst (λ n. TellsHearing (port_id n port) (Some answers.Used) octets done) (sym named_so) tells in
       let exact = offsets_are_exact p settled p.params.threshold link direction w draws done w' followed.at
       followed.follower steps port octets is_ahead.shows_root.station shows.station offset has_way k told
       (message, reads) is right carries from_then root there
       (ap (λ (x : SystemState). x.offset) (sym shows.state) ∙ left) in
       let long = way_leads_to.long (follower_parts p.params w) (snapshot_of w)
-          (suc steps) number way.way way.phase way.leads
+      (suc steps) number way.way way.phase way.leads
       in
       let own : is_ahead.own ≡ followed.follower.own.station.system =
       is_ahead.shows.state ∙ ap (λ (x : Station). x.system) (sym followed.own_is) in

@@ -45,7 +45,7 @@ used_within systems (first ∷ channels) bound each =
   where
     by : (used : Bool) → channel_is_used systems first ≡ used → greatest_channel_delay systems channels ≤ bound
         → (if used then max first.bounds.max (greatest_channel_delay systems channels) else greatest_channel_delay
-          systems channels)
+        systems channels)
         ≤ bound
     by true is later = let one = each zero first refl is in omega (arith, one, later)
     by false is later = later

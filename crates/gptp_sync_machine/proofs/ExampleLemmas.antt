@@ -21,7 +21,7 @@ use Rattle.gptp_sync_machine.proofs.RunLemmas.{runs_keep_inv}
 use Rattle.gptp_sync_machine.proofs.TellingLemmas.{parent_tells_right, root_tells}
 
 module _ (k : FollowerSetting) (speaks : List ℕ → Message → Type 0) (x : SyncAndFollowUp)
-  (order : (parent_link k).least ≤ (parent_link k).most)
+    (order : (parent_link k).least ≤ (parent_link k).most)
     (one_sync : IsOneMessage speaks x.sync (Sync k.parent x.sequence))
     (one_follow_up : IsOneMessage speaks x.follow_up (FollowUp k.parent x.sequence x.told)) where
   -- the parent sends both
@@ -39,13 +39,13 @@ module _ (k : FollowerSetting) (speaks : List ℕ → Message → Type 0) (x : S
   }
     where
       long : (f : LaneFrame) → In f (sync_frame k x ∷ example_follow_up_frame k x ∷ [])
-        → x.sent + (parent_link k).least ≤ f.due
+          → x.sent + (parent_link k).least ≤ f.due
       long f (inl e) = let is = ap (λ (g : LaneFrame). g.due) e in omega (arith, is)
       long f (inr (inl e)) = let is = ap (λ (g : LaneFrame). g.due) e in omega (arith, is, order)
       long f (inr (inr at)) = absurd at
 
       short : (f : LaneFrame) → In f (sync_frame k x ∷ example_follow_up_frame k x ∷ [])
-        → f.due ≤ x.sent + (parent_link k).most
+          → f.due ≤ x.sent + (parent_link k).most
       short f (inl e) = let is = ap (λ (g : LaneFrame). g.due) e in omega (arith, is, order)
       short f (inr (inl e)) = let is = ap (λ (g : LaneFrame). g.due) e in omega (arith, is)
       short f (inr (inr at)) = absurd at
@@ -60,7 +60,7 @@ module _ (k : FollowerSetting) (speaks : List ℕ → Message → Type 0) (x : S
     nothing = λ none. absurd (none (Sync k.parent x.sequence) one_sync.said);
     sync = λ sequence says. record {
       kept = ap (λ n. Some (kept_at_ingress k.parent n (own_clock k (came k x))))
-        (sym (same sequence (one_sync.only _ says)));
+          (sym (same sequence (one_sync.only _ says)));
       still = record { known = refl; relay = refl };
     };
     follow_up = λ sequence example_told ingress says is. absurd (other sequence example_told (one_sync.only _ says));
@@ -71,7 +71,7 @@ module _ (k : FollowerSetting) (speaks : List ℕ → Message → Type 0) (x : S
       same sequence e = cc
 
       other : (sequence : ℕ) (example_told : Relayed)
-        → FollowUp k.parent sequence example_told ≡ Sync k.parent x.sequence → ⊥
+          → FollowUp k.parent sequence example_told ≡ Sync k.parent x.sequence → ⊥
       other sequence example_told e = absurd cc
 
   -- and the Follow_Up
@@ -92,7 +92,7 @@ module _ (k : FollowerSetting) (speaks : List ℕ → Message → Type 0) (x : S
       other sequence e = absurd cc
 
       same : (sequence : ℕ) (example_told : Relayed)
-        → FollowUp k.parent sequence example_told ≡ FollowUp k.parent x.sequence x.told
+          → FollowUp k.parent sequence example_told ≡ FollowUp k.parent x.sequence x.told
           → example_told ≡ x.told
       same sequence example_told e = cc
 
@@ -100,7 +100,7 @@ module _ (k : FollowerSetting) (speaks : List ℕ → Message → Type 0) (x : S
           → own_clock k (came k x) ≡ ingress
       came_then sequence ingress e =
           let one : sync k x ≡ kept_at_ingress k.parent sequence ingress = cc
-              in ap (λ (s : FollowerSync). s.ingress) one
+          in ap (λ (s : FollowerSync). s.ingress) one
 
       anew : (i : SyncInfo) (t : ℕ) → Some (info k x) ≡ Some i → Some (example_due k x) ≡ Some t
           → (heard k x ≤ t) × (t ≤ heard k x + k.way.residence)

@@ -73,7 +73,7 @@ module _ (k : FollowerSetting) (says : List ℕ → Message → Type 0) where
             kept_is = refl;
             carried = record { long = long; behind = behind f (inl refl); short = short f (inl refl) };
             right = right (let by : f.due ≤ time + (parent_link k).most = short f (inl refl)
-              in omega (arith, by, late));
+                in omega (arith, by, late));
           },
           flows_mute None fs mute,
         )))

@@ -98,7 +98,7 @@ module _ (k : FollowerSetting) (says : List ℕ → Message → Type 0) where
       told_or_none a sequence told is (inr none) = known_none s' none
 
       by_frame : (a : Option Arrival) → IsKept k a s.kept → FramesFlow k says a (act.front ∷ act.rest)
-        → FollowerInvariant k says s'
+          → FollowerInvariant k says s'
       by_frame a is (inl (old, behind)) = unkept behind (anyway old act.hears.anyway)
       by_frame a is (inr (inl (mute, behind))) = unmoved a is mute behind
       by_frame a is (inr (inr (inl (sequence, said, behind)))) =

@@ -135,7 +135,7 @@ module _ (k : FollowerSetting) (says : List ℕ → Message → Type 0) where
           let right = offset_is_right k.way k.phase k.place told t.sent t.came s.time rate delay held
           (on_way k told t.sent t.came s.time is carried
           (subst (λ (m : Relayed). FollowUpIsRight k.way k.phase k.place m t.sent) e t.right)) measured held_at
-            carried.behind
+          carried.behind
           carried.short in
           subst (λ x. AreWithin (time_error_at k.way (suc k.place))
           (x -ℤ sync_received (info_of (at_rate told held) x) delay rate)
@@ -164,9 +164,9 @@ module _ (k : FollowerSetting) (says : List ℕ → Message → Type 0) where
           told_is e = cc
 
           ingress_is : Some (kept_at_ingress source sequence ingress) ≡ Some
-            (kept_at_ingress k.parent a.sequence (own_clock k a.came))
+              (kept_at_ingress k.parent a.sequence (own_clock k a.came))
               → ingress ≡ own_clock k a.came
           ingress_is e =
               let same : kept_at_ingress source sequence ingress ≡ kept_at_ingress k.parent a.sequence
-                  (own_clock k a.came) = cc in
+              (own_clock k a.came) = cc in
               ap (λ (sync : FollowerSync). sync.ingress) same

@@ -47,7 +47,7 @@ pub record Knows (k : FollowerSetting) (told : Relayed) (ingress : ℤ) (s s' : 
 -- fit, nothing
 -- is. Whatever they are, what is known stays, or is to be sent on in time.
 pub record FollowerHears (k : FollowerSetting) (says : List ℕ → Message → Type 0) (octets : List ℕ)
-  (s s' : Follower) : Type 0 where
+    (s s' : Follower) : Type 0 where
   pub nothing : ((m : Message) → says octets m → ⊥) → IsUnmoved s s'
   pub sync : (sequence : ℕ) → says octets (Sync k.parent sequence) → KeepsSync k sequence s s'
   pub follow_up : (sequence : ℕ) (told : Relayed) (ingress : ℤ) → says octets (FollowUp k.parent sequence told)

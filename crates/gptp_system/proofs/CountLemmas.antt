@@ -34,7 +34,7 @@ count-length such [] = omega arith
 count-length such (x ∷ xs) = go (such x) (count-length such xs)
   where
     go : (b : Bool) → count_such such xs ≤ length xs
-      → (if b then 1 + count_such such xs else count_such such xs) ≤ suc (length xs)
+        → (if b then 1 + count_such such xs else count_such such xs) ≤ suc (length xs)
     go true ih = omega arith
     go false ih = omega arith
 
@@ -79,7 +79,7 @@ count-with_send such x xs =
         → count_such such (with_send x xs)
         ≡ count_such such (take (sends_up_to x.port xs) xs)
         + (if b then 1 + count_such such (drop (sends_up_to x.port xs) xs) else count_such such
-          (drop (sends_up_to x.port xs) xs))
+        (drop (sends_up_to x.port xs) xs))
         → count_such such xs
         ≡ count_such such (take (sends_up_to x.port xs) xs) + count_such such (drop (sends_up_to x.port xs) xs)
         → count_such such (with_send x xs) ≡ (if b then 1 + count_such such xs else count_such such xs)
@@ -150,7 +150,7 @@ announcements_once such p only c root steps n (f ∷ fs) (q ∷ qs) =
     first = announcement (record { clock = c; port = n }) root steps q
 
     go : (b one : Bool) → such first ≡ one → count_such such rest ≤ 1
-      → count_such such (if b then first ∷ rest else rest) ≤ 1
+        → count_such such (if b then first ∷ rest else rest) ≤ 1
     go false one is ih = ih
     go true false is ih = let other = count-other such first rest is in omega arith
     go true true is ih =

@@ -67,7 +67,7 @@ not_fresh_mine v c n h master stale = already_mine v h (go (announces_already v 
 -- what a port holds after a choice, where a fresh one tells and any other lets its timer run
 pub chosen_ends : (v : Vector) (c n now : ℕ) (mid : Held) (q q' : Port) (sends : List Sending)
     → ((is_fresh v c n mid ≡ true → PortAnnounces n now q q' sends)
-      × (is_fresh v c n mid ≡ false → q'.announce ≡ q.announce))
+    × (is_fresh v c n mid ≡ false → q'.announce ≡ q.announce))
     → PortEnds c n now v.root v.steps mid (held_after_selection v c n mid) q q' sends
 chosen_ends v c n now mid q q' sends (tells, stays) =
     elim (cases_Bool (is_master (chosen_role v c n mid))) [

@@ -44,7 +44,7 @@ pub follows : (s : SystemState) → AreHeld s → IsAtRest s → SystemIsRoot s 
 follows s a r = go r.is_chosen.member
   where
     go : (r.vector ≡ system_vector s.identity) ⊎ IsIn r.vector (path_vectors s.held)
-      → SystemIsRoot s ⊎ SystemFollowsPort s
+        → SystemIsRoot s ⊎ SystemFollowsPort s
     go (inl own_one) =
         let slave : s.slave ≡ None = r.slave ∙ ap slave_port own_one in
         inl (record {

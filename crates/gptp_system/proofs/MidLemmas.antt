@@ -203,7 +203,7 @@ turned_mids p step now s shown is = go (number s.ports p) refl is
         here_mid n h mid false off same showing new = inl (same, new)
 
         other_mid : (n : ℕ) (h mid : Held) (b : Bool) → (n ≢ p) → mid ≡ h
-          → PortHoldsInTouch (clock s) n (turn_of p b) now h mid
+            → PortHoldsInTouch (clock s) n (turn_of p b) now h mid
         other_mid n h mid true elsewhere old = inr (elsewhere, old)
         other_mid n h mid false elsewhere old = inr (elsewhere, old)
 

@@ -137,7 +137,7 @@ request_other p s sends = record {
   where
     go : (x : Sending) → IsAnnounce x.body → (x ≡ request_of p s) ⊎ In x sends → In x sends
     go x (announce, is) (inl here) = absurd (asks
-      (sym (ap (λ (y : Sending). message_kind y.body) here) ∙ ap message_kind is))
+        (sym (ap (λ (y : Sending). message_kind y.body) here) ∙ ap message_kind is))
       where
         asks : Asking ≡ Announcing → ⊥
         asks e = cc
@@ -289,7 +289,7 @@ announce_expires (suc j) now t s s' sends r is k =
                     timing : (((mid ≡ helds.Mine s.root s.steps) × (b.announce ≡ a.announce)) ⊎ PortAnnounces
                         (suc i) now a b [])
                         → ((mid ≡ helds.Mine s.root s.steps) × (q'.announce ≡ a.announce))
-                          ⊎ PortAnnounces (suc i) now a q'
+                        ⊎ PortAnnounces (suc i) now a q'
                         (x ∷ [])
                     timing (inl (mine, before)) = inl (mine, same ∙ before)
                     timing (inr told) = absurd told.sent.1

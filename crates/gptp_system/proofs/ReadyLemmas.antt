@@ -47,9 +47,11 @@ recent_after v clock p h false is recent = rw is recent
 all_recent_after : (v : Vector) (clock p : ℕ) (hs : List Held) → AllByRecursion IsRecent hs
     → AllByRecursion IsRecent (each_from (held_after_selection v clock) p hs)
 all_recent_after v clock p [] all = tt
-all_recent_after v clock p (h ∷ hs) all =
-    (recent_after v clock p h (is_master (chosen_role v clock p h)) refl all.0, all_recent_after v clock
-      (p + 1) hs all.1)
+all_recent_after v clock p (h ∷ hs) all = (
+  recent_after v clock p h (is_master (chosen_role v clock p h)) refl all.0,
+  all_recent_after v clock
+      (p + 1) hs all.1,
+)
 
 -- announcing changes neither interval nor what is owed
 pub port_announced : (now : ℕ) (f : Bool) (q : Port) → IsReadyPort q

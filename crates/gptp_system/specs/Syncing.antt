@@ -139,7 +139,7 @@ pub record IsIgnored (s s' : SystemState) (sends : List Sending) (answer : Answe
   pub answer_is : answer ≡ answers.Ignored
 
 pub record IsKeptSync (head : Head) (now : ℕ) (s s' : SystemState) (sends : List Sending)
-  (answer : Answer) : Type 0 where
+    (answer : Answer) : Type 0 where
   pub becomes : Becomes (keeping head now s) s' sends
   pub answer_is : answer ≡ answers.Used
 

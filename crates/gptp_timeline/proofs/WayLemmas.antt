@@ -36,7 +36,7 @@ use Rattle.gptp_sync_machine.proofs.TreeLemmas.{way_exists}
 use Rattle.gptp_vector.specs.declared.port.PortId.{PortId}
 
 module _ (n : NetworkState) (network : IsNetwork n) (events : List Timed) (w : WorldState)
-  (so : StandsAsPlanned n events w)
+    (so : StandsAsPlanned n events w)
     (sound : IsSound w) (encodable : IsEncodable w) where
   abbrev x : Parts
   x = follower_parts n.params w

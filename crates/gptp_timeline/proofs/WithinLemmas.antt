@@ -127,7 +127,7 @@ shown_by p w claimed name s is time =
     ap (λ y. local_time y time) (sym live.state)
     ∙ clock_shown p.params w claimed.world.sound claimed.measured live.place live.station live.here time
     ∙ ap (λ c. local_clock ((follower_parts p.params w).phase c) ((follower_parts p.params w).drift c) time)
-      live.is_named
+    live.is_named
 
 -- ---- times
 

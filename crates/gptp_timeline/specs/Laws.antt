@@ -138,7 +138,7 @@ RunsAreWithin {F} answers = (d : DocumentState) (until : ℕ) (fate : F) (start 
 -- A timeline is right: its stretches are one run, the last lines of each system tell what it shows where that ends,
 -- stretches settle within their bounds and then follow the settled choice, and errors are within theirs.
 pub record TimelineIsRight {F : Type 0} (answers : Bounds → ℕ → F → Option ℕ → F → Type 0) (d : DocumentState)
-  (until : ℕ)
+    (until : ℕ)
     (options : TimelineOptions) (fate : F) (lines : List (List ℕ)) (exceeded : Bool)
     (t : TimelineOf answers d until options fate lines exceeded) : Type 0 where
   pub unfolds : Unfolds answers d until fate t.start (all_acts t.passages) t.after

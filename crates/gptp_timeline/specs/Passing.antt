@@ -33,7 +33,7 @@ watch_at_start options w = see_all (event_look 0) w (watch_before options w)
 
 -- The acts of a stretch with these events were done before an observer for which it began, and this is told of them.
 pub record StretchIsSeen {F : Type 0} (answers : Bounds → ℕ → F → Option ℕ → F → Type 0) (plan : Plan)
-  (events : List Timed)
+    (events : List Timed)
     (fate fate_after : F) (w w' : WorldState) (o o_after : WatchState) (told : List (List ℕ)) : Type 0 where
   pub acts : List Transition
   pub courses : Courses answers plan.to events acts fate fate_after w w'
@@ -69,4 +69,4 @@ abbrev pub StopsSeen : {F : Type 0} → (Bounds → ℕ → F → Option ℕ →
 StopsSeen answers exact d from to events fate w o lines =
     (lines ≡ [])
     ⊎ ((plan : Plan) × IsTimelinePlan exact d from to (is_begun events) plan
-      × StretchBreaksOff answers plan events fate w o lines)
+    × StretchBreaksOff answers plan events fate w o lines)

@@ -130,7 +130,7 @@ is_begun (e ∷ es) = true
 
 -- what is known of it by the document alone, where it is asked, or isn't, how exact systems are
 pub record IsTimelinePlan (exact : Bool) (d : DocumentState) (from to : ℕ) (begins_with_event : Bool)
-  (plan : Plan) : Type 0
+    (plan : Plan) : Type 0
   where
     pub from_is : plan.from ≡ from
     pub to_is : plan.to ≡ to

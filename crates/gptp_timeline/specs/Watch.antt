@@ -84,8 +84,11 @@ abbrev pub without_error : Watched → Watched
 without_error x = record x { error = None }
 
 abbrev pub watch_begun : Option ℕ → WatchState → WatchState
-watch_begun exact_from o = record o { exact_from = exact_from; systems = map without_error o.systems;
-    measures = nothing }
+watch_begun exact_from o = record o {
+  exact_from = exact_from;
+  systems = map without_error o.systems;
+  measures = nothing;
+}
 
 -- ---- systems that are looked at
 

@@ -125,7 +125,7 @@ StandsSo s ts = (done : List Timed) (at : ℕ) → past_by at done → not_befor
 course_step : (s : Standing) (t : Timed) (ts : List Timed) → StandsSo s ts → (done : List Timed) (at : ℕ) (same : Bool)
     → (at == t.at) ≡ same → past_by at done → not_before at (t ∷ ts) → AreInOrder (t ∷ ts)
     → (cond same [] (course_at_time at (after done s) ∷ [])) ++ course_from
-      (acted t.act (course_at_time t.at (after done s))) ts
+    (acted t.act (course_at_time t.at (after done s))) ts
     ≡ map (stood (done ++ t ∷ ts) s) (times_from at (t ∷ ts))
 course_step s t ts behind_it done at true is past come order =
     let same : at ≡ t.at = eqb-true at t.at is in

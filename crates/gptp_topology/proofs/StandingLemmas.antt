@@ -172,7 +172,7 @@ module _ (events : List Timed) (cables : List Cable) (clock : ℕ) where
       head : tables_seen o ≡ node_after events cables own
       head =
           same_heads (tables_seen o) (node_after events cables own) (map tables_seen os)
-            (map (node_after events cables) owns) are
+          (map (node_after events cables) owns) are
 
       by : (test : Bool) → (o.clock == clock) ≡ test → Looked os owns
           → (cond test o.neighbours.items (neighbours_at clock os) ≡ neighbours_of clock cables)
@@ -240,10 +240,10 @@ nodes_more done t cables (o ∷ os) [] are = absurd cc
 nodes_more done t cables (o ∷ os) (own ∷ owns) are =
     let head =
     same_heads (tables_seen o) (node_after done cables own) (map tables_seen os)
-      (map (node_after done cables) owns) are in
+    (map (node_after done cables) owns) are in
     let tail =
     same_tails (tables_seen o) (node_after done cables own) (map tables_seen os)
-      (map (node_after done cables) owns) are in
+    (map (node_after done cables) owns) are in
     ap₂ (λ x xs. x ∷ xs)
     (ap
     (λ (s : NodeState).

@@ -9,7 +9,7 @@ use Rattle.gptp_commands.proofs.question.answer_question.Goals as goal
 pub returns-clause-done : goal.returns-clause-done
 returns-clause-done g c =
     text_holds document_limit (AnswersQuestionInput c.args.question)
-      (RefusesFault TooMany) _ _ c.in_ok-input.input.items
+    (RefusesFault TooMany) _ _ c.in_ok-input.input.items
     c.in_ok-output.output.text.items
     c.in_ok-output.output.status
     (λ text. Appends (g.K.Sink.written c.args.sink.now) (g.K.Sink.written c.write_whole.new.sink) text)

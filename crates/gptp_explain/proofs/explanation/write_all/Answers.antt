@@ -22,7 +22,7 @@ returns c =
     let (way, shows, second) = c.in_ok-write_way.ensures in
     let (ranked, are, third) = c.in_ok-write_ranks.ensures in
     let head = ap₂ (λ v r. string_bytes c.new-text.result
-        ++ (explained_system_line v c.args.own r line.steps ++ 10 ∷ []))
+    ++ (explained_system_line v c.args.own r line.steps ++ 10 ∷ []))
     c.requires.stated.has root in (
       explained_system_line s.clock c.args.own best.identity line.steps ∷ (way ++ rank_lines c.args.own 0 None ranked),
       record {

@@ -34,7 +34,7 @@ loop-run-preserved c =
       tried = more_tried c.args.document.now c.args.times.now c.args.planned.now run c.loop-run.down c.loop-run.back
           c.joined-down.result c.joined-back.result c.in_ok-follow.follow.items c.loop-run.invariant.tried ends
           (subst (λ (d : DocumentState). CaseRunEnds d c.args.times.now c.args.planned.now run ends)
-            c.loop-run.invariant.same
+          c.loop-run.invariant.same
           c.in_ok-next_down.ensures.run) down_is back_is;
       most = omega (arith, count, below);
       same = c.in_ok-next_down.ensures.same ∙ c.loop-run.invariant.same;

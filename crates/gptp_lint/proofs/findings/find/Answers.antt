@@ -22,7 +22,7 @@ loop-cable-preserved c =
     record {
       long = told_more (λ (w : LinkSpec). option_to_list (long_of d.network.params (course_of d.events w)))
           c.loop-cable.long.items c.push_troubles.new.long.items
-            (longs_of d (map cable_wire cables)) cable cables i here
+          (longs_of d (map cable_wire cables)) cable cables i here
           c.loop-cable.invariant.long c.in_ok-push_troubles.ensures.long;
       lossy = told_more (λ (w : LinkSpec). stretches w.bounds.link 0 (course_of d.events w)) c.loop-cable.lossy.items
           c.push_troubles.new.lossy.items (lossies_of d (map cable_wire cables)) cable cables i here

@@ -12,7 +12,7 @@ returns-in-Some c =
     let ms = c.args.network.now.systems in
     let here =
     system_there (λ (m : SystemSpec). (m.identity, m.ports, m.phase, m.drift, m.intervals))
-      (λ told. told.0) ms c.args.place
+    (λ told. told.0) ms c.args.place
     c.in-Some.system (λ m. refl) c.in-Some.ensures in
     on_ok_weaker c.push_node.result
     (λ h. h ∙ ap (λ id. c.args.nodes.now.items ++ first_node id ∷ []) here.is
@@ -23,5 +23,5 @@ returns-in-Some c =
 pub returns-in-None : goal.returns-in-None
 returns-in-None c =
     absurd (none_there (λ (m : SystemSpec). (m.identity, m.ports, m.phase, m.drift, m.intervals))
-      c.args.network.now.systems
+    c.args.network.now.systems
     c.args.place c.requires.place c.in-None.ensures)

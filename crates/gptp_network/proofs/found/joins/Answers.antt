@@ -14,4 +14,4 @@ returns-in-Some c =
 pub returns-in-None : goal.returns-in-None
 returns-in-None c =
     no_ends (λ (w : LinkSpec). w.bounds) c.args.port.now
-      (slice_get c.args.network.now.links c.args.place) c.in-None.ensures
+    (slice_get c.args.network.now.links c.args.place) c.in-None.ensures

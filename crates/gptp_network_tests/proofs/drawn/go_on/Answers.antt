@@ -5,5 +5,5 @@ pub returns-in-Ok : goal.returns-in-Ok
 returns-in-Ok g c =
     let went = c.in-Ok.ensures.advanced in
     comes_to g.F.Fate.answers c.args.world.now.fate c.advance.new.self.fate went.0 c.args.time
-      c.args.world.now.world_core
+    c.args.world.now.world_core
     c.advance.new.self.world_core c.requires.begun went.1 c.well_formed-in-Ok.ensures.claimed

@@ -5,4 +5,4 @@ pub returns : goal.returns
 returns g c =
     let shown = c.follows.ensures in
     followed_soon c.args.world.now.world_core c.from.result c.follows.result c.from.ensures c.requires shown.some
-      shown.none
+    shown.none

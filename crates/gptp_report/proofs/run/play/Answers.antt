@@ -36,7 +36,7 @@ loop-place-preserved g c =
     let so_far = subst
     (λ left. WentSoFar g.F.Fate.answers g.O.Observer.tells c.args.until events left c.args.world.now.fate
     c.loop-place.world.fate c.args.world.now.world_core c.loop-place.world.world_core c.args.observer.now
-      c.loop-place.observer
+    c.loop-place.observer
     (Appends old between)) here c.loop-place.invariant.so_far in
     record {
       so_far = went_more g.F.Fate.answers g.O.Observer.tells c.args.until events event (drop (i + 1) events)
@@ -62,7 +62,7 @@ returns-in_err-make_if_due-clause-broken g c =
     let so_far = subst
     (λ left. WentSoFar g.F.Fate.answers g.O.Observer.tells c.args.until events left c.args.world.now.fate
     c.loop-place.world.fate c.args.world.now.world_core c.loop-place.world.world_core c.args.observer.now
-      c.loop-place.observer
+    c.loop-place.observer
     (Appends old between)) here c.loop-place.invariant.so_far in
     after_error c.from_residual.result
     (went_to_event g.F.Fate.answers g.O.Observer.tells c.args.until events event (drop (i + 1) events)
@@ -79,7 +79,7 @@ returns-clause-played g c = on_ok_weaker c.go_on.result (λ went.
     let all = subst
     (λ left. WentSoFar g.F.Fate.answers g.O.Observer.tells c.args.until events left c.args.world.now.fate
     c.loop-place.world.fate c.args.world.now.world_core c.loop-place.world.world_core c.args.observer.now
-      c.loop-place.observer
+    c.loop-place.observer
     (Appends old between))
     (drop_all c.loop-place.place events c.loop-place-test.false) c.loop-place.invariant.so_far in
     went_all g.F.Fate.answers g.O.Observer.tells c.args.until events c.args.world.now.fate c.loop-place.world.fate
@@ -96,7 +96,7 @@ returns-clause-broken g c = on_err_weaker c.go_on.result (λ broken.
     let all = subst
     (λ left. WentSoFar g.F.Fate.answers g.O.Observer.tells c.args.until events left c.args.world.now.fate
     c.loop-place.world.fate c.args.world.now.world_core c.loop-place.world.world_core c.args.observer.now
-      c.loop-place.observer
+    c.loop-place.observer
     (Appends old between))
     (drop_all c.loop-place.place events c.loop-place-test.false) c.loop-place.invariant.so_far in
     went_to_end g.F.Fate.answers g.O.Observer.tells c.args.until events c.args.world.now.fate c.loop-place.world.fate

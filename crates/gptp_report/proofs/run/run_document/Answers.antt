@@ -36,6 +36,6 @@ returns-clause-led g c =
     let played = c.in_ok-play.ensures.played in
     leads_to g.F.Fate.answers c.args.document.now c.args.until (record { asked = c.args.frames }) c.play.new.observer
     c.args.fate c.in_ok-world.world.fate c.play.new.world.fate c.in_ok-world.world.world_core
-      c.play.new.world.world_core
+    c.play.new.world.world_core
     (Appends (g.K.Sink.written c.args.sink.now) (g.K.Sink.written c.play.new.sink)) played.0
     c.well_formed-2.ensures.events c.in_ok-world.ensures.begun (rw c.events.ensures at played.1) played.2

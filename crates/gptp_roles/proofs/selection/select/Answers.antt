@@ -80,5 +80,5 @@ returns-clause-slave c =
     let rest = at_rest c.args.identity.now c.args.held.now chosen c.requires.placed c.best_vector-chosen.ensures in
     rw (held, c.slave_of.ensures, c.clock-clock.ensures)
     (slave_received c.args.identity.now (each_port
-      (held_after_selection chosen (clock_of c.args.identity.now)) c.args.held.now)
+    (held_after_selection chosen (clock_of c.args.identity.now)) c.args.held.now)
     chosen rest.placed rest.is_chosen)

@@ -9,5 +9,5 @@ invariant-loop-one l = record {
   fresh : l.fresh.items ≡ each_port (is_fresh l.chosen l.clock) (take l.one-index l.initial.held);
   held : l.held
       ≡ each_port (held_after_selection l.chosen l.clock)
-        (take l.one-index l.initial.held) ++ drop l.one-index l.initial.held;
+      (take l.one-index l.initial.held) ++ drop l.one-index l.initial.held;
 }

@@ -44,7 +44,7 @@ next_stretch-requires-clause-prompt g c =
     let w = c.loop-to.world.world_core in
     subst (AllDelaysFitIntervals w) (sym c.events_by-now.ensures)
     (filter_each (λ (e : Timed). DelaysFitIntervals w e.act)
-      (λ (e : Timed). nat_le e.at c.loop-to.from) c.loop-to.left.now
+    (λ (e : Timed). nat_le e.at c.loop-to.from) c.loop-to.left.now
     c.loop-to.invariant.may.prompt)
 
 pub next_stretch-requires-clause-due : goal.next_stretch-requires-clause-due

@@ -18,7 +18,7 @@ returns-in_err-play-clause-broken g c =
     after_error c.from_residual.result (
       broken.3.lines,
       inl (sees_some g.F.Fate.answers c.args.plan.now c.args.events.now c.args.world.now.fate
-        c.args.world.now.world_core
+          c.args.world.now.world_core
           c.args.watch.now c.begin.new.self began c.requires.due broken.0 broken.1 (AppendsSome old new) broken.3
           broken.2),
       broken.3.so,
@@ -41,7 +41,7 @@ returns-clause-broken g c =
         told = told;
         seen = sees_all g.F.Fate.answers c.args.plan.now c.args.events.now c.args.world.now.fate
             c.args.world.now.world_core c.args.watch.now c.begin.new.self began c.requires.due played.0
-              c.play.new.observer
+            c.play.new.observer
             (Appends old between) played.2 c.play.new.world.fate c.play.new.world.world_core played.1;
         are = refl;
       }),

@@ -11,7 +11,7 @@ use Rattle.gptp_timeline.proofs.watch.write_receipt.Goals as goal
 pub returns-in-Some : goal.returns-in-Some
 returns-in-Some g c =
     let w = c.args.world.now.world_core in let at = c.args.at in let clock = c.args.clock
-        in let s = c.in-Some.system.now in
+    in let s = c.in-Some.system.now in
     let text = string_bytes c.args.text.now in
     let line = offset_line at clock c.offset.result c.error_of.result in
     let lines : receipt_lines_of at w clock (live_system clock w) ≡ line ∷ [] =

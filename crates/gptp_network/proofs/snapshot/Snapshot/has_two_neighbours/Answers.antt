@@ -12,7 +12,7 @@ returns-in-Some c =
     ∙ known_at g c.args.place (system_of c.in-Some.system) c.neighbours.result
     c.well_formed-2.ensures.network c.in-Some.ensures
     (subst (λ v. NeighboursAreKnown g v (c.in-Some.system.1 + 1) c.neighbours.result) c.clock.ensures
-      c.neighbours.ensures)
+    c.neighbours.ensures)
 
 pub returns-in-None : goal.returns-in-None
 returns-in-None c = nobody_there c.args.self.now c.args.place c.requires c.in-None.ensures

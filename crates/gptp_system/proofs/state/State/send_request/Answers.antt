@@ -38,7 +38,7 @@ returns-clause-sends c =
     let message =
     c.request.ensures
     ∙ ap (λ (from : PortId). pdelay_request from (to_z w8 (of_z w8 s.params.pdelay)) c.ask-sequence.result)
-      c.own.ensures
+    c.own.ensures
     ∙ ap (λ (z : ℤ). pdelay_request (own (state_of s) c.args.port) z c.ask-sequence.result) log
     ∙ ap (λ (n : ℕ). pdelay_request (own (state_of s) c.args.port) s.params.pdelay n) sequence in
     c.insert.ensures ∙ ap (λ (one : Sending). with_send one c.args.outbox.now.items) message
