@@ -54,7 +54,7 @@ interval_long (negsuc (suc (suc zero))) k = omega arith
 interval_long (negsuc (suc (suc (suc zero)))) k = omega arith
 interval_long (negsuc (suc (suc (suc (suc n))))) k = let low = k.low in absurd (omega (arith, ints))
 
--- the sums behind one link more, by those before it
+-- the sums after one link more, by those before it
 pub record IsBehind (p : Params) (s : Sums) (l : WayLink) (t : Sums) : Type 0 where
   pub root_drift : t.root_drift ≡ s.root_drift
   pub drift : t.drift ≡ l.drift
@@ -200,7 +200,7 @@ module _ (p : Params) (w : Way) (l : WayLink) (s : Sums) (timed : IsTimedBy p w)
       last_place : length (longer w l).links - 1 ≡ length w.links
       last_place = omega (arith, longer_length w l)
 
--- sums within the limits stay so behind a link within them
+-- sums within the limits stay so after a link within them
 module _ (links : ℕ) (s t : Sums) (within : SumsAreWithin links s) where
   pub stay_within : (rate_error hop wait : ℕ) (rate : ℤ) → t.root_drift ≡ s.root_drift → IsDrift t.drift
       → t.jitter ≤ 16000000000 → t.rate_error ≡ s.rate_error + rate_error → rate_error ≤ 600000000000000

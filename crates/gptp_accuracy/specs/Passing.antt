@@ -20,7 +20,7 @@ pub record ArePlaces (lines : List SystemLine) (count : ℕ) (places : List (ℕ
   pub only : (steps place : ℕ) → In (steps, place) places
       → (line : SystemLine) × (slice_get lines place ≡ Some line) × (line.steps ≡ steps)
 
--- all lines, none with more steps than one behind it
+-- all lines, none with more steps than one after it
 pub record AreBySteps (lines : List SystemLine) (places : List (ℕ × ℕ)) : Type 0 where
   pub rising : IsNonDecreasingBy (λ (p : ℕ × ℕ). p.0) places
   pub all : (place : ℕ) (line : SystemLine) → slice_get lines place ≡ Some line → In (line.steps, place) places

@@ -119,7 +119,7 @@ fn system_of(calm: bool, line: &SystemLine, to: &Sums) -> SystemError
     }
 }
 
-/// Puts the system of a line behind those of the lines before, with its time error.
+/// Puts the system of a line after those of the lines before, with its time error.
 fn push_system(
     systems: &mut Vec<SystemError>,
     calm: bool,

@@ -15,7 +15,7 @@ use gptp_setup::interval_of;
 /// What stands for 1 in a rate, 2^41.
 const UNIT: i64 = 1 << 41;
 
-/// A link of a way: its least and its greatest delay, in ns, and the drift of the clock behind it, in units of 2^-41.
+/// A link of a way: its least and its greatest delay, in ns, and the drift of the clock after it, in units of 2^-41.
 #[derive(Clone, Copy, Debug)]
 pub(crate) struct Link {
     pub least: u64,
@@ -146,7 +146,7 @@ impl Sums {
         self.rate_error + unlike.unsigned_abs()
     }
 
-    /// The sums behind one link more.
+    /// The sums after one link more.
     pub fn behind(&self, link: &Link, params: &Params) -> Self
         requires params { AreParams params.now }
         requires sums { SumsAreWithin 511 self.now }

@@ -25,7 +25,7 @@ use gptp_scenario::{Network, Timed};
 use gptp_vector::ClockId;
 use std::alloc::{AllocError, Global};
 
-/// Puts the place of a line behind those of the lines before, with its steps.
+/// Puts the place of a line after those of the lines before, with its steps.
 fn push_place(
     places: &mut Vec<(u16, usize)>,
     certificate: &Certificate,

@@ -6,7 +6,7 @@ use Rattle.gptp_bmca_machine.specs.Frame.{SyncId, Sync, FollowUp, SyncMessage, S
 use Rattle.gptp_bmca_machine.specs.Matching.{IsNoSync, HasFollowUp, HasPair, WillMatch}
 
 module _ (says_sync : SaysSync) (from : PortIdentity) where
-  -- frames that enter behind leave it
+  -- frames that enter after leave it
   follow_up_on : (id : SyncId) (fs news : List AnnounceFrame) (due : ℕ) → HasFollowUp says_sync from id fs due
       → HasFollowUp says_sync from id (fs ++ news) due
   follow_up_on id [] news due has = absurd has

@@ -46,7 +46,7 @@ module _ (says : Spelling) (k : Wiring) where
       rest : IsLaneOf k l → IsLaneOf k (record l { frames = fs })
       rest h = record { from = h.from; to = h.to; loss = h.loss; is_up = h.is_up }
 
-  -- what stands after a frame was taken off stood before, with the lane's frames behind that one
+  -- what stands after a frame was taken off stood before, with the lane's frames after that one
   abbrev pub stood_popped : (j : ℕ) (l : Lane) (f : AnnounceFrame) (fs : List AnnounceFrame) (w w' : MachineState)
       → Pops j l f fs w w'
       → (m : Lane)

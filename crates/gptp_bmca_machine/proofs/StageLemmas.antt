@@ -7,7 +7,7 @@ use Rattle.gptp_bmca_machine.specs.Station.{Held, Received}
 use Rattle.gptp_bmca_machine.specs.Stage.{Wiring, IsFinal, AllFinal, FrameSaysAnnounce, FinalTail, FinalAnnounceStays, Stage}
 
 module _ (says : Spelling) (k : Wiring) where
-  -- final frames behind final ones
+  -- final frames after final ones
   all_final_on : (fs news : List AnnounceFrame) → AllFinal says k fs → AllFinal says k news
       → AllFinal says k (fs ++ news)
   all_final_on fs news old new f a at said = elim (In-parts f fs news at) [
@@ -15,7 +15,7 @@ module _ (says : Spelling) (k : Wiring) where
     | inr h ↦ new f a h said
   ]
 
-  -- a final tail stays one with final frames behind it
+  -- a final tail stays one with final frames after it
   tail_on : (b : ℕ) (fs news : List AnnounceFrame) → FinalTail says k b fs → AllFinal says k news
       → FinalTail says k b (fs ++ news)
   tail_on b [] news tail new = absurd tail

@@ -7,7 +7,7 @@ use Rattle.gptp_bmca_machine.specs.Station.{Reception, Disabled, Received, Port,
 use Rattle.gptp_bmca_machine.specs.Touch.{StationTouch, Hear, Grow}
 use Rattle.gptp_bmca_machine.specs.Reacts.{StationReacts}
 
--- A lane takes up what the system with clock c sends. What is sent from its port enters behind all others, or is lost;
+-- A lane takes up what the system with clock c sends. What is sent from its port enters after all others, or is lost;
 -- nothing is lost where the link is up and has no loss. When it will be due is not said here.
 pub record LaneStep (c : ℕ) (sends : List Send) (l l' : Lane) : Type 0 where
   pub from : l'.from ≡ l.from

@@ -15,7 +15,7 @@ HasFollowUp says_sync from id [] due = ⊥
 HasFollowUp says_sync from id (f ∷ fs) due = (says_sync f.octets (FollowUp id) × (f.due ≡ due))
     ⊎ (IsNoSync says_sync from f × HasFollowUp says_sync from id fs due)
 
--- a Sync from this port is among the frames, and its Follow_Up behind it
+-- a Sync from this port is among the frames, and its Follow_Up after it
 abbrev pub HasPair : SaysSync → PortIdentity → List AnnounceFrame → ℕ → Type 0
 HasPair says_sync from [] due = ⊥
 HasPair says_sync from (f ∷ fs) due =

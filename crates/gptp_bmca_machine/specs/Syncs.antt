@@ -30,7 +30,7 @@ HaveSyncTimers n w = (i : ℕ) (s : Station) → slice_get w.stations i ≡ Some
 
 -- ---- by when the next Follow_Up comes
 
--- how long at most it takes from any time to the next one behind a system at distance d
+-- how long at most it takes from any time to the next one after a system at distance d
 abbrev pub wait : Network → ℕ → ℕ
 wait n d = n.syncs.interval + d * (n.syncs.residence + n.most) + n.most
 

@@ -75,7 +75,7 @@ earlier i place below apart = elim (dec_lt i place) [
 
 -- ---- one number more
 
--- what stands at a place of numbers with one more behind
+-- what stands at a place of numbers with one more after
 at_before : (xs : List ℕ) (y i : ℕ) → i < length xs → value (xs ++ y ∷ []) i ≡ value xs i
 at_before xs y i within =
     let here : slice_get xs i ≡ Some (value xs i) = slice_get-get_or xs i 0 within in

@@ -1,4 +1,4 @@
--- The lines of systems, put one behind another by rising clock, are those of all live systems.
+-- The lines of systems, put one after another by rising clock, are those of all live systems.
 use Rattle.std.proofs.Common.{◌≡◌, ◌<◌, ◌≤◌, ◌+◌, ℕ, zero, suc, Bool, true, false, if◌then◌else◌, List, [], ◌∷◌, ◌++◌, length, map, drop, get_or, slice_get, Some, refl, sym, ap, subst, ◌∙◌, inl, inr, arith, append_assoc, append-nil}
 use Rattle.std.proofs.lemmas.List.{drop_more}
 use Rattle.std.proofs.lemmas.Option.{same_Some, slice_get-get_or, slice_get_within}
@@ -18,7 +18,7 @@ use Rattle.gptp_invariants.proofs.WorldNameLemmas.{clock_of_station, clocks_rise
 use Rattle.gptp_certificate.specs.Stated.{stated_line, stated_port}
 use Rattle.gptp_certificate.specs.Stating.{stated_if, Adds, AreSaid}
 
--- ---- the lines of the systems with some clocks, one behind another
+-- ---- the lines of the systems with some clocks, one after another
 
 abbrev AreLines : List ℕ → WorldState → List SystemLine → Type 0
 AreLines [] w lines = lines ≡ []

@@ -12,7 +12,7 @@ use Rattle.gptp_certificate.specs.Stated.{stated_line}
 abbrev pub stated_if : Station → List SystemLine
 stated_if station = if station.live then stated_line station.system ∷ [] else []
 
--- the line of the system with a clock is put behind others
+-- the line of the system with a clock is put after others
 abbrev pub Adds : ℕ → WorldState → List SystemLine → List SystemLine → Type 0
 Adds name w before after = AtSystem name w (λ place station. after ≡ before ++ stated_if station)
 

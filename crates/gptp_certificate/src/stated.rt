@@ -60,7 +60,7 @@ fn stated_line(alloc: Global, own: ClockId, system: &System) -> Result<SystemLin
     })
 }
 
-/// Puts the line of a system, which has this clock, behind others.
+/// Puts the line of a system, which has this clock, after others.
 fn push_line(
     alloc: Global,
     lines: &mut Vec<SystemLine>,
@@ -75,7 +75,7 @@ fn push_line(
     Ok(())
 }
 
-/// Puts the line of the system with a clock behind others, where it lives.
+/// Puts the line of the system with a clock after others, where it lives.
 fn state_clock<F: Fate + Drop>(
     alloc: Global,
     world: &World<F>,

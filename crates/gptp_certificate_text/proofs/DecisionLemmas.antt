@@ -49,7 +49,7 @@ after_dec (x ∷ front) (y ∷ text) = by (ℕ_discrete y x) (after_dec front te
     by (yes same) (no f) = no (λ (behind, is). f (behind, cc))
     by (yes same) (yes (behind, is)) = yes (behind, ap₂ (λ (z : ℕ) (zs : List ℕ). z ∷ zs) same is)
 
--- what stands before and behind the first octet of a value
+-- what stands before and after the first octet of a value
 abbrev pub HasCut : ℕ → List ℕ → Type 0
 HasCut s text = (front : List ℕ) × (rest : List ℕ) × Lacks s front × (text ≡ front ++ s ∷ rest)
 
@@ -73,7 +73,7 @@ word_dec word =
     dec_iff (λ h. record { some = h.0; plain = h.1 }) (λ h. (h.some, h.plain))
     (dec_both (dec_lt 0 (length word)) (bool_dec (list_all (λ octet. not (is_blank octet)) word) true))
 
--- a word, a space, and what stands behind it
+-- a word, a space, and what comes after it
 abbrev HasFirst : List ℕ → Type 0
 HasFirst text = (word : List ℕ) × (rest : List ℕ) × IsWord word × (text ≡ word ++ 32 ∷ rest)
 
@@ -90,7 +90,7 @@ first_dec text = by (cut_exists 32 text)
     by (inl (front, rest, lacks, is)) = by_word front rest lacks is (word_dec front)
     by (inr lacks) = no (λ (word, rest, plain, is). no_cut 32 word rest (subst (Lacks 32) is lacks))
 
--- so behind a key
+-- so after a key
 abbrev HasValue : List ℕ → List ℕ → Type 0
 HasValue key text = (word : List ℕ) × (rest : List ℕ) × IsWord word × (text ≡ key ++ (word ++ 32 ∷ rest))
 

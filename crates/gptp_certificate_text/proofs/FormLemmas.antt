@@ -1,4 +1,4 @@
--- The forms of lines: what stands behind each word of a line.
+-- The forms of lines: what comes after each word of a line.
 use Rattle.std.proofs.Common.{◌≡◌, ℕ, List, ◌∷◌, ◌++◌, codes, refl, sym, ◌∙◌, append_assoc}
 use Rattle.std.specs.Prelude.{Some}
 use Rattle.std.proofs.lemmas.List.{append_cancel_left}

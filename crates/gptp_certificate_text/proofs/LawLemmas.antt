@@ -277,7 +277,7 @@ small_version : (v : ℕ) → IsVersion v → v < 10
 small_version v (inl e) = omega arith
 small_version v (inr e) = omega arith
 
--- a head line is one version's, with what stands behind it
+-- a head line is one version's, with what comes after it
 behind_head : (v w : ℕ) (xs ys : List LineKey) (x y : List ℕ) → IsVersion v → IsVersion w
     → front_text v xs ++ x ≡ front_text w ys ++ y → (v ≡ w) × (entries_text xs ++ x ≡ entries_text ys ++ y)
 behind_head v w xs ys x y is_v is_w e =
@@ -379,7 +379,7 @@ no_certificate text fault version lines (inr b) order readable is =
     no_certificate_of text fault b (entries_of lines) (lines_stand version lines order readable) readable_there
     (fronts b.version version b.before (entries_of lines) b.rest end_text b.stand.readable readable behind.1)
 
--- two faults behind lines of one version, of which the ones go on with the others
+-- two faults after lines of one version, of which the ones go on with the others
 one_fault_of : (v : ℕ) (f g : CertificateFault) (xs ys : List LineKey) (x y : List ℕ)
     → AllByRecursion (IsReadableEntry v) ys → StandInOrder ys → RestFails v xs x f → RestFails v ys y g
     → GoesOn xs ys x y → f ≡ g
@@ -397,7 +397,7 @@ one_fault_behind text f g a b same (inr goes) =
     sym (one_fault_of a.version g f b.before a.before b.rest a.rest a.stand.readable a.stand.order
     (subst (λ v. RestFails v b.before b.rest g) (sym same) b.fails) a.fails goes)
 
--- a text that fails behind a head line has that of its version
+-- a text that fails after a head line has that of its version
 has_head : (text : List ℕ) (f : CertificateFault) → FailsBehind text f → LacksHead text → ⊥
 has_head text f b lacks =
     lacks b.version (entries_text b.before ++ b.rest) b.is_version

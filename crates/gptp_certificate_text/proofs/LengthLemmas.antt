@@ -19,7 +19,7 @@ use Rattle.gptp_certificate_text.specs.Entries.{LineKey, SystemEntry, PortEntry,
 use Rattle.gptp_certificate_text.specs.Forms.{far_text, parent_text, port_text, role_word, system_text}
 use Rattle.gptp_certificate_text.proofs.TextLemmas.{entries_text}
 
--- two texts, one behind the other
+-- two texts, one after the other
 both : (xs ys : List ℕ) (m n : ℕ) → length xs ≤ m → length ys ≤ n → length (xs ++ ys) ≤ m + n
 both xs ys m n f g = let e = length-append xs ys in omega (arith, e, f, g)
 

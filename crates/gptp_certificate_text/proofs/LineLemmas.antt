@@ -69,7 +69,7 @@ port_of_words clock number role = PortForm (record { clock = clock; number = num
 abbrev far_of_words : List ℕ → List ℕ → List ℕ → Form
 far_of_words clock steps root = FarForm (record { clock = clock; steps = steps; root = root })
 
--- behind the clock of a far system's line stands another word than behind that of another system's
+-- after the clock of a far system's line stands another word than after that of another system's
 not_far : (a : SystemWords) (b : FarWords) → AreSystemWords a → AreFarWords b → system_text a ≡ far_text b → ⊥
 not_far a b f g e =
     let clock = rest_behind_clock a (far_text b) b.clock (far_behind_clock b) f g.clock (far_parts b) (sym e) in

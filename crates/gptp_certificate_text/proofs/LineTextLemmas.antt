@@ -9,7 +9,7 @@ use Rattle.gptp_certificate_text.specs.Certificate.{line_of, lines_of, port_line
 use Rattle.gptp_certificate_text.specs.CertificateText.{PrintsLine, certificate_lines, entry_text}
 use Rattle.gptp_certificate_text.specs.Entries.{PortEntry, entries_of, entries_of_line}
 
--- ---- places in two lists, one behind the other
+-- ---- places in two lists, one after the other
 
 place_before : {X : Type 0} (xs ys : List X) (i : ℕ) → i < length xs → slice_get (xs ++ ys) i ≡ slice_get xs i
 place_before [] ys i within = absurd (omega arith)
@@ -36,7 +36,7 @@ texts_count line =
     ∙ length-map line.ports.items port_line_of in
     omega (arith, count)
 
--- behind its own line stand those of its ports
+-- after its own line stand those of its ports
 pub port_text : (line : SystemLine) (place : ℕ) (port : ℕ × Role) → 0 < place
     → slice_get line.ports.items (place - 1) ≡ Some port
     → slice_get (texts_of line) place ≡ Some (entry_text (PortEntry line.clock (port_line_of port)))
@@ -49,7 +49,7 @@ port_text line (suc i) port some here =
     ∙ ap (option_map entry_text) (slice_get-map (PortEntry line.clock) (map port_line_of ports) i
     ∙ ap (option_map (PortEntry line.clock)) (slice_get-map port_line_of ports i ∙ ap (option_map port_line_of) at))
 
--- ---- the lines behind the first
+-- ---- the lines after the first
 
 -- those of the systems that are left, and the end
 abbrev pub texts_left : List SystemLine → List (List ℕ)
@@ -70,7 +70,7 @@ here_next line rest place text within here =
     ap (λ texts. slice_get texts place) (left_more line rest)
     ∙ place_before (texts_of line) (texts_left rest) place (omega (arith, within, count)) ∙ here
 
--- or it stands behind them
+-- or it comes after them
 pub behind_next : (line : SystemLine) (rest : List SystemLine) (place : ℕ) → 1 + length line.ports.items ≤ place
     → slice_get (texts_left (line ∷ rest)) place
     ≡ slice_get (texts_left rest) (place - (1 + length line.ports.items))
@@ -80,7 +80,7 @@ behind_next line rest place past =
     ∙ place_behind (texts_of line) (texts_left rest) place (omega (arith, past, count))
     ∙ ap (λ n. slice_get (texts_left rest) (place - n)) count
 
--- the first line is the head, and the others stand behind it
+-- the first line is the head, and the others come after it
 pub behind_head : (version : ℕ) (lines : List SystemLine) (place : ℕ) → 0 < place
     → slice_get (certificate_lines version (lines_of lines)) place ≡ slice_get (texts_left lines) (place - 1)
 behind_head version lines zero some = absurd (omega arith)

@@ -129,7 +129,7 @@ IsBareIfFar line = line.far ≡ true → line.ports ≡ []
 abbrev AreBare : List SystemLine → Type 0
 AreBare lines = (line : SystemLine) → In line lines → IsBareIfFar line
 
--- the part of a list that is behind another
+-- the part of a list that is after another
 pub all_behind : (version : ℕ) (xs ys : List LineKey) → AllByRecursion (IsReadableEntry version) (xs ++ ys)
     → AllByRecursion (IsReadableEntry version) ys
 all_behind version [] ys all = all
@@ -141,7 +141,7 @@ of_each : {X : Type 0} (P : X → Type 0) (x : X) (xs : List X) → P x → ((y 
 of_each P x xs here there y (inl e) = subst P (sym e) here
 of_each P x xs here there y (inr i) = there y i
 
--- behind a far system's line stands no port line
+-- after a far system's line stands no port line
 ports_bare : (first : LineKey) (clock : ℕ) (ports : List PortLine) (more : List LineKey)
     → FollowEach first (map (PortEntry clock) ports ++ more) → is_far first ≡ true → ports ≡ []
 ports_bare first clock [] more each far = refl

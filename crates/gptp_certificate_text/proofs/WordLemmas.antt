@@ -103,7 +103,7 @@ plain_lacks_feed (x ∷ xs) plain =
 pub one_word : (v w x y : List ℕ) → IsWord v → IsWord w → v ++ 32 ∷ x ≡ w ++ 32 ∷ y → (v ≡ w) × (x ≡ y)
 one_word v w x y f g = one_cut 32 v w x y (plain_lacks_space v f.plain) (plain_lacks_space w g.plain)
 
--- one value stands behind a key
+-- one value comes after a key
 pub one_value : (key text v w x y : List ℕ) → IsWord v → IsWord w → text ≡ key ++ (v ++ 32 ∷ x)
     → text ≡ key ++ (w ++ 32 ∷ y)
     → (v ≡ w) × (x ≡ y)

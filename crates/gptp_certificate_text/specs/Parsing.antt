@@ -62,7 +62,7 @@ pub record FailsBehind (text : List ℕ) (fault : CertificateFault) : Type 0 whe
 abbrev pub FailsToParse : List ℕ → CertificateFault → Type 0
 FailsToParse text fault = ((fault ≡ Head) × LacksHead text) ⊎ FailsBehind text fault
 
--- what of a rest that fails does so: what stands behind the end, where the rest begins with that, else all of it
+-- what of a rest that fails does so: what comes after the end, where the rest begins with that, else all of it
 abbrev pub IsFailingPart : List ℕ → List ℕ → Type 0
 IsFailingPart rest part = (rest ≡ end_text ++ part) ⊎ (((more : List ℕ) → rest ≢ end_text ++ more) × (part ≡ rest))
 

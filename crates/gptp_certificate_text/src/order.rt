@@ -135,7 +135,7 @@ fn ends_far(lines: &[SystemLine]) -> bool
     }
 }
 
-/// Appends a line, which is no port's behind a far system's. The error is Order where it can't follow those before, or
+/// Appends a line, which is no port's after a far system's. The error is Order where it can't follow those before, or
 /// OutOfMemory.
 fn append(alloc: Global, lines: &mut Vec<SystemLine>, entry: Entry) -> Result<(), CertificateFault>
     requires stand { StandInOrder (entries_of (lines_of lines.old.items)) }

@@ -61,7 +61,7 @@ fn read_line<'a>(
     }
 }
 
-/// What of a rest that fails does so: what stands behind `end`, where the rest begins with that, else all of it.
+/// What of a rest that fails does so: what comes after `end`, where the rest begins with that, else all of it.
 fn failing_part(rest: &[u8]) -> &[u8]
     ensures { IsFailingPart rest.now result.now }
 {
@@ -94,10 +94,10 @@ pub fn parse_located(alloc: Global, text: &[u8]) -> Result<Certificate, (Certifi
 /// and the first line that fails tells the fault:
 ///
 /// - [`CertificateFault::Head`]: the text doesn't begin with the first line of version 1 or 2, whole
-/// - [`CertificateFault::Line`]: a line is missing or lacks its line feed, isn't one by its words, or stands behind `end`;
-///   or it is a far system's in version 1, or a port's right after a far system's
-/// - [`CertificateFault::Spelling`]: a number or digits are spelled otherwise, or a number is out of its range: steps are
-///   0 to 65535, ports 1 to 65535
+/// - [`CertificateFault::Line`]: a line is missing or lacks its line feed, isn't one by its words, or comes after
+///   `end`; or it is a far system's in version 1, or a port's right after a far system's
+/// - [`CertificateFault::Spelling`]: a number or digits are spelled otherwise, or a number is out of its range: steps
+///   are 0 to 65535, ports 1 to 65535
 /// - [`CertificateFault::Order`]: a clock or a port number doesn't rise, or a port has another clock than the system
 ///   before it, or stands before any
 ///

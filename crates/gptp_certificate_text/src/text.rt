@@ -131,7 +131,7 @@ pub fn print(certificate: &Certificate, text: &mut Vec<u8>) -> Result<(), AllocE
     text.extend_from_slice(lines.as_bytes())
 }
 
-/// Appends one of the lines of a system: its own is at place 0, and behind it stand those of its ports.
+/// Appends one of the lines of a system: its own is at place 0, and after it stand those of its ports.
 fn write_entry(text: &mut String, line: &SystemLine, place: usize) -> Result<(), AllocError>
     requires { place < 1 + length line.now.ports.items }
     ensures { OnOk result ((entry : List ℕ)

@@ -49,7 +49,7 @@ of_that {X} xs i x P b e test = ((λ t y at. put y (e ∙ at) (test.0 t)), (λ h
     put : (y : X) → Some x ≡ Some y → P x → P y
     put y s p = let same : x ≡ y = cc in subst P same p
 
--- what stands before a place and behind it
+-- what stands before a place and after it
 pub around : {X : Type 0} (xs : List X) (i : ℕ) (x : X) → slice_get xs i ≡ Some x
     → take i xs ++ x ∷ drop (suc i) xs ≡ xs
 around [] i x e = absurd cc

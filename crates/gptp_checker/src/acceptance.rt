@@ -60,14 +60,14 @@ fn passes(snapshot: &Snapshot, certificate: &Certificate, fault: Fault) -> bool
 /// Whether a certificate is the choice that the network of a snapshot settles at, in version 1 with all steps below
 /// 255. Refused by the first fault, looked for over the whole certificate in this order:
 ///
-/// - [`Fault::Systems`]: its systems aren't the live ones, the ports of one that isn't far aren't all its ports, or a far
-///   one has some
+/// - [`Fault::Systems`]: its systems aren't the live ones, the ports of one that isn't far aren't all its ports, or a
+///   far one has some
 /// - [`Fault::TooFar`]: in version 1, a system has 255 steps or more
 /// - [`Fault::Root`]: a system that isn't far and has no parent states another root than itself
-/// - [`Fault::Steps`]: a system that isn't far has steps and no parent, a parent and no steps, or 255 steps or more; or a
-///   far one has fewer
-/// - [`Fault::Parent`]: no link joins a system to its parent, or the parent isn't one step nearer; or no link leads from a
-///   far system to one that is
+/// - [`Fault::Steps`]: a system that isn't far has steps and no parent, a parent and no steps, or 255 steps or more; or
+///   a far one has fewer
+/// - [`Fault::Parent`]: no link joins a system to its parent, or the parent isn't one step nearer; or no link leads
+///   from a far system to one that is
 /// - [`Fault::Link`]: over a link the roots differ, or the steps by more than one
 /// - [`Fault::Identity`]: a system is better than the root that it states
 /// - [`Fault::Tie`]: another link, to a system as near as the parent, goes first

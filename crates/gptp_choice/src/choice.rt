@@ -12,7 +12,7 @@ use gptp_components::{Distance, distances};
 use gptp_network::Snapshot;
 use std::alloc::{AllocError, Global};
 
-/// Puts the line of the system at a place behind those of the places before.
+/// Puts the line of the system at a place after those of the places before.
 fn push_line(
     alloc: Global,
     lines: &mut Vec<SystemLine>,

@@ -133,8 +133,8 @@ impl Sink for Lines {
     }
 }
 
-/// Each line of a frame is written by a call of its own, and the six lines of the report by one: no text is held that grows
-/// with the run.
+/// Each line of a frame is written by a call of its own, and the six lines of the report by one: no text is held that
+/// grows with the run.
 #[test]
 fn a_run_is_written_line_by_line(rt: HostRuntime) -> Result<(), Fail> {
     let options = RunOptions {

@@ -20,7 +20,7 @@ use std::test::Fail;
 /// How many octets a call moves at most.
 const MOST: usize = 100;
 
-/// A device over memory: so many calls pass, and every one behind them fails.
+/// A device over memory: so many calls pass, and every one after them fails.
 #[derive(Drop)]
 struct Failing<D> {
     device: D,
@@ -219,7 +219,7 @@ enum Device {
     Output,
 }
 
-/// How many calls pass where those of one device fail behind some.
+/// How many calls pass where those of one device fail after some.
 fn failing_at(device: Device, calls: u64) -> Passing {
     match device {
         Device::Document => Passing {

@@ -83,7 +83,7 @@ fn tells_announce(text: &str, octets: &str) -> bool {
     told
 }
 
-/// Source port, sequence and control of the first Announce of each system, with the logarithm of an interval behind.
+/// Source port, sequence and control of the first Announce of each system, with the logarithm of an interval after.
 #[test]
 fn announces_name_the_interval_of_their_port(rt: HostRuntime) -> Result<(), Fail> {
     let alloc = rt.alloc();

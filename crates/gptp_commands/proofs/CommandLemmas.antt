@@ -103,7 +103,7 @@ refused parsed words error e is kinds came =
     let kind : HasKind (fault_of gptp_sim words) error = rw is at kinds refl in
     kind_meant words error e kind came
 
--- what is wrong behind `faults`
+-- what is wrong after `faults`
 lacks : (rows : List Row) (e : CommandLineError) → WrongCases rows e → LacksKind rows ⊎ LacksPart rows
 lacks rows e (inl wrong) = inl wrong.0
 lacks rows e (inr wrong) = inr wrong.0

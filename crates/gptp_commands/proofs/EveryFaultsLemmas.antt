@@ -45,7 +45,7 @@ two_ends : (names : List ℕ) (since : ℕ → Option ℕ) (p q : Passage) (ps :
 two_ends names since p q [] = ((end_in names since p, end_in names (waits p.acts since) q), refl)
 two_ends names since p q (r ∷ rs) = two_ends names (waits p.acts since) q r rs
 
--- so there are two where an event comes behind the begin
+-- so there are two where an event comes after the begin
 ends_of : {F : Type 0} (answers : Bounds → ℕ → F → Option ℕ → F → Type 0) (d : DocumentState) (until : ℕ)
     (names : List ℕ) (events : List Timed) (fate fate_after : F) (w w' : WorldState) (first : Passage)
     (others : List Passage)
@@ -55,7 +55,7 @@ ends_of answers d until names events fate fate_after w w' first [] (passage, non
 ends_of answers d until names events fate fate_after w w' first (next ∷ others) pass some =
     two_ends names none_waits first next others
 
--- the last event comes behind the begin, where it isn't at that and is no later than the end
+-- the last event comes after the begin, where it isn't at that and is no later than the end
 last_left : (events : List Timed) (last : Timed) (until : ℕ) → 0 < last.at → last.at ≤ until
     → later_than 0 (events_by until (events ++ last ∷ [])) ≢ []
 last_left events last until behind within none =

@@ -43,7 +43,7 @@ module _ {F : Type 0} (answers : Bounds → ℕ → F → Option ℕ → F → T
     is = k.is ∙ sym (ap (at until) k.is);
   }
 
-  -- so an event is made at once behind what is due by its time
+  -- so an event is made at once after what is due by its time
   made_at_once : (event : Timed) (ts : List Transition) (fate fate_after : F) (w w' : WorldState)
       (k : Makes answers event ts fate fate_after w w')
       → Makes answers event (transition event k.done k.between w' ∷ []) k.drawn fate_after k.between w'
@@ -57,7 +57,7 @@ module _ {F : Type 0} (answers : Bounds → ℕ → F → Option ℕ → F → T
     are = refl;
   }
 
-  -- what happens with some events and others behind them: up to the time of the first of the others, and from then on
+  -- what happens with some events and others after them: up to the time of the first of the others, and from then on
   record HaveParts (until : ℕ) (events : List Timed) (event : Timed) (later : List Timed) (fate fate_after : F)
       (w w' : WorldState) : Type 0 where
     front : List Transition
@@ -124,7 +124,7 @@ module _ {F : Type 0} (answers : Bounds → ℕ → F → Option ℕ → F → T
         errors = (errors from to).0;
       }
 
-      -- the stretch behind which no event comes
+      -- the stretch after which no event comes
       last_passes : (from : ℕ) (events : List Timed) → later_than from events ≡ [] → CanPass from events
       last_passes from events none ts fate fate_after w w' courses = record {
         first = passage from until events ts w';
@@ -143,7 +143,7 @@ module _ {F : Type 0} (answers : Bounds → ℕ → F → Option ℕ → F → T
         );
       }
 
-      -- a stretch, and others behind it
+      -- a stretch, and others after it
       more_pass : (from : ℕ) (events : List Timed) (e : Timed) (es : List Timed) → AreInOrder events
           → later_than from events ≡ e ∷ es → CanPass e.at (e ∷ es) → CanPass from events
       more_pass from events e es order later next ts fate fate_after w w' courses =

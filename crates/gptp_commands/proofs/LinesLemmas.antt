@@ -23,7 +23,7 @@ lines_of_parts-last [] some = absurd (omega arith)
 lines_of_parts-last (x ∷ xs) some =
     let e : (length (x ∷ xs) == 0) ≡ false = grind (arith, nat_tests) in rw e refl
 
--- a text with a line feed begins with the line before it, and the other lines stand behind it
+-- a text with a line feed begins with the line before it, and the other lines come after it
 pub lines_fed : (text line fed rest : List ℕ) → line ≡ strip_carriage_return (take (before_feed text) text)
     → fed ≡ drop (before_feed text) text
     → 0 < length fed → rest ≡ drop 1 fed → lines text ≡ line ∷ lines rest

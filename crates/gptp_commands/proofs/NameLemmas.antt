@@ -105,7 +105,7 @@ unfolding walk_fault
 trailing_words s names [] none = refl
 trailing_words s names (word ∷ words) none = absurd (stray (with_help s) (first_none _ _ none))
 
--- ---- the words behind `compare`
+-- ---- the words after `compare`
 
 abbrev below : Shape
 below = with_help (built_leaf (new_shape (codes "compare")))
@@ -140,7 +140,7 @@ abbrev IsIn : Text → List Text → Type 0
 IsIn name [] = ⊥
 IsIn name (first ∷ names) = (first ≡ name) ⊎ IsIn name names
 
--- what is entered by a word with words behind it
+-- what is entered by a word with words after it
 abbrev entered_in : List Shape → Text → List Text → Option (Text × List Row)
 entered_in subs word words = option_map (λ s. rows_at s words) (find (λ s. answers_to word (label_of s)) subs)
 
@@ -173,7 +173,7 @@ is_entered (s ∷ subs) word words name alone met =
         let (rows, same, enters, among) = others (rw not_here at met) in
         (rows, same, rw not_here enters, inr among)
 
--- ---- the words behind the program's name
+-- ---- the words after the program's name
 
 abbrev top : Shape
 top = with_help (built gptp_sim).top
@@ -281,7 +281,7 @@ compare_entered words follows none =
         let help = none_but_help name (drop 1 commands) _ (ap (option_map (λ p. p.0)) enters) none among in
         absurd (help_asked others (subst (λ ws. fault ws ≡ []) (is ∙ ap (λ n. n ∷ others) help) follows))
 
--- the words behind it are left to it
+-- the words after it are left to it
 words_behind : (words : List Text) → fault (codes "compare" ∷ words) ≡ [] → (words ≡ []) ⊎ (words ≡ codes "--" ∷ [])
 words_behind words none =
     let later = second_none (walk_fault top names (walk_from nothing_held) (codes "compare" ∷ words)) _ none in

@@ -69,11 +69,11 @@ value_taken s word no_option takes =
     (value_passes s word no_option) (value_met s.rules word no_option)
     ∙ ap (λ stray. or_else stray []) takes
 
--- where the walk stands behind it
+-- where the walk comes after it
 abbrev behind : Shape → Text → Walk
 behind s word = after_step s.rules word (walk_from nothing_held) nothing_held value_step
 
--- what is wrong behind the command, by what is wrong in the walk and by its end
+-- what is wrong after the command, by what is wrong in the walk and by its end
 abbrev wrong_behind : Shape → Kinds → Walk → Kinds
 wrong_behind s in_walk end =
     or_else in_walk (or_else [] (or_else (settle_fault s.rules s.args_override_self end.held)
@@ -85,7 +85,7 @@ value_behind : (s : Shape) (word : Text) → IsNoOption word → step_fault s 1 
 value_behind s word no_option takes none =
     ap₂ (wrong_behind s) (value_taken s word no_option takes) (value_walked s word no_option) ∙ none
 
--- the command with its name, by what is wrong behind that and above it
+-- the command with its name, by what is wrong after that and above it
 plain_value : (name word : Text) → subcommand_met names idle name ≡ Some name
     → entered_fault (built gptp_sim) (Some (name, word ∷ [])) ≡ []
     → is_some (entered (built gptp_sim) (Some (name, word ∷ []))) ≡ true
@@ -132,7 +132,7 @@ plain_clock clock no_option =
     plain_value (codes "explain") clock refl
     (value_behind explaining clock no_option refl (clock_right clock)) refl (above_explain clock)
 
--- ---- the clock behind `explain`
+-- ---- the clock after `explain`
 
 -- what is found for the arguments of the command that is entered
 abbrev found_in : Option (Text × List Row) → List Row
@@ -146,7 +146,7 @@ clock_walked : (clock : Text) → place_value (the CLOCK)
 unfolding clap_on_literals
 clock_walked clock = refl
 
--- it is the word behind `explain`, where nothing else is
+-- it is the word after `explain`, where nothing else is
 clock_found : (clock : Text) → IsNoOption clock → place_value (the CLOCK) (explained clock) ≡ clock
 clock_found clock no_option =
     ap (λ (end : Walk). place_value (the CLOCK) (finished explaining.rules end.held))
@@ -199,7 +199,7 @@ one_in_all = refl
 
 -- ---- the words that name a command and nothing that may be left out are taken
 
--- by the words behind the program's name
+-- by the words after the program's name
 taken_by : (words behind : List Text) → drop 1 words ≡ behind → fault behind ≡ []
     → IfSome (entered (built gptp_sim) (stop behind)) IsRightOrder → IsRead words
 taken_by words behind is none right = record {
@@ -207,7 +207,7 @@ taken_by words behind is none right = record {
   right = subst (λ ws. IfSome (entered (built gptp_sim) (stop ws)) IsRightOrder) (sym is) right;
 }
 
--- what is entered is right, by the name and the words behind it
+-- what is entered is right, by the name and the words after it
 right_by : (name : Text) (words : List Text) → subcommand_met names idle name ≡ Some name
     → IfSome (entered (built gptp_sim) (Some (name, words))) IsRightOrder
     → IfSome (entered (built gptp_sim) (stop (name ∷ words))) IsRightOrder

@@ -90,7 +90,7 @@ module _ (d : DocumentState) (until : ℕ) (w : WorldState) (stated : List Syste
         (appends_both old between new (text_of report) (text_of (certificate_lines 2 stated)) written behind),
   )
 
--- ---- the lines of the frames, and what is told behind them
+-- ---- the lines of the frames, and what is told after them
 
 module _ (d : DocumentState) (options : RunOptions) (w : WorldState) (frames : List (List ℕ))
     (leads : LeadsTo draws d (until_of options d) options.frames (generator options.seed) w frames) where

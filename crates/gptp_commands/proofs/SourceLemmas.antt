@@ -3,7 +3,7 @@ use Rattle.std.proofs.Common.{◌≡◌, ℕ, ◌+◌, ◌≤◌, List, ◌++◌
 use Rattle.std.specs.Io.KnownBytes.{Consumes}
 use Rattle.gptp_commands.specs.Source.{TakesAtMost}
 
--- what two reads took, the second behind the first, is no more than both together
+-- what two reads took, the second after the first, is no more than both together
 pub takes_both : (most : ℕ) (old between new : Option (List ℕ)) (first second : List ℕ) → Consumes old between first
     → Consumes between new second
     → length first + length second ≤ most → TakesAtMost most old new

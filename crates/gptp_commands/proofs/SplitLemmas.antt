@@ -3,7 +3,7 @@ use Rattle.std.proofs.Common.{◌≡◌, ℕ, suc, Bool, true, false, List, [], 
 use Rattle.std.specs.List.{slice_split, onto_first, position_or_len}
 use Rattle.std.proofs.lemmas.List.Splits.{slice_split-cons_yes, slice_split-cons_no}
 
--- the first part has n elements, and what stands behind them splits into an empty part and the other parts
+-- the first part has n elements, and what comes after them splits into an empty part and the other parts
 pub record SplitsAt (p : ℕ → Bool) (xs : List ℕ) (n : ℕ) : Type 0 where
   pub parts : List (List ℕ)
   pub front : slice_split p xs ≡ take n xs ∷ parts

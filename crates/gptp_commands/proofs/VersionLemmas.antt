@@ -1,4 +1,4 @@
--- The one word behind the program's name.
+-- The one word after the program's name.
 use Rattle.std.proofs.Common.{◌≡◌, ◌∙◌, ℕ, List, [], ◌∷◌, Some, drop, length, map, slice_get, ap, arith}
 
 pub one_word : {X : Type 0} (f : X → List ℕ) (xs : List X) (x : X) (word : List ℕ) → length xs ≡ 2

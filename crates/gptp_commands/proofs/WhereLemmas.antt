@@ -70,7 +70,7 @@ same_where until all input known rest octets document output status reads_certif
       both,
     )
 
--- the text with the place behind it
+-- the text with the place after it
 pub with_place : (until : Option ℕ) (certificate document old place new : List ℕ) (status : Status)
     → (said : List (List ℕ)) × CheckText until certificate document said status × (old ≡ text_of said)
     → (places : List (List ℕ)) × LocatesBoth until certificate document places × (place ≡ text_of places)

@@ -25,7 +25,7 @@ words_behind_blanks : (text : List ℕ) → words text ≡ words (drop (prefix_l
 words_behind_blanks [] = refl
 words_behind_blanks (x ∷ xs) = blanks_step x xs (is_space_or_tab x) refl (words_behind_blanks xs)
 
--- what stands behind them begins with a word, if there is anything
+-- what comes after them begins with a word, if there is anything
 word_step : (x : ℕ) (xs : List ℕ) (test : Bool) → is_space_or_tab x ≡ test
     → (0 < length (drop (prefix_len is_space_or_tab xs) xs)
     → 0 < position_or_len is_space_or_tab (drop (prefix_len is_space_or_tab xs) xs))
@@ -64,7 +64,7 @@ words_front text some long =
     split.parts
     (grind (arith, common_steps)) split.front split.back
 
--- behind the blanks stands the first word, if there is anything
+-- after the blanks stands the first word, if there is anything
 pub words_found : (text behind word rest : List ℕ) → behind ≡ drop (prefix_len is_space_or_tab text) text
     → 0 < length behind
     → word ≡ take (position_or_len is_space_or_tab behind) behind

@@ -186,11 +186,11 @@ Wrong entered e =
 
 -- ---- the words of a command line, the program's name first
 
--- words that name `compare`, and nothing behind it but the mark `--`, which ends the options
+-- words that name `compare`, and nothing after it but the mark `--`, which ends the options
 abbrev pub IsCompare : List Text → Type 0
 IsCompare words = (words ≡ codes "compare" ∷ []) ⊎ (words ≡ codes "compare" ∷ codes "--" ∷ [])
 
--- words that begin with the name of a command, whatever stands behind it
+-- words that begin with the name of a command, whatever comes after it
 abbrev pub BeginsWith : Text → List Text → Type 0
 BeginsWith name words = (others : List Text) × (words ≡ name ∷ others)
 
@@ -198,7 +198,7 @@ BeginsWith name words = (others : List Text) × (words ≡ name ∷ others)
 abbrev pub WordsMean : List Text → Order → Type 0
 WordsMean words order = (fault_of gptp_sim words ≡ []) × Asks (subcommand_of gptp_sim words) order
 
--- what words ask for: the command that they name, with what the parser finds behind its name
+-- what words ask for: the command that they name, with what the parser finds after its name
 abbrev pub AsksFor : List Text → Order → Type 0
 AsksFor words Compare = IsCompare (drop 1 words) × WordsMean words Compare
 AsksFor words Version = AsksVersion words

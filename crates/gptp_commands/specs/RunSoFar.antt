@@ -8,7 +8,7 @@ use Rattle.gptp_commands.specs.declared.failure.Status.TheVariants.{Done}
 use Rattle.gptp_commands.specs.declared.run.RunOptions.{RunOptions}
 use Rattle.gptp_commands.specs.RunText.{CertifiesIf, PlaysDocument, draws, generator, until_of}
 
--- the report of a world, and behind it its certificate, where it is asked for
+-- the report of a world, and after it its certificate, where it is asked for
 pub record TellsRun (d : DocumentState) (until : ℕ) (asked : Bool) (w : WorldState) (lines : List (List ℕ)) : Type
     0 where
   pub report : List (List ℕ)

@@ -67,7 +67,7 @@ CertifiesRight true g lines =
     × (lines ≡ certificate_lines 2 stated)
 CertifiesRight false g lines = lines ≡ []
 
--- The report is that of a world that is settled and has the snapshot of the document, and behind it stands the right
+-- The report is that of a world that is settled and has the snapshot of the document, and after it stands the right
 -- certificate of that snapshot, where it is asked for.
 pub record IsSettledRun (d : DocumentState) (options : RunOptions) (output : List (List ℕ)) : Type 0 where
   pub world : WorldState

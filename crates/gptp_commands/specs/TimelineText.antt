@@ -10,7 +10,7 @@ use Rattle.gptp_commands.specs.Failure.{status_by}
 use Rattle.gptp_commands.specs.Documents.{AnswersInput, BeginsInput}
 use Rattle.gptp_commands.specs.RunText.{draws, generator}
 
--- the end of the run: that which is asked for, or by default some Syncs behind the time from which on it is exact
+-- the end of the run: that which is asked for, or by default some Syncs after the time from which on it is exact
 abbrev pub EndsAt : Option ℕ → DocumentState → ℕ → Type 0
 EndsAt (Some asked) d until = until ≡ asked
 EndsAt None d until = IsDefaultEnd d until

@@ -1,4 +1,4 @@
--- What `check --where` writes behind what `check` writes: where a certificate that isn't accepted first fails
+-- What `check --where` writes after what `check` writes: where a certificate that isn't accepted first fails
 -- (profile).
 use Rattle.std.specs.Prelude.{◌≡◌, ◌⊎◌, ◌+◌, ◌==◌, ℕ, List, [], ◌∷◌, ◌++◌, Option, codes, count_by, length, nat_le, take}
 use Rattle.std.specs.Bool.{MatchBool}
@@ -45,7 +45,7 @@ LocatesFault g c lines =
 
 -- ---- the line of a text
 
--- the line in which what stands behind these octets begins, from 1
+-- the line in which what comes after these octets begins, from 1
 abbrev pub line_behind : List ℕ → ℕ
 line_behind front = count_by (λ octet. octet == 10) front + 1
 
@@ -92,7 +92,7 @@ abbrev pub LocatesBoth : Option ℕ → List ℕ → List ℕ → List (List ℕ
 LocatesBoth until certificate document lines =
     MatchBool (nat_le (length document) document_limit) (LocatesDocument until certificate document lines) (lines ≡ [])
 
--- the lines of `check`, and behind them the place
+-- the lines of `check`, and after them the place
 abbrev pub WhereText : Option ℕ → List ℕ → List ℕ → List (List ℕ) → Status → Type 0
 WhereText until certificate document output status =
     (said places : List (List ℕ)) × CheckText until certificate document said status

@@ -166,19 +166,19 @@ fn output_of(
     refuse(alloc, DocumentFault::TooMany)
 }
 
-/// Reads a document and then a certificate, and writes whether the certificate is the choice that the document's network
-/// settles at as it stands after all events with time up to `until`, in ns, or after all where none is given: which root
-/// each live system follows, over how many steps and which port, and the role of each port.
+/// Reads a document and then a certificate, and writes whether the certificate is the choice that the document's
+/// network settles at as it stands after all events with time up to `until`, in ns, or after all where none is given:
+/// which root each live system follows, over how many steps and which port, and the role of each port.
 ///
-/// It writes `accepted`, or `not accepted` with the number and name of the first [`Fault`]. A document that is refused is
-/// the line `refused` with the number and name of [`gptp_network::DocumentFault`], else a certificate that is refused the
-/// line `certificate refused` with those of [`CertificateFault`]. Of a document of more than 33,554,432 octets no more than
-/// one further octet is read, and it is `refused 11 TooMany`; so it is with a certificate of more than 1,048,576 octets,
-/// which is `certificate refused 2 Line`. Both are read before any test.
+/// It writes `accepted`, or `not accepted` with the number and name of the first [`Fault`]. A document that is refused
+/// is the line `refused` with the number and name of [`gptp_network::DocumentFault`], else a certificate that is
+/// refused the line `certificate refused` with those of [`CertificateFault`]. Of a document of more than 33,554,432
+/// octets no more than one further octet is read, and it is `refused 11 TooMany`; so it is with a certificate of more
+/// than 1,048,576 octets, which is `certificate refused 2 Line`. Both are read before any test.
 ///
-/// The answer is [`Status::Done`] where the certificate is accepted. Errors: [`SimError::Read`] exactly where a read failed,
-/// with nothing written; [`SimError::Memory`] with nothing written; [`SimError::Write`] exactly where a write failed, with a
-/// front of the text written.
+/// The answer is [`Status::Done`] where the certificate is accepted. Errors: [`SimError::Read`] exactly where a read
+/// failed, with nothing written; [`SimError::Memory`] with nothing written; [`SimError::Write`] exactly where a write
+/// failed, with a front of the text written.
 pub fn check<S: Source, C: Source, K: Sink>(
     alloc: Global,
     document: &mut S,
@@ -227,9 +227,9 @@ fn located_output_of(
     Ok(output)
 }
 
-/// As [`check`], and behind `not accepted` and `certificate refused` it writes a second line, `at` and the first place that
-/// fails the named test: a system, a link with its own end first, or a port; or the number of a line of the certificate's
-/// text, from 1.
+/// As [`check`], and after `not accepted` and `certificate refused` it writes a second line, `at` and the first place
+/// that fails the named test: a system, a link with its own end first, or a port; or the number of a line of the
+/// certificate's text, from 1.
 pub fn check_where<S: Source, C: Source, K: Sink>(
     alloc: Global,
     document: &mut S,

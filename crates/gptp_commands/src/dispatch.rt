@@ -1,4 +1,4 @@
-//! Which command runs, over any devices, and what is held back behind it.
+//! Which command runs, over any devices, and what is held back after it.
 
 ghost use Rattle.std.specs.Prelude.{◌≡◌, ◌⊎◌, [], Err, IfErr, IfOk, Ok, OnOk};
 ghost use Rattle.std.specs.Io.Buffered.{writer_buffer, writer_contents};
@@ -38,8 +38,8 @@ fn check_as_asked<S: Source, C: Source, K: Sink>(
     }
 }
 
-/// Runs the command that is asked for. A certificate is read by `check` alone, and lines on progress are written by `faults`
-/// alone.
+/// Runs the command that is asked for. A certificate is read by `check` alone, and lines on progress are written by
+/// `faults` alone.
 pub(crate) fn dispatch<S: Source, C: Source, K: Sink, P: Sink>(
     alloc: Global,
     order: &Order,
@@ -70,8 +70,8 @@ pub(crate) fn dispatch<S: Source, C: Source, K: Sink, P: Sink>(
     }
 }
 
-/// Writes what is held back, unless a write has failed: then the device isn't tried again. A write that fails here is the
-/// outcome of a command that did its work.
+/// Writes what is held back, unless a write has failed: then the device isn't tried again. A write that fails here is
+/// the outcome of a command that did its work.
 pub(crate) fn close<W: Write + Drop>(
     writer: &mut BufWriter<W>,
     outcome: Result<Status, SimError>,

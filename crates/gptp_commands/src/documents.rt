@@ -59,8 +59,8 @@ pub(crate) trait DocumentCommand {
 
     /// Tells of a document.
     ///
-    /// Errors: [`Cut::Write`] exactly where a write failed, and [`Cut::Memory`]. Then a front of the text stands written, as
-    /// far as that had got.
+    /// Errors: [`Cut::Write`] exactly where a write failed, and [`Cut::Memory`]. Then a front of the text stands
+    /// written, as far as that had got.
     fn tell<K: Sink>(&self, alloc: Global, document: &Document, sink: &mut K) -> Result<Status, Cut>
         requires can { can_tell self.now }
         requires read { IsRead document.now }
@@ -121,9 +121,9 @@ fn tell_input<C: DocumentCommand, K: Sink>(
 
 /// Reads a document, and tells of it line by line; or writes the line of a document that is refused.
 ///
-/// Errors: [`SimError::Read`] exactly where a read failed, with nothing written; [`SimError::Memory`]; [`SimError::Write`]
-/// exactly where a write failed, after which nothing more is done. After these two a front of the text stands written, as
-/// far as that had got.
+/// Errors: [`SimError::Read`] exactly where a read failed, with nothing written; [`SimError::Memory`];
+/// [`SimError::Write`] exactly where a write failed, after which nothing more is done. After these two a front of the
+/// text stands written, as far as that had got.
 pub(crate) fn tell_of_document<C: DocumentCommand, S: Source, K: Sink>(
     alloc: Global,
     source: &mut S,

@@ -26,8 +26,8 @@ pub fn one_comparison()
         → CompareText input a s → CompareText input b t → (a ≡ b) × (s ≡ t) }
 {}
 
-/// Whatever text an input has, the lines that `compare_lines` may have begun with are its first lines. So what stands written
-/// where it stopped is a front of that text.
+/// Whatever text an input has, the lines that `compare_lines` may have begun with are its first lines. So what stands
+/// written where it stopped is a front of that text.
 pub fn a_comparison_begins_so()
     ensures { (input : List ℕ) (begun output : List (List ℕ)) (status : Status)
         → BeginsCompare input begun → CompareText input output status
@@ -157,9 +157,9 @@ pub fn every_input_has_faults()
         → IfSome options.hold (λ hold. 1 ≤ hold) → HasText (FaultsText options) input }
 {}
 
-/// What `run` certifies of a document that is at rest at its end, [`check`](crate::check::check) accepts of that document,
-/// and `choice` writes: at that time, and at each before and after which the same events lie. So a right certificate is one
-/// that is read.
+/// What `run` certifies of a document that is at rest at its end, [`check`](crate::check::check) accepts of that
+/// document, and `choice` writes: at that time, and at each before and after which the same events lie. So a right
+/// certificate is one that is read.
 pub fn what_a_run_certifies_is_accepted()
     ensures { (options : RunOptions) (input : List ℕ) (d : DocumentState) (at : Option ℕ)
         → AsksAtRest options input d → AsksTheSame at options d
@@ -167,8 +167,8 @@ pub fn what_a_run_certifies_is_accepted()
         → EndsAccepted at input output }
 {}
 
-/// A command by its name with nothing that may be left out is a command line that is read: `compare`, `run`, `timeline`,
-/// `faults`, `choice`, `accuracy` and `lint` alone, `check` with a file, and `explain` with a clock.
+/// A command by its name with nothing that may be left out is a command line that is read: `compare`, `run`,
+/// `timeline`, `faults`, `choice`, `accuracy` and `lint` alone, `check` with a file, and `explain` with a clock.
 pub fn a_plain_command_line_is_taken()
     ensures { (words : List (List ℕ)) → IsPlain words → IsRead words }
 {}

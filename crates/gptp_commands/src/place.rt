@@ -115,7 +115,7 @@ fn place_at(
     place_in(alloc, &snapshot, certificate)
 }
 
-/// The line in which what stands behind these octets begins, from 1.
+/// The line in which what comes after these octets begins, from 1.
 fn line_behind(front: &[u8]) -> usize
     ensures { result ≡ line_behind front.now }
 {

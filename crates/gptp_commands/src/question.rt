@@ -38,8 +38,8 @@ pub enum Question {
         until: Option<u64>,
         max_error: Option<u64>,
     },
-    /// `explain`: why the live system with a clock follows whom it follows at that choice, over which systems, why each of
-    /// its ports has its role, and who would be next.
+    /// `explain`: why the live system with a clock follows whom it follows at that choice, over which systems, why each
+    /// of its ports has its role, and who would be next.
     Explain {
         clock: ClockId,
         until: Option<u64>,
@@ -117,9 +117,9 @@ fn output_of(alloc: Global, input: &[u8], question: Question) -> Result<Output, 
 
 /// Reads a document, and writes the answer to a question about its network, without a run.
 ///
-/// A document that is refused is the one line `refused` with the number and name of [`gptp_network::DocumentFault`]. Of an
-/// input of more than 33,554,432 octets no more than one further octet is read, and it is `refused 11 TooMany`. The whole
-/// text is held before its first octet is written.
+/// A document that is refused is the one line `refused` with the number and name of [`gptp_network::DocumentFault`]. Of
+/// an input of more than 33,554,432 octets no more than one further octet is read, and it is `refused 11 TooMany`. The
+/// whole text is held before its first octet is written.
 ///
 /// The answer is [`Status::Refused`] where the document was refused, or where the question's answer says so. Errors:
 /// [`SimError::Read`] exactly where a read failed, with nothing written; [`SimError::Memory`] with nothing written;

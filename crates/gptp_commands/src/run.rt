@@ -27,8 +27,8 @@ use std::alloc::Global;
 /// What is asked of a run.
 #[derive(Clone, Copy, Debug, PartialEq, Eq)]
 pub struct RunOptions {
-    /// The time at which it ends, in ns, at most 10^15; `None` where it ends when the network has settled after the last
-    /// change, or would have if it were calm.
+    /// The time at which it ends, in ns, at most 10^15; `None` where it ends when the network has settled after the
+    /// last change, or would have if it were calm.
     pub until: Option<u64>,
     /// The seed of the generator that draws delays and losses.
     pub seed: u64,
@@ -182,20 +182,21 @@ impl DocumentCommand for RunOptions {
 }
 
 /// Reads a document, a network and its events as TOML, lets them run up to a time, and writes what became of them: with
-/// `frames` a line for each frame that reached a port, in order of delivery; then the time, the last change, and for each
-/// system by rising clock what it follows, and its ports; then, with `certificate`, what each live system says.
+/// `frames` a line for each frame that reached a port, in order of delivery; then the time, the last change, and for
+/// each system by rising clock what it follows, and its ports; then, with `certificate`, what each live system says.
 ///
 /// Where the network of the document is calm after its events, and the run ends no sooner than [`Document::settles`]
-/// says, the report is that of a world that has settled, whatever the seed; and the certificate is the settled choice of
-/// the network as it then stands.
+/// says, the report is that of a world that has settled, whatever the seed; and the certificate is the settled choice
+/// of the network as it then stands.
 ///
-/// A document that is refused is the one line `refused` with the number and name of [`gptp_network::DocumentFault`]. Of an
-/// input of more than 33,554,432 octets no more than one further octet is read, and it is `refused 11 TooMany`. The document
-/// is read whole first; then the line of each frame is written as that reaches its port, and the report as a whole.
+/// A document that is refused is the one line `refused` with the number and name of [`gptp_network::DocumentFault`]. Of
+/// an input of more than 33,554,432 octets no more than one further octet is read, and it is `refused 11 TooMany`. The
+/// document is read whole first; then the line of each frame is written as that reaches its port, and the report as a
+/// whole.
 ///
-/// The answer is [`Status::Refused`] where the document was refused. Errors: [`SimError::Read`] exactly where a read failed,
-/// with nothing written; [`SimError::Memory`]; [`SimError::Write`] exactly where a write failed, after which nothing more is
-/// done. After these two a front of the text stands written, as far as that had got.
+/// The answer is [`Status::Refused`] where the document was refused. Errors: [`SimError::Read`] exactly where a read
+/// failed, with nothing written; [`SimError::Memory`]; [`SimError::Write`] exactly where a write failed, after which
+/// nothing more is done. After these two a front of the text stands written, as far as that had got.
 pub fn run<S: Source, K: Sink>(
     alloc: Global,
     source: &mut S,

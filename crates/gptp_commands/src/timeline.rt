@@ -20,8 +20,8 @@ use std::alloc::{AllocError, Global};
 /// What is asked of a timeline.
 #[derive(Clone, Copy, Debug, PartialEq, Eq)]
 pub struct TimelineOrder {
-    /// The time at which it ends, in ns, at most 10^15; `None` where it ends some Syncs after a calm network is exact behind
-    /// the last event.
+    /// The time at which it ends, in ns, at most 10^15; `None` where it ends some Syncs after a calm network is exact
+    /// after the last event.
     pub until: Option<u64>,
     /// The seed of the generator that draws delays and losses.
     pub seed: u64,
@@ -66,21 +66,22 @@ impl DocumentCommand for TimelineOrder {
     }
 }
 
-/// Reads a document, a network and its events as TOML, lets them run up to a time, and writes act by act which event is made
-/// and what each act leaves another at which system, and where each stretch between times of events ends what became of it.
+/// Reads a document, a network and its events as TOML, lets them run up to a time, and writes act by act which event is
+/// made and what each act leaves another at which system, and where each stretch between times of events ends what
+/// became of it.
 ///
 /// The acts are those of [`run`](crate::run::run) to the same end, and the last line of each system and port tells what
-/// it shows there. Where a stretch has a bound, it settles within that; where it lasts as long, each near system follows
-/// the best of its component where it ends. No error of a receipt is above the bound of its `accuracy` line.
+/// it shows there. Where a stretch has a bound, it settles within that; where it lasts as long, each near system
+/// follows the best of its component where it ends. No error of a receipt is above the bound of its `accuracy` line.
 ///
-/// A document that is refused is the one line `refused` with the number and name of [`gptp_network::DocumentFault`]. Of an
-/// input of more than 33,554,432 octets no more than one further octet is read, and it is `refused 11 TooMany`. The document
-/// is read whole first; then the lines of each act are written as it is done.
+/// A document that is refused is the one line `refused` with the number and name of [`gptp_network::DocumentFault`]. Of
+/// an input of more than 33,554,432 octets no more than one further octet is read, and it is `refused 11 TooMany`. The
+/// document is read whole first; then the lines of each act are written as it is done.
 ///
-/// The answer is [`Status::Refused`] where the document was refused, or where a limit is given that some stretch exceeds.
-/// Errors: [`SimError::Read`] exactly where a read failed, with nothing written; [`SimError::Memory`]; [`SimError::Write`]
-/// exactly where a write failed, after which nothing more is done. After these two a front of the text stands written, as
-/// far as that had got.
+/// The answer is [`Status::Refused`] where the document was refused, or where a limit is given that some stretch
+/// exceeds. Errors: [`SimError::Read`] exactly where a read failed, with nothing written; [`SimError::Memory`];
+/// [`SimError::Write`] exactly where a write failed, after which nothing more is done. After these two a front of the
+/// text stands written, as far as that had got.
 pub fn timeline<S: Source, K: Sink>(
     alloc: Global,
     source: &mut S,

@@ -9,8 +9,8 @@ use crate::failure::{SimError, Status};
 use gptp_report::sink::Sink;
 use gptp_report::write_whole;
 
-/// The line that says it. The first of its numbers changes where a text that a command writes, or a promise, is another or
-/// gone; the second where one comes that wasn't there; the third where neither does.
+/// The line that says it. The first of its numbers changes where a text that a command writes, or a promise, is another
+/// or gone; the second where one comes that wasn't there; the third where neither does.
 const LINE: &str = "gptp_sim 1.0.0\n";
 
 /// Whether a word is that which asks for it.

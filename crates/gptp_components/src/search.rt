@@ -188,7 +188,7 @@ fn reach_component(
     Ok(())
 }
 
-/// Puts the identity of the live system at a place behind those of the places before.
+/// Puts the identity of the live system at a place after those of the places before.
 fn push_identity(
     ids: &mut Vec<Identity>,
     snapshot: &Snapshot,
@@ -257,7 +257,7 @@ fn nothing_found(alloc: Global, count: usize) -> Result<Vec<Option<Distance>>, A
     Ok(found)
 }
 
-/// Puts what is found at a place behind what was found at those before.
+/// Puts what is found at a place after what was found at those before.
 fn push_found(
     distances: &mut Vec<Distance>,
     snapshot: &Snapshot,

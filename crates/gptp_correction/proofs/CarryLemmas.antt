@@ -51,7 +51,7 @@ bridge_read hops n h k e =
     let f = get_or-take (length hops - 1) hops n h (omega arith) in
     record { is = get_or_read hops n h (omega arith) (e ∙ f) _; more = omega arith }
 
--- the item behind them is the slave
+-- the item after them is the slave
 pub slave_read : (hops : List Hop) (n : ℕ) (h : Hop) → let bridges = take (length hops - 1) hops in
     1 ≤ length hops → n ≤ length bridges → length bridges ≤ n → h ≡ get_or hops (length hops - 1) h → IsSlave hops n h
 slave_read hops n h some low high e =

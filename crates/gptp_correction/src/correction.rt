@@ -60,7 +60,7 @@ impl Carried {
     ghost use Rattle.std.specs.Prelude.{◌≡◌, OkIff};
     ghost use Rattle.gptp_correction.specs.Correction.{carried_on, receipt, BridgeFits, SlaveFits};
 
-    /// What is carried on behind a bridge.
+    /// What is carried on after a bridge.
     pub(crate) fn on(self, hop: &Hop) -> Result<Carried, OutOfRange>
         ensures { let sent = carried_on self hop.now in OkIff result (BridgeFits hop.now sent) sent }
     {

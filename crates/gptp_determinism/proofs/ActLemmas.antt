@@ -31,7 +31,7 @@ use Rattle.gptp_determinism.proofs.CallLemmas.{calls_if_live_once, calls_once, l
 use Rattle.gptp_determinism.proofs.NameLemmas.{link_too, named_at, named_still, ports_kept, system_too}
 use Rattle.gptp_determinism.proofs.SendLemmas.{send_once, AreDrawn}
 
--- what stands in front, and behind it
+-- what stands in front, and after it
 octets_of : List Frame → List ℕ
 octets_of [] = []
 octets_of (f ∷ fs) = f.octets

@@ -151,7 +151,7 @@ each_by P until (e ∷ events) each = by (nat_le e.at until) each.0 (each_by P u
 
 -- ---- the times of events
 
--- from a time on they come one behind another, none later than another time
+-- from a time on they come one after another, none later than another time
 abbrev pub AreAhead : ℕ → ℕ → List Timed → Type 0
 AreAhead from until [] = from ≤ until
 AreAhead from until (e ∷ events) = (from ≤ e.at) × AreAhead e.at until events

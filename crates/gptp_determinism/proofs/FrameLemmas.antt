@@ -52,7 +52,7 @@ number_octets : (n x : ℕ) → AllAreOctets (big_bytes n x)
 number_octets zero x = tt
 number_octets (suc n) x = (octet_below n x, number_octets n x)
 
--- octets behind octets
+-- octets after octets
 joined : (xs ys : List ℕ) → AllAreOctets xs → AllAreOctets ys → AllAreOctets (xs ++ ys)
 joined [] ys front back = back
 joined (x ∷ xs) ys front back = (front.0, joined xs ys front.1 back)

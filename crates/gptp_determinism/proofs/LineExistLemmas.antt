@@ -46,7 +46,7 @@ told_behind : (told more : List Told) → AreTold told → AreTold more → AreT
 told_behind [] more all rest = rest
 told_behind (one ∷ told) more all rest = (all.0, told_behind told more all.1 rest)
 
--- of some acts with others behind them
+-- of some acts with others after them
 octets-parts : (ts us : List Transition) → AllTellOctets (ts ++ us) → AllTellOctets ts × AllTellOctets us
 octets-parts [] us all = (tt, all)
 octets-parts (t ∷ ts) us all = let (front, back) = octets-parts ts us all.1 in ((all.0, front), back)

@@ -55,7 +55,7 @@ two_fit i f octets =
 
 -- ---- TLVs
 
--- octets are cut behind the TLV at their front, and fewer are left
+-- octets are cut after the TLV at their front, and fewer are left
 record CutFront (f : List ℕ) : Type 0 where
   tlv_type : ℕ
   value : List ℕ
@@ -168,7 +168,7 @@ rate_or_none f octets =
     (λ odd has. odd_rate f value has.0 first odd has.1))
     (λ has. (has.1.first.tlvs, has.1.first.are))
 
--- ---- what stands behind the fixed part, and the timestamp
+-- ---- what comes after the fixed part, and the timestamp
 
 -- of the message of a number, or of another
 chosen : {X : Type 0} (P : X → Type 0) (test : Bool) (x : X) (others : Option X) (kind : X)

@@ -38,7 +38,7 @@ module _ {F : Type 0} (answers : Bounds → ℕ → F → Option ℕ → F → T
     pub first : Draws answers fate ds one
     pub second : Draws answers fate es other
 
-  -- so are their fronts, and, where those are the same, what stands behind
+  -- so are their fronts, and, where those are the same, what comes after
   fronts_drawn : (ds es xs ys : List Draw) → AreDrawn (ds ++ xs) (es ++ ys) → AreDrawn ds es
   fronts_drawn ds es xs ys both =
       let one = split both.fate both.one ds xs both.first in

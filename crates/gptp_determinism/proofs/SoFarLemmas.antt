@@ -56,7 +56,7 @@ module _ {F : Type 0} (answers : Bounds → ℕ → F → Option ℕ → F → T
       let on = stops_on_the_way answers once until told more fate k.fate_after g w k.after u is k.advances l in
       record { first = on.first; rest = on.rest; is = on.is; same = on.same }
 
-  -- so are the first of acts with more behind them
+  -- so are the first of acts with more after them
   with_more : (told third fourth more : List Told) → more ≡ third ++ fourth → IsFront told third → IsFront told more
   with_more told third fourth more is k = record {
     first = k.first;

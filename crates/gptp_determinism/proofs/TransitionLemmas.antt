@@ -12,7 +12,7 @@ use Rattle.gptp_determinism.specs.TransitionLaws.{IsSameTransition, IsSameWay, S
 use Rattle.gptp_determinism.proofs.CourseLemmas.{done_once, next_once, not_left}
 use Rattle.gptp_determinism.proofs.NameLemmas.{done_named, named_at}
 
--- ---- acts one behind the other
+-- ---- acts one after the other
 
 same_append : (first second third fourth : List Transition) → SameTransitions first second
     → SameTransitions third fourth → SameTransitions (first ++ third) (second ++ fourth)

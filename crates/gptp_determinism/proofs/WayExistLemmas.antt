@@ -35,7 +35,7 @@ use Rattle.gptp_determinism.proofs.BeginExistLemmas.{acts_exist}
 
 -- ---- what is next
 
--- the first entry is next where none behind it is due earlier
+-- the first entry is next where none after it is due earlier
 first_next : (e : Entry) (es : List Entry) → NothingBefore e.time es → IsNext (e ∷ es) e.time e.item
 first_next e es late = record {
   before = [];
@@ -45,7 +45,7 @@ first_next e es late = record {
   not_before = late;
 }
 
--- what is next stays next behind an entry that is due later
+-- what is next stays next after an entry that is due later
 later_next : (e : Entry) (es : List Entry) (time : ℕ) (item : Item) → time < e.time → IsNext es time item
     → IsNext (e ∷ es) time item
 later_next e es time item late next = record {

@@ -91,8 +91,8 @@ pub fn every_step_exists()
     ensures { StepsExist }
 {}
 
-/// The world of a network begins, and an act that is ready is done, whatever the fate that answers all that it is asked:
-/// there are draws and a world then, and the world can go on.
+/// The world of a network begins, and an act that is ready is done, whatever the fate that answers all that it is
+/// asked: there are draws and a world then, and the world can go on.
 pub fn acts_exist<F: Fate>()
     ensures begins { BeginningsExist F.answers }
     ensures acts { ActsExist F.answers }
@@ -109,8 +109,8 @@ pub fn documents_unfold<F: Fate>()
     ensures lead { DocumentsLead F.answers }
 {}
 
-/// In a world that keeps what every world of a network keeps, what the live systems state of themselves has the lines of
-/// a certificate.
+/// In a world that keeps what every world of a network keeps, what the live systems state of themselves has the lines
+/// of a certificate.
 pub fn worlds_are_stated()
     ensures { (w : WorldState) → SettlingInvariant w → (lines : List SystemLine) × States w lines }
 {}

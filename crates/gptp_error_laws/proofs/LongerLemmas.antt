@@ -29,7 +29,7 @@ sum_same (suc n) f g h =
 pub link_same : (w : Way) (l : WayLink) (i : ℕ) → i < length w.links → link_at (longer w l) i ≡ link_at w i
 link_same w l i h = get_or_append_left w.links (l ∷ []) (record { least = 0; most = 0; drift = pos 0 }) i h
 
--- and so do the clocks behind them
+-- and so do the clocks after them
 pub clock_same : (w : Way) (l : WayLink) (i : ℕ) → i ≤ length w.links → clock_at (longer w l) i ≡ clock_at w i
 clock_same w l zero h = refl
 clock_same w l (suc i) h = ap (λ (k : WayLink). clock_rate k.drift) (link_same w l i h)

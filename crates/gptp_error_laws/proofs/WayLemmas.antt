@@ -134,7 +134,7 @@ over_link w hops phase sent came origin k g f n h =
         rw a.rate_is (rate_is_bounded (yours (a.later.heard + w.turnaround) -ℤ yours (a.earlier.heard + w.turnaround))
         (mine a.later.came -ℤ mine a.earlier.came))
 
--- and of the rate behind it, where a bridge is there
+-- and of the rate after it, where a bridge is there
 rate_behind : (w : Way) (hops : List Hop) (phase sent came : ℕ → ℕ) (origin : ℤ) → IsDocumented w →
     GoesOver w hops phase sent came → CarryFits origin hops → (n : ℕ) → suc n < length hops →
     IsRateBehind (clock_at w 0) (clock_at w (suc n)) (rates_error_at w n)
@@ -156,7 +156,7 @@ error_sent w (suc i) =
     33550000 * (total_below (suc i) (hop_error_at w) + total_below i (wait_error_at w))
     + rates_error_at w i * (w.residence + jitter_at w i)
 
--- the part of a wait that the link behind it takes
+-- the part of a wait that the link after it takes
 wait_is : (w : Way) (i : ℕ) →
     rates_error_at w i * (w.residence + jitter_at w i) + rates_error_at w i * (link_at w (suc i)).most ≤
     33550000 * wait_error_at w i
@@ -173,7 +173,7 @@ pub link_grows : (w : Way) (n : ℕ) →
 link_grows w zero = omega arith
 link_grows w (suc i) = omega (arith, wait_is w i)
 
--- and at the end of the stay behind it
+-- and at the end of the stay after it
 pub stay_grows : (w : Way) (n stay : ℕ) → stay ≤ w.residence + jitter_at w n →
     error_sent w n + (33550000 * hop_error_at w n + error_before w n * (link_at w n).most + rates_error_at w n * stay) ≤
     error_sent w (suc n)
@@ -227,7 +227,7 @@ egress_within w hops phase sent came k g f (suc n) h =
     (shown_at w phase 0 (sent n)) (shown_at w phase 0 (sent (suc n))) passed.count
     (stay_grows w n stay (omega (arith, g.kept_short n h, kept))) passed.is before added
 
--- the time error behind a link
+-- the time error after a link
 pub error_behind : (w : Way) (i : ℕ) →
     time_error_at w (suc i) ≡ total_below (suc i) (hop_error_at w) + total_below i (wait_error_at w)
 error_behind w i =

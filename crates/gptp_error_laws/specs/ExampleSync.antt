@@ -7,7 +7,7 @@ use Rattle.gptp_error_laws.specs.Examples.{two_links_way}
 use Rattle.gptp_error_laws.specs.WayLaws.{GoesOver, IsDocumented, shown_at}
 
 -- The Sync is sent at 2 s and is 390 ns, the least delay, on each link. Its Follow_Up comes to the bridge 20 ns
--- behind it, and the bridge sends on 1,000 ns later.
+-- after it, and the bridge sends on 1,000 ns later.
 abbrev pub sent : ℕ → ℕ
 sent zero = 2000000000
 sent (suc i) = 2000001410

@@ -16,7 +16,7 @@ pub record IsRateWithin (e root clock rate : ℕ) : Type 0 where
   pub high : rate * clock ≤ 2 ^ 41 * root + e * clock
 
 -- what comes to a hop: the rate that a Follow_Up carries is a number of 32 bits, the rate of the neighbour within 200
--- parts in a million, and the rate behind the hop is that of their sum
+-- parts in a million, and the rate after the hop is that of their sum
 pub record AreRates (before neighbour after : ℕ) : Type 0 where
   pub before_low : 2 ^ 41 ≤ before + 2 ^ 31
   pub before_high : before ≤ 2 ^ 41 + 2 ^ 31
@@ -25,7 +25,7 @@ pub record AreRates (before neighbour after : ℕ) : Type 0 where
   pub after_is : after + 2 ^ 41 ≡ before + neighbour
 
 -- The link time by the own clock, which is the delay divided by the neighbour's rate and rounded down, at the rate
--- behind the hop: the neighbour's rate cancels out, and so it needs the rate from above alone. It isn't above what
+-- after the hop: the neighbour's rate cancels out, and so it needs the rate from above alone. It isn't above what
 -- the root's clock counts in the greatest delay, but for e / 33550000 of that delay in units, where e is the error of
 -- the rate from above, for (20 most + turnaround) / 1500 units and for 5 units of rounding.
 abbrev pub LinkTimeIsBelow : Type 0
@@ -44,7 +44,7 @@ LinkTimeIsAbove = (least most turnaround root up e delay before neighbour after 
     50325000000 * 65536 * least * root ≤
     50325000000 * time * after + 2 ^ 41 * (1500 * e * most + 33550000 * (20 * most + turnaround + 7530))
 
--- What the own clock counts while a bridge keeps a Sync, at the rate behind the hop, isn't above what the root's clock
+-- What the own clock counts while a bridge keeps a Sync, at the rate after the hop, isn't above what the root's clock
 -- counts, but for the error e of that rate times the stay and for the rounding of one count.
 abbrev pub StayIsBelow : Type 0
 StayIsBelow = (stay root own e rate count : ℕ) → IsRateWithin e root own rate → IsCounted own stay count →
@@ -68,7 +68,7 @@ pub record IsOverLink (least most turnaround root up above : ℕ) (rate neighbou
   pub near : IsNeighborRate neighbour
   pub measured : IsDelayWithin least most turnaround up delay
 
--- the rate behind a hop is within `behind` of that of the root's clock against the own one
+-- the rate after a hop is within `behind` of that of the root's clock against the own one
 pub record IsRateBehind (root own behind : ℕ) (rate : ℤ) : Type 0 where
   pub after : ℕ
   pub after_is : unit +ℤ rate ≡ pos after
@@ -76,7 +76,7 @@ pub record IsRateBehind (root own behind : ℕ) (rate : ℤ) : Type 0 where
 
 -- A bridge that keeps a Sync for a stay adds to the correction what passes on the root's clock from egress to egress:
 -- within the link's part of the time error, and within the error of the rate from above times the greatest delay and
--- that of the rate behind the hop times the stay, both over 33550000 ns a unit.
+-- that of the rate after the hop times the stay, both over 33550000 ns a unit.
 abbrev pub HopKeeps : Type 0
 HopKeeps = (least most turnaround root up own above behind delay stay count passed : ℕ) (s : SyncInfo) (h : Hop) →
     IsOverLink least most turnaround root up above s.rate h.neighbour h.delay →

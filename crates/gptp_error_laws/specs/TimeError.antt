@@ -6,7 +6,7 @@ use Rattle.gptp_pdelay.specs.GoodLink.{ceil_div}
 use Rattle.gptp_pdelay.specs.Measured.{clock_rate}
 use Rattle.gptp_correction.specs.Sum.{sum_below}
 
--- A link of the way: its least and its greatest delay, in ns, and the drift of the clock behind it, in units of 2^-41.
+-- A link of the way: its least and its greatest delay, in ns, and the drift of the clock after it, in units of 2^-41.
 pub record WayLink : Type 0 where
   pub least : ℕ
   pub most : ℕ
@@ -52,7 +52,7 @@ abbrev pub steady_rate_at : Way → ℕ → ℤ
 steady_rate_at w i = rate_of (pos (clock_at w i)) (pos (clock_at w (suc i)))
 
 -- how far the sum of these rates, up to the link at a place, misses the rate of the root's clock against the clock
--- behind that link: rates are added where they ought to be multiplied
+-- after that link: rates are added where they ought to be multiplied
 abbrev pub unlike_at : Way → ℕ → ℕ
 unlike_at w i =
     unsigned_abs (sum_below (suc i) (steady_rate_at w) -ℤ
@@ -70,7 +70,7 @@ hop_error jitter most turnaround = 65556 * jitter + (20 * most + turnaround) / 1
 abbrev pub hop_error_at : Way → ℕ → ℕ
 hop_error_at w i = hop_error (jitter_at w i) (link_at w i).most w.turnaround
 
--- what the bridge behind it adds, and the link behind that: the time that passes there, times the error of the rate
+-- what the bridge after it adds, and the link after that: the time that passes there, times the error of the rate
 abbrev pub wait_error_at : Way → ℕ → ℕ
 wait_error_at w i =
     ceil_div ((w.residence + jitter_at w i + (link_at w (suc i)).most) * rates_error_at w i) 33550000

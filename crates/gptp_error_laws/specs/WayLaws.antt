@@ -7,7 +7,7 @@ use Rattle.gptp_correction.specs.declared.correction.Hop.{Hop}
 use Rattle.gptp_correction.specs.Carry.{carry_of, hop_at, neighbour_at, CarryFits}
 use Rattle.gptp_error_laws.specs.TimeError.{WayLink, Way, drift_at, hop_error_at, jitter_at, link_at, time_error, time_error_at, wait_error_at}
 
--- the time error from the root down: nothing at the root; one link; and a system behind a bridge adds to its parent's
+-- the time error from the root down: nothing at the root; one link; and a system after a bridge adds to its parent's
 -- what its own link and the wait before that add
 pub record TimeErrorGoesByHops : Type 0 where
   pub root : (w : Way) → time_error_at w 0 ≡ 0
@@ -15,7 +15,7 @@ pub record TimeErrorGoesByHops : Type 0 where
   pub next : (w : Way) (i : ℕ) →
       time_error_at w (suc (suc i)) ≡ time_error_at w (suc i) + (hop_error_at w (suc i) + wait_error_at w i)
 
--- the way to a system behind the end of this one
+-- the way to a system after the end of this one
 abbrev pub longer : Way → WayLink → Way
 longer w l = record w { links = w.links ++ (l ∷ []) }
 

@@ -11,7 +11,7 @@ pub fn rounding_alone()
     ensures system { time_error plain_way ≡ 19 }
 {}
 
-/// The three bridges of a ring, one behind the other, over links with a jitter of 20 ns: 20, 40 and 60 ns, and a
+/// The three bridges of a ring, one after the other, over links with a jitter of 20 ns: 20, 40 and 60 ns, and a
 /// little.
 pub fn ring()
     ensures one { time_error_at ring_way 1 ≡ 1311138 }

@@ -44,7 +44,7 @@ pub fn time_error_goes_by_hops()
     ensures { TimeErrorGoesByHops }
 {}
 
-/// Where a way goes on behind its last system, the time errors of the systems on it stay as they are.
+/// Where a way goes on after its last system, the time errors of the systems on it stay as they are.
 pub fn parents_error_stays()
     ensures { ParentsErrorStays }
 {}

@@ -146,7 +146,7 @@ are_ranked g v root before after wf best found moved sorted = record {
 
 -- ---- their lines
 
--- a line that is shown, and those of the systems behind it
+-- a line that is shown, and those of the systems after it
 pub next_rank : (own rank : ℕ) (before : Option ℕ) (id : ℕ) (left rest : List ℕ) (text after all : List ℕ)
     → left ≡ id ∷ rest → after ≡ text ++ text_of (shown_line own rank before id)
     → text ++ text_of (rank_lines own rank before left) ≡ all

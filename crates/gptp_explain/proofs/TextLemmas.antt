@@ -15,7 +15,7 @@ lines_behind before first later =
     append_assoc before (text_of first) (text_of later)
     ∙ ap (λ text. before ++ text) (sym (flat_map-append (λ (line : List ℕ). line ++ 10 ∷ []) first later))
 
--- a line behind a text is the last of its lines
+-- a line after a text is the last of its lines
 pub line_behind : (before text after : List ℕ) (lines : List (List ℕ)) (line : List ℕ)
     → text ≡ before ++ text_of lines → after ≡ text ++ (line ++ 10 ∷ [])
     → after ≡ before ++ text_of (lines ++ line ∷ [])
@@ -31,7 +31,7 @@ one_role_text Master = refl
 one_role_text Slave = refl
 one_role_text Passive = refl
 
--- a line and then others, behind a text
+-- a line and then others, after a text
 pub line_and_lines : (before mid after line : List ℕ) (lines : List (List ℕ)) → mid ≡ before ++ (line ++ 10 ∷ [])
     → after ≡ mid ++ text_of lines → after ≡ before ++ text_of (line ∷ lines)
 line_and_lines before mid after line lines first rest =

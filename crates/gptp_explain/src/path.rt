@@ -61,7 +61,7 @@ fn way_up(
     Ok(way)
 }
 
-/// Appends clocks, each behind a space.
+/// Appends clocks, each after a space.
 fn write_clocks(text: &mut String, clocks: &[ClockId]) -> Result<(), AllocError>
     ensures { OnOk result (string_bytes text.new
         ≡ string_bytes text.old ++ flat_map (λ clock. codes " " ++ clock_text clock) clocks.now) }

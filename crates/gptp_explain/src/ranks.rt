@@ -40,7 +40,7 @@ fn follower_at(
     }
 }
 
-/// Puts the identity of the live system at a place behind others, where it follows a root.
+/// Puts the identity of the live system at a place after others, where it follows a root.
 fn push_follower(
     found: &mut Vec<Identity>,
     snapshot: &Snapshot,
@@ -96,7 +96,7 @@ fn write_better(
     text.push_str(if identity.capable() { "\n" } else { " never\n" })
 }
 
-/// Appends the line of a system of this rank, from 0, behind the one before it, if there is one.
+/// Appends the line of a system of this rank, from 0, after the one before it, if there is one.
 fn write_rank(
     text: &mut String,
     rank: usize,

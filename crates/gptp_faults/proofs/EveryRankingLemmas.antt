@@ -135,7 +135,7 @@ record AreOnce (roots once : List ℕ) : Type 0 where
   all : (root : ℕ) → In root roots → In root once
   only : (root : ℕ) → In root once → In root roots
 
--- one more goes behind a lower one
+-- one more goes after a lower one
 root_behind : (root lower : ℕ) (others more : List ℕ) → lower < root → IsRising (lower ∷ others)
     → AreOnce (root ∷ others) more → AreOnce (root ∷ (lower ∷ others)) (lower ∷ more)
 root_behind root lower others more above up k = record {

@@ -14,7 +14,7 @@ div_grows m n k some more =
     let parts = div-add-mod' m k in le-div (m / k) n k some (omega (arith, parts, more))
 
 module _ (t : Times) (bounded : TimesAreBounded t) where
-  -- how far behind the first a moment may be, before it is divided
+  -- how far after the first a moment may be, before it is divided
   pub product_most : (number : ℕ) → number < t.moments → number * t.spread ≤ 32000000000000
   product_most number below =
       let moments = bounded.moments in

@@ -26,7 +26,7 @@ abbrev pub HasEnds : DocumentState → ℕ → Lcg → Type 0
 HasEnds d until fate = (two : EndState × EndState) × EndsOf draws d until fate (Some two)
 
 -- So it is with two events more that inject nothing, where the document with them can be played, and the second comes
--- behind the begin of the run and no later than its end.
+-- after the begin of the run and no later than its end.
 abbrev pub RunsEnd : DocumentState → Type 0
 RunsEnd d = (at later until : ℕ) (change other : Change) (fate : Lcg)
     → InjectsNothing change → InjectsNothing other → IsPlayable (with_event later other (with_event at change d))

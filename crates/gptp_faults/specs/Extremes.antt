@@ -39,7 +39,7 @@ greatest_of_two a b = record {
   bound = a.bound;
 }
 
--- of those of several stretches, behind others
+-- of those of several stretches, after others
 abbrev pub greatest_behind : Extremes → List Stretch → Extremes
 greatest_behind e [] = e
 greatest_behind e (s ∷ ss) = greatest_behind (greatest_of_two e (of_one s)) ss

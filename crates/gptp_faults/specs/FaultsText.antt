@@ -69,7 +69,7 @@ outcome_lines o =
 
 -- ---- all cases
 
--- the greatest of all, behind others
+-- the greatest of all, after others
 abbrev pub worst_behind : Extremes → List OutcomeState → Extremes
 worst_behind e [] = e
 worst_behind e (o ∷ os) = worst_behind (greatest_of_two (greatest_of_two e o.down) o.back) os

@@ -26,8 +26,8 @@ pub record AreOptions (o : FaultsOptions) : Type 0 where
   pub parts : o.parts ≤ 10000
 
 -- The moments lie from `from` on within `spread`, an announce interval (the largest of any port) and a Sync interval:
--- so they meet the Announce and the Sync at different phases. By default the first is as long behind the last event as
--- the network takes at most to settle then, and so long each run goes on behind the return.
+-- so they meet the Announce and the Sync at different phases. By default the first is as long after the last event as
+-- the network takes at most to settle then, and so long each run goes on after the return.
 pub record AreTimes (d : DocumentState) (options : FaultsOptions) (t : Times) : Type 0 where
   pub span : ℕ
   pub span_is : IsSpan d (last_change d.events) span
@@ -55,7 +55,7 @@ moment t number = t.from + number * t.spread / t.moments
 abbrev pub last_moment : Times → ℕ
 last_moment t = moment t (t.moments - 1)
 
--- How long the fault of a case stays: by default as long as the network takes at most to settle behind it.
+-- How long the fault of a case stays: by default as long as the network takes at most to settle after it.
 abbrev pub IsHold : DocumentState → Times → Case → Option ℕ → ℕ → Type 0
 IsHold d t c (Some asked) hold = hold ≡ asked
 IsHold d t c None hold = IsSpan (with_event t.from (fault_of c) d) t.from hold

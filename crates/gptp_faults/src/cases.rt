@@ -39,7 +39,7 @@ fn same(case: &Case) -> Case
     }
 }
 
-/// Puts what is planned of a case behind others: how long it stays down, in ns.
+/// Puts what is planned of a case after others: how long it stays down, in ns.
 pub(crate) fn push_planned(
     planned: &mut Vec<Planned>,
     case: &Case,
@@ -103,7 +103,7 @@ fn has_systems(only: Option<Only>) -> bool
     }
 }
 
-/// Puts the link at a place behind those of the places before.
+/// Puts the link at a place after those of the places before.
 fn push_link(cases: &mut Vec<Case>, snapshot: &Snapshot, place: usize) -> Result<(), AllocError>
     requires { cases.old.items ≡ map link_case (take place snapshot.now.links) }
     ensures { OnOk result (cases.new.items ≡ map link_case (take (place + 1) snapshot.now.links)) }
@@ -139,7 +139,7 @@ fn link_cases(
     }
 }
 
-/// Puts a live system, which has this identity and so many ports, behind others.
+/// Puts a live system, which has this identity and so many ports, after others.
 fn push_live(cases: &mut Vec<Case>, live: (Identity, u8)) -> Result<(), AllocError>
     ensures { OnOk result (cases.new.items ≡ cases.old.items ++ system_case live ∷ []) }
 {
@@ -149,7 +149,7 @@ fn push_live(cases: &mut Vec<Case>, live: (Identity, u8)) -> Result<(), AllocErr
     Ok(())
 }
 
-/// Puts the system at a place behind those of the places before, where it lives after all events.
+/// Puts the system at a place after those of the places before, where it lives after all events.
 fn push_system(cases: &mut Vec<Case>, document: &Document, place: usize) -> Result<(), AllocError>
     requires { cases.old.items
         ≡ map system_case (filter_map (live_after document.now.events) (take place document.now.network.systems)) }

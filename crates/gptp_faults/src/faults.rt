@@ -87,7 +87,7 @@ fn tell<P: Sink>(
     }
 }
 
-/// Tries a case that belongs to the part, and puts what becomes of it behind those before.
+/// Tries a case that belongs to the part, and puts what becomes of it after those before.
 fn try_next<P: Sink>(
     alloc: Global,
     document: &mut Document,
@@ -178,13 +178,13 @@ fn table_of<P: Sink>(
     Ok(Answer::Table { text, exceeded })
 }
 
-/// Lets each link in use and each live system of a document fail at several moments and come back, as far as they belong to
-/// the part that is asked for, and answers what becomes of the network: for each case the worst of its runs, the worst case
-/// first. Where that is asked for, a line `case K of N` is written to `progress` before each case, of those that belong to the
-/// part the Kth of N.
+/// Lets each link in use and each live system of a document fail at several moments and come back, as far as they
+/// belong to the part that is asked for, and answers what becomes of the network: for each case the worst of its runs,
+/// the worst case first. Where that is asked for, a line `case K of N` is written to `progress` before each case, of
+/// those that belong to the part the Kth of N.
 ///
-/// Errors: [`Cut::Write`] exactly where a write to `progress` failed, after which nothing more happens; [`Cut::Memory`] as
-/// the timeline of a document has it.
+/// Errors: [`Cut::Write`] exactly where a write to `progress` failed, after which nothing more happens; [`Cut::Memory`]
+/// as the timeline of a document has it.
 pub fn fail_each<P: Sink>(
     alloc: Global,
     document: &mut Document,

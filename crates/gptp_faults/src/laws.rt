@@ -9,16 +9,16 @@ pub fn follow_lines_settle()
     ensures { FollowLinesSettle }
 {}
 
-/// Where runs of a document end in one way, it has one table of its faults at most, and one answer to whether a limit is
-/// exceeded; one with a table isn't refused, and none is refused in two ways.
+/// Where runs of a document end in one way, it has one table of its faults at most, and one answer to whether a limit
+/// is exceeded; one with a table isn't refused, and none is refused in two ways.
 pub fn one_table()
     ensures table { OneTable }
     ensures apart { NeverRefused }
     ensures refusal { OneRefusal }
 {}
 
-/// Where each run of a document with two events more ends its last two stretches in some way, and a fault stays for 1 ns
-/// at least, the document has a table of its faults, or is refused.
+/// Where each run of a document with two events more ends its last two stretches in some way, and a fault stays for 1
+/// ns at least, the document has a table of its faults, or is refused.
 pub fn every_document_has_faults()
     ensures { EachHasFaults }
 {}

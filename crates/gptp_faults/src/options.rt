@@ -18,11 +18,11 @@ pub struct FaultsOptions {
     pub seeds: u64,
     /// At how many moments; at least 1, at most 1,000.
     pub moments: u64,
-    /// The first moment, in ns, at most 10^15; `None` where that is the time by which the network has settled behind its
-    /// last event.
+    /// The first moment, in ns, at most 10^15; `None` where that is the time by which the network has settled after
+    /// its last event.
     pub at: Option<u64>,
-    /// How long a fault stays and how long each run goes on behind it, in ns, at most 10^15; `None` where that is as long
-    /// as the network takes at most to settle then.
+    /// How long a fault stays and how long each run goes on after it, in ns, at most 10^15; `None` where that is as
+    /// long as the network takes at most to settle then.
     pub hold: Option<u64>,
     /// Which kind is left.
     pub only: Option<Only>,

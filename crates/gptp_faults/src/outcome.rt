@@ -107,7 +107,7 @@ impl Outcome {
     }
 }
 
-/// Puts what becomes of a case behind others.
+/// Puts what becomes of a case after others.
 pub(crate) fn push_outcome(outcomes: &mut Vec<Outcome>, outcome: Outcome) -> Result<(), AllocError>
     ensures { OnOk result (outcomes.new.items ≡ outcomes.old.items ++ (outcome ∷ [])) }
 {

@@ -47,7 +47,8 @@ fn weight_of(outcome: &Outcome) -> [u128; 7]
     ]
 }
 
-/// Puts cases in the order in which they are told: the worst first, and equals in theirs. Refused for want of memory alone.
+/// Puts cases in the order in which they are told: the worst first, and equals in theirs. Refused for want of memory
+/// alone.
 pub(crate) fn rank(outcomes: &mut Vec<Outcome>) -> Result<(), AllocError>
     ensures { OnOk result (OutcomesAreRanked outcomes.old.items outcomes.new.items) }
 {

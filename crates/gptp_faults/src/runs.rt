@@ -47,7 +47,7 @@ fn both(ends: Option<(StretchEnd, StretchEnd)>) -> Result<(StretchEnd, StretchEn
 {
     match ends {
         Some(both) => Ok(both),
-        // an event behind time 0 begins the last
+        // an event after time 0 begins the last
         None => Err(Cut::Memory),
     }
 }

@@ -24,7 +24,7 @@ pub(crate) struct Times {
     pub moments: u64,
     /// How many seeds.
     pub seeds: u64,
-    /// How long each run goes on behind the return, in ns.
+    /// How long each run goes on after the return, in ns.
     pub behind: u64,
 }
 
@@ -86,7 +86,7 @@ pub(crate) fn last_moment(times: &Times) -> u64
     moment(times, times.moments - 1)
 }
 
-/// Puts an event behind the others. What it names is there, so it is refused for want of memory.
+/// Puts an event after the others. What it names is there, so it is refused for want of memory.
 pub(crate) fn add(document: &mut Document, at: u64, change: Change) -> Result<(), Cut>
     requires { IsInRange change }
     ensures added { OnOk result (document.new ≡ with_event at change document.old) }
@@ -98,7 +98,7 @@ pub(crate) fn add(document: &mut Document, at: u64, change: Change) -> Result<()
     }
 }
 
-/// How long the network takes at most to settle behind the fault of a case, in ns.
+/// How long the network takes at most to settle after the fault of a case, in ns.
 fn settling_hold(
     alloc: Global,
     document: &mut Document,
@@ -134,7 +134,7 @@ fn hold_of(
     }
 }
 
-/// Plans a case, behind those before it.
+/// Plans a case, after those before it.
 fn plan_case(
     alloc: Global,
     document: &mut Document,

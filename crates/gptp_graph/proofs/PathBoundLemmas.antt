@@ -145,7 +145,7 @@ length_front [] = omega arith
 length_front (x ∷ []) = omega arith
 length_front (x ∷ (y ∷ ys)) = let rest = length_front (y ∷ ys) in omega arith
 
--- a system inside a path has the one before it and the one behind it as neighbours, which differ
+-- a system inside a path has the one before it and the one after it as neighbours, which differ
 inside : (g : Snapshot) (v w : ℕ) (us : List ℕ) → Route g v w us → Different (v ∷ us) → (u : ℕ) → In u (front us)
     → HasTwoNeighbours g u
 unfolding front

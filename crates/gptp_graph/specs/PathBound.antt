@@ -4,7 +4,7 @@ use Rattle.std.specs.List.{list_any, count_by}
 use Rattle.gptp_graph.specs.Snapshot.{Link, Snapshot, clocks, Adjacent}
 use Rattle.gptp_graph.specs.Path.{IsPath}
 
--- no path has more than m systems: behind the one at which it begins stand fewer
+-- no path has more than m systems: after the one at which it begins stand fewer
 abbrev pub BoundsPaths : Snapshot → ℕ → Type 0
 BoundsPaths g m = (v w : ℕ) (us : List ℕ) → IsPath g v w us → length us < m
 

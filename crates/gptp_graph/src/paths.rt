@@ -5,7 +5,7 @@ ghost use Rattle.gptp_graph.specs.PathBoundLaws.{BoundsDistances, JoinedAreAdjac
 ghost use Rattle.gptp_graph.specs.Star.{ExamplesAreBounded};
 
 /// No path has more systems than there are, nor more than two and those that have two neighbours or more: all systems
-/// of a path but its first and its last have two, the one before and the one behind. What bounds the systems of paths
+/// of a path but its first and its last have two, the one before and the one after. What bounds the systems of paths
 /// is above every distance.
 pub fn paths_bounded()
     ensures systems { SystemsBoundPaths }

@@ -93,7 +93,7 @@ module _ (live : Bool) (s : SystemState) (shown : AreShown s) (held : AreHeld s)
   abbrev v : Vector
   v = rest.vector
 
-  -- what it is compared by behind the root and the steps
+  -- what it is compared by after the root and the steps
   abbrev source : List ℕ
   source = v.source.clock ∷ v.source.port ∷ v.receiver ∷ []
 

@@ -70,7 +70,7 @@ abbrev FindsLane : List Channel → PortIdentity → ℕ → Type 0
 FindsLane channels port place =
     (lane : Lane) × (slice_get (lanes_view channels) place ≡ Some lane) × (lane.from ≡ port)
 
--- Among the lanes of a link and those behind it one is found, where it is found behind if it isn't of this link.
+-- Among the lanes of a link and those after it one is found, where it is found after if it isn't of this link.
 first_or_later : (first : Channel) (channels : List Channel) (port : PortIdentity)
     → (has_port_id first.a port ≡ false → has_port_id first.b port ≡ false
     → FindsLane channels port (lane_of channels port))

@@ -70,7 +70,7 @@ map-append : {X Y : Type 0} (f : X → Y) (xs ys : List X) → map f (xs ++ ys) 
 map-append f [] ys = refl
 map-append f (x ∷ xs) ys = ap (λ zs. f x ∷ zs) (map-append f xs ys)
 
--- a lane with a frame behind the others
+-- a lane with a frame after the others
 abbrev longer : Lane → SeenFrame → Lane
 longer lane f = record lane { frames = lane.frames ++ f ∷ [] }
 

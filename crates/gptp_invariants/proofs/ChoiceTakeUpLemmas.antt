@@ -1,4 +1,4 @@
--- What a system sends enters the lanes that begin at its ports, behind all that is in flight there.
+-- What a system sends enters the lanes that begin at its ports, after all that is in flight there.
 use Rattle.std.proofs.Common.{◌≡◌, ◌≢◌, ◌⊎◌, ℕ, true, false, List, [], ◌∷◌, ◌++◌, Some, slice_get, refl, sym, ap, subst, ◌∙◌, inl, inr, append_assoc}
 use Rattle.std.proofs.lemmas.List.{append-nil}
 use Rattle.gptp_lists.specs.Members.{In}
@@ -27,7 +27,7 @@ stays c xs l never = record {
 pub lane_stays : (c : ℕ) (l : Lane) → LaneStep c [] l l
 lane_stays c l = stays c [] l (λ none up x member begins. member)
 
--- it takes up what comes first, and then what comes behind
+-- it takes up what comes first, and then what comes after
 pub lane_goes_on : (c : ℕ) (xs ys : List Send) (l m n : Lane) → LaneStep c xs l m → LaneStep c ys m n
     → LaneStep c (xs ++ ys) l n
 lane_goes_on c xs ys l m n a b = record {
@@ -114,7 +114,7 @@ passes_by c x l never = stays c (x ∷ []) l go
     go none up y (inl same) begins = never none up (begins ∙ ap (λ (z : Send). port_of c z.port) same)
     go none up y (inr member) begins = member
 
--- on the lane that it enters it stands behind the others
+-- on the lane that it enters it comes after the others
 takes_up : (c : ℕ) (x : Send) (l : Lane) (f : AnnounceFrame) → l.from ≡ port_of c x.port → f.octets ≡ x.octets
     → LaneStep c (x ∷ []) l (record l { frames = l.frames ++ f ∷ [] })
 takes_up c x l f begins same = record {

@@ -28,7 +28,7 @@ newest_by time [] due = omega arith
 newest_by time (f ∷ []) due = due f (inl refl)
 newest_by time (f ∷ (g ∷ frames)) due = newest_by time (g ∷ frames) (λ x among. due x (inr among))
 
--- one more goes behind them
+-- one more goes after them
 pushed_by : (time : ℕ) (frames : List Frame) (g : Frame) → AreDueBy time frames → g.due ≤ time
     → AreDueBy time (frames ++ g ∷ [])
 pushed_by time frames g due last f among = by (In-parts f frames (g ∷ []) among)

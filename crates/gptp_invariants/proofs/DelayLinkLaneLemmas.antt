@@ -60,7 +60,7 @@ said_elsewhere s port x xs other = rw (same_false (own s x.port) port other) ref
 abbrev pub IsDueSoon : ℕ → ℕ → List Frame → Frame → Type 0
 IsDueSoon now most old f = (now ≤ f.due) × ((f.due ≤ now + most) ⊎ ((g : Frame) × In g old × (f.due ≤ g.due)))
 
--- The link carries on, and behind what was in flight in each direction these octets are. They are due in time, and take
+-- The link carries on, and after what was in flight in each direction these octets are. They are due in time, and take
 -- the least delay of the link or more.
 pub record Grows (now : ℕ) (old : Channel) (octets : Direction → List (List ℕ)) (new : Channel) : Type 0 where
   pub a : new.a ≡ old.a
@@ -141,7 +141,7 @@ grows_on now first second third one two both g h is = record {
           | inr (other, old, more) ↦ inr (other, old, omega arith)
         ]
 
--- one frame goes behind the others in its direction
+-- one frame goes after the others in its direction
 entered_grows : (now : ℕ) (way : Direction) (channel : Channel) (f : Frame) (octets : Direction → List (List ℕ))
     → IsDueSoon now channel.bounds.max (world_queue way channel) f → now + channel.bounds.min ≤ f.due
     → octets way ≡ f.octets ∷ []

@@ -51,7 +51,7 @@ mute_news says (one ∷ news) mute f (inr later) =
 pub same_first : {X : Type 0} (a b : X) (xs ys : List X) → a ∷ xs ≡ b ∷ ys → (a ≡ b) × (xs ≡ ys)
 same_first a b xs ys e = (cc, cc)
 
--- where octets that say this stand behind mute ones, their frame is the first that isn't mute
+-- where octets that say this come after mute ones, their frame is the first that isn't mute
 pub first_news : {X : Type 0} (says : List ℕ → X → Type 0) (x : X) (Q : List SeenFrame → Type 0) (news : List Frame)
     (before : List (List ℕ)) (octets : List ℕ) (after : List (List ℕ)) → octets_of news ≡ before ++ octets ∷ after
     → ((o : List ℕ) → In o before → (y : X) → says o y → ⊥) → says octets x
@@ -246,7 +246,7 @@ module _ (s s' : SystemState) (p : ℕ) (sends : List Sending) (sent : AsksOnce 
           (among x there)) in absurd cc) r
           (subst (λ o. reads_as_request o r) is spoken)
 
-  -- the frames of the port are its request, and some that ask nothing before and behind it
+  -- the frames of the port are its request, and some that ask nothing before and after it
   pub sends_request : FirstIs reads_as_request
       (λ (f : SeenFrame). reads_as_request f.octets (request_from (own s p) (next_of s p)))
       (AreMute reads_as_request) (map link_frame_view news)
@@ -310,7 +310,7 @@ module _ (s s' : SystemState) (p now : ℕ) (owed : Owed) (sends : List Sending)
         requester = fits.from;
       }))
 
-  -- the frames of the port are the pdelay_response and behind it the follow-up
+  -- the frames of the port are the pdelay_response and after it the follow-up
   pub sends_answer : FirstIs reads_as_reply
       (λ (f : SeenFrame). reads_as_reply f.octets (Response (link_identity (own s p)) answered_request owed.t2))
       (FirstIs reads_as_reply

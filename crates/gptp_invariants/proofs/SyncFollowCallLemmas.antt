@@ -24,7 +24,7 @@ use Rattle.gptp_invariants.proofs.DelayLinkLemmas.{none_said}
 use Rattle.gptp_invariants.proofs.DelaySentLemmas.{octets_of}
 use Rattle.gptp_invariants.proofs.WorldStandsLemmas.{used_up}
 
--- The system followed before. The call is its own, or it is as it was. Behind what was in flight to it stands what the
+-- The system followed before. The call is its own, or it is as it was. After what was in flight to it stands what the
 -- system that was called says at the port of the parent, where the parent is the one.
 pub record CallSeen (at : LinkPlace) (w w' : WorldState) (f' : IsFollower at w') (place : ℕ) (s s' : SystemState)
     (sends : List Sending) : Type 0 where

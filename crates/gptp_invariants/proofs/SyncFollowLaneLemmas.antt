@@ -1,4 +1,4 @@
--- What a call sends onto a lane stands behind what was in flight, and is due in its order.
+-- What a call sends onto a lane comes after what was in flight, and is due in its order.
 use Rattle.std.proofs.Common.{◌≡◌, ◌≢◌, ◌+◌, ◌≤◌, ℕ, true, List, [], ◌∷◌, ◌++◌, map, Some, slice_get, sym, ap, subst, ◌∙◌, inl, inr, arith}
 use Rattle.std.proofs.lemmas.List.{map-append}
 use Rattle.gptp_lists.specs.Members.{In}
@@ -39,7 +39,7 @@ in_order (f ∷ (h ∷ fs)) order = (first_least f.due h fs order.0 order.1, in_
 
 -- ---- a call
 
--- behind what was in flight stand frames of these octets, each due the least delay from now or later
+-- after what was in flight stand frames of these octets, each due the least delay from now or later
 pub record LaneGrows (now link : ℕ) (direction : Direction) (old : Channel) (said : List (List ℕ)) (w' : WorldState)
     : Type 0 where
   pub new : Channel

@@ -82,7 +82,7 @@ timer_tells_none timer now s s' sends port no_sync no_relay sent =
 
 -- ---- a pair
 
--- a Sync of this port, directly behind it its Follow_Up, which reads as what is told where that fits its octets
+-- a Sync of this port, directly after it its Follow_Up, which reads as what is told where that fits its octets
 pub record TellsPair (source : PortIdentity) (told : Relayed) (all : List (List ℕ)) : Type 0 where
   pub sequence : ℕ
   pub sync : List ℕ

@@ -70,7 +70,7 @@ module _ (span : ℕ) where
   entered_due now most fs f short all (later, inr (g, among, before)) =
       let last = all g among in omega arith
 
-  -- a frame of the lane with one more behind is due in time
+  -- a frame of the lane with one more after is due in time
   behind : (now : ℕ) (f new : Frame) (fs : List Frame) → ((g : Frame) → In g fs → g.due ≤ now + span)
       → new.due ≤ now + span → In f fs ⊎ In f (new ∷ []) → f.due ≤ now + span
   behind now f new fs all due (inl before) = all f before

@@ -111,7 +111,7 @@ clock_place (station ∷ stations) number =
 abbrev pub has_port_id : PortId → PortIdentity → Bool
 has_port_id p port = p.clock == port.clock && p.port == port.port
 
--- Where the lane stands that begins at this port: it is one of the first link, or it stands two places behind where it
+-- Where the lane stands that begins at this port: it is one of the first link, or it stands two places after where it
 -- stands among the lanes of the others.
 abbrev pub lane_of : List Channel → PortIdentity → ℕ
 lane_of [] port = 0

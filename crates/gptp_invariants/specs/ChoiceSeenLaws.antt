@@ -21,7 +21,7 @@ abbrev pub StationsAreSeen : Type 0
 StationsAreSeen = (w : WorldState) (place : ℕ) (station : Station) → slice_get w.stations place ≡ Some station
     → slice_get (view w).stations place ≡ Some (station_view station)
 
--- the lanes of a link stand at twice its place, and one behind
+-- the lanes of a link stand at twice its place, and one after
 abbrev pub LanesAreSeen : Type 0
 LanesAreSeen = (w : WorldState) (link : ℕ) (direction : Direction) (channel : Channel)
     → slice_get w.net.channels link ≡ Some channel

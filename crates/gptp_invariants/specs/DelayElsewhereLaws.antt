@@ -33,7 +33,7 @@ WatchGoesThrough = (at : LinkPlace) (gone calm : ℕ) (act : Act) (w w' : WorldS
     → IsSound w → LinkIsMeasured w → LeavesAlone at act w → Acts act w draws done w' → IsWatched gone calm at w
     → IsWatched gone calm at w'
 
--- So the port that asks is capable from three intervals between requests behind its own calm on, and its neighbour rate
+-- So the port that asks is capable from three intervals between requests after its own calm on, and its neighbour rate
 -- and mean link delay are those of two exchanges over the link, whatever was changed elsewhere since.
 abbrev pub WatchedPortsStayCapable : Type 0
 WatchedPortsStayCapable = (at : LinkPlace) (gone calm : ℕ) (w : WorldState) (l : IsWatched gone calm at w)

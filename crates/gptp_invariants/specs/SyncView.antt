@@ -20,7 +20,7 @@ IsTimeless octets = (x : SyncMessage) → says_sync octets x → ⊥
 abbrev pub AreTimeless : List (List ℕ) → Type 0
 AreTimeless all = (octets : List ℕ) → In octets all → IsTimeless octets
 
--- a Sync of this port, directly behind it its Follow_Up, and nothing else
+-- a Sync of this port, directly after it its Follow_Up, and nothing else
 pub record ArePaired (source : PortIdentity) (all : List (List ℕ)) : Type 0 where
   pub sequence : ℕ
   pub sync : List ℕ

@@ -83,7 +83,7 @@ PlaysAtOnce number port w role = (m : ℕ)
 
 -- ---- by distance
 
--- two announce intervals for each of d steps, and what a step takes longer where Sync is waited for, behind the turns
+-- two announce intervals for each of d steps, and what a step takes longer where Sync is waited for, after the turns
 -- in which all that is held becomes wholly clean
 abbrev pub distance_span : ℕ → ℕ → SettlingParams → SyncPaths → ℕ → ℕ
 distance_span m d p paths n = turns_span m p paths n + 2 * d * largest_interval p + d * step_more p paths

@@ -39,9 +39,9 @@ pub fn worlds_have_networks()
     ensures facts { HasFacts }
 {}
 
-/// A sound, encodable and known world is a calm state of the machine, where each link that is up between two live systems
-/// is quiet, a start is at least one announce interval after the last change, and from that start on the ports of live
-/// systems are disabled exactly where no such link is at them.
+/// A sound, encodable and known world is a calm state of the machine, where each link that is up between two live
+/// systems is quiet, a start is at least one announce interval after the last change, and from that start on the ports
+/// of live systems are disabled exactly where no such link is at them.
 pub fn worlds_are_calm()
     ensures { IsCalmState }
 {}

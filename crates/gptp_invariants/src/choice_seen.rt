@@ -8,7 +8,7 @@ pub fn stations_are_seen()
     ensures { StationsAreSeen }
 {}
 
-/// The two lanes of a link stand in the view of a world at twice the place of the link, and one behind.
+/// The two lanes of a link stand in the view of a world at twice the place of the link, and one after.
 pub fn lanes_are_seen()
     ensures { LanesAreSeen }
 {}
@@ -18,8 +18,8 @@ pub fn time_is_seen()
     ensures { TimeIsSeen }
 {}
 
-/// In a sound and encodable world a timer that runs out is something that happens at a live system of the machine. It is
-/// no Announce that is heard, and what a port received grows too old only once its span has passed.
+/// In a sound and encodable world a timer that runs out is something that happens at a live system of the machine. It
+/// is no Announce that is heard, and what a port received grows too old only once its span has passed.
 pub fn expiries_are_seen()
     ensures { ExpiriesAreSeen }
 {}

@@ -6,8 +6,9 @@ ghost use Rattle.gptp_invariants.specs.ChoiceSettledLaws.{HoldsDone, HoldsKept, 
 
 use gptp_links::Fate;
 
-/// A world is sound, encodable and known, and its links join ports of two systems. It stays so with every act that keeps
-/// the limits, and as time passes for as long as it is sound, so from act to act, whatever is drawn for its frames.
+/// A world is sound, encodable and known, and its links join ports of two systems. It stays so with every act that
+/// keeps the limits, and as time passes for as long as it is sound, so from act to act, whatever is drawn for its
+/// frames.
 pub fn worlds_stay<F: Fate>()
     ensures acts { ActsStayWorlds }
     ensures time { TimeStaysWorld }

@@ -29,8 +29,8 @@ pub fn watches_are_kept<F: Fate>()
 {}
 
 /// Where they are watched, all links in use are quiet, and L + 5 announce intervals have passed from the last change,
-/// L being how many requests may be lost, each port of a live system at which a link of the snapshot is, is capable, and
-/// so it isn't Disabled.
+/// L being how many requests may be lost, each port of a live system at which a link of the snapshot is, is capable,
+/// and so it isn't Disabled.
 pub fn used_ports_become_capable()
     ensures { UsedPortsCapable }
 {}

@@ -3,7 +3,7 @@
 ghost use Rattle.gptp_invariants.specs.SyncLaws.{ActsTellSyncs, FollowUpsAreUsed, SyncsAreKept, TimersAreSeen};
 ghost use Rattle.gptp_invariants.specs.SyncLaws.{KnowsAtStart, KnowsOn, LeadersTell, RelaysTell, TellsInPairs};
 
-/// What a step sends at one port tells no time, or is a Sync and, directly behind it, the Follow_Up of the same
+/// What a step sends at one port tells no time, or is a Sync and, directly after it, the Follow_Up of the same
 /// sequenceId. Each Master port sends both where the Sync timer of a root expires that may be grandmaster; and where
 /// the Relay timer expires, in a network that has a syncReceiptTimeout.
 pub fn time_is_told_in_pairs()

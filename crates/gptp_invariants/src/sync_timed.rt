@@ -1,4 +1,5 @@
-//! Laws on the time that is carried in a settled world, as the machine of `gptp_sync_machine` follows it, and on offsets.
+//! Laws on the time that is carried in a settled world, as the machine of `gptp_sync_machine` follows it, and on
+//! offsets.
 
 ghost use Rattle.gptp_invariants.specs.SyncTimedLaws.{ActsCarryTime, ClaimedIsSettledFrom, DoneCarriesTime, MeasuredIsRight};
 ghost use Rattle.gptp_invariants.specs.SyncTimedLaws.{OffsetsAreExact, OthersFollow, TimeBegins, TimeCarriesTime};

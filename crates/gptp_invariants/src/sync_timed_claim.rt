@@ -13,16 +13,16 @@ pub fn carried_time_is_claimed<F: Fate>()
     ensures time { CarriesLater }
 {}
 
-/// With it all that is claimed of every world begins with the world of a network, and is kept from act to act and as time
-/// passes.
+/// With it all that is claimed of every world begins with the world of a network, and is kept from act to act and as
+/// time passes.
 pub fn all_is_claimed<F: Fate>()
     ensures begins { AllBegins F.answers }
     ensures acts { AllKept F.answers }
     ensures time { AllLater }
 {}
 
-/// Once a calm network has settled, and frames have had the time to come down the way of a system, each Follow_Up that it
-/// uses leaves an offset that is within the time error of that way of its clock less its root's.
+/// Once a calm network has settled, and frames have had the time to come down the way of a system, each Follow_Up that
+/// it uses leaves an offset that is within the time error of that way of its clock less its root's.
 pub fn calm_offsets_are_exact()
     ensures { CalmOffsetsAreExact }
 {}

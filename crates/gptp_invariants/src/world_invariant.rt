@@ -54,9 +54,9 @@ pub fn ports_settle()
 /// systems, and no path of its snapshot has more; and so for the number that gptp_graph reads off the links, two and
 /// those that have two neighbours.
 ///
-/// The network may have a syncReceiptTimeout: calm asks then that a settled system waits for Sync for less, and the span
-/// is longer by what a step of distance takes longer. Without one a world is calm by its links alone, and the span is
-/// that of its systems alone; and a sharper one holds too, whose steps of distance each take but the greatest delay.
+/// The network may have a syncReceiptTimeout: calm asks then that a settled system waits for Sync for less, and the
+/// span is longer by what a step of distance takes longer. Without one a world is calm by its links alone, and the span
+/// is that of its systems alone; and a sharper one holds too, whose steps of distance each take but the greatest delay.
 pub fn worlds_settle()
     ensures systems { ClaimedSettled }
     ensures by_paths { ClaimedSettledByPaths }

@@ -48,11 +48,11 @@ pub fn news_follow<F: Fate>()
     ensures later { ReadyIsReadyLater }
 {}
 
-/// A network that starts, and in which nothing is changed, is settled one interval between requests, one exchange and one
-/// announce interval later, and the greatest delay for each further system of a path, whatever is drawn for its frames.
-/// So is one in which a link comes up after it has been left alone for so long that its ports are capable, where all that
-/// it holds is sound; and so it is after every other gain, counted from when ports are capable by what is claimed after
-/// every change.
+/// A network that starts, and in which nothing is changed, is settled one interval between requests, one exchange and
+/// one announce interval later, and the greatest delay for each further system of a path, whatever is drawn for its
+/// frames. So is one in which a link comes up after it has been left alone for so long that its ports are capable,
+/// where all that it holds is sound; and so it is after every other gain, counted from when ports are capable by what
+/// is claimed after every change.
 pub fn news_settle_soon<F: Fate>()
     ensures course { NewsAdvance F.answers }
     ensures start { BegunSettles F.answers }
@@ -67,8 +67,8 @@ pub fn gains_are_news()
 {}
 
 /// A network that has been left alone for long enough holds and sends what is sound, whatever came before: a greatest
-/// delay after all that is held has become wholly clean, where all systems live; beside failed ones an announce interval
-/// after that.
+/// delay after all that is held has become wholly clean, where all systems live; beside failed ones an announce
+/// interval after that.
 pub fn rest_is_sound()
     ensures live { RestIsSound }
     ensures beside_failed { RestIsSoundBesideFailed }

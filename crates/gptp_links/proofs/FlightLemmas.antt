@@ -155,7 +155,7 @@ beside-turned s one other h = record {
   apart = apart-turned (keys_of s one) (keys_of s other) h.apart;
 }
 
--- ---- a frame comes behind the others
+-- ---- a frame comes after the others
 
 -- the keys of a chain that is made longer
 module _ (s t : ℕ → Option Flight) (key : Key) (tail : ℕ) where

@@ -45,7 +45,7 @@ abbrev pub with_sent : List Frame → Option ℕ → List ℕ → List Frame
 with_sent frames None octets = frames
 with_sent frames (Some due) octets = frames ++ frame due octets ∷ []
 
--- A frame was sent: one lawful answer was drawn, and unless it is a loss the frame went behind the others.
+-- A frame was sent: one lawful answer was drawn, and unless it is a loss the frame went after the others.
 pub record IsSent {F : Type 0} (answers : Bounds → ℕ → F → Option ℕ → F → Type 0) (bounds : Bounds) (now : ℕ)
     (fate fate_after : F) (before : List Frame) (octets : List ℕ)
     (after : List Frame) (due : Option ℕ) : Type 0 where

@@ -155,7 +155,7 @@ impl Lane {
         Some(flights.get(self.head.place).unwrap().octets.as_slice())
     }
 
-    /// Puts a frame behind all that are in flight.
+    /// Puts a frame after all that are in flight.
     fn put(&mut self, flights: &mut Slab<Flight>, due: u64, octets: Vec<u8>)
         requires chained { DirectionIsChained (get flights.old) self.old }
         requires late { newest_due (frames_in (get flights.old) self.old) ≤ due }
@@ -183,7 +183,7 @@ impl Lane {
         }
     }
 
-    /// What is in flight once a frame came behind the others, that is due then.
+    /// What is in flight once a frame came after the others, that is due then.
     fn with_last(self, key: Key, due: u64) -> Lane
         requires few { self.count < self.limit }
         ensures { result ≡ with_last_flight key due self }

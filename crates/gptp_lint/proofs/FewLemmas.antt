@@ -46,7 +46,7 @@ at_most_one : {X : Type 0} (o : Option X) → length (option_to_list o) ≤ 1
 at_most_one None = omega arith
 at_most_one (Some x) = omega arith
 
--- one more at most, and so many behind it
+-- one more at most, and so many after it
 few_more : {X : Type 0} (xs ys : List X) (n : ℕ) → length xs ≤ 1 → length ys ≤ n → length (xs ++ ys) ≤ suc n
 few_more xs ys n one few = let both = length-append xs ys in omega arith
 

@@ -1,4 +1,4 @@
--- Lines behind one another are lines.
+-- Lines after one another are lines.
 use Rattle.std.proofs.Common.{◌≡◌, ◌==◌, ℕ, not, nat_lt, List, [], ◌∷◌, ◌++◌, Some, slice_get, get_or, take, ◌+◌, ◌<◌, length, map, append_assoc, sym, ap, ◌∙◌, arith}
 use Rattle.std.specs.List.{flat_map}
 use Rattle.std.proofs.lemmas.Bool.Decides.{nat_tests}
@@ -15,7 +15,7 @@ fed line = line ++ 10 ∷ []
 pub text_append : (xs ys : List (List ℕ)) → text_of (xs ++ ys) ≡ text_of xs ++ text_of ys
 text_append xs ys = flat_map-append fed xs ys
 
--- two texts of lines, one behind the other
+-- two texts of lines, one after the other
 pub joined : (old mid new : List ℕ) (xs ys : List (List ℕ)) → mid ≡ old ++ text_of xs → new ≡ mid ++ text_of ys
     → new ≡ old ++ text_of (xs ++ ys)
 joined old mid new xs ys first second =
@@ -43,7 +43,7 @@ pub item_more : {X : Type 0} (line : X → List ℕ) (xs : List X) (i : ℕ) (x 
 item_more line xs i x old text new below is =
     mapped_more line xs i x old text new (slice_get-get_or xs i x below ∙ ap Some (sym is))
 
--- a text is longer exactly where there are lines behind it
+-- a text is longer exactly where there are lines after it
 pub longer : (old : List ℕ) (lines : List (List ℕ))
     → nat_lt (length old) (length (old ++ text_of lines)) ≡ not (length lines == 0)
 longer old [] = ap (λ t. nat_lt (length old) (length t)) (append-nil old) ∙ grind (arith, nat_tests)
@@ -55,7 +55,7 @@ longer old (line ∷ lines) =
 
 -- ---- all findings
 
--- four kinds of lines, one behind the other
+-- four kinds of lines, one after the other
 pub four_kinds : (t0 t1 t2 t3 t4 : List ℕ) (xs ys zs us : List (List ℕ)) → t1 ≡ t0 ++ text_of xs
     → t2 ≡ t1 ++ text_of ys → t3 ≡ t2 ++ text_of zs → t4 ≡ t3 ++ text_of us
     → t4 ≡ t0 ++ text_of (xs ++ ys ++ zs ++ us)
@@ -64,7 +64,7 @@ four_kinds t0 t1 t2 t3 t4 xs ys zs us first second third fourth =
     let three = joined t0 t2 t3 (xs ++ ys) zs two third in
     joined t0 t3 t4 (xs ++ ys ++ zs) us three fourth
 
--- a fifth behind them
+-- a fifth after them
 pub five_kinds : (t0 t1 t2 t3 t4 t5 : List ℕ) (xs ys zs us vs : List (List ℕ)) → t1 ≡ t0 ++ text_of xs
     → t2 ≡ t1 ++ text_of ys → t3 ≡ t2 ++ text_of zs → t4 ≡ t3 ++ text_of us → t5 ≡ t4 ++ text_of vs
     → t5 ≡ t0 ++ text_of (xs ++ ys ++ zs ++ us ++ vs)

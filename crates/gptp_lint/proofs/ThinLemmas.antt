@@ -137,7 +137,7 @@ long_is d w order =
 
 -- ---- the stretches at which it loses frames
 
--- until when a loss lasts, and the stretches behind a time with it
+-- until when a loss lasts, and the stretches after a time with it
 abbrev Stretches : Type 0
 Stretches = Option ℕ × List Lossy
 

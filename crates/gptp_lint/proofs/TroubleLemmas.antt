@@ -88,6 +88,6 @@ no_lossy link (s ∷ ss) none =
 
 -- ---- those that are left where one may have begun
 
--- the one that has begun with this loss, and those behind it
+-- the one that has begun with this loss, and those after it
 abbrev pub left : ℕ → ℕ → ℕ → List Standing → List Lossy
 left link loss from ss = lossy_stretch link loss from (next_other loss ss) ++ stretches link loss ss

@@ -54,7 +54,7 @@ fn moment_of(alloc: Global, graph: &Graph, at: u64) -> Result<Moment, AllocError
     Ok(Moment { at, bests })
 }
 
-/// Puts a moment behind others, where the next time is another.
+/// Puts a moment after others, where the next time is another.
 fn tell(
     alloc: Global,
     moments: &mut Vec<Moment>,
@@ -92,7 +92,7 @@ fn follow(alloc: Global, document: &Document, graph: &mut Graph) -> Result<Vec<M
     Ok(moments)
 }
 
-/// Puts a moment behind others, where there are several components then, and were not so many before.
+/// Puts a moment after others, where there are several components then, and were not so many before.
 fn push_apart(apart: &mut Vec<Apart>, before: usize, moment: &Moment) -> Result<(), AllocError>
     ensures { OnOk result (apart.new.items ≡ apart.old.items ++ apart_at before moment.now) }
 {
@@ -140,7 +140,7 @@ fn is_told(before: &[Identity], best: Identity) -> bool
     !is_capable(best) && !was_best(before, best)
 }
 
-/// Puts a best behind others, where it can't be grandmaster, and was no best before.
+/// Puts a best after others, where it can't be grandmaster, and was no best before.
 fn push_nobody(
     nobody: &mut Vec<Nobody>,
     before: &[Identity],
@@ -203,7 +203,7 @@ fn decides_by_clock(one: Identity, other: Identity) -> bool
     is_capable(one) && is_capable(other) && are_alike(one, other)
 }
 
-/// Puts the two best of the component with this best behind others, where a clock decides between them.
+/// Puts the two best of the component with this best after others, where a clock decides between them.
 fn push_chance(
     chance: &mut Vec<(Identity, Identity)>,
     labels: &[Label],

@@ -31,7 +31,7 @@ pub struct Findings {
     pub limit: u64,
 }
 
-/// Puts a link that is too long behind others, if it is one.
+/// Puts a link that is too long after others, if it is one.
 fn push_long(long: &mut Vec<Long>, found: Option<Long>) -> Result<(), AllocError>
     ensures { OnOk result (long.new.items ≡ long.old.items ++ option_to_list found) }
 {
@@ -41,7 +41,7 @@ fn push_long(long: &mut Vec<Long>, found: Option<Long>) -> Result<(), AllocError
     Ok(())
 }
 
-/// Puts what isn't good at a link behind what isn't at others, where these are the systems that the events name.
+/// Puts what isn't good at a link after what isn't at others, where these are the systems that the events name.
 fn push_troubles(
     alloc: Global,
     long: &mut Vec<Long>,

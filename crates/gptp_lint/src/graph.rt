@@ -150,7 +150,7 @@ fn act_on_edges(act: &Act, edges: &mut [Edge])
     }
 }
 
-/// Puts a system, which lives, behind others.
+/// Puts a system, which lives, after others.
 fn push_node(nodes: &mut Vec<Node>, identity: Identity) -> Result<(), AllocError>
     ensures { OnOk result (nodes.new.items ≡ nodes.old.items ++ first_node identity ∷ []) }
 {
@@ -162,7 +162,7 @@ fn push_node(nodes: &mut Vec<Node>, identity: Identity) -> Result<(), AllocError
     Ok(())
 }
 
-/// Puts the system at a place behind those before.
+/// Puts the system at a place after those before.
 fn push_node_at(nodes: &mut Vec<Node>, network: &Network, place: usize) -> Result<(), AllocError>
     requires place { place < length network.now.systems }
     requires before { nodes.old.items ≡ map (λ (m : SystemSpec). first_node m.identity) (take place network.now.systems) }

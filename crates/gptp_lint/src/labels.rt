@@ -121,7 +121,7 @@ pub(crate) fn labels_of(alloc: Global, graph: &Graph) -> Result<Vec<Label>, Allo
     Ok(labels)
 }
 
-/// Puts a system behind others, where it is the best of its component.
+/// Puts a system after others, where it is the best of its component.
 fn push_best(bests: &mut Vec<Identity>, label: &Label) -> Result<(), AllocError>
     ensures { OnOk result (bests.new.items ≡ bests.old.items ++ best_at label.now) }
 {

@@ -71,7 +71,7 @@ impl Place {
     }
 }
 
-/// The line of a header, from 1, shown behind the number of its member; nothing where there is none.
+/// The line of a header, from 1, shown after the number of its member; nothing where there is none.
 #[derive(Clone, Copy)]
 pub(crate) struct LineWords(pub Option<usize>);
 

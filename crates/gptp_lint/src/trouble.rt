@@ -30,7 +30,7 @@ pub struct Lossy {
     pub loss: u16,
     /// The first of these times, in ns.
     pub from: u64,
-    /// The first time behind them, in ns, if there is one.
+    /// The first time after them, in ns, if there is one.
     pub to: Option<u64>,
 }
 
@@ -58,7 +58,7 @@ pub(crate) fn long_of(params: &Params, course: &[Standing]) -> Option<Long>
     None
 }
 
-/// Puts a stretch behind others, where its times have a loss.
+/// Puts a stretch after others, where its times have a loss.
 fn push_stretch(
     lossy: &mut Vec<Lossy>,
     link: usize,
@@ -79,7 +79,7 @@ fn push_stretch(
     Ok(())
 }
 
-/// Puts the stretches of a link behind others.
+/// Puts the stretches of a link after others.
 pub(crate) fn push_stretches(
     lossy: &mut Vec<Lossy>,
     link: usize,

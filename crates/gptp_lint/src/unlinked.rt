@@ -20,7 +20,7 @@ fn is_linked(cables: &[Cable], clock: ClockId) -> bool
         .any(|cable| clock == cable.a.clock || clock == cable.b.clock)
 }
 
-/// Puts a clock behind others, where none of these links names its system.
+/// Puts a clock after others, where none of these links names its system.
 fn push_unlinked(
     unlinked: &mut Vec<ClockId>,
     cables: &[Cable],
@@ -34,7 +34,7 @@ fn push_unlinked(
     Ok(())
 }
 
-/// Puts the clock of the system at a place behind those of the systems before, where none of these links names it.
+/// Puts the clock of the system at a place after those of the systems before, where none of these links names it.
 fn push_unlinked_at(
     unlinked: &mut Vec<ClockId>,
     network: &Network,

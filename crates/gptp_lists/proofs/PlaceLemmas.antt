@@ -62,9 +62,9 @@ pub stands : {X : Type 0} (xs : List X) (i : ℕ) (x d : X) → slice_get xs i �
     → slice_get xs i ≡ Some (slice_index_or xs i d)
 stands xs i x d is = is ∙ ap Some (sym (read xs i x d is))
 
--- ---- one more behind
+-- ---- one more after
 
--- a member of a list with one more behind is one of the list, or that one
+-- a member of a list with one more after is one of the list, or that one
 pub behind : {X : Type 0} (xs : List X) (y x : X) (i : ℕ) → slice_get (xs ++ y ∷ []) i ≡ Some x
     → (slice_get xs i ≡ Some x) ⊎ ((i ≡ length xs) × (y ≡ x))
 behind [] y x (suc i) h = absurd cc

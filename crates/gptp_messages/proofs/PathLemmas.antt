@@ -20,7 +20,7 @@ pub length-clocks : (octets : List ℕ) → length (clocks octets) ≡ length oc
 unfolding clocks
 length-clocks octets = length-map-range_with_len (λ k. field 8 (8 * k) octets) 0 (length octets / 8)
 
--- the clock at a place stands behind eight octets for each place before it
+-- the clock at a place comes after eight octets for each place before it
 pub get_or-clocks : (octets : List ℕ) (i d : ℕ) → i < length octets / 8
     → get_or (clocks octets) i d ≡ field 8 (8 * i) octets
 unfolding clocks
@@ -47,7 +47,7 @@ pub length-path_octets : (path : List ℕ) → length (path_octets path) ≡ 8 *
 length-path_octets [] = refl
 length-path_octets (c ∷ path) = let ih = length-path_octets path in omega (arith, ih)
 
--- the clock at a place of a path is spelled behind eight octets for each clock before it
+-- the clock at a place of a path is spelled after eight octets for each clock before it
 field-path_octets : (path : List ℕ) (k : ℕ) → AllByRecursion (λ c. c < 2 ^ 64) path → k < length path
     → field 8 (8 * k) (path_octets path) ≡ get_or path k 0
 field-path_octets [] k fit within = absurd (omega arith)
@@ -150,7 +150,7 @@ path_octets-more path i within =
     ∙ flat_map-append (λ c. big_bytes 8 c) (take i path) (get_or path i 0 ∷ [])
     ∙ ap (λ (x : List ℕ). path_octets (take i path) ++ x) (append-nil (big_bytes 8 (get_or path i 0)))
 
--- a clock that is written behind those before it over octets
+-- a clock that is written after those before it over octets
 pub written_more : (path initial octets : List ℕ) (i : ℕ) → i < length path
     → octets ≡ path_octets (take i path) ++ drop (8 * i) initial
     → take (8 * i) octets ++ (big_bytes 8 (get_or path i 0) ++ drop 8 (drop (8 * i) octets))

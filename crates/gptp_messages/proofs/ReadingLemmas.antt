@@ -18,7 +18,7 @@ use Rattle.gptp_messages.specs.FollowUp.{follow_up_tlvs, ReadsRate, RefusesFollo
 use Rattle.gptp_messages.specs.Grammar.{PassesHeader, Reads, RefusesFrame}
 
 module _ (f : List ℕ) (kind : MessageType) (header : PassesHeader f kind) where
-  -- a timestamp out of its range, behind no TLVs
+  -- a timestamp out of its range, after no TLVs
   pub resp-refused : (e : Refused) → kind ≡ PdelayResp → (e ≡ refusals.StampRange) × (HasStamp f → ⊥) → RefusesFrame f e
   resp-refused e is refused =
       inr (inr (record {

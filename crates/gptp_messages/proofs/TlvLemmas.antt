@@ -97,7 +97,7 @@ one_front t u x y t-fits u-fits e =
       values.1,
     )
 
--- what stands behind the first of some TLVs is the rest of them
+-- what comes after the first of some TLVs is the rest of them
 record Cut (ts us : List Tlv) (rest : List ℕ) : Type 0 where
   others : List Tlv
   are : us ≡ ts ++ others
@@ -143,7 +143,7 @@ first_value-step : (kind : TlvKind) (t : Tlv) (ts us : List Tlv) (b : Bool) → 
 first_value-step kind t ts us true is behind = rw is refl
 first_value-step kind t ts us false is behind = rw is behind
 
--- the first of a kind is looked for in the front, and then behind it
+-- the first of a kind is looked for in the front, and then after it
 first_value-append : (kind : TlvKind) (ts us : List Tlv)
     → first_value kind (ts ++ us) ≡ either (first_value kind ts) (first_value kind us)
 first_value-append kind [] us = refl

@@ -80,7 +80,7 @@ kind_back FollowUp = (refl, refl)
 kind_back PdelayRespFollowUp = (refl, refl)
 kind_back Announce = (refl, refl)
 
--- the fields of a header fit, and what stands behind it has the length that the type asks for
+-- the fields of a header fit, and what comes after it has the length that the type asks for
 pub record Spells (kind : MessageType) (h : Head) (behind : List ℕ) : Type 0 where
   pub head : HeadFits h
   pub least : least_length kind ≤ 34 + length behind
@@ -219,7 +219,7 @@ module _ (kind : MessageType) (make : Head → Message) (head : Head) (behind re
         is = ap make (sym (head_is kind head behind rest spells)) ∙ made;
       }
 
--- ---- what has a timestamp behind its header
+-- ---- what has a timestamp after its header
 
 module _ (kind : MessageType) (head : Head) (t : Timestamp) (more rest : List ℕ) (fits : IsTimestamp t) where
   abbrev stamped : List ℕ

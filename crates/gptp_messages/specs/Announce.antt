@@ -22,7 +22,7 @@ announce_body_of f = record {
   time_source = octet 63 f;
 }
 
--- the octets behind the fixed part, up to messageLength
+-- the octets after the fixed part, up to messageLength
 abbrev pub announce_tlvs : List ℕ → List ℕ
 announce_tlvs f = slice_range f 64 (message_length f)
 
@@ -55,7 +55,7 @@ announce_front head body n =
     (written_head Announce (68 + 8 * n) head ++ written_body body)
     ++ (big_bytes 2 (tlv_type_of PathTrace) ++ big_bytes 2 (8 * n))
 
--- what stands behind the header of an Announce: the fixed part, and the path trace
+-- what comes after the header of an Announce: the fixed part, and the path trace
 abbrev pub written_announce : AnnounceBody → List ℕ → List ℕ
 written_announce body path = written_body body ++ spelled (path_trace path)
 

@@ -13,11 +13,11 @@ use Rattle.gptp_messages.specs.Head.{message_length, HeadFits}
 use Rattle.gptp_messages.specs.Tlv.{Tlv as TypedValue, FirstTlv, spelled, tlv_type_of}
 use Rattle.gptp_messages.specs.Timestamp.{HasStamp, written_stamp}
 
--- what stands behind the header of a Sync: reserved octets
+-- what comes after the header of a Sync: reserved octets
 abbrev pub written_sync : List ℕ
 written_sync = 0 ∷ 0 ∷ 0 ∷ 0 ∷ 0 ∷ 0 ∷ 0 ∷ 0 ∷ 0 ∷ 0 ∷ []
 
--- the octets behind the timestamp of a Follow_Up, up to messageLength
+-- the octets after the timestamp of a Follow_Up, up to messageLength
 abbrev pub follow_up_tlvs : List ℕ → List ℕ
 follow_up_tlvs f = slice_range f 44 (message_length f)
 
@@ -46,7 +46,7 @@ information_tlv rate = record {
       ++ (0 ∷ 0 ∷ 0 ∷ 0 ∷ 0 ∷ 0 ∷ 0 ∷ 0 ∷ 0 ∷ 0 ∷ 0 ∷ 0 ∷ 0 ∷ 0 ∷ 0 ∷ 0 ∷ 0 ∷ 0 ∷ []);
 }
 
--- what stands behind the header of a Follow_Up
+-- what comes after the header of a Follow_Up
 abbrev pub written_follow_up : Timestamp → ℤ → List ℕ
 written_follow_up origin rate = written_stamp origin ++ spelled (information_tlv rate)
 

@@ -42,7 +42,7 @@ pub record PassesHeader (f : List ℕ) (kind : MessageType) : Type 0 where
   pub least : least_length kind ≤ message_length f
   pub whole : message_length f ≤ length f
 
--- the TLVs behind the fixed part say this: of an Announce the path, of a Follow_Up the rate. Other messages have none.
+-- the TLVs after the fixed part say this: of an Announce the path, of a Follow_Up the rate. Other messages have none.
 abbrev pub ReadsTlvs : MessageType → List ℕ → List ℕ → ℤ → Type 0
 ReadsTlvs Announce f path rate = ReadsPath (announce_tlvs f) path
 ReadsTlvs FollowUp f path rate = ReadsRate (follow_up_tlvs f) rate
@@ -82,7 +82,7 @@ pub record Reads (f : List ℕ) (m : Message) : Type 0 where
   pub stamp : StampIsRead kind f
   pub is : m ≡ message_of kind f path rate
 
--- the header passes, and what stands behind the fixed part has no reading
+-- the header passes, and what comes after the fixed part has no reading
 pub record RefusesTlvs (f : List ℕ) (e : Refused) : Type 0 where
   pub kind : MessageType
   pub header : PassesHeader f kind

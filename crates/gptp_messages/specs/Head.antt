@@ -53,6 +53,6 @@ pub record HeadFits (h : Head) : Type 0 where
   pub correction : FitsSigned w64 h.correction
   pub log_interval : FitsSigned w8 h.log_interval
 
--- The one spelling of a message: its header, whose messageLength is that of the whole, and what stands behind it.
+-- The one spelling of a message: its header, whose messageLength is that of the whole, and what comes after it.
 abbrev pub written_message : MessageType → Head → List ℕ → List ℕ
 written_message kind head behind = written_head kind (34 + length behind) head ++ behind

@@ -23,7 +23,7 @@ type_of n =
     else if n == 0xB then Some Announce
     else None
 
--- the least messageLength: the header and the fixed part behind it, and of a Follow_Up its information TLV too
+-- the least messageLength: the header and the fixed part after it, and of a Follow_Up its information TLV too
 abbrev pub least_length : MessageType → ℕ
 least_length Sync = 44
 least_length PdelayReq = 54

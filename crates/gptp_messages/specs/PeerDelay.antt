@@ -8,15 +8,15 @@ use Rattle.gptp_messages.specs.Frame.{port_at, written_port, PortFits}
 use Rattle.gptp_messages.specs.Head.{HeadFits}
 use Rattle.gptp_messages.specs.Timestamp.{written_stamp}
 
--- the requestingPortIdentity, behind the timestamp of a response
+-- the requestingPortIdentity, after the timestamp of a response
 abbrev pub requester_of : List ℕ → PortId
 requester_of f = port_at 44 f
 
--- what stands behind the header of a request: reserved octets
+-- what comes after the header of a request: reserved octets
 abbrev pub written_request : List ℕ
 written_request = 0 ∷ 0 ∷ 0 ∷ 0 ∷ 0 ∷ 0 ∷ 0 ∷ 0 ∷ 0 ∷ 0 ∷ 0 ∷ 0 ∷ 0 ∷ 0 ∷ 0 ∷ 0 ∷ 0 ∷ 0 ∷ 0 ∷ 0 ∷ []
 
--- what stands behind the header of a response
+-- what comes after the header of a response
 abbrev pub written_response : Timestamp → PortId → List ℕ
 written_response stamp requester = written_stamp stamp ++ written_port requester
 

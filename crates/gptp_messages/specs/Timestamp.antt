@@ -1,4 +1,4 @@
--- The timestamp behind the header of a Follow_Up and of both responses: preciseOriginTimestamp,
+-- The timestamp after the header of a Follow_Up and of both responses: preciseOriginTimestamp,
 -- requestReceiptTimestamp, responseOriginTimestamp (IEEE 1588-2019, 5.3.3).
 use Rattle.std.specs.Prelude.{ℕ, ◌<◌, List, ◌++◌}
 use Rattle.byteorder.specs.Endian.{big_bytes}

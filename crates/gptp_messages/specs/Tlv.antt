@@ -28,7 +28,7 @@ pub record AreTlvs (octets : List ℕ) (ts : List Tlv) : Type 0 where
 abbrev pub HasTlvs : List ℕ → Type 0
 HasTlvs octets = (ts : List Tlv) × AreTlvs octets ts
 
--- the octets begin with this TLV, and the rest stands behind it
+-- the octets begin with this TLV, and the rest comes after it
 pub record IsFront (octets : List ℕ) (tlv_type : ℕ) (value rest : List ℕ) : Type 0 where
   pub fits : Fits (record { tlv_type = tlv_type; value = value })
   pub spelling : octets ≡ spelled (record { tlv_type = tlv_type; value = value }) ++ rest
@@ -62,7 +62,7 @@ abbrev pub either : Option (List ℕ) → Option (List ℕ) → Option (List ℕ
 either None w = w
 either (Some v) w = Some v
 
--- The octets are TLVs, and this is the value of the first of a kind, if there is one. What stands behind
+-- The octets are TLVs, and this is the value of the first of a kind, if there is one. What comes after
 -- it of the same kind is passed over.
 pub record FirstTlv (kind : TlvKind) (octets : List ℕ) (value : Option (List ℕ)) : Type 0 where
   pub tlvs : List Tlv

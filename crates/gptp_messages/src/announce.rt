@@ -36,7 +36,7 @@ pub struct AnnounceBody {
 pub struct AnnounceView<'a> {
     /// The common header.
     pub head: Head,
-    /// The fixed part behind the header.
+    /// The fixed part after the header.
     pub body: AnnounceBody,
     /// The path trace, lent out of the frame. Without a path trace TLV it is empty.
     pub path: PathView<'a>,
@@ -48,7 +48,7 @@ const FIXED_LENGTH: usize = 64;
 impl AnnounceBody {
     ghost use Rattle.gptp_messages.specs.Announce.{announce_body_of, written_body};
 
-    /// The fixed part behind the header of a frame.
+    /// The fixed part after the header of a frame.
     fn read(frame: &[u8]) -> AnnounceBody
         requires { 64 ≤ length frame.now }
         ensures { result ≡ announce_body_of frame.now }
@@ -156,7 +156,7 @@ pub fn encode_announce(
     Ok(())
 }
 
-/// The same where the path is these clocks, at most 255, and one more behind them: that of the sender, as a system
+/// The same where the path is these clocks, at most 255, and one more after them: that of the sender, as a system
 /// announces what it received (IEEE 802.1AS-2020, 10.3.9.23). No clock is copied but into the octets.
 pub fn encode_announce_behind(
     head: &Head,

@@ -40,7 +40,7 @@ fn read_rate(octets: &[u8]) -> Result<Rate, Refused>
     }
 }
 
-/// The octets behind the header of a Follow_Up.
+/// The octets after the header of a Follow_Up.
 pub(crate) fn follow_up_octets(origin: Stamp, rate: Rate) -> [u8; 42]
     ensures { result ≡ written_follow_up origin rate }
 {

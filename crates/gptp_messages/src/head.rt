@@ -66,7 +66,7 @@ impl Head {
     }
 }
 
-/// Appends a message: its header, and the octets behind it. Without memory nothing is appended.
+/// Appends a message: its header, and the octets after it. Without memory nothing is appended.
 pub(crate) fn put_message(
     head: &Head,
     message_type: MessageType,

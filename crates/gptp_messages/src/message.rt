@@ -15,7 +15,7 @@ use std::alloc::AllocError;
 /// A message as it stands in a frame.
 #[derive(Debug, Drop)]
 pub enum Message<'a> {
-    /// A Follow_Up with the time of sending comes behind it (IEEE 802.1AS-2020, 11.4.3).
+    /// A Follow_Up with the time of sending comes after it (IEEE 802.1AS-2020, 11.4.3).
     Sync {
         /// The common header. Its twoStepFlag tells a Sync of two steps, the only one that gPTP's rules use here.
         head: Head,
@@ -100,7 +100,7 @@ fn read_message(frame: &[u8], message_type: MessageType) -> Result<Message<'_>, 
     }
 }
 
-/// The message in a frame. What stands behind messageLength is ignored, and so are reserved octets,
+/// The message in a frame. What comes after messageLength is ignored, and so are reserved octets,
 /// minorVersionPTP, messageTypeSpecific, controlField, the flags but twoStep, and TLVs but the first
 /// path trace of an Announce and the first information TLV of a Follow_Up (IEEE 1588-2019, 13.3 and 14.1; IEEE
 /// 802.1AS-2020, 10.6 and 11.4).

@@ -33,7 +33,7 @@ pub struct PdelayRespFollowUp {
     pub requester: PortId,
 }
 
-/// What stands behind the header of either response: the timestamp and the requester.
+/// What comes after the header of either response: the timestamp and the requester.
 pub(crate) fn read_response(frame: &[u8]) -> Result<(Stamp, PortId), Refused>
     requires { 54 ≤ length frame.now }
     ensures stamp { IfOk result (λ r. (r.0 ≡ stamp_of frame.now) × HasStamp frame.now) }
@@ -43,7 +43,7 @@ pub(crate) fn read_response(frame: &[u8]) -> Result<(Stamp, PortId), Refused>
     Ok((read_stamp(frame)?, port_at(frame, 44)))
 }
 
-/// The octets behind the header of either response.
+/// The octets after the header of either response.
 pub(crate) fn response_octets(stamp: Stamp, requester: PortId) -> [u8; 20]
     ensures { result ≡ written_response stamp requester }
 {

@@ -8,7 +8,7 @@ use crate::refused::Refused;
 use byteorder::{BigEndian, ByteOrder};
 use gptp_scaled::Stamp;
 
-/// The timestamp behind a header.
+/// The timestamp after a header.
 pub(crate) fn read_stamp(frame: &[u8]) -> Result<Stamp, Refused>
     requires { 44 ≤ length frame.now }
     ensures read { IfOk result (λ stamp. (stamp ≡ stamp_of frame.now) × HasStamp frame.now) }

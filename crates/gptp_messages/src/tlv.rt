@@ -1,4 +1,4 @@
-//! TLVs: typed values of any length behind the fixed part of a message (IEEE 1588-2019, 14.1).
+//! TLVs: typed values of any length after the fixed part of a message (IEEE 1588-2019, 14.1).
 
 ghost use Rattle.std.specs.Prelude.{◌≡◌, IfOk, IfErr, Some, None, if◌then◌else◌};
 ghost use Rattle.std.specs.Option.{option_copied};
@@ -44,7 +44,7 @@ fn is_information(value: &[u8]) -> bool
     value.len() >= 6 && u48_at(value, 0) == INFORMATION
 }
 
-/// The TLV at the front of the octets: its type, its value, and the octets behind it.
+/// The TLV at the front of the octets: its type, its value, and the octets after it.
 fn split_tlv(octets: &[u8]) -> Result<(u16, &[u8], &[u8]), Refused>
     ensures front { IfOk result (λ t. IsFront octets.now t.0 t.1.now t.2.now) }
     ensures refused { IfErr result (λ e. (e ≡ Refused.Tlv) × (HasFront octets.now → ⊥)) }

@@ -43,7 +43,7 @@ queue_flows FromB FromB channel frames order still flows = record { order = orde
 
 -- ---- what a system sends
 
--- a frame goes behind the others, and is due no earlier
+-- a frame goes after the others, and is due no earlier
 entered_flow : (place : ℕ) (direction : Direction) (channel : Channel) (now : ℕ) (octets : List ℕ)
     (answer : Option ℕ) (w : WorldState) → slice_get w.net.channels place ≡ Some channel → channel.up ≡ true → AllFlow w
     → AllFlow (record w { net = entered place direction channel now octets answer w.net })

@@ -7,7 +7,7 @@ use Rattle.gptp_model.specs.Playing.{Plays}
 use Rattle.gptp_model.specs.Course.{WasDone}
 use Rattle.gptp_model.specs.World.{WorldState}
 
--- one more act behind others
+-- one more act after others
 pub plays_more : {F : Type 0} (answers : Bounds → ℕ → F → Option ℕ → F → Type 0) (acts : List Timed) (timed : Timed)
     (first second third : F) (w between after : WorldState) (done : Done) → Plays answers acts first second w between
     → WasDone answers timed second third between after done → Plays answers (acts ++ timed ∷ []) first third w after

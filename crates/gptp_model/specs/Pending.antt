@@ -25,7 +25,7 @@ abbrev pub times_of_item : Item → List Entry → List ℕ
 times_of_item item [] = []
 times_of_item item (e ∷ es) = if same_item item e.item then e.time ∷ times_of_item item es else times_of_item item es
 
--- an item is put behind all others
+-- an item is put after all others
 abbrev pub put : ℕ → Item → List Entry → List Entry
 put time item es = es ++ pending_entry time item ∷ []
 

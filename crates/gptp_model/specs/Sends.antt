@@ -33,7 +33,7 @@ sent_message path head (bodies.PdelayRespFollowUp stamp requester) =
 abbrev pub written : SystemState → Sending → List ℕ
 written s x = Written (sent_message (trace s) x.head x.body)
 
--- A frame is sent on a link in a direction with this fate: unless it is lost it goes behind those in flight, and is
+-- A frame is sent on a link in a direction with this fate: unless it is lost it goes after those in flight, and is
 -- pending.
 abbrev pub entered : ℕ → Direction → Channel → ℕ → List ℕ → Option ℕ → Net → Net
 entered place direction channel now octets None net = net

@@ -26,7 +26,7 @@ use Rattle.gptp_network.proofs.PassLemmas.{passes}
 
 -- ---- tests
 
--- a test that didn't fail, and those behind it
+-- a test that didn't fail, and those after it
 passed : (fails : Bool) (fault : NetworkFault) (rest : Option NetworkFault)
     → (if fails then Some fault else rest) ≡ None → (fails ≡ false) × (rest ≡ None)
 passed true fault rest is = absurd cc

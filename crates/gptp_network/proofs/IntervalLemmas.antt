@@ -14,7 +14,7 @@ use Rattle.gptp_network.specs.Values.{kind_of}
 use Rattle.gptp_network.specs.declared.fault.DocumentFault.{DocumentFault}
 use Rattle.gptp_network.specs.declared.fault.DocumentFault.TheVariants.{OutOfRange}
 
--- numbers, and behind them those of what is left, if it has any fault of none
+-- numbers, and after them those of what is left, if it has any fault of none
 abbrev pub behind : List ℤ → Result (List ℤ) DocumentFault → Result (List ℤ) DocumentFault
 behind zs (Ok more) = Ok (zs ++ more)
 behind zs (Err e) = Err e

@@ -167,7 +167,7 @@ abbrev OneClockEach : List SystemSpec → Type 0
 OneClockEach ms = (i j : ℕ) (l m : SystemSpec) → slice_get ms i ≡ Some l → slice_get ms j ≡ Some m
     → clock_of l.identity ≡ clock_of m.identity → i ≡ j
 
--- a system that lives has no clock of one behind it
+-- a system that lives has no clock of one after it
 other_clock : (m : SystemSpec) (ms : List SystemSpec) (events : List Timed) → OneClockEach (m ∷ ms) → (pair : ℕ × ℕ)
     → live_after events m ≡ Some pair
     → In (clock_of pair.0) (map (λ (s : System). s.clock) (live_systems ms events)) → ⊥

@@ -1,4 +1,4 @@
--- Events that are put behind those of a document (profile).
+-- Events that are put after those of a document (profile).
 use Rattle.std.specs.Prelude.{ℕ, if◌then◌else◌, nat_le, nat_lt, ◌∷◌, [], ◌++◌, length, take, Option, Some}
 use Rattle.std.specs.Option.{option_map}
 use Rattle.gptp_scenario.specs.Calm.{last_change}

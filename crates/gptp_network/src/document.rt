@@ -51,17 +51,17 @@ impl Model for Document {
 }
 
 impl Document {
-    /// Reads a document: TOML text with a `version`, which is 1 or 2, and the sections `[network]`, `[[system]]`, `[[link]]`
-    /// and `[[event]]` (profile). Their keys, with their ranges and defaults, are those that `specs/` lists. Unknown keys
-    /// are ignored, and in version 1 the announce intervals of a system's ports are such a key.
+    /// Reads a document: TOML text with a `version`, which is 1 or 2, and the sections `[network]`, `[[system]]`,
+    /// `[[link]]` and `[[event]]` (profile). Their keys, with their ranges and defaults, are those that `specs/` lists.
+    /// Unknown keys are ignored, and in version 1 the announce intervals of a system's ports are such a key.
     ///
     /// Refused by the first test that fails. `NotToml` is the text. Then come the sections in that order, in each its
     /// members in their order, in each of these its keys in their order, and in each key `MissingKey`, `WrongKind`,
     /// `OutOfRange`. A section of another kind is `WrongKind`, one with more members than its limit (512 systems, 2,048
-    /// links, 4,096 events) `TooMany` before they are read, and no system is `MissingKey`. After its keys `[network]` is
-    /// tested for `Timing`, a system for `Timing` and `DuplicateClock`, a link for `OutOfRange` where `min` is above `max`,
-    /// `SelfLink`, `NoSuchPort`, `PortTaken` and `DelayTooLong`, and an event for `EventOrder` and then as its kind asks.
-    /// `OutOfMemory` can come at any point.
+    /// links, 4,096 events) `TooMany` before they are read, and no system is `MissingKey`. After its keys `[network]`
+    /// is tested for `Timing`, a system for `Timing` and `DuplicateClock`, a link for `OutOfRange` where `min` is above
+    /// `max`, `SelfLink`, `NoSuchPort`, `PortTaken` and `DelayTooLong`, and an event for `EventOrder` and then as its
+    /// kind asks. `OutOfMemory` can come at any point.
     pub fn read(alloc: Global, text: &[u8]) -> Result<Self, DocumentFault>
         ensures document { IfOk result (Means text.now) }
         ensures refused { IfErr result (λ e. (e ≡ DocumentFault.OutOfMemory) ⊎ Fails text.now e) }
@@ -72,8 +72,8 @@ impl Document {
         }
     }
 
-    /// The document that a table describes, read as `read` reads that of a text. Where it is refused, also says where, and
-    /// what the test that fails saw.
+    /// The document that a table describes, read as `read` reads that of a text. Where it is refused, also says where,
+    /// and what the test that fails saw.
     #[tactic(auto, unfolding(crate::specs::ReadDocument::read_document))]
     pub fn of_table(alloc: Global, table: &Table) -> Result<Self, Refusal>
         ensures document { IfOk result (λ d. read_document (table_view table.now) ≡ Ok d) }
@@ -94,8 +94,8 @@ impl Document {
         &self.network
     }
 
-    /// The network as it stands at a time, in ns: the live systems, and the links that are up between two of them, after all
-    /// events with time up to it. Refused for want of memory alone.
+    /// The network as it stands at a time, in ns: the live systems, and the links that are up between two of them,
+    /// after all events with time up to it. Refused for want of memory alone.
     pub fn snapshot(&self, alloc: Global, at: u64) -> Result<Snapshot, AllocError>
         ensures { IfOk result (IsSnapshot self.now at) }
     {
@@ -128,9 +128,9 @@ impl Document {
         last_change(&self.events) + self.network.settling_span(&self.events)
     }
 
-    /// The events are in order, at most at 8 * 10^14, and each can be made in the network: what it names is there, and the
-    /// bounds that it sets can be those of a link: its greatest delay is at most the announce interval of each port. So a
-    /// world can be asked for each of them.
+    /// The events are in order, at most at 8 * 10^14, and each can be made in the network: what it names is there, and
+    /// the bounds that it sets can be those of a link: its greatest delay is at most the announce interval of each
+    /// port. So a world can be asked for each of them.
     pub fn well_formed(&self)
         ensures events { AreEvents self.now.network self.now.events }
         ensures allowed { AreAllowed self.now.events }
@@ -139,9 +139,9 @@ impl Document {
         self.network.well_formed();
     }
 
-    /// Puts an event behind the others. Refused by the first test that it fails, as if it were the last of the text: 4,096
-    /// events are there, it is later than 8 * 10^14, earlier than the last, or what its kind asks isn't so. `OutOfMemory` can
-    /// come behind them. A refusal changes nothing.
+    /// Puts an event after the others. Refused by the first test that it fails, as if it were the last of the text:
+    /// 4,096 events are there, it is later than 8 * 10^14, earlier than the last, or what its kind asks isn't so.
+    /// `OutOfMemory` can come after them. A refusal changes nothing.
     pub fn add(&mut self, at: u64, change: Change) -> Result<(), DocumentFault>
         requires { IsInRange change }
         ensures passed { OnOk result (adding_fault self.old at change ≡ None) }

@@ -217,7 +217,7 @@ fn change_fault(network: &Network, change: &Change) -> Option<NetworkFault>
     }
 }
 
-/// The first test that an event fails which is put behind others.
+/// The first test that an event fails which is put after others.
 pub(crate) fn adding_fault(
     network: &Network,
     events: &[Timed],
@@ -263,7 +263,7 @@ pub(crate) fn events_by(events: &[Timed], until: u64) -> &[Timed]
     &events[..count]
 }
 
-/// Puts an event behind the others.
+/// Puts an event after the others.
 #[tactic(auto, using(crate::proofs::EventLemmas::event_added))]
 pub(crate) fn push_event(
     events: &mut Vec<Timed>,
@@ -360,7 +360,7 @@ fn change_why(network: &Network, change: &Change, fault: NetworkFault) -> Why
     }
 }
 
-/// Puts an event behind the others, where it can be made.
+/// Puts an event after the others, where it can be made.
 fn put_event(events: &mut Vec<Timed>, network: &Network, event: Event) -> Result<(), Why>
     requires are_events { AreEvents network.now events.old.items }
     requires early { event.at ≤ 800000000000000 }

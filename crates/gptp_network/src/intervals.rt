@@ -177,8 +177,8 @@ fn read_array(ports: u8, values: &[Value]) -> Result<ArrayVec<i8, 16>, Why>
     }
 }
 
-/// What so many ports announce at, as logarithms to base 2 of seconds, in a document of this version; the default for each
-/// where the key is absent or unknown.
+/// What so many ports announce at, as logarithms to base 2 of seconds, in a document of this version; the default for
+/// each where the key is absent or unknown.
 #[tactic(auto, unfolding(crate::specs::ReadIntervals::read_intervals))]
 pub(crate) fn intervals(
     version: u64,

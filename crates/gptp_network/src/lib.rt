@@ -2,9 +2,9 @@
 //!
 //! A [`Document`] is read from such a text exactly where no test fails (memory aside), and is refused by the first test
 //! that does. It is the network and the events that the text means: `specs/` lists the keys of each section in their
-//! order, with their ranges and defaults. The table of the text is read once, and where it is refused, a [`Refusal`] says
-//! where, and what the test saw. A document tells whether the network is calm after its last event, and by when it has
-//! settled then, and gives the network as it stands at a time, as a [`Snapshot`].
+//! order, with their ranges and defaults. The table of the text is read once, and where it is refused, a [`Refusal`]
+//! says where, and what the test saw. A document tells whether the network is calm after its last event, and by when it
+//! has settled then, and gives the network as it stands at a time, as a [`Snapshot`].
 #![tactic(auto)]
 
 mod document;

@@ -146,7 +146,7 @@ fn link_why(network: &Network, link: &Link, fault: NetworkFault) -> Why
     }
 }
 
-/// Puts a link behind the others.
+/// Puts a link after the others.
 fn put_link(network: &mut Network, link: &Link) -> Result<(), Why>
     ensures network { OnOk result (put_link link.now network.old ≡ Ok network.new) }
     ensures refused { Stops (put_link link.now network.old) result }

@@ -105,7 +105,7 @@ impl Snapshot {
 
     /// How many systems a path over the live systems and the links between them has at most: two more than are joined
     /// to two different systems or more, and no more than there are. (The first and the last of a path may have one
-    /// neighbour; each other has the one before it and the one behind.) So a network whose paths are short settles
+    /// neighbour; each other has the one before it and the one after.) So a network whose paths are short settles
     /// sooner than its number of systems says. Takes no memory.
     pub fn path_bound(&self) -> usize
         ensures bound { result ≡ path_bound self.now }

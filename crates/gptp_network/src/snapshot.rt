@@ -31,8 +31,9 @@ pub(crate) struct LinkEnd {
     pub there: PortId,
 }
 
-/// The network of a document as it stands at a time: its live systems by rising clock, and the links that are up between two
-/// of them. It is seen as these two, as gptp_graph has them, and what holds of the snapshot of every network holds of it.
+/// The network of a document as it stands at a time: its live systems by rising clock, and the links that are up
+/// between two of them. It is seen as these two, as gptp_graph has them, and what holds of the snapshot of every
+/// network holds of it.
 #[derive(Drop)]
 pub struct Snapshot {
     systems: Vec<LiveSystem>,
@@ -125,8 +126,8 @@ impl Snapshot {
         end_among(&self.ends, port)
     }
 
-    /// Clocks rise, each system's identity holds its clock, and a link joins ports of two of the systems, at which no other
-    /// link is. There are 512 systems at most.
+    /// Clocks rise, each system's identity holds its clock, and a link joins ports of two of the systems, at which no
+    /// other link is. There are 512 systems at most.
     pub fn well_formed(&self)
         ensures network { IsWellFormed self.now }
         ensures rising { IsRising (clocks self.now) }

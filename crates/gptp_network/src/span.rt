@@ -30,8 +30,8 @@ impl Snapshot {
         network.settling_span_over(self.path_bound(), events)
     }
 
-    /// How long it takes at most where nothing lapses for want of Sync, whatever came before, in ns: by how many systems a
-    /// path has, and by the greatest delay of a link.
+    /// How long it takes at most where nothing lapses for want of Sync, whatever came before, in ns: by how many
+    /// systems a path has, and by the greatest delay of a link.
     pub fn settling_span_at_once(&self, network: &Network, events: &[Timed]) -> u64
         requires stands { StandsAfter network.now events.now self.now }
         requires allowed { AreAllowed events.now }

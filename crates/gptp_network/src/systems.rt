@@ -178,7 +178,7 @@ fn add_member(network: &mut Network, system: System) -> Result<(), NetworkFault>
     )
 }
 
-/// Puts a system behind the others.
+/// Puts a system after the others.
 fn put_system(network: &mut Network, system: System) -> Result<(), Why>
     ensures network { OnOk result (put_system system network.old ≡ Ok network.new) }
     ensures refused { Stops (put_system system network.old) result }

@@ -9,7 +9,7 @@ use gptp_scenario::{Network, Timed};
 use gptp_vector::{ClockId, Identity, PortId};
 use std::alloc::{AllocError, Global};
 
-/// Puts a system, which has this identity and so many ports, behind others.
+/// Puts a system, which has this identity and so many ports, after others.
 fn push_system(systems: &mut Vec<LiveSystem>, live: (Identity, u8)) -> Result<(), AllocError>
     ensures { OnOk result (systems.new.items ≡ systems.old.items ++ record { identity = live.0; ports = live.1 } ∷ []) }
 {
@@ -20,7 +20,7 @@ fn push_system(systems: &mut Vec<LiveSystem>, live: (Identity, u8)) -> Result<()
     Ok(())
 }
 
-/// Puts the system at a place behind those of the places before, where it lives after these events.
+/// Puts the system at a place after those of the places before, where it lives after these events.
 fn push_live(
     systems: &mut Vec<LiveSystem>,
     network: &Network,
@@ -74,7 +74,7 @@ fn has_clock(systems: &[LiveSystem], clock: ClockId) -> bool
     place_among(systems, clock).is_some()
 }
 
-/// Puts a link behind others, where both its ends are at systems, which stand by rising clock.
+/// Puts a link after others, where both its ends are at systems, which stand by rising clock.
 fn push_between(
     links: &mut Vec<UsedLink>,
     systems: &[LiveSystem],
@@ -90,7 +90,7 @@ fn push_between(
     Ok(())
 }
 
-/// Puts the link at a place behind those of the places before, where it is up after these events between two of the
+/// Puts the link at a place after those of the places before, where it is up after these events between two of the
 /// systems, which stand by rising clock.
 fn push_used(
     links: &mut Vec<UsedLink>,
@@ -127,7 +127,7 @@ pub(crate) fn links_between(
     Ok(links)
 }
 
-/// Puts an end of a link behind others.
+/// Puts an end of a link after others.
 fn push_end(ends: &mut Vec<LinkEnd>, here: PortId, there: PortId) -> Result<(), AllocError>
     ensures { OnOk result (ends.new.items ≡ ends.old.items ++ record { here = here; there = there } ∷ []) }
 {
@@ -135,7 +135,7 @@ fn push_end(ends: &mut Vec<LinkEnd>, here: PortId, there: PortId) -> Result<(), 
     Ok(())
 }
 
-/// Puts both ends of a link behind others.
+/// Puts both ends of a link after others.
 fn push_ends(ends: &mut Vec<LinkEnd>, link: &UsedLink) -> Result<(), AllocError>
     ensures { OnOk result (ends.new.items ≡ ends.old.items ++ both_ends link.now) }
 {

@@ -84,7 +84,7 @@ short_error = refl
 
 -- ---- an act
 
--- behind the next act it is the same pair
+-- after the next act it is the same pair
 pub goes_on : {F : Type 0} (answers : Bounds → ℕ → F → Option ℕ → F → Type 0) (time : ℕ) (timed : Timed)
     (fate fate_after : F) (w w' : WorldState) (done : Done) → IsPairSince time w → IsSound w → IsNextAct w timed
     → WasDone answers timed fate fate_after w w' done → IsPairSince time w'

@@ -135,8 +135,8 @@ fn comes_to_failure(world: &mut World<PcgFate>) -> Result<bool, Refused> {
     Ok(play_before(world, FAILS)? && follow(world, &FOLLOWED_BEFORE))
 }
 
-/// It goes on from the failure through the settling time, as what is due then belongs to it. Answers whether that leaves
-/// nothing that is due by then.
+/// It goes on from the failure through the settling time, as what is due then belongs to it. Answers whether that
+/// leaves nothing that is due by then.
 fn comes_to_settle(world: &mut World<PcgFate>) -> Result<bool, Refused> {
     fail(world)?;
     Ok(world.last_change() == FAILS && play_before(world, SETTLED + 1)?)

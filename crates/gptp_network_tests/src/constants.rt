@@ -28,13 +28,14 @@ const LINK: u64 = 1_800;
 /// from the sums as docs/PLANNING.md has them.
 const BOUNDS_OF_LINKS: [u128; 2] = [26_222_419, 52_444_891];
 
-/// From when on what holds, in a stretch between two changes. All is counted from the earlier one, or from the start, in
-/// announce intervals, of which the largest in the network counts.
+/// From when on what holds, in a stretch between two changes. All is counted from the earlier one, or from the start,
+/// in announce intervals, of which the largest in the network counts.
 struct Times {
     /// Ports are capable, where they can be: after L + 5 intervals, L being 9.
     capable: u64,
-    /// So many clocks at the end of a trace are clean: one, of those that arrive an interval later, and one more with each
-    /// turn of k + 1 intervals, k being 3; or the trace is clean as a whole. Where fewer live, it is so as a whole.
+    /// So many clocks at the end of a trace are clean: one, of those that arrive an interval later, and one more with
+    /// each turn of k + 1 intervals, k being 3; or the trace is clean as a whole. Where fewer live, it is so as a
+    /// whole.
     clean: [(usize, u64); 5],
     /// Everything has settled: after (k + 3) n + L + 5 intervals, where n systems live.
     settled: u64,
@@ -70,8 +71,8 @@ const ALIKE_AFTER: Times = Times {
     end: 80 * SECOND,
 };
 
-/// From the start on, where some ports announce each two seconds: then all takes twice as long, some longer than there is
-/// until the failure.
+/// From the start on, where some ports announce each two seconds: then all takes twice as long, some longer than there
+/// is until the failure.
 const MIXED_BEFORE: Times = Times {
     capable: 28 * SECOND,
     clean: [
@@ -220,7 +221,7 @@ fn is_led_on(live: &Live<'_>, path: &PathView<'_>, places: usize) -> bool {
     }
 }
 
-/// Whether it doesn't come again behind.
+/// Whether it doesn't come again after.
 fn is_new(path: &PathView<'_>, places: usize) -> bool {
     let member = from_end(path, places);
     for later in 1..places {
@@ -417,7 +418,8 @@ fn holds_before(world: &mut World<PcgFate>, times: &Times) -> Result<bool, Refus
     Ok(holds_through(world, &BEFORE, times)? && is_settled(world, &BEFORE))
 }
 
-/// Clock 1 fails, and it goes on to the end. Answers whether all held after each act, and what should settle had time to.
+/// Clock 1 fails, and it goes on to the end. Answers whether all held after each act, and what should settle had time
+/// to.
 fn holds_after(world: &mut World<PcgFate>, times: &Times) -> Result<bool, Refused>
     requires moment { times.now.end ≤ 1000000000000000 }
 {

@@ -148,8 +148,8 @@ fn second_follows<F: Fate + Drop>(world: &World<F>) -> Option<(Identity, u16, Op
     world.follows(ClockId::from(2))
 }
 
-/// What it follows once all has settled, whatever is drawn for frames: the first, one step away, by its one port. Refused
-/// for want of memory alone.
+/// What it follows once all has settled, whatever is drawn for frames: the first, one step away, by its one port.
+/// Refused for want of memory alone.
 pub fn follow_at_rest<F: Fate + Drop>(
     alloc: Global,
     fate: F,
@@ -277,8 +277,8 @@ fn second_announces<F: Fate + Drop>(world: &World<F>) -> Option<Trace>
     Some(system.trace())
 }
 
-/// It announces, once all has settled, that the time came from the first, over nothing between. Refused for want of memory
-/// alone.
+/// It announces, once all has settled, that the time came from the first, over nothing between. Refused for want of
+/// memory alone.
 pub fn announce_at_rest<F: Fate + Drop>(
     alloc: Global,
     fate: F,
@@ -377,8 +377,8 @@ fn second_offset<F: Fate + Drop>(world: &World<F>, done: &Done) -> Option<Scaled
     }
 }
 
-/// The next act is done. The offset that it leaves the second, where that used a Follow_Up: in units of 2^-16 ns, and no
-/// more than rounding, as both clocks show the same.
+/// The next act is done. The offset that it leaves the second, where that used a Follow_Up: in units of 2^-16 ns, and
+/// no more than rounding, as both clocks show the same.
 #[tactic(auto, using(crate::proofs::ExactLemmas::second_is_exact))]
 fn receive<F: Fate + Drop>(world: &mut World<F>) -> Result<Option<ScaledNs>, NetworkFault>
     requires { IsPairSince 27000000000 world.old.world_core }
@@ -399,7 +399,7 @@ fn receive<F: Fate + Drop>(world: &mut World<F>) -> Result<Option<ScaledNs>, Net
     }
 }
 
-/// The offset of the second by the first two acts behind 27.125 s: it hears a Sync, and then the Follow_Up. Refused for
+/// The offset of the second by the first two acts after 27.125 s: it hears a Sync, and then the Follow_Up. Refused for
 /// want of memory alone.
 pub fn exact_in_time<F: Fate + Drop>(
     alloc: Global,
@@ -435,8 +435,8 @@ fn second_hears(done: &Done) -> Option<PortId>
     }
 }
 
-/// The next act is done. The port of the Announce that the second hears by it: the first's, as all that reaches a port was
-/// sent by the system at the other end.
+/// The next act is done. The port of the Announce that the second hears by it: the first's, as all that reaches a port
+/// was sent by the system at the other end.
 fn hear<F: Fate + Drop>(world: &mut World<F>) -> Result<Option<PortId>, NetworkFault>
     requires { IsPairSince 15000000000 world.old.world_core }
     ensures since { OnOk result (IsPairSince 15000000000 world.new.world_core) }

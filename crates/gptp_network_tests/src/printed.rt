@@ -20,7 +20,7 @@ port 0000000000000002 2 master
 end
 ";
 
-/// Expects the line at a place behind what was there, and whether there is one.
+/// Expects the line at a place after what was there, and whether there is one.
 fn expect_line(
     rt: &impl Abort,
     alloc: Global,

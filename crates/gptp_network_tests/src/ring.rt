@@ -1,4 +1,5 @@
-//! A network of three systems in a ring, with a fourth before them that fails; and what is to come of it. Times are in ns.
+//! A network of three systems in a ring, with a fourth before them that fails; and what is to come of it. Times are in
+//! ns.
 
 use gptp_links::PcgFate;
 use gptp_network::Document;

@@ -1,5 +1,5 @@
-//! What two systems follow soon after they begin, as functions whose contracts follow from the law of a start. Times are
-//! in ns.
+//! What two systems follow soon after they begin, as functions whose contracts follow from the law of a start. Times
+//! are in ns.
 
 ghost use Rattle.std.specs.Prelude.{◌≡◌, IfOk, OnOk, Some};
 ghost use Rattle.gptp_network_tests.specs.Pair.{HasBegun, first_member};

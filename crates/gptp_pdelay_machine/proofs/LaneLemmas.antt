@@ -1,4 +1,4 @@
--- Lanes: frames that are added behind the others, and what is known of the first that isn't mute.
+-- Lanes: frames that are added after the others, and what is known of the first that isn't mute.
 use Rattle.std.proofs.Common.{◌≡◌, ◌++◌, ◌⊎◌, ℕ, List, [], ◌∷◌, refl, sym, subst, inl, inr}
 use Rattle.gptp_lists.specs.Members.{In}
 use Rattle.gptp_lists.proofs.SystemSpecLemmas.{In-parts, In-right}
@@ -8,7 +8,7 @@ use Rattle.gptp_pdelay_machine.specs.Lanes.{LaneFrame, AreMute, FirstIs}
 pub no_frames_mute : {X : Type 0} (says : List ℕ → X → Type 0) → AreMute says []
 no_frames_mute says f h = absurd h
 
--- mute frames behind mute frames
+-- mute frames after mute frames
 pub mute_append : {X : Type 0} (says : List ℕ → X → Type 0) (fs news : List LaneFrame) → AreMute says fs
     → AreMute says news → AreMute says (fs ++ news)
 mute_append says fs news old new f h = elim (In-parts f fs news h) [ inl a ↦ old f a | inr b ↦ new f b ]
@@ -18,7 +18,7 @@ pub mute_rest : {X : Type 0} (says : List ℕ → X → Type 0) (f : LaneFrame) 
     → AreMute says fs
 mute_rest says f fs mute g h = mute g (inr h)
 
--- more frames behind, which Q allows
+-- more frames after, which Q allows
 pub first_append : {X : Type 0} (says : List ℕ → X → Type 0) (P : LaneFrame → Type 0) (Q : List LaneFrame → Type 0)
     (fs news : List LaneFrame) → ((gs : List LaneFrame) → Q gs → Q (gs ++ news)) → FirstIs says P Q fs
     → FirstIs says P Q (fs ++ news)
@@ -35,7 +35,7 @@ first_behind says P Q [] news mute h = h
 first_behind says P Q (f ∷ fs) news mute h =
     inr (mute f (inl refl), first_behind says P Q fs news (mute_rest says f fs mute) h)
 
--- more is known of the first frame, and of those behind it, which are frames of the lane
+-- more is known of the first frame, and of those after it, which are frames of the lane
 pub first_map : {X : Type 0} (says : List ℕ → X → Type 0) (P P' : LaneFrame → Type 0) (Q Q' : List LaneFrame → Type 0)
     (fs : List LaneFrame) → ((f : LaneFrame) → In f fs → P f → P' f)
     → ((gs : List LaneFrame) → ((f : LaneFrame) → In f gs → In f fs) → Q gs → Q' gs) → FirstIs says P Q fs

@@ -1,4 +1,4 @@
--- A port isn't capable before its second exchange can be full, and what its neighbour tells from then on comes behind
+-- A port isn't capable before its second exchange can be full, and what its neighbour tells from then on comes after
 -- the follow-up that makes it capable.
 use Rattle.std.proofs.Common.{◌≡◌, ◌≢◌, ◌≤◌, ◌<◌, ◌+◌, ◌++◌, ◌⊎◌, ℕ, ℤ, true, false, ◌&&◌, List, [], ◌∷◌, refl, sym, ap, subst, ◌∙◌, inl, inr, arith}
 use Rattle.std.specs.Bool.{⊤}
@@ -202,7 +202,7 @@ module _ (k : Setting) (least : ℕ) (asks : List ℕ → Request → Type 0) (r
       mute (Answers reply) said = later.0 reply said
       mute Tells said = untold f (inl refl) said
 
-  -- more frames behind
+  -- more frames after
   follow_up_more : (sequence : ℕ) (back news : List LaneFrame) → FollowUpFirst k tells replies sequence back
       → FollowUpFirst k tells replies sequence (back ++ news)
   follow_up_more sequence back news =

@@ -16,7 +16,7 @@ use Rattle.gptp_pdelay_machine.proofs.LaneLemmas.{first_is_there}
 
 module _ (k : Setting) (least : ℕ) (asks : List ℕ → Request → Type 0) (replies : List ℕ → Reply → Type 0)
     (a : Asker) where
-  -- frames that are no replies, behind the follow-up
+  -- frames that are no replies, after the follow-up
   follow_up_append : (sequence came : ℕ) (back news : List LaneFrame) → AreMute replies news
       → FollowUpInFlight k least asks replies sequence came back
       → FollowUpInFlight k least asks replies sequence came (back ++ news)

@@ -13,11 +13,11 @@ abbrev pub SendsRequest : (List ℕ → Request → Type 0) → Request → List
 SendsRequest asks request news =
     FirstIs asks (λ (f : LaneFrame). asks f.octets request) (AreMute asks) news
 
--- of the frames one is this reply, Q holds of those behind it, and those before it are no replies
+-- of the frames one is this reply, Q holds of those after it, and those before it are no replies
 abbrev pub SendsReply : (List ℕ → Reply → Type 0) → Reply → (List LaneFrame → Type 0) → List LaneFrame → Type 0
 SendsReply replies reply Q news = FirstIs replies (λ (f : LaneFrame). replies f.octets reply) Q news
 
--- of the frames two are replies: the response to the request that waited, with its t2, and behind it the follow-up,
+-- of the frames two are replies: the response to the request that waited, with its t2, and after it the follow-up,
 -- which has the local time as t3
 abbrev pub SendsAnswer : Setting → (List ℕ → Reply → Type 0) → Waiting → ℕ → List LaneFrame → Type 0
 SendsAnswer k replies waiting time news = SendsReply replies (Response k.answering waiting.request waiting.t2)

@@ -13,7 +13,7 @@ abbrev pub exchange_span : Setting → ℕ
 exchange_span k = k.most + k.turnaround + k.most
 
 module _ (asks : List ℕ → Request → Type 0) (replies : List ℕ → Reply → Type 0) where
-  -- the invariant holds just behind the first request
+  -- the invariant holds just after the first request
   abbrev pub FirstBegins : Type 0
   FirstBegins = (k : Setting) (least sequence first : ℕ) (m : Meter)
       → 0 < k.period → HasJustAsked k least asks replies sequence first m.pair

@@ -16,7 +16,7 @@ IsMute {X} says f = (x : X) → says f.octets x → ⊥
 abbrev pub AreMute : {X : Type 0} → (List ℕ → X → Type 0) → List LaneFrame → Type 0
 AreMute {X} says fs = (f : LaneFrame) → In f fs → IsMute says f
 
--- first mute frames, then one of which P holds, and of the frames behind it Q holds
+-- first mute frames, then one of which P holds, and of the frames after it Q holds
 abbrev pub FirstIs : {X : Type 0} → (List ℕ → X → Type 0) → (LaneFrame → Type 0) → (List LaneFrame → Type 0)
     → List LaneFrame
     → Type 0

@@ -52,8 +52,8 @@ module _ (k : Setting) (tells : List ℕ → Type 0) (replies : List ℕ → Rep
   ResponseFirst fs = FirstIs (either_order tells replies) AnswersIt FollowUpFirst fs
 
 module _ (k : Setting) (tells : List ℕ → Type 0) (replies : List ℕ → Reply → Type 0) (first : ℕ) (a : Asker) where
-  -- What tells comes behind the follow-up that makes the port capable: the port is capable; or nothing that tells is in
-  -- flight to it; or what is in flight is behind the answer to the second request, or to a later one.
+  -- What tells comes after the follow-up that makes the port capable: the port is capable; or nothing that tells is in
+  -- flight to it; or what is in flight is after the answer to the second request, or to a later one.
   pub data IsOrdered (back : List LaneFrame) : Type 0 where
     IsCapable : first + k.period ≤ a.asked → a.capable ≡ true → IsOrdered back
     Untold : AreUntold tells back → IsOrdered back

@@ -6,7 +6,7 @@ ghost use Rattle.gptp_pdelay_machine.specs.FirstLaws.{ExchangeIsFull, CapableBy,
 
 use crate::coding::Coding;
 
-/// Just behind the first request the invariant of what is measured since then holds, whatever was measured before.
+/// Just after the first request the invariant of what is measured since then holds, whatever was measured before.
 pub fn first_begins<C: Coding>()
     ensures { FirstBegins C.asks C.replies }
 {}

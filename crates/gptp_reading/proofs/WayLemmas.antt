@@ -125,7 +125,7 @@ module _ (w : Way) (phase : ℕ → ℕ) (i : ℕ) (told : Relayed) (sent came :
         measured = measured.delay_within;
       }
 
-  -- the sum of the rates behind it is right
+  -- the sum of the rates after it is right
   rates_add : AreWithin (total_below (suc i) (measured_error_at w)) (told.rate +ℤ rate)
       (sum_below (suc i) (steady_rate_at w))
   rates_add =

@@ -54,7 +54,7 @@ pub record IsBestsTime (w : WorldState) (number time : ℕ) (shown : ℤ) : Type
 abbrev pub held_rates_error_at : Way → ℕ → ℕ
 held_rates_error_at w i = min (rates_error_at w i) 2587332284
 
--- The error of what is read behind the link at a place, so long after the Follow_Up: the time error there; and what the
+-- The error of what is read after the link at a place, so long after the Follow_Up: the time error there; and what the
 -- error of the rate makes of that span, and of the link's jitter, by which the Follow_Up may come after its Sync.
 abbrev pub reading_error_at : Way → ℕ → ℕ → ℕ
 reading_error_at w i later =

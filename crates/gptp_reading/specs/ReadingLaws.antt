@@ -18,7 +18,7 @@ use Rattle.gptp_sync_machine.specs.RightLaws.{IsOnWay}
 use Rattle.gptp_reading.specs.Reading.{held_rates_error_at, read_after}
 
 -- What is read so long after a Sync came over a link is the root's time then: within the link's part of the time error,
--- the error of the rate from above times the greatest delay, and the error of the rate behind the link times that span,
+-- the error of the rate from above times the greatest delay, and the error of the rate after the link times that span,
 -- the last two in parts of 33550000 ns to a unit. The span may be of any length.
 abbrev pub ReadingIsWithin : Type 0
 ReadingIsWithin = (least most turnaround root up own above behind delay span count passed : ℕ) (s : SyncInfo)

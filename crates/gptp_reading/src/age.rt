@@ -11,8 +11,8 @@ pub fn worlds_are_recent()
 {}
 
 /// In every run of a document that has a syncReceiptTimeout time comes, once its network has settled and has waited for
-/// a Sync: each near system that has a Slave port, and a root that may be grandmaster, used a Follow_Up no longer ago than
-/// that wait.
+/// a Sync: each near system that has a Slave port, and a root that may be grandmaster, used a Follow_Up no longer ago
+/// than that wait.
 pub fn runs_hear_in_time<F: Fate>()
     ensures { RunsHearInTime F.answers }
 {}

@@ -28,8 +28,8 @@ pub fn runs_read_exactly<F: Fate>()
     ensures { RunsReadExactly F.answers }
 {}
 
-/// Where a run ends in a calm world, what a system reads by a Follow_Up that it used no longer ago than a span is exact by
-/// that span and by the network as it is then.
+/// Where a run ends in a calm world, what a system reads by a Follow_Up that it used no longer ago than a span is exact
+/// by that span and by the network as it is then.
 pub fn runs_read_in_time<F: Fate>()
     ensures { RunsReadInTime F.answers }
 {}

@@ -58,7 +58,7 @@ tells_all (t ∷ ts) o o_after lines (between, first, rest, (same, one), others,
   is,
 )
 
--- the lines of some acts and of more behind them, apart
+-- the lines of some acts and of more after them, apart
 record Parted (asked : Bool) (ts more : List Transition) (lines : List (List ℕ)) : Type 0 where
   front : List (List ℕ)
   back : List (List ℕ)
@@ -88,7 +88,7 @@ shows_frames true (t ∷ ts) lines (first, rest, one, others, is) =
 shows_frames false (t ∷ ts) lines (first, rest, one, others, is) =
     is ∙ ap (λ zs. zs ++ rest) one ∙ shows_frames false ts rest others
 
--- the lines of what was told, and then of what was told behind it
+-- the lines of what was told, and then of what was told after it
 shows-append : (told more : List Told) (xs ys : List (List ℕ)) → ShowsFrames told xs → ShowsFrames more ys
     → ShowsFrames (told ++ more) (xs ++ ys)
 shows-append [] more xs ys none rest = subst (λ zs. ShowsFrames more (zs ++ ys)) (sym none) rest

@@ -7,18 +7,18 @@ use Rattle.std.proofs.lemmas.List.FromFn.{map-range_with_len_more}
 use Rattle.gptp_words.specs.Lines.{text_of}
 use Rattle.gptp_world.proofs.FollowLemmas.{text_append}
 
--- a line behind a text is the last of its lines
+-- a line after a text is the last of its lines
 one_line : (lines : List (List ℕ)) (line : List ℕ) → text_of lines ++ (line ++ 10 ∷ []) ≡ text_of (lines ++ line ∷ [])
 one_line lines line = rw (flat_map-append, append-nil) refl
 
--- what is written behind what was written
+-- what is written after what was written
 pub written_more : (xs ys : List (List ℕ)) (before middle after : List ℕ) → middle ≡ before ++ text_of xs
     → after ≡ middle ++ text_of ys → after ≡ before ++ text_of (xs ++ ys)
 written_more xs ys before middle after first second =
     second ∙ ap (λ t. t ++ text_of ys) first ∙ append_assoc before (text_of xs) (text_of ys)
     ∙ ap (λ t. before ++ t) (sym (text_append xs ys))
 
--- a line behind nothing is a text
+-- a line after nothing is a text
 pub line_alone : (line before text : List ℕ) → before ≡ [] → text ≡ before ++ (line ++ 10 ∷ [])
     → text ≡ text_of (line ∷ [])
 line_alone line before text none is =

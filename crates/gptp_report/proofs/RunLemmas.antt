@@ -66,7 +66,7 @@ module _ {F O : Type 0} (answers : Bounds → ℕ → F → Option ℕ → F →
 
 module _ {F O : Type 0} (answers : Bounds → ℕ → F → Option ℕ → F → Type 0)
     (tells : Told → WorldState → O → O → List (List ℕ) → Type 0) where
-  -- it is made behind what is due by its time
+  -- it is made after what is due by its time
   pub makes_seen : (event : Timed) (done : Done) (fate drawn fate_after : F) (w between w' : WorldState)
       (o mid o_after : O) (First Second Both : List ℕ → Type 0)
       → ((one two : List ℕ) → First one → Second two → Both (one ++ two))
@@ -126,7 +126,7 @@ module _ {F O : Type 0} (answers : Bounds → ℕ → F → Option ℕ → F →
       rw (is, none) (subst (λ f. Courses answers until (events_by until left) rest f fate_after between w') same
       (subst (λ x. Courses answers until (events_by until left) rest next fate_after x w') stays courses))
 
-  -- so it does where it breaks off behind it
+  -- so it does where it breaks off after it
   next_breaks : (due : Bool) (until : ℕ) (event : Timed) (left : List Timed) (first rest : List Transition)
       (drawn next : F) (between after : WorldState) → nat_le event.at until ≡ due
       → MakesIf answers due event first drawn next between after

@@ -28,7 +28,7 @@ abbrev pub MakesIf : {F : Type 0} → (Bounds → ℕ → F → Option ℕ → F
 MakesIf answers true event ts fate fate_after w w' = Makes answers event ts fate fate_after w w'
 MakesIf answers false event ts fate fate_after w w' = (ts ≡ []) × (fate_after ≡ fate) × (w' ≡ w)
 
--- it broke off before an event, or behind it
+-- it broke off before an event, or after it
 abbrev pub BreaksAbout : {F : Type 0} → (Bounds → ℕ → F → Option ℕ → F → Type 0) → Timed → List Transition → F
     → WorldState → Type 0
 BreaksAbout {F} answers event ts fate w =

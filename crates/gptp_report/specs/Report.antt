@@ -28,7 +28,7 @@ abbrev pub IsChangeLine : DocumentState → List ℕ → Type 0
 IsChangeLine d line =
     (IsCalm d.network d.events × (line ≡ calm_line d)) ⊎ ((IsCalm d.network d.events → ⊥) × (line ≡ restless_line d))
 
--- the lines of the system with a clock stand behind what was written
+-- the lines of the system with a clock come after what was written
 abbrev pub WritesSystem : ℕ → WorldState → List ℕ → List ℕ → Type 0
 WritesSystem name w before after = AtSystem name w (λ place station. after ≡ before ++ text_of (system_lines station))
 

@@ -73,7 +73,7 @@ pub record BreaksOff {F : Type 0} (answers : Bounds → ℕ → F → Option ℕ
   pub after : WorldState
   pub advances : Advances answers until told fate fate_after w after
 
--- Some of the changes are made, one after another, and behind them it breaks off. This is told until then.
+-- Some of the changes are made, one after another, and after them it breaks off. This is told until then.
 abbrev pub GoesSoFar : {F : Type 0} → (Bounds → ℕ → F → Option ℕ → F → Type 0) → ℕ → List Timed → List Told → F
     → WorldState → Type 0
 GoesSoFar answers until [] told fate w = BreaksOff answers until told fate w

@@ -1,4 +1,4 @@
--- What happens in a world with events, act by act: each act with the world before it and behind it.
+-- What happens in a world with events, act by act: each act with the world before it and after it.
 use Rattle.std.specs.Prelude.{◌≡◌, ◌⊎◌, ℕ, List, [], ◌∷◌, ◌++◌, Option}
 use Rattle.gptp_links.specs.declared.bounds.Bounds.{Bounds}
 use Rattle.gptp_network.specs.Document.{DocumentState}
@@ -46,7 +46,7 @@ pub record Breaks {F : Type 0} (answers : Bounds → ℕ → F → Option ℕ �
   pub after : WorldState
   pub passes : Passes answers until ts fate fate_after w after
 
--- Some of the events are made, one after another, and behind them it breaks off.
+-- Some of the events are made, one after another, and after them it breaks off.
 abbrev pub CoursesSoFar : {F : Type 0} → (Bounds → ℕ → F → Option ℕ → F → Type 0) → ℕ → List Timed → List Transition
     → F → WorldState → Type 0
 CoursesSoFar answers until [] ts fate w = Breaks answers until ts fate w

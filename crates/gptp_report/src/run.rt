@@ -76,7 +76,7 @@ fn make_if_due<F: Fate + Drop, O: Observer, K: Sink>(
 
 /// The world goes on up to a time, at most 10^15 ns, with the events up to then, before an observer, which sees each
 /// act as it was done: each that is due by the time of an event before that, the event, and what is due by the end
-/// behind the last.
+/// after the last.
 ///
 /// Errors: [`Cut::Write`] exactly where a write failed, after which nothing more happens; [`Cut::Memory`] where the
 /// observer says so, where a time lies before that of the world, or where an act was refused, which is meant to be for

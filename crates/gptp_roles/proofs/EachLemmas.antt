@@ -9,7 +9,7 @@ pub length-each_from : {X : Type 0} (f : ℕ → Held → X) (port : ℕ) (hs : 
 length-each_from f port [] = refl
 length-each_from f port (h ∷ hs) = let ih = length-each_from f (port + 1) hs in omega (arith, ih)
 
--- the ports behind others are numbered behind them
+-- the ports after others are numbered after them
 pub each_from-append : {X : Type 0} (f : ℕ → Held → X) (port : ℕ) (gs hs : List Held)
     → each_from f port (gs ++ hs) ≡ each_from f port gs ++ each_from f (port + length gs) hs
 each_from-append f port [] hs = let here : port ≡ port + 0 = omega arith in ap (λ (p : ℕ). each_from f p hs) here
@@ -38,7 +38,7 @@ each_port-push {X} f hs i d xs x within so_far next =
 length-front : (f : ℕ → Held → Held) (hs : List Held) (i : ℕ) → i < length hs → length (each_port f (take i hs)) ≡ i
 length-front f hs i within = omega (arith, length-each_from f 1 (take i hs), length-take i hs)
 
--- behind the ports that are done each port holds what it held
+-- after the ports that are done each port holds what it held
 pub get_or-half_done : (f : ℕ → Held → Held) (hs : List Held) (i : ℕ) (d : Held) → i < length hs
     → get_or (each_port f (take i hs) ++ drop i hs) i d ≡ get_or hs i d
 get_or-half_done f hs i d within =

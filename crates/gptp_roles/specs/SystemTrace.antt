@@ -18,7 +18,7 @@ abbrev pub slave_path : List Held → Option ℕ → List ℕ
 slave_path held None = []
 slave_path held (Some port) = path_received (received_at held port)
 
--- the path of the Slave port with the own clock behind it
+-- the path of the Slave port with the own clock after it
 abbrev pub system_trace : ℕ → List Held → Option ℕ → List ℕ
 system_trace clock held slave = slave_path held slave ++ clock ∷ []
 

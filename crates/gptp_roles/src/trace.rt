@@ -8,7 +8,7 @@ use crate::selection::Selected;
 use gptp_receipt::Held;
 use gptp_vector::{ClockId, Trace};
 
-/// The trace of the system with this clock: the path of the Slave port with the own clock behind it, or
+/// The trace of the system with this clock: the path of the Slave port with the own clock after it, or
 /// the own clock alone (IEEE 802.1AS-2020, 10.3.9.23). The Slave port, if any, has to be one that
 /// received, with a path of at most 255 clocks.
 pub fn trace_of(clock: ClockId, held: &[Held], selected: &Selected) -> Trace

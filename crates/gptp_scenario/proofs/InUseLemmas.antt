@@ -15,7 +15,7 @@ use Rattle.gptp_scenario.proofs.AfterLemmas.{after_fits}
 module _ (systems : List SystemSpec) (events : List Timed) where
   -- ---- the greatest delay
 
-  -- it is the same whether a link comes before or behind
+  -- it is the same whether a link comes before or after
   pub delay_moves : (w : LinkSpec) (rest so_far : ℕ)
       → max rest (with_delay systems events w so_far) ≡ max (with_delay systems events w rest) so_far
   delay_moves w rest so_far = by (is_used systems events (link_after events w))

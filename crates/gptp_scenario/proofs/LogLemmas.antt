@@ -50,9 +50,9 @@ In-flat_map f y (z ∷ xs) zero x there member =
 In-flat_map f y (z ∷ xs) (suc i) x there member =
     In-right y (f z) (flat_map f xs) (In-flat_map f y xs i x there member)
 
--- ---- one list behind another
+-- ---- one list after another
 
--- what f makes of a list behind another, it makes of it behind what it made of that
+-- what f makes of a list after another, it makes of it after what it made of that
 pub reduce-append : {X : Type 0} (f : X → X → X) (xs ys : List X)
     → reduce f (xs ++ ys) ≡ reduce f (cons_option (reduce f xs) ys)
 reduce-append f [] ys = refl

@@ -44,7 +44,7 @@ wire number a b least greatest loss up = record {
   up = up;
 }
 
--- one more system or link, behind the others
+-- one more system or link, after the others
 abbrev pub with_system : SystemSpec → NetworkState → NetworkState
 with_system m n = record { params = n.params; systems = n.systems ++ m ∷ []; links = n.links }
 

@@ -372,7 +372,7 @@ impl Network {
         }
     }
 
-    /// Puts a system behind the others.
+    /// Puts a system after the others.
     fn push_system(&mut self, member: SystemSpec) -> Result<(), NetworkFault>
         requires { CanAddSystem self.old member }
         ensures added { OnOk result (self.new ≡ with_system member self.old) }
@@ -387,7 +387,7 @@ impl Network {
         Ok(())
     }
 
-    /// Puts a link behind the others.
+    /// Puts a link after the others.
     fn push_link(&mut self, wire: LinkSpec) -> Result<(), NetworkFault>
         requires { CanAddLink self.old wire }
         ensures added { OnOk result (self.new ≡ with_link wire self.old) }

@@ -140,10 +140,11 @@ impl Network {
         settling_span_with(&self.params(), self.largest(), paths, paths.systems as u64)
     }
 
-    /// How long the network takes at most to settle after these events, whatever came before, in ns, where nothing lapses
-    /// for want of Sync and no path over its live systems and the links in use has more than so many systems. With k, L
-    /// and the largest announce interval I as for [`Network::settling_span_over`], and M the greatest delay of a link in
-    /// use: the greater of (L + 5)·I and of 2·I and k·I + M for each system; then I, and M for each further system.
+    /// How long the network takes at most to settle after these events, whatever came before, in ns, where nothing
+    /// lapses for want of Sync and no path over its live systems and the links in use has more than so many systems.
+    /// With k, L and the largest announce interval I as for [`Network::settling_span_over`], and M the greatest delay
+    /// of a link in use: the greater of (L + 5)·I and of 2·I and k·I + M for each system; then I, and M for each
+    /// further system.
     pub fn settling_span_at_once(&self, systems: usize, events: &[Timed]) -> u64
         requires few { systems ≤ 512 }
         requires allowed { AreAllowed events.now }

@@ -105,7 +105,7 @@ module _ (f : ℕ → Option ℕ) (unique : (j k n : ℕ) → f j ≡ Some n →
         ] in
         test key l.place (sym (at_key l.place h.number h.at same))
 
-    -- one stands behind another exactly where that stands before it
+    -- one comes after another exactly where that stands before it
     pub adjacent : (after before : Option Key) → Least f (other + 1) after → Greatest f number before
         → leads after key ≡ leads before m
     adjacent after before h i = both_tests _ _ (behind after before h i) (ahead after before h i)
@@ -148,7 +148,7 @@ module _ (f : ℕ → Option ℕ) (unique : (j k n : ℕ) → f j ≡ Some n →
         let greatest = h.greatest key number at (small key number at) in let low = i l.place h.number h.at in
         test key l.place (sym (at_key l.place h.number h.at (omega arith)))
 
-    -- one is the last exactly where nothing stands behind it
+    -- one is the last exactly where nothing comes after it
     pub adjacent-last : (last after : Option Key) → Greatest f high last → Least f (number + 1) after
         → leads last key ≡ leads_nowhere after
     adjacent-last last after h i = both_tests _ _ (last-none last after h i) (none-last last after h i)

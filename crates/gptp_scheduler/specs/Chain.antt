@@ -80,7 +80,7 @@ module _ {T : Type 0} where
   abbrev pub with_place : ℕ → Option Key → Option Key → Node T → Node T
   with_place slot before after e = record e { slot = slot; before = before; after = after }
 
-  -- an entry, with `after` as the link behind it where `before` leads to it
+  -- an entry, with `after` as the link after it where `before` leads to it
   abbrev pub entry_joined_after : Option Key → Option Key → ℕ → Option (Node T) → Option (Node T)
   entry_joined_after before after k e = if leads before k then option_map (with_after after) e else e
 
@@ -143,7 +143,7 @@ module _ {T : Type 0} where
     LeastIn slot None = (k : ℕ) (p : Placed T) → placed_at k ≡ Some p → p.slot ≢ slot
     LeastIn slot (Some key) = IsLeastIn slot key.place
 
-    -- The first of a chain has the least number of its slot and the last the greatest. The link behind an
+    -- The first of a chain has the least number of its slot and the last the greatest. The link after an
     -- entry leads to the least number above its own in its slot, and the one before it to the greatest below.
     pub record EntriesAreChained (ends : List Ends) : Type 0 where
       pub few : length ends ≤ 2049

@@ -9,7 +9,7 @@ use Rattle.gptp_scheduler.specs.declared.key.Node.{Node}
 use Rattle.gptp_scheduler.specs.declared.slots.Ends.{Ends}
 
 module _ {T : Type 0} where
-  -- the link behind an entry
+  -- the link after an entry
   abbrev pub link_behind : Option (Node T) → Option Key
   link_behind None = None
   link_behind (Some e) = e.after

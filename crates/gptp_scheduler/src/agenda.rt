@@ -19,10 +19,11 @@ use std::marker::Model;
 /// rising from 0. The least entry is the first of least time.
 ///
 /// It is seen as the number of the next entry, the list of the entries in order of putting, how many more can be put
-/// without being refused, and its base, in ns: the greatest time that [`take_due`](Self::take_due) has taken, at first 0.
+/// without being refused, and its base, in ns: the greatest time that [`take_due`](Self::take_due) has taken, at first
+/// 0.
 ///
-/// It is a timing wheel: eight levels of 256 slots, one octet of the time each, hold the entries as chains. Where an entry
-/// stands depends on its time and on the base alone, and is told by [`place`](crate::place).
+/// It is a timing wheel: eight levels of 256 slots, one octet of the time each, hold the entries as chains. Where an
+/// entry stands depends on its time and on the base alone, and is told by [`place`](crate::place).
 #[derive(Drop)]
 pub struct Agenda<T> {
     // The greatest time taken so far, at first 0.
@@ -167,8 +168,8 @@ impl<T: Drop> Agenda<T> {
         }
     }
 
-    /// Takes the least entry out, where it is due: its time, its number and its item. The base is then the greater of its
-    /// time and the base before. Where nothing is due nothing changes.
+    /// Takes the least entry out, where it is due: its time, its number and its item. The base is then the greater of
+    /// its time and the base before. Where nothing is due nothing changes.
     pub fn take_due(&mut self, now: u64) -> Option<(u64, u64, T)>
         ensures first { IfSome result (λ due. IsFirst self.old.entries due.0 due.1) }
         ensures due { IfSome result (λ due. due.0 ≤ now) }

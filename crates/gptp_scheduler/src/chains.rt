@@ -9,7 +9,7 @@ use crate::key::{Key, Node, OUT};
 use crate::slots::{Ends, Slots};
 use slab::Slab;
 
-/// Makes the link behind an entry lead elsewhere.
+/// Makes the link after an entry lead elsewhere.
 fn set_after<T>(nodes: &mut Slab<Node<T>>, key: Key, after: Option<Key>)
     ensures updates { Updates nodes.old nodes.new key.place (option_map (with_after after) (get nodes.old key.place)) }
     ensures room { SameEntryRoom nodes.old nodes.new }
@@ -49,7 +49,7 @@ fn set_place<T>(
     }
 }
 
-/// Makes the link behind an entry lead elsewhere, if there is such an entry.
+/// Makes the link after an entry lead elsewhere, if there is such an entry.
 fn join_after<T>(nodes: &mut Slab<Node<T>>, before: Option<Key>, after: Option<Key>)
     ensures joined { Relinks (get nodes.old) (get nodes.new) (entry_joined_after before after) }
     ensures room { SameEntryRoom nodes.old nodes.new }

@@ -9,7 +9,7 @@ pub(crate) struct Key {
 /// The slot of an entry that stands in no chain.
 pub(crate) const OUT: usize = 4096;
 
-/// An entry with its slot, and the entries before and behind it in the chain of that slot.
+/// An entry with its slot, and the entries before and after it in the chain of that slot.
 #[derive(Drop)]
 pub(crate) struct Node<T> {
     pub(crate) number: u64,

@@ -130,7 +130,7 @@ pub(crate) fn earlier_of<T>(nodes: &Slab<Node<T>>, one: Option<Key>, other: Key)
     }
 }
 
-/// The key of the entry behind an entry in its chain.
+/// The key of the entry after an entry in its chain.
 fn behind<T>(nodes: &Slab<Node<T>>, key: Key) -> Option<Key>
     ensures { result ≡ link_behind (get nodes.now key.place) }
 {

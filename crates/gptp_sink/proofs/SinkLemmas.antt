@@ -16,7 +16,7 @@ pub appends_none : (known : Option (List ℕ)) → Appends known known []
 appends_none None = tt
 appends_none (Some octets) = sym (append-nil octets)
 
--- two fronts written one behind the other are one front
+-- two fronts written one after the other are one front
 pub appends_both : (old between new : Option (List ℕ)) (first second : List ℕ) → Appends old between first
     → Appends between new second
     → Appends old new (first ++ second)
@@ -34,7 +34,7 @@ none_of known text = record { count = 0; most = omega arith; written = appends_n
 pub all_of : (old new : Option (List ℕ)) (text : List ℕ) → Appends old new text → AppendsSome old new text
 all_of old new text whole = record { count = length text; most = omega arith; written = rw take-length whole }
 
--- some of a text behind a whole one is some of both
+-- some of a text after a whole one is some of both
 pub some_behind : (old between new : Option (List ℕ)) (first second : List ℕ) → Appends old between first
     → AppendsSome between new second → AppendsSome old new (first ++ second)
 some_behind old between new first second whole some = record {

@@ -1,4 +1,4 @@
--- What frames in flight bring: mute ones, a Sync with its Follow_Up, and those behind others.
+-- What frames in flight bring: mute ones, a Sync with its Follow_Up, and those after others.
 use Rattle.std.proofs.Common.{◌≡◌, ◌⊎◌, ◌≤◌, ◌<◌, ◌+◌, ◌++◌, ℕ, List, [], ◌∷◌, Option, Some, None, refl, inl, inr, arith}
 use Rattle.std.proofs.lemmas.Bool.{cases_lt}
 use Rattle.gptp_lists.specs.Members.{In}
@@ -34,7 +34,7 @@ module _ (k : FollowerSetting) (says : List ℕ → Message → Type 0) where
       none : {a : Arrival} → None ≡ Some a → ⊥
       none e = absurd cc
 
-  -- more frames behind, which bring what is right whichever Sync is kept then
+  -- more frames after, which bring what is right whichever Sync is kept then
   pub flows_append : (kept : Option Arrival) (fs news : List LaneFrame)
       → ((kept : Option Arrival) → FramesFlow k says kept news) → FramesFlow k says kept fs
       → FramesFlow k says kept (fs ++ news)
@@ -47,7 +47,7 @@ module _ (k : FollowerSetting) (says : List ℕ → Message → Type 0) where
   flows_append kept (f ∷ fs) news more (inr (inr (inr (sequence, told, said, is, behind)))) =
       inr (inr (inr (sequence, told, said, is, flows_append None fs news more behind)))
 
-  -- a Follow_Up that was sent now behind its Sync
+  -- a Follow_Up that was sent now after its Sync
   module _ (time sequence : ℕ) (told : Relayed)
       (right : from k ≤ time + (parent_link k).most → FollowUpIsRight k.way k.phase k.place told time) where
     -- the first that isn't mute is the Follow_Up
@@ -78,7 +78,7 @@ module _ (k : FollowerSetting) (says : List ℕ → Message → Type 0) where
           flows_mute None fs mute,
         )))
 
-    -- the first that isn't mute is the Sync, and behind it the Follow_Up
+    -- the first that isn't mute is the Sync, and after it the Follow_Up
     pub sync_flows : (kept : Option Arrival) (fs : List LaneFrame) → AreSentInTime k time fs
         → SendsTime says k.parent sequence told fs → FramesFlow k says kept fs
     sync_flows kept [] in_time first = absurd first

@@ -129,7 +129,7 @@ over_link w phase i told sent came rate delay on measured =
       measured = measured.delay_within;
     }
 
--- the sum of the rates behind it is right
+-- the sum of the rates after it is right
 rates_add : (w : Way) (phase : ℕ → ℕ) (i : ℕ) (told : Relayed) (sent : ℕ) (rate delay : ℤ) →
     FollowUpIsRight w phase i told sent → IsMeasuredAt w i rate delay →
     AreWithin (total_below (suc i) (measured_error_at w)) (told.rate +ℤ rate) (sum_below (suc i) (steady_rate_at w))
@@ -141,7 +141,7 @@ rates_add w phase i told sent rate delay right measured =
       high = omega (arith, ints, before.high, here.high);
     }
 
--- and of the rate behind it
+-- and of the rate after it
 rate_behind : (w : Way) (phase : ℕ → ℕ) (i : ℕ) (told : Relayed) (sent came : ℕ) (rate delay : ℤ) →
     IsOnWay w phase i told sent came → IsMeasuredAt w i rate delay → FitsRate (told.rate +ℤ rate) →
     IsRateBehind (clock_at w 0) (clock_at w (suc i)) (rates_error_at w i) (told.rate +ℤ rate)
@@ -314,7 +314,7 @@ sent_same w l (suc i) h =
     ∙ ap (λ (k : WayLink). 33550000 * time_error_at w (suc i) + rates_error_at w i * (w.residence + (k.most - k.least)))
     (link_same w l i h)
 
--- what passes on the link at a place and at the bridge behind it
+-- what passes on the link at a place and at the bridge after it
 abbrev passing_at : Way → ℕ → ℕ
 passing_at w j = 131072 * ((link_at w j).most + w.turnaround + w.residence + jitter_at w j + 1)
 

@@ -12,7 +12,7 @@ use Rattle.gptp_sync_machine.specs.RightLaws.{CorrectionsAreSmall}
 use Rattle.gptp_error_laws.proofs.HopLemmas.{link_time_of, scaled_time}
 use Rattle.gptp_error_laws.proofs.WayLemmas.{natural}
 
--- link time and passage of a hop aren't negative, nor is the passage at the rate behind it; all are small
+-- link time and passage of a hop aren't negative, nor is the passage at the rate after it; all are small
 pub record IsSmall (span : ℕ) (h : Hop) (rate : ℤ) : Type 0 where
   pub time : ℕ
   pub time_is : link_time h.delay h.neighbour ≡ pos time

@@ -55,7 +55,7 @@ pub record FollowerHears (k : FollowerSetting) (says : List ℕ → Message → 
       → Knows k told ingress s s' ⊎ (s'.known ≡ None)
   pub anyway : KnowsStill s s' ⊎ KnowsAnew k s s'
 
--- of the frames two carry time: a Sync of the parent, and behind it the Follow_Up of the same number, which tells this
+-- of the frames two carry time: a Sync of the parent, and after it the Follow_Up of the same number, which tells this
 abbrev pub SendsTime : (List ℕ → Message → Type 0) → PortIdentity → ℕ → Relayed → List LaneFrame → Type 0
 SendsTime says parent sequence told news =
     FirstIs says (λ (f : LaneFrame). says f.octets (Sync parent sequence))

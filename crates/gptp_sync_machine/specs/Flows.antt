@@ -15,7 +15,7 @@ abbrev pub arrival : ℕ → ℕ → Arrival
 arrival sequence came = record { sequence = sequence; came = came }
 
 -- A Sync that was sent at one time came at another, and its Follow_Up then: both took between the least and the
--- greatest delay of the link, and the Follow_Up came behind the Sync.
+-- greatest delay of the link, and the Follow_Up came after the Sync.
 pub record AreCarried (k : FollowerSetting) (sent came heard : ℕ) : Type 0 where
   pub long : sent + (parent_link k).least ≤ came
   pub behind : came ≤ heard
@@ -33,7 +33,7 @@ pub record TellsRight (k : FollowerSetting) (kept : Option Arrival) (sequence du
 module _ (k : FollowerSetting) (says : List ℕ → Message → Type 0) where
   -- The frames in turn, with the Sync that is kept as each is reached, if one is known to be: a frame that is due
   -- before what comes is right may be anything; a frame may be mute; it may be a Sync of the parent, which is kept from
-  -- then on; it may be a Follow_Up of the parent, which tells what is right. Behind a Follow_Up no Sync is known to be
+  -- then on; it may be a Follow_Up of the parent, which tells what is right. After a Follow_Up no Sync is known to be
   -- kept: where a number doesn't fit, it is forgotten.
   abbrev pub FramesFlow : Option Arrival → List LaneFrame → Type 0
   FramesFlow kept [] = ⊤

@@ -21,7 +21,7 @@ pub record IsInformed (k : FollowerSetting) (info : SyncInfo) (due : ℕ) : Type
   pub ingress : info.ingress ≡ own_clock k came
   pub right : FollowUpIsRight k.way k.phase k.place (follow_up_told info) sent
 
--- it is so where it is to be sent on a residence or more behind the time from which on what comes is right
+-- it is so where it is to be sent on a residence or more after the time from which on what comes is right
 abbrev pub IsKnownRight : FollowerSetting → Follower → Type 0
 IsKnownRight k s = (info : SyncInfo) (due : ℕ) → s.known ≡ Some info → s.relay ≡ Some due
     → from k + k.way.residence ≤ due → IsInformed k info due

@@ -30,7 +30,7 @@ sent_error_at w (suc i) =
     33550000 * time_error_at w (suc i) + rates_error_at w i * (w.residence + jitter_at w i)
 
 -- The correction that is sent over the link at a place is at most this, in units of 2^-16 ns: a nanosecond from the
--- root, and for each link and the bridge behind it twice the time that passes there at most, with a turnaround.
+-- root, and for each link and the bridge after it twice the time that passes there at most, with a turnaround.
 abbrev pub most_correction_at : Way → ℕ → ℕ
 most_correction_at w i = 65536
     + total_below i (λ j. 131072 * ((link_at w j).most + w.turnaround + w.residence + jitter_at w j + 1))

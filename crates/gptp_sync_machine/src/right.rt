@@ -14,7 +14,7 @@ pub fn ways_are_modest()
     ensures { WaysAreModest }
 {}
 
-/// Corrections grow by at most twice what may pass on a link and at the bridge behind it.
+/// Corrections grow by at most twice what may pass on a link and at the bridge after it.
 pub fn corrections_are_small()
     ensures { CorrectionsAreSmall }
 {}

@@ -73,7 +73,7 @@ change-same f (suc j) xs same = change_at-same f j xs same
 
 -- ---- something made of each member
 
--- for a port's number that is n behind the first
+-- for a port's number that is n after the first
 pub each_from-get : {X : Type 0} (f : ℕ → Held → X) (n : ℕ) (hs : List Held) (i : ℕ) (y : X)
     → slice_get (each_from f n hs) i ≡ Some y
     → (h : Held) × (slice_get hs i ≡ Some h) × (y ≡ f (n + i) h)

@@ -1,4 +1,4 @@
--- What stands behind an input that is timely: the port is there, and the timer has a moment.
+-- What comes after an input that is timely: the port is there, and the timer has a moment.
 use Rattle.std.proofs.Common.{◌≡◌, ◌≤◌, ◌<◌, ℕ, zero, suc, List, [], ◌∷◌, length, Option, Some, None, slice_get, refl, arith}
 use Rattle.std.specs.Option.{option_and_then}
 use Rattle.std.proofs.lemmas.Option.{none-some, slice_get_within}

@@ -70,7 +70,7 @@ abbrev pub sends_up_to : ℕ → List Sending → ℕ
 sends_up_to p [] = 0
 sends_up_to p (x ∷ xs) = if nat_le x.port p then 1 + sends_up_to p xs else 0
 
--- a send behind those of its own port and the lower ones
+-- a send after those of its own port and the lower ones
 abbrev pub with_send : Sending → List Sending → List Sending
 with_send x xs = take (sends_up_to x.port xs) xs ++ x ∷ drop (sends_up_to x.port xs) xs
 

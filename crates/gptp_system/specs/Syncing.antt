@@ -31,7 +31,7 @@ use Rattle.gptp_system.specs.Selection.{Becomes}
 
 -- ---- sending
 
--- the Sync of a port, and the Follow_Up of the same number behind it, which says this (11.4.3 and 11.4.4)
+-- the Sync of a port, and the Follow_Up of the same number after it, which says this (11.4.3 and 11.4.4)
 abbrev pub sync_of : PortId → ℤ → Port → Sending
 sync_of own log_interval q = record {
   port = own.port;

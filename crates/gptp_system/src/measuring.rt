@@ -213,7 +213,7 @@ impl State {
         }
     }
 
-    /// A port asks its neighbour, and again one interval later (IEEE 802.1AS-2020, 11.2.19). Its request goes behind
+    /// A port asks its neighbour, and again one interval later (IEEE 802.1AS-2020, 11.2.19). Its request goes after
     /// what this port and the lower ones send.
     fn send_request(&mut self, port: u8, now: u64, outbox: &mut Outbox)
         requires ready { IsReady (state_of self.old) }

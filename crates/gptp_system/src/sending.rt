@@ -11,18 +11,18 @@ use gptp_messages::{AnnounceBody, Head};
 use gptp_scaled::{Rate, Stamp};
 use gptp_vector::PortId;
 
-/// A message that a port sends: its header, and what stands behind it.
+/// A message that a port sends: its header, and what comes after it.
 #[derive(Clone, Copy, Debug, PartialEq, Eq, Default)]
 pub struct Sending {
     /// The number of the port.
     pub port: u8,
     /// The common header.
     pub head: Head,
-    /// The type of the message and the fields behind the header.
+    /// The type of the message and the fields after the header.
     pub body: Body,
 }
 
-/// The fields of a message behind its header. The path of an Announce is the trace of the system as the call leaves it.
+/// The fields of a message after its header. The path of an Announce is the trace of the system as the call leaves it.
 #[derive(Clone, Copy, Debug, PartialEq, Eq, Default)]
 pub enum Body {
     /// An Announce without its path.
@@ -59,7 +59,7 @@ pub enum Body {
 /// Pdelay_Resp directly before its Pdelay_Resp_Follow_Up, and a Pdelay_Req last.
 pub type Outbox = ArrayVec<Sending, 64>;
 
-/// Puts one more send behind the others. (Its parts are named since the borrow checker finds the type of a body only
+/// Puts one more send after the others. (Its parts are named since the borrow checker finds the type of a body only
 /// where a function names one.)
 pub(crate) fn push(outbox: &mut Outbox, sending: Sending)
     requires { array_vec_len outbox.old < 64 }
@@ -76,7 +76,7 @@ fn sends_up_to(port: u8, sends: &[Sending]) -> usize
     sends.iter().take_while(|one| one.port <= port).count()
 }
 
-/// Puts one more send behind those of its own port and the lower ones.
+/// Puts one more send after those of its own port and the lower ones.
 pub(crate) fn insert(outbox: &mut Outbox, sending: Sending)
     requires { array_vec_len outbox.old < 64 }
     ensures { outbox.new.items ≡ with_send sending outbox.old.items }

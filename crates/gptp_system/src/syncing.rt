@@ -351,8 +351,8 @@ impl State {
         }
     }
 
-    /// In a network that has a syncReceiptTimeout the time is known in any case, by a sum of rates held at its limits. A
-    /// Relay timer that runs keeps its time and sends this on then, and the Lapse timer begins anew.
+    /// In a network that has a syncReceiptTimeout the time is known in any case, by a sum of rates held at its limits.
+    /// A Relay timer that runs keeps its time and sends this on then, and the Lapse timer begins anew.
     fn refresh(&mut self, info: SyncInfo, delay: ScaledNs, rate: Rate, now: u64) -> Answer
         requires ready { IsReady (state_of self.old) }
         requires moment { IsMoment now }

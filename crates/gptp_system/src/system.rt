@@ -158,7 +158,7 @@ impl System {
         self.state.offset
     }
 
-    /// The path trace that the system announces: the path of its Slave port with the own clock behind it, or the own
+    /// The path trace that the system announces: the path of its Slave port with the own clock after it, or the own
     /// clock alone (IEEE 802.1AS-2020, 10.3.9.23).
     pub fn trace(&self) -> Trace
         ensures { result ≡ trace self.now }

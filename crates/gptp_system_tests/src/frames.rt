@@ -22,7 +22,7 @@ pub fn spoiled(
     Ok(frame)
 }
 
-/// The front of a message with these octets behind it, and a messageLength that counts them in.
+/// The front of a message with these octets after it, and a messageLength that counts them in.
 pub fn lengthened(
     rt: &impl Abort,
     alloc: Global,

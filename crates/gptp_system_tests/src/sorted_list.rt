@@ -23,7 +23,7 @@ impl SortedList {
         self.next
     }
 
-    /// Puts an entry behind all that are due no later.
+    /// Puts an entry after all that are due no later.
     pub fn put(&mut self, time: u64, item: u64) -> Result<u64, AllocError> {
         let number = self.next;
         let place = self.entries.partition_point(|one| one.0 <= time);

@@ -77,7 +77,7 @@ fn a_follow_up_is_read_and_written(rt: HostRuntime) -> Result<(), Fail> {
     Ok(())
 }
 
-/// An information TLV's octets behind the lengthField, but for the last.
+/// An information TLV's octets after the lengthField, but for the last.
 const INFORMATION: &str = "0080c2000001010203040000000000000000000000000000000000";
 
 /// The Follow_Up with those octets in its TLVs, begun and ended so, between others.
@@ -94,7 +94,7 @@ fn with_information(
 
 #[test]
 fn the_first_information_tlv_counts(rt: HostRuntime) -> Result<(), Fail> {
-    // the TLVs before that of the Follow_Up, and those behind it
+    // the TLVs before that of the Follow_Up, and those after it
     let cases = [
         ("no other TLV", "", ""),
         ("a TLV of another type", "00090003aabbcc", ""),

@@ -1,4 +1,5 @@
-//! What a system makes of frames, timers and changes, and what two or three of them make of each other. Times are in ns.
+//! What a system makes of frames, timers and changes, and what two or three of them make of each other. Times are in
+//! ns.
 
 use crate::bench::Step::{Down, Expire, Hear, Priority, Up};
 use crate::bench::{

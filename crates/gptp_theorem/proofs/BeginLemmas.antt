@@ -57,7 +57,7 @@ starts_becomes place w draws w' k =
 
 -- ---- all systems
 
--- what stands behind others becomes another
+-- what comes after others becomes another
 set_behind : {X : Type 0} (front : List X) (x y : X) (rest : List X)
     → slice_set (front ++ x ∷ rest) (length front) y ≡ (front ++ y ∷ []) ++ rest
 set_behind [] x y rest = refl
@@ -76,7 +76,7 @@ joined_behind : {X : Type 0} (front : List X) (y : X) (rest : List X) → (front
 joined_behind [] y rest = refl
 joined_behind (z ∷ front) y rest = ap (λ more. z ∷ more) (joined_behind front y rest)
 
--- those behind the ones in front start, one after another
+-- those after the ones in front start, one after another
 pub record AllAwake (front rest : List Shape) (w w' : WorldState) : Type 0 where
   pub systems : map shape w'.stations ≡ front ++ map awake rest
   pub links : KeepLinks w.net.channels w'.net.channels

@@ -6,13 +6,13 @@ ghost use Rattle.gptp_theorem.specs.HeadlineLaws.{WorldsSettle, WorldsSettleAtOn
 
 use gptp_links::Fate;
 
-/// Every world that `gptp_world` can be brought to, where it is calm, is settled once (k+3)m + L + 5 announce intervals,
-/// and what a syncReceiptTimeout adds, have passed since its last change, where no path of its snapshot has more than m
-/// systems: its near systems follow their component's best by fewest steps, slave ports form a tree to it, and what is
-/// stated of its systems is accepted, and nothing else is. Without a syncReceiptTimeout it is so sooner: each system of a
-/// path costs k intervals and the greatest delay, and nothing more. So it is with m the number of its live systems, and with the
-/// number that is read off the links: 2 and those that have two neighbours. That its systems have the parameters of one
-/// network is so of every world.
+/// Every world that `gptp_world` can be brought to, where it is calm, is settled once (k+3)m + L + 5 announce
+/// intervals, and what a syncReceiptTimeout adds, have passed since its last change, where no path of its snapshot has
+/// more than m systems: its near systems follow their component's best by fewest steps, slave ports form a tree to it,
+/// and what is stated of its systems is accepted, and nothing else is. Without a syncReceiptTimeout it is so sooner:
+/// each system of a path costs k intervals and the greatest delay, and nothing more. So it is with m the number of its
+/// live systems, and with the number that is read off the links: 2 and those that have two neighbours. That its systems
+/// have the parameters of one network is so of every world.
 pub fn worlds_settle()
     ensures theorem { WorldsSettle }
     ensures at_once { WorldsSettleAtOnce }
@@ -21,8 +21,8 @@ pub fn worlds_settle()
     ensures parameters { WorldsAreOfANetwork }
 {}
 
-/// Once a Sync has had the time to come down a way from when such a world is settled, each Follow_Up that the near system
-/// at its end uses leaves an offset within the time error of the way of its clock less that of the best.
+/// Once a Sync has had the time to come down a way from when such a world is settled, each Follow_Up that the near
+/// system at its end uses leaves an offset within the time error of the way of its clock less that of the best.
 pub fn worlds_are_exact<F: Fate>()
     ensures { WorldsAreExact F.answers }
 {}

@@ -40,8 +40,8 @@ pub fn calm_stands()
     ensures set { StandsSet }
 {}
 
-/// A world that goes on by itself, as by `advance`, stays calm: it has been calm then for each span that it had been calm
-/// for before.
+/// A world that goes on by itself, as by `advance`, stays calm: it has been calm then for each span that it had been
+/// calm for before.
 pub fn calm_is_kept<F: Fate>()
     ensures { CalmIsKept F.answers }
 {}

@@ -3,7 +3,7 @@
 //! Promises on whole runs speak of a network and a list of events; the laws of settling speak of the state of a world.
 //! This crate joins the two (`specs/Reached.antt`): the world has the systems and the links that the network has after
 //! those events. So it begins, every delivery and every expiry leaves it so, and a change leads to the events with that
-//! change behind them.
+//! change after them.
 //!
 //! So the snapshot of the world is that of the network, but for the order of its systems (`specs/StandingLaws.antt`),
 //! of which nothing depends that a network settles at (`specs/AlikeLaws.antt`); and it is as calm as the network is.

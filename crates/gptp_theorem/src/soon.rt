@@ -5,23 +5,23 @@ ghost use Rattle.gptp_theorem.specs.Soon.{GainsSettle, LinksUpSettle, StartsSett
 
 use gptp_links::Fate;
 
-/// A network that starts, and in which nothing is changed, is settled one peer delay interval, one exchange and 1 ns, one
-/// announce interval, and the greatest delay for each system of a path but one after time 0, whatever is drawn for its
-/// frames; or where something may lapse for want of Sync, a step of distance for each but one.
+/// A network that starts, and in which nothing is changed, is settled one peer delay interval, one exchange and 1 ns,
+/// one announce interval, and the greatest delay for each system of a path but one after time 0, whatever is drawn for
+/// its frames; or where something may lapse for want of Sync, a step of distance for each but one.
 pub fn starts_settle<F: Fate>()
     ensures { StartsSettle F.answers }
 {}
 
-/// So is one in which a link comes up, counted from then, where all that it holds is sound and it has been left alone for
-/// L + 5 announce intervals. And so is one in which anything else is gained at any time, counted from when ports are
-/// capable by what every world keeps.
+/// So is one in which a link comes up, counted from then, where all that it holds is sound and it has been left alone
+/// for L + 5 announce intervals. And so is one in which anything else is gained at any time, counted from when ports
+/// are capable by what every world keeps.
 pub fn gains_settle<F: Fate>()
     ensures link_up { LinksUpSettle F.answers }
     ensures gain { GainsSettle F.answers }
 {}
 
-/// All that a world holds is sound as a network begins, while it goes on by itself, and through every gain; and whatever
-/// came before it is so again at rest, where all systems live.
+/// All that a world holds is sound as a network begins, while it goes on by itself, and through every gain; and
+/// whatever came before it is so again at rest, where all systems live.
 pub fn worlds_stay_sound<F: Fate>()
     ensures start { StartsAreSound F.answers }
     ensures course { SoundGoesOn F.answers }

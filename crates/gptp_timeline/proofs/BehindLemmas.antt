@@ -1,4 +1,4 @@
--- Acts behind a time that change nothing of what is shown.
+-- Acts after a time that change nothing of what is shown.
 use Rattle.std.proofs.Common.{◌≡◌, ◌⊎◌, ◌≤◌, ℕ, Bool, true, false, not, List, [], ◌∷◌, ◌++◌, if◌then◌else◌, Option, Some, None, IfSome, inl, inr, refl, sym, ap, ◌∙◌}
 use Rattle.std.specs.List.{AllByRecursion}
 use Rattle.std.specs.Option.{option_or}
@@ -8,7 +8,7 @@ use Rattle.gptp_timeline.specs.Stretch.{at_of, last_at, leaves_another}
 use Rattle.gptp_timeline.specs.declared.shown.Shown.{Shown}
 use Rattle.gptp_timeline.proofs.MeasuredLemmas.{any_none}
 
--- nothing that is shown is another behind an act
+-- nothing that is shown is another after an act
 pub record ShowsTheSame (t : Transition) : Type 0 where
   pub choice : (name : ℕ) → same_choice (shown name t.before) (shown name t.after) ≡ true
   pub roles : (name : ℕ) → same_roles (shown name t.before) (shown name t.after) ≡ true
@@ -27,7 +27,7 @@ pub all_both : (P : Transition → Type 0) (ts us : List Transition) → AllByRe
 all_both P [] us first second = second
 all_both P (t ∷ ts) us first second = (first.0, all_both P ts us first.1 second)
 
--- the last act that leaves some system another isn't behind it
+-- the last act that leaves some system another isn't after it
 last_within : (test : Transition → Bool) (time : ℕ) (ts : List Transition)
     → AllByRecursion (λ t. (at_of t ≤ time) ⊎ (test t ≡ false)) ts → IfSome (last_at test ts) (λ last. last ≤ time)
 last_within test time [] all = tt

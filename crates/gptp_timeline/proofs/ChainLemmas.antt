@@ -1,4 +1,4 @@
--- The acts of a stretch, each with the systems before it and behind it.
+-- The acts of a stretch, each with the systems before it and after it.
 use Rattle.std.proofs.Common.{◌≡◌, ℕ, List, [], ◌∷◌, ◌++◌, Option, refl, sym, ap, subst, inl, inr}
 use Rattle.gptp_model.specs.declared.station.Station.{Station}
 use Rattle.gptp_model.specs.Acts.{at, Acts}

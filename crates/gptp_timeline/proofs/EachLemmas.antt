@@ -11,7 +11,7 @@ use Rattle.gptp_timeline.specs.declared.watched.ActView.{ActView}
 use Rattle.gptp_timeline.specs.declared.watched.Watched.{Watched}
 use Rattle.gptp_timeline.proofs.LineLemmas.{written_more, WrittenSoFar}
 
--- what stands behind others
+-- what comes after others
 pub at_seam : {X : Type 0} (front : List X) (x : X) (back : List X)
     → slice_get (front ++ x ∷ back) (length front) ≡ Some x
 at_seam [] x back = refl
@@ -31,7 +31,7 @@ module _ (look : ActView) (w : WorldState) where
   measured_each [] m = m
   measured_each (x ∷ xs) m = measured_each xs (measures_after look x (shown x.clock w) m)
 
-  -- behind those that were looked at, all that are left are
+  -- after those that were looked at, all that are left are
   pub each_looked : (front back : List Watched) (o : WatchState) → o.systems ≡ front ++ back
       → see_each look w (range_with_len (length front) (length back)) o
       ≡ record o { systems = front ++ map behind back; measures = measured_each back o.measures }

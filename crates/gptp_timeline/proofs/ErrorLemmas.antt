@@ -81,7 +81,7 @@ module _ (name : ℕ) (from : Option ℕ) (t : Transition) where
       ap amount_in (alone best false (error_in t)
       (ap (λ r. counts_from from (at_of t) && r) is ∙ both_false (counts_from from (at_of t))) refl)
 
-  -- behind one act more
+  -- after one act more
   pub errors_more : (ts : List Transition)
       → error_from name from (ts ++ t ∷ []) ≡ errors_next from t (λ n. error_from n from ts) name
   errors_more ts =

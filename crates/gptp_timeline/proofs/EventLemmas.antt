@@ -138,7 +138,7 @@ first_of : (xs : List Timed) (time : ℕ) → first_time xs ≡ Some time → Ha
 first_of [] time is = absurd cc
 first_of (x ∷ xs) time is = record { first = x; rest = xs; are = refl; at_is = same_Some x.at time is }
 
--- when a stretch ends behind which others come, and where none do
+-- when a stretch ends after which others come, and where none do
 pub ends_before : (until : ℕ) (xs : List Timed) (time : ℕ) → first_time xs ≡ Some time → end_before until xs ≡ time
 ends_before until [] time is = absurd cc
 ends_before until (x ∷ xs) time is = same_Some x.at time is
@@ -183,7 +183,7 @@ fewer_later (x ∷ xs) time is =
 
 -- ---- what lets stretches pass
 
--- The events that are left are in order, none behind the end, and the world can be asked for each.
+-- The events that are left are in order, none after the end, and the world can be asked for each.
 pub record MayPass (until from : ℕ) (left : List Timed) (w : WorldState) : Type 0 where
   pub order : AreInOrder left
   pub due : Each (λ (e : Timed). nat_le e.at until ≡ true) left
@@ -202,7 +202,7 @@ may_begin until events w order allowed prompt =
       prompt = filter_each (λ (e : Timed). DelaysFitIntervals w e.act) test events prompt;
     }
 
--- behind a stretch with its events
+-- after a stretch with its events
 pub may_next : (until from to : ℕ) (left : List Timed) (w w' : WorldState) → MayPass until from left w → Stays w w'
     → first_time (later_than from left) ≡ Some to → MayPass until to (later_than from left) w'
 may_next until from to left w w' may stays is =

@@ -7,24 +7,24 @@ use Rattle.gptp_words.specs.Lines.{text_of}
 pub line_text : (line : List ℕ) → line ++ 10 ∷ [] ≡ text_of (line ∷ [])
 line_text line = sym (append-nil (line ++ 10 ∷ []))
 
--- lines, and behind them others
+-- lines, and after them others
 pub lines_on : (before mid after : List ℕ) (xs ys : List (List ℕ)) → mid ≡ before ++ text_of xs
     → after ≡ mid ++ text_of ys → after ≡ before ++ text_of (xs ++ ys)
 lines_on before mid after xs ys first second =
     second ∙ ap (λ t. t ++ text_of ys) first ∙ append_assoc before (text_of xs) (text_of ys)
     ∙ ap (λ t. before ++ t) (sym (flat_map-append (λ (line : List ℕ). line ++ 10 ∷ []) xs ys))
 
--- a line, and behind it others
+-- a line, and after it others
 pub line_on : (before mid after line : List ℕ) (ys : List (List ℕ)) → mid ≡ before ++ (line ++ 10 ∷ [])
     → after ≡ mid ++ text_of ys → after ≡ before ++ text_of (line ∷ ys)
 line_on before mid after line ys first second =
     lines_on before mid after (line ∷ []) ys (first ∙ ap (λ t. before ++ t) (line_text line)) second
 
--- words, and behind them others
+-- words, and after them others
 pub words_on : (before mid after xs ys : List ℕ) → mid ≡ before ++ xs → after ≡ mid ++ ys → after ≡ before ++ (xs ++ ys)
 words_on before mid after xs ys first second = second ∙ ap (λ t. t ++ ys) first ∙ append_assoc before xs ys
 
--- Some of all lines stand behind a text; those that are left make them all.
+-- Some of all lines come after a text; those that are left make them all.
 pub record WrittenSoFar (all rest : List (List ℕ)) (before text : List ℕ) : Type 0 where
   pub lines : List (List ℕ)
   pub whole : all ≡ lines ++ rest

@@ -5,7 +5,7 @@ use Rattle.std.specs.List.{AllByRecursion}
 use Rattle.gptp_timeline.specs.Measures.{better, greatest_from}
 use Rattle.gptp_timeline.specs.declared.measures.Greatest.{Greatest}
 
--- of some and of others behind them
+-- of some and of others after them
 pub greatest_both : (best : Option Greatest) (xs ys : List Greatest)
     → greatest_from best (xs ++ ys) ≡ greatest_from (greatest_from best xs) ys
 greatest_both best [] ys = refl

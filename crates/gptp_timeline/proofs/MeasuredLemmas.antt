@@ -22,7 +22,7 @@ last_before : (passes : Bool) (at : ℕ) (last other : Option ℕ)
 last_before true at last other = refl
 last_before false at last other = refl
 
--- behind one act more
+-- after one act more
 pub last_more : (test : Transition → Bool) (ts : List Transition) (t : Transition)
     → last_at test (ts ++ t ∷ []) ≡ last_if (not (test t)) (at_of t) (last_at test ts)
 last_more test [] t = last_alone (test t) (at_of t)
@@ -84,7 +84,7 @@ better_one f (n ∷ ns) (suc place) name best there none =
     rw (none 0 n refl (λ e. absurd (omega arith)))
     (better_one f ns place name best there (λ i m at apart. none (suc i) m at (λ e. apart (omega arith))))
 
--- ---- waits and errors behind one act more
+-- ---- waits and errors after one act more
 
 pub ended_more : (names : List ℕ) (since : ℕ → Option ℕ) (ts us : List Transition)
     → ended names since (ts ++ us) ≡ ended names since ts ++ ended names (waits ts since) us

@@ -59,7 +59,7 @@ same_named names w w' same named = record {
   each = λ place station there. named.each place station (ap (λ xs. slice_get xs place) (sym same) ∙ there);
 }
 
--- behind an act
+-- after an act
 pub acts_named : (names : List ℕ) (act : Act) (w : WorldState) (draws : List Draw) (done : Done) (w' : WorldState)
     → Acts act w draws done w' → AreNamed names w → AreNamed names w'
 acts_named names act w draws done w' acts named =

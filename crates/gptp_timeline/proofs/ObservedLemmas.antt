@@ -197,7 +197,7 @@ module _ (options : TimelineOptions) (names : List ℕ) (since : ℕ → Option 
       others = observes.others;
     }
 
-    -- behind one more
+    -- after one more
     act_step : (ts : List Transition) (t : Transition) (o : WatchState)
         → Observes options names since from ts t.before o → IsDone t
         → Observes options names since from (ts ++ t ∷ []) t.after
@@ -224,7 +224,7 @@ module _ (options : TimelineOptions) (names : List ℕ) (since : ℕ → Option 
           stepped.1,
         )
 
-    -- behind several
+    -- after several
     chained : (us ts : List Transition) (w w' : WorldState) (before after : List Station) (o o_after : WatchState)
         (lines : List (List ℕ)) → before ≡ w.stations → Chain us before after → w'.stations ≡ after
         → Tells tells_changes us o o_after lines → Observes options names since from ts w o

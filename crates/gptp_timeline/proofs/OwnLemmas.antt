@@ -1,4 +1,4 @@
--- What an observer keeps behind a delivery or an expiry at one system.
+-- What an observer keeps after a delivery or an expiry at one system.
 use Rattle.std.proofs.Common.{◌≡◌, ℕ, Bool, true, false, not, List, [], ◌∷◌, ◌++◌, Option, Some, None, option_map, slice_get, slice_set, refl, sym, ap, subst, ◌∙◌}
 use Rattle.gptp_graph.specs.Order.{IsRising}
 use Rattle.gptp_world.specs.Transitions.{Transition}

@@ -145,7 +145,7 @@ module _ {F : Type 0} (answers : Bounds → ℕ → F → Option ℕ → F → T
     pub are : some_lines
         ≡ all_lines options names none_waits passages ++ flat_map (act_lines options names) acts
 
-  -- one stretch more behind which another comes
+  -- one stretch more after which another comes
   module _ (from to : ℕ) (left : List Timed) (drawn next : F) (between : WorldState) (kept : Kept)
       (since : ℕ → Option ℕ) (lines : List (List ℕ)) (gone : Gone from left drawn between kept since lines)
       (p : Passage) (passage : IsPassage answers exact d until from left drawn next between p)

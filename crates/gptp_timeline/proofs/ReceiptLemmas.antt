@@ -1,4 +1,4 @@
--- What an observer keeps behind a receipt of time.
+-- What an observer keeps after a receipt of time.
 use Rattle.std.proofs.Common.{◌≡◌, ℕ, ℤ, Bool, true, false, List, [], ◌∷◌, ◌++◌, Option, Some, None, if◌then◌else◌, option_map, slice_get, slice_set, unsigned_abs, sym, ap, subst, ◌∙◌}
 use Rattle.std.proofs.lemmas.Option.{slice_get-map}
 use Rattle.gptp_graph.specs.Order.{IsRising}

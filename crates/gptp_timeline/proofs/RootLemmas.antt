@@ -208,7 +208,7 @@ none_below r (x ∷ xs) low =
     let rest = none_below r xs (λ j d below. low (suc j) d (omega (arith, below))) in
     omega (arith, here, rest)
 
--- a root is there no more behind a place exactly where another follows
+-- a root is there no more after a place exactly where another follows
 pub last_is : (xs : List ℕ) (place : ℕ) → IsNonDecreasing xs → place < length xs
     → (times (drop (place + 1) xs) (get_or xs place 0) == 0) ≡ another_next xs place
 last_is [] place rises below = absurd (omega (arith, below))
@@ -275,7 +275,7 @@ before_is (x ∷ xs) (suc (suc place)) rises below =
         ap (nat_lt 0) (times_cons x (take (suc place) xs) r
         ∙ ap (λ t. cond t 1 0 + times (take (suc place) xs) r) other ∙ less) ∙ rest
 
--- before a place, at it, and behind it
+-- before a place, at it, and after it
 around : (xs : List ℕ) (place : ℕ) → place < length xs
     → times xs (get_or xs place 0)
     ≡ times (take place xs) (get_or xs place 0) + 1 + times (drop (place + 1) xs) (get_or xs place 0)

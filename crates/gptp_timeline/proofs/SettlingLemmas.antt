@@ -1,4 +1,4 @@
--- Where a stretch has a bound nothing changes behind it, if every live system is near.
+-- Where a stretch has a bound nothing changes after it, if every live system is near.
 use Rattle.std.proofs.Common.{◌≡◌, ◌⊎◌, ◌≤◌, ◌+◌, ◌-◌, ℕ, suc, Bool, true, false, nat_le, List, [], ◌∷◌, ◌++◌, ◌≢◌, length, nat_lt, Option, Some, None, IfSome, option_map, inl, inr, refl, sym, ap, subst, ◌∙◌, append_assoc, append-nil, arith}
 use Rattle.std.specs.List.{AllByRecursion}
 use Rattle.std.proofs.lemmas.Bool.Decides.{nat_tests}
@@ -308,7 +308,7 @@ module _ {F : Type 0} (answers : Bounds → ℕ → F → Option ℕ → F → T
         → (s : SystemState) → live_system name w ≡ Some s → IsAtRest (snapshot_of w) s
     all_rest w keeps late near name s is = rests w keeps late name (near name (is_there w name s is)) s is
 
-    -- an act behind the span
+    -- an act after the span
     still_act : (until : ℕ) (t : Transition) (fate drawn : F) (w : WorldState) → t.before ≡ w
         → Happens answers until t.told fate drawn w t.after → Keeps events w → AllNear (snapshot_of w)
         → from + span ≤ at_of t → ShowsTheSame t
@@ -503,7 +503,7 @@ module _ {F : Type 0} (answers : Bounds → ℕ → F → Option ℕ → F → T
         (subst (λ es. Courses answers p.to es p.acts fate fate_after w p.after) passage.events_are passage.courses)
         keeps
 
-    -- How a stretch that passes begins: behind events that were made, in a world that keeps to them.
+    -- How a stretch that passes begins: after events that were made, in a world that keeps to them.
     pub record Begins (p : Passage) : Type 0 where
       pub from : ℕ
       pub before : List Timed

@@ -64,7 +64,7 @@ live_head name s t ss old new =
     let a : clock s.system == name ≡ false = grind (arith, nat_tests) in
     let b : clock t.system == name ≡ false = grind (arith, nat_tests) in rw (a, b) refl
 
--- where it has another clock before and behind, nothing is changed
+-- where it has another clock before and after, nothing is changed
 pub live_other : (name place : ℕ) (stations : List Station) (old new : Station) → slice_get stations place ≡ Some old
     → (clock old.system ≡ name → ⊥) → (clock new.system ≡ name → ⊥)
     → live_among name (slice_set stations place new) ≡ live_among name stations

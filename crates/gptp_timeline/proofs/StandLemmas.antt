@@ -51,7 +51,7 @@ pub waits_on : (at : ℕ) (expects : Bool) (since : Option ℕ) → (expects ≡
 waits_on at true since still = refl
 waits_on at false since still = sym (still refl)
 
--- a system that doesn't expect time behind an act doesn't wait then
+-- a system that doesn't expect time after an act doesn't wait then
 pub still_after : (at : ℕ) (received before after : Bool) (since : Option ℕ) → after ≡ false
     → since_after at received before after since ≡ None
 still_after at received before after since is = rw is refl
@@ -84,7 +84,7 @@ from_map f (n ∷ ns) (suc place) x there = from_map f ns place x there
 -- ---- an act at which systems are looked at
 
 module _ (since errors : ℕ → Option ℕ) (w w' : WorldState) (at : ℕ) (receives : ℕ → Bool) where
-  -- since when each system waits behind it
+  -- since when each system waits after it
   abbrev pub next : ℕ → Option ℕ
   next name = since_after at (receives name) (is_expecting (shown name w)) (is_expecting (shown name w')) (since name)
 

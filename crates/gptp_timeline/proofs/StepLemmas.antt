@@ -1,4 +1,4 @@
--- What an observer keeps behind one act more.
+-- What an observer keeps after one act more.
 use Rattle.std.proofs.Common.{◌≡◌, ◌==◌, ℕ, Bool, true, false, List, [], ◌∷◌, ◌++◌, map, Option, Some, None, if◌then◌else◌, option_map, option_and_then, unsigned_abs, refl, sym, ap, subst, ◌∙◌}
 use Rattle.std.specs.List.{flat_map}
 use Rattle.std.specs.Option.{option_map_or}
@@ -21,7 +21,7 @@ use Rattle.gptp_timeline.proofs.TrackLemmas.{all_seen_lines, event_measured, kep
 
 -- ---- errors that are kept of each system
 
--- behind an act, where receipts count from a time on
+-- after an act, where receipts count from a time on
 abbrev pub errors_next : Option ℕ → Transition → (ℕ → Option ℕ) → ℕ → Option ℕ
 errors_next from t errors name =
     if receives name t then

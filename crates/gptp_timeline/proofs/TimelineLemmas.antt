@@ -32,12 +32,12 @@ module _ (old first new : Option (List ℕ)) (a b c : List (List ℕ)) (written 
   three : text_of ((a ++ b) ++ c) ≡ text_of a ++ text_of (b ++ c)
   three = ap text_of (append_assoc a b c) ∙ text_append a (b ++ c)
 
-  -- some of the last two behind the first
+  -- some of the last two after the first
   some_of_two : AppendsSome first new (text_of (b ++ c)) → AppendsSome old new (text_of ((a ++ b) ++ c))
   some_of_two some =
       subst (AppendsSome old new) (sym three) (some_behind old first new (text_of a) (text_of (b ++ c)) written some)
 
-  -- some of the last, or all of it, behind the first two
+  -- some of the last, or all of it, after the first two
   some_of_three : (second : Option (List ℕ)) → Appends first second (text_of b) → AppendsSome second new (text_of c)
       → AppendsSome old new (text_of ((a ++ b) ++ c))
   some_of_three second passed some =

@@ -1,4 +1,4 @@
--- What an observer keeps and tells is what is defined over the acts: behind each act.
+-- What an observer keeps and tells is what is defined over the acts: after each act.
 use Rattle.std.proofs.Common.{◌≡◌, ◌||◌, ℕ, Bool, true, false, not, List, [], ◌∷◌, ◌++◌, map, Option, Some, None, slice_get, slice_set, refl, sym, ap, ◌∙◌, append_assoc, length-append, length, ◌+◌}
 use Rattle.std.specs.List.{flat_map, list_any, range_with_len}
 use Rattle.gptp_model.specs.World.{WorldState}

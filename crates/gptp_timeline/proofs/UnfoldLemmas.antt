@@ -47,7 +47,7 @@ now_and_later time (x ∷ xs) order = by (nat_lt time x.at) refl (now_and_later 
         rw (early, late) (ap (λ zs. x ∷ zs) rest)
 
 module _ {F : Type 0} (answers : Bounds → ℕ → F → Option ℕ → F → Type 0) where
-  -- ---- one stretch behind another
+  -- ---- one stretch after another
 
   -- where nothing is due by a time, nothing passes by then
   record NonePass (ts : List Transition) (fate fate_after : F) (w w' : WorldState) : Type 0 where
@@ -64,7 +64,7 @@ module _ {F : Type 0} (answers : Bounds → ℕ → F → Option ℕ → F → T
       let late = next_not_before (until + 1) w.net.pending t.told.timed.at next.item next.next nothing in
       absurd (omega (arith, early, late))
 
-  -- behind what is due by the time of an event that event is made, where it seemed that nothing was due
+  -- after what is due by the time of an event that event is made, where it seemed that nothing was due
   makes_behind : (event : Timed) (ts us : List Transition) (fate drawn fate_after : F) (w between w' : WorldState)
       → PassesTo answers event.at ts fate drawn w between → Makes answers event us drawn fate_after between w'
       → Makes answers event (ts ++ us) fate fate_after w w'
@@ -117,7 +117,7 @@ module _ {F : Type 0} (answers : Bounds → ℕ → F → Option ℕ → F → T
   -- ---- all stretches
 
   module _ (d : DocumentState) (until : ℕ) where
-    -- where others come behind a stretch
+    -- where others come after a stretch
     on : (from : ℕ) (events later : List Timed) (acts us : List Transition) (to : ℕ) (fate drawn fate_after : F)
         (w between w' : WorldState) → later ≢ [] → to ≡ end_before until later
         → Courses answers to events acts fate drawn w between

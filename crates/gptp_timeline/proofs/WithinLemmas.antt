@@ -341,7 +341,7 @@ module _ {F : Type 0} (answers : Bounds → ℕ → F → Option ℕ → F → T
       (subst (λ es. HasBound es g name from bound) (sym (append_assoc before (event ∷ []) events)) has) k
       (keeps_made answers d playable names before event first fate drawn w between (fit 0 event refl) makes keeps)))
 
-  -- bounds hold some time behind the last change
+  -- bounds hold some time after the last change
   holds_later : (events : List Timed) (g : Snapshot) (name from bound : ℕ) → IsLog pace.largest
       → HasBound events g name from bound → last_change events < from
   holds_later events g name from bound log has =
@@ -349,7 +349,7 @@ module _ {F : Type 0} (answers : Bounds → ℕ → F → Option ℕ → F → T
       let from_is = has.from_is in
       omega (arith, positive, from_is)
 
-  -- what is so of all is so of those behind
+  -- what is so of all is so of those after
   past_behind : (time : ℕ) (before events : List Timed) → PastBy time (before ++ events) → PastBy time events
   past_behind time [] events past = past
   past_behind time (e ∷ es) events past = past_behind time es events past.1

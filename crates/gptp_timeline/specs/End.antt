@@ -11,7 +11,7 @@ use Rattle.gptp_scenario.specs.SyncWait.{sync_paths}
 use Rattle.gptp_scenario.specs.declared.change.Timed.{Timed}
 use Rattle.gptp_setup.specs.Intervals.{interval_of}
 
--- Behind its last event the network has settled, what each system uses has come down the settled tree, at most a
+-- After its last event the network has settled, what each system uses has come down the settled tree, at most a
 -- threshold and a residence for each system of a path, and eight Syncs more have been sent.
 abbrev pub end_behind : NetworkState → List Timed → Snapshot → ℕ
 end_behind n events g =

@@ -64,7 +64,7 @@ LastLinesTell {F} answers = (d : DocumentState) (until : ℕ) (options : Timelin
 abbrev pub AllNear : Snapshot → Type 0
 AllNear g = (name : ℕ) → In name (clocks g) → IsNear g name
 
--- Where a stretch has a bound, and every live system is near where it ends, no act later than the bound behind its
+-- Where a stretch has a bound, and every live system is near where it ends, no act later than the bound after its
 -- begin leaves a system another as to whether it lives, root, steps or Slave port, nor as to role or capable of a port.
 abbrev pub Settle : List Passage → Type 0
 Settle passages = (p : Passage) (bound : ℕ) (names : List ℕ) (since : ℕ → Option ℕ)

@@ -13,7 +13,7 @@ abbrev pub better_if : Option Greatest → Option Greatest → Option Greatest
 better_if best None = best
 better_if best (Some one) = better best one
 
--- the greatest of one that is there, and of those behind it
+-- the greatest of one that is there, and of those after it
 abbrev pub greatest_from : Option Greatest → List Greatest → Option Greatest
 greatest_from best [] = best
 greatest_from best (one ∷ others) = greatest_from (better best one) others
@@ -26,7 +26,7 @@ one_at clock amount = record { amount = amount; clock = clock }
 
 -- ---- waits
 
--- When the wait under way of a system began, behind an act at a time. There is one while the system expects time. It
+-- When the wait under way of a system began, after an act at a time. There is one while the system expects time. It
 -- begins with the act by which it begins to, and anew with each receipt.
 abbrev pub since_after : ℕ → Bool → Bool → Bool → Option ℕ → Option ℕ
 since_after at received before after since =

@@ -18,7 +18,7 @@ abbrev pub first_time : List Timed → Option ℕ
 first_time [] = None
 first_time (e ∷ es) = Some e.at
 
--- an observer before the systems of a world start, and behind that
+-- an observer before the systems of a world start, and after that
 abbrev pub watch_before : TimelineOptions → WorldState → WatchState
 watch_before options w = record {
   summary = options.summary;

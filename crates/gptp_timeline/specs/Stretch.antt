@@ -51,12 +51,12 @@ same_known before after = same_bool (is_known before) (is_known after)
 
 -- ---- waits
 
--- Since when each system has been waiting, behind an act.
+-- Since when each system has been waiting, after an act.
 abbrev pub waits_after : Transition → (ℕ → Option ℕ) → ℕ → Option ℕ
 waits_after t since name = since_after (at_of t) (receives name t) (is_expecting (shown name t.before))
     (is_expecting (shown name t.after)) (since name)
 
--- behind several acts, one after another
+-- after several acts, one after another
 abbrev pub waits : List Transition → (ℕ → Option ℕ) → ℕ → Option ℕ
 waits [] since = since
 waits (t ∷ ts) since = waits ts (waits_after t since)
@@ -144,7 +144,7 @@ last_of_several roots place =
 abbrev pub shown_of_all : List Watched → List (Option Shown)
 shown_of_all = map (λ (x : Watched). x.shown)
 
--- a root behind others, where there is one
+-- a root after others, where there is one
 abbrev pub with_root : Option Shown → List ℕ → List ℕ
 with_root None roots = roots
 with_root (Some s) roots = roots ++ s.root ∷ []

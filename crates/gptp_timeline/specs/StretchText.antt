@@ -26,7 +26,7 @@ abbrev pub worst_text : Option Greatest → List ℕ
 worst_text None = codes "0.000 none"
 worst_text (Some worst) = near_text worst.amount ++ codes " " ++ clock_text worst.clock
 
--- how long behind the begin of the stretch a time is, if there is one
+-- how long after the begin of the stretch a time is, if there is one
 abbrev pub behind : ℕ → Option ℕ → Option ℕ
 behind from = option_map (λ time. time - from)
 

@@ -20,7 +20,7 @@ telling_line at name (OfSystem s) = changed_system_line at name s
 telling_line at name (OfPort place p) = changed_port_line at name (place + 1) p
 telling_line at name OfFailure = changed_failed_line at name
 
--- ---- what is told of a system behind an act
+-- ---- what is told of a system after an act
 
 abbrev pub port_telling : ℕ → Option ShownPort → ShownPort → List Telling
 port_telling place before q = if is_same before q then [] else OfPort place q ∷ []
@@ -37,7 +37,7 @@ tellings None (Some t) = OfSystem t ∷ port_tellings 0 [] t.ports
 tellings (Some s) (Some t) =
     (if same_line (Some s) (Some t) then [] else OfSystem t ∷ []) ++ port_tellings 0 s.ports t.ports
 
--- behind all these acts, one after another, and behind the start before them
+-- after all these acts, one after another, and after the start before them
 abbrev pub all_tellings : ℕ → WorldState → List Transition → List Telling
 all_tellings name start ts =
     tellings None (shown name start)

@@ -97,7 +97,7 @@ ended_of plan o = ended_stretch plan.from plan.to plan.begins_with_event plan.bo
 abbrev pub end_lines : Plan → WatchState → List (List ℕ)
 end_lines plan o = after_line (ended_of plan o) ∷ kept_accuracy o.systems plan.errors
 
--- From some time on that isn't behind `to` the errors hold of the network as it stands at a time.
+-- From some time on that isn't after `to` the errors hold of the network as it stands at a time.
 abbrev pub HoldsBy : ℕ → TimeErrors → Type 0
 HoldsBy to t = (exact : ℕ) × (t.from ≡ Some exact) × (exact ≤ to)
 
@@ -175,7 +175,7 @@ now_of time = filter (λ (e : Timed). nat_le e.at time)
 abbrev pub later_than : ℕ → List Timed → List Timed
 later_than time = filter (λ (e : Timed). nat_lt time e.at)
 
--- when a stretch ends behind which these events come
+-- when a stretch ends after which these events come
 abbrev pub end_before : ℕ → List Timed → ℕ
 end_before until [] = until
 end_before until (e ∷ es) = e.at
@@ -225,7 +225,7 @@ pub record TimelineOf {F : Type 0} (answers : Bounds → ℕ → F → Option �
 
 -- ---- as far as it gets
 
--- Some stretches pass, and in the one behind them some acts are done; these are the lines until then.
+-- Some stretches pass, and in the one after them some acts are done; these are the lines until then.
 abbrev pub SomePass : {F : Type 0} → (Bounds → ℕ → F → Option ℕ → F → Type 0) → Bool → DocumentState → ℕ → ℕ
     → List Timed → F → WorldState → List Passage → List Transition → Type 0
 SomePass answers exact d until from events fate w [] ts =

@@ -187,9 +187,9 @@ fn same_line(before: &Option<Shown>, after: &Option<Shown>) -> bool
     same_choice(before, after) && same_bool(is_known(before), is_known(after))
 }
 
-/// Appends the lines of a system that an act left as `after`, and found as `before`: its own where that says another than
-/// before, then each port that is another; all of them where it had failed. The only error is that memory ran out; what is
-/// appended then may be cut.
+/// Appends the lines of a system that an act left as `after`, and found as `before`: its own where that says another
+/// than before, then each port that is another; all of them where it had failed. The only error is that memory ran out;
+/// what is appended then may be cut.
 pub(crate) fn write_changes(
     text: &mut String,
     at: u64,

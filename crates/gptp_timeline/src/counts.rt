@@ -49,7 +49,7 @@ fn without(systems: &[Watched]) -> usize
         .count()
 }
 
-/// Puts the root of a system behind others, if it lives.
+/// Puts the root of a system after others, if it lives.
 fn push_root(roots: &mut Vec<Identity>, shown: &Option<Shown>) -> Result<(), AllocError>
     ensures { OnOk result (roots.new.items ≡ with_root shown.now roots.old.items) }
 {
@@ -80,7 +80,7 @@ pub fn times(roots: &[Identity], root: Identity) -> usize
     roots.iter().filter(|other| **other == root).count()
 }
 
-/// The roots of all live systems, none of which falls behind the one before it.
+/// The roots of all live systems, none of which falls after the one before it.
 fn rising_roots_of(alloc: Global, systems: &[Watched]) -> Result<Vec<Identity>, AllocError>
     ensures roots { IfOk result (λ v. IsPermutation (roots_of (shown_of_all systems.now)) v.items) }
     ensures rise { IfOk result (λ v. IsNonDecreasing v.items) }
@@ -90,7 +90,7 @@ fn rising_roots_of(alloc: Global, systems: &[Watched]) -> Result<Vec<Identity>, 
     Ok(roots)
 }
 
-/// Whether another root than that at a place is behind it, or none.
+/// Whether another root than that at a place is after it, or none.
 fn another_next(roots: &[Identity], place: usize) -> bool
     requires { place < length roots.now }
     ensures { result ≡ another_next roots.now place }

@@ -28,8 +28,8 @@ fn end_behind(network: &Network, events: &[Timed], last: u64, snapshot: &Snapsho
         + 8 * interval_of(params.sync)
 }
 
-/// When the run of a document ends by default, in ns, at most 10^15: behind its last event it has settled, what each system
-/// uses has come down the settled tree, and eight Syncs more have been sent. Refused for want of memory alone.
+/// When the run of a document ends by default, in ns, at most 10^15: after its last event it has settled, what each
+/// system uses has come down the settled tree, and eight Syncs more have been sent. Refused for want of memory alone.
 pub fn end_by_default(alloc: Global, document: &Document) -> Result<u64, AllocError>
     ensures end { IfOk result (IsDefaultEnd document.now) }
     ensures bound { IfOk result (λ until. until ≤ 1000000000000000) }

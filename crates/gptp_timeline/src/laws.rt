@@ -11,9 +11,9 @@ pub fn timelines_are_runs<F: Fate>()
     ensures ends { TimelineEndsAsRun F.answers }
 {}
 
-/// The last `at` line of a system, and the last of each of its ports, tell what the system shows where the run ends: root,
-/// steps, Slave port, whether an offset is known, and of each port role and capable. That is the world of which a run to
-/// the same time reports ([`timelines_are_runs`]).
+/// The last `at` line of a system, and the last of each of its ports, tell what the system shows where the run ends:
+/// root, steps, Slave port, whether an offset is known, and of each port role and capable. That is the world of which a
+/// run to the same time reports ([`timelines_are_runs`]).
 pub fn last_lines_tell<F: Fate>()
     ensures told { ChangesAreTold }
     ensures last { LastLinesTell F.answers }
@@ -25,8 +25,8 @@ pub fn stretches_settle<F: Fate>()
     ensures { StretchesSettle F.answers }
 {}
 
-/// Where a stretch of the timeline of a document has a bound and lasts as long, each near system follows the best of its
-/// component where it ends, and no other root: so the counts of roots there are those of the settled choice.
+/// Where a stretch of the timeline of a document has a bound and lasts as long, each near system follows the best of
+/// its component where it ends, and no other root: so the counts of roots there are those of the settled choice.
 pub fn stretches_follow<F: Fate>()
     ensures { StretchesFollow F.answers }
 {}

@@ -1,11 +1,11 @@
 //! What changes at which system when, while the network of a document runs, and how long time is missing meanwhile
 //! (profile).
 //!
-//! [`write_timeline`] lets a document run and writes, act by act, the event that is made and what each act leaves another
-//! of what its systems show; then, where a stretch between the times of events ends, how long the choice took to stand,
-//! how long a system went without time, and how far the time that came was off. `specs/Timeline.antt` says what is
-//! written, over the acts of the run (`Courses` of gptp_report). [`last_stretches`] lets it run so and answers how the
-//! last two stretches ended, by `specs/LastTwo.antt`, and writes nothing.
+//! [`write_timeline`] lets a document run and writes, act by act, the event that is made and what each act leaves
+//! another of what its systems show; then, where a stretch between the times of events ends, how long the choice took
+//! to stand, how long a system went without time, and how far the time that came was off. `specs/Timeline.antt` says
+//! what is written, over the acts of the run (`Courses` of gptp_report). [`last_stretches`] lets it run so and answers
+//! how the last two stretches ended, by `specs/LastTwo.antt`, and writes nothing.
 #![tactic(auto)]
 
 mod amounts;

@@ -11,9 +11,9 @@ use std::fmt;
 /// What a limit is given for.
 #[derive(Clone, Copy, Debug, PartialEq, Eq)]
 pub enum Limit {
-    /// How long the choice takes to stand behind an event, in ns.
+    /// How long the choice takes to come after an event, in ns.
     Choice,
-    /// How long a system waits for time behind an event, in ns.
+    /// How long a system waits for time after an event, in ns.
     Holdover,
     /// How far a receipt is off, in ns.
     Error,

@@ -56,7 +56,7 @@ pub fn better_if(best: Option<Greatest>, one: Option<Greatest>) -> Option<Greate
     }
 }
 
-/// When the wait under way of a system began, behind an act at a time.
+/// When the wait under way of a system began, after an act at a time.
 pub(crate) fn since_after(
     at: u64,
     received: bool,

@@ -61,8 +61,8 @@ fn error_against(at: u64, offset: ScaledNs, system: &System, leader: &System) ->
     offset.value() - (system.local(at).value() - leader.local(at).value())
 }
 
-/// How far the offset of a live system is off at a time, in units of 2^-16 ns: that less what its local time is ahead of
-/// that of the system whose clock its root names; none where that doesn't live, or no offset is known.
+/// How far the offset of a live system is off at a time, in units of 2^-16 ns: that less what its local time is ahead
+/// of that of the system whose clock its root names; none where that doesn't live, or no offset is known.
 pub(crate) fn error_of<F: Fate + Drop>(at: u64, system: &System, world: &World<F>) -> Option<i128>
     requires { at ≤ 1000000000000000 }
     ensures { result ≡ offset_error at system.now world.now.world_core }

@@ -38,7 +38,7 @@ pub struct Stretch {
     pub counts: Counts,
 }
 
-/// How long a time is behind another, in ns.
+/// How long a time is after another, in ns.
 fn behind(from: u64, time: Option<u64>) -> Option<u64>
     ensures { result ≡ behind from time }
 {
@@ -72,7 +72,8 @@ impl Stretch {
         }
     }
 
-    /// The amount that a limit asks for: times in ns, errors in units of 2^-16 ns; none where it isn't asked of the stretch.
+    /// The amount that a limit asks for: times in ns, errors in units of 2^-16 ns; none where it isn't asked of the
+    /// stretch.
     pub(crate) fn amount(&self, limit: Limit) -> Option<u128>
         ensures { result ≡ amount_in self.now limit }
     {

@@ -408,13 +408,13 @@ fn end_verdict<K: Sink>(
     Ok(is_exceeded)
 }
 
-/// Lets the world of a document run up to a time, at most 10^15 ns, and writes what changes at which system when, what became
-/// of each stretch between the times of events, and whether each keeps to the limits, where any is given; answers whether
-/// one doesn't.
+/// Lets the world of a document run up to a time, at most 10^15 ns, and writes what changes at which system when, what
+/// became of each stretch between the times of events, and whether each keeps to the limits, where any is given;
+/// answers whether one doesn't.
 ///
-/// Errors: [`Cut::Write`] exactly where a write failed, after which nothing more happens; [`Cut::Memory`] where memory ran
-/// out or an act was refused, which is meant to be for want of memory alone; that it is so isn't promised. What was written
-/// until then stands.
+/// Errors: [`Cut::Write`] exactly where a write failed, after which nothing more happens; [`Cut::Memory`] where memory
+/// ran out or an act was refused, which is meant to be for want of memory alone; that it is so isn't promised. What was
+/// written until then stands.
 pub fn write_timeline<F: Fate + Drop, K: Sink>(
     alloc: Global,
     document: &Document,
@@ -450,9 +450,9 @@ const NOTHING_TOLD: TimelineOptions = TimelineOptions {
     limits: NO_LIMITS,
 };
 
-/// Lets the world of a document run up to a time, at most 10^15 ns, and answers how the last two stretches between the times
-/// of events ended, where there are two. Nothing is written, and how exact systems are isn't asked. Refused for want of
-/// memory alone.
+/// Lets the world of a document run up to a time, at most 10^15 ns, and answers how the last two stretches between the
+/// times of events ended, where there are two. Nothing is written, and how exact systems are isn't asked. Refused for
+/// want of memory alone.
 pub fn last_stretches<F: Fate + Drop>(
     alloc: Global,
     document: &Document,

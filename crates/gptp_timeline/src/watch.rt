@@ -22,8 +22,8 @@ use gptp_world::{Act, Done, Timed, World};
 use std::alloc::{AllocError, Global};
 use std::marker::Model;
 
-/// An observer that writes a line for each event, for each system and port that an act left another, and for each receipt
-/// of time, where they are asked for, and measures what became of a stretch. It is seen as what it keeps.
+/// An observer that writes a line for each event, for each system and port that an act left another, and for each
+/// receipt of time, where they are asked for, and measures what became of a stretch. It is seen as what it keeps.
 #[derive(Drop)]
 pub(crate) struct Watch {
     // Whether events and changes are left out.
@@ -91,7 +91,7 @@ fn unseen(clock: ClockId) -> Watched
     }
 }
 
-/// Puts the system at a place by rising clock behind others.
+/// Puts the system at a place by rising clock after others.
 fn push_unseen<F: Fate + Drop>(
     systems: &mut Vec<Watched>,
     world: &World<F>,
@@ -301,7 +301,7 @@ impl Watch {
         Ok(())
     }
 
-    /// Looks at the system at a place behind an act.
+    /// Looks at the system at a place after an act.
     fn see_at<F: Fate + Drop>(
         &mut self,
         text: &mut String,
@@ -320,7 +320,7 @@ impl Watch {
         }
     }
 
-    /// Looks at all systems behind an act.
+    /// Looks at all systems after an act.
     fn see_all<F: Fate + Drop>(
         &mut self,
         text: &mut String,

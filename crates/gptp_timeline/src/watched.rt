@@ -28,8 +28,8 @@ pub(crate) struct Watched {
     pub shown: Option<Shown>,
     /// When its wait under way began, in ns.
     pub since: Option<u64>,
-    /// The greatest absolute error of its receipts from the time on from which they are promised to be exact, in units of
-    /// 2^-16 ns.
+    /// The greatest absolute error of its receipts from the time on from which they are promised to be exact, in units
+    /// of 2^-16 ns.
     pub error: Option<u128>,
 }
 
@@ -40,7 +40,7 @@ pub(crate) fn leaves_wait(look: ActView, system: &Watched) -> bool
     !look.received && (system.since.is_none() || is_expecting(&system.shown))
 }
 
-/// When the wait under way of a system began, behind an act that left it as `after`.
+/// When the wait under way of a system began, after an act that left it as `after`.
 pub(crate) fn since_behind(look: ActView, system: &Watched, after: &Option<Shown>) -> Option<u64>
     ensures { result ≡ since_behind look system.now after.now }
 {
@@ -72,7 +72,7 @@ fn wait_behind(look: ActView, system: &Watched, after: &Option<Shown>) -> Option
     }
 }
 
-/// What is measured so far, behind an act that left a system as `after`.
+/// What is measured so far, after an act that left a system as `after`.
 pub(crate) fn measures_after(
     look: ActView,
     system: &Watched,

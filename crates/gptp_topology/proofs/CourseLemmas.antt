@@ -117,7 +117,7 @@ until_now at done t ts past later order =
 abbrev pub stood : List Timed → Standing → ℕ → Standing
 stood events s at = course_at_time at (after (events_by at events) s)
 
--- how it stands behind these events, at a time and at those of the events behind them
+-- how it comes after these events, at a time and at those of the events after them
 abbrev StandsSo : Standing → List Timed → Type 0
 StandsSo s ts = (done : List Timed) (at : ℕ) → past_by at done → not_before at ts → AreInOrder ts
     → course_from (course_at_time at (after done s)) ts ≡ map (stood (done ++ ts) s) (times_from at ts)

@@ -37,7 +37,7 @@ course_at_time at s = record { at = at; cable = s.cable; a_lives = s.a_lives; b_
 abbrev pub past : ℕ → Standing → List Standing → List Standing
 past at s ss = if s.at == at then ss else ss ++ s ∷ []
 
--- how a link stands at the time of this standing and at those of the events behind it
+-- how a link stands at the time of this standing and at those of the events after it
 abbrev pub course_from : Standing → List Timed → List Standing
 course_from s [] = s ∷ []
 course_from s (t ∷ ts) = past t.at s [] ++ course_from (acted t.act (course_at_time t.at s)) ts

@@ -9,7 +9,7 @@ use Rattle.gptp_network.specs.Span.{IsBound}
 use Rattle.gptp_topology.specs.Tables.{late_of}
 use Rattle.gptp_topology.specs.declared.times.CalmTime.{CalmTime}
 
--- a time, and those of the events behind it that have another than the one before them
+-- a time, and those of the events after it that have another than the one before them
 abbrev pub times_from : ℕ → List Timed → List ℕ
 times_from at [] = at ∷ []
 times_from at (t ∷ ts) = if t.at == at then times_from at ts else at ∷ times_from t.at ts

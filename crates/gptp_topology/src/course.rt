@@ -39,7 +39,7 @@ pub(crate) fn first(cable: &Cable) -> Standing
     }
 }
 
-/// Puts a link behind others.
+/// Puts a link after others.
 fn push_cable(cables: &mut Vec<Cable>, cable: Cable) -> Result<(), AllocError>
     ensures { OnOk result (cables.new.items ≡ cables.old.items ++ cable ∷ []) }
 {
@@ -47,7 +47,7 @@ fn push_cable(cables: &mut Vec<Cable>, cable: Cable) -> Result<(), AllocError>
     Ok(())
 }
 
-/// Puts the link at a place behind those before.
+/// Puts the link at a place after those before.
 fn push_cable_at(cables: &mut Vec<Cable>, network: &Network, place: usize) -> Result<(), AllocError>
     requires place { place < length network.now.links }
     requires before { cables.old.items ≡ map cable_of (take place network.now.links) }
@@ -181,7 +181,7 @@ pub(crate) fn act(act: &Act, standing: &mut Standing)
     act_on_cable(act, &mut standing.cable);
 }
 
-/// Goes on to a time: where it is another, how the link stood until then is put behind the others.
+/// Goes on to a time: where it is another, how the link stood until then is put after the others.
 fn go_on(course: &mut Vec<Standing>, standing: &mut Standing, at: u64) -> Result<(), AllocError>
     ensures course { OnOk result (course.new.items ≡ past at standing.old course.old.items) }
     ensures standing { OnOk result (standing.new ≡ course_at_time at standing.old) }

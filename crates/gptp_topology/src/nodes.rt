@@ -26,7 +26,7 @@ pub(crate) struct Node {
     pub neighbours: Vec<Neighbour>,
 }
 
-/// Puts a link behind others, where it is at the system with this clock.
+/// Puts a link after others, where it is at the system with this clock.
 fn push_neighbour(
     neighbours: &mut Vec<Neighbour>,
     clock: ClockId,
@@ -63,7 +63,7 @@ fn neighbours_of(
     Ok(neighbours)
 }
 
-/// Puts the system with this clock behind others.
+/// Puts the system with this clock after others.
 fn push_node(
     alloc: Global,
     nodes: &mut Vec<Node>,
@@ -81,7 +81,7 @@ fn push_node(
     Ok(())
 }
 
-/// Puts a clock behind others.
+/// Puts a clock after others.
 fn push_clock(clocks: &mut Vec<ClockId>, clock: ClockId) -> Result<(), AllocError>
     ensures { OnOk result (clocks.new.items ≡ clocks.old.items ++ clock ∷ []) }
 {
@@ -89,7 +89,7 @@ fn push_clock(clocks: &mut Vec<ClockId>, clock: ClockId) -> Result<(), AllocErro
     Ok(())
 }
 
-/// Puts the clock of the system at a place behind those of the systems before.
+/// Puts the clock of the system at a place after those of the systems before.
 fn push_clock_at(
     clocks: &mut Vec<ClockId>,
     network: &Network,

@@ -36,7 +36,7 @@ fn time_of(tables: &Tables, network: &Network, at: u64) -> CalmTime
     }
 }
 
-/// Puts a time behind others, where the next is another.
+/// Puts a time after others, where the next is another.
 fn tell(
     calm: &mut Vec<CalmTime>,
     tables: &Tables,
@@ -88,8 +88,9 @@ pub fn calm_times(alloc: Global, document: &Document) -> Result<Vec<CalmTime>, A
     calm_times_over(alloc, document, &cables)
 }
 
-/// How long the network of a document, whose times these are, takes at most to settle from a time on, in ns, where it is calm
-/// then: as they tell, or, of a time that isn't among them, as the document is asked. Refused for want of memory alone.
+/// How long the network of a document, whose times these are, takes at most to settle from a time on, in ns, where it
+/// is calm then: as they tell, or, of a time that isn't among them, as the document is asked. Refused for want of
+/// memory alone.
 pub fn bound_among(
     alloc: Global,
     document: &Document,

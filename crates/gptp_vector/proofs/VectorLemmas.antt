@@ -16,7 +16,7 @@ order_is_total = on_total parts nat_list_cmp_total
 pub equal_is_same : (a b : Vector) → order a b ≡ Equal → a ≡ b
 equal_is_same a b e = search rules
 
--- one vector goes before another exactly where the other goes behind it
+-- one vector goes before another exactly where the other goes after it
 lower_is_gt : (a b : Vector) → lower a b ≡ is_gt (order b a)
 lower_is_gt a b = ap is_lt (order_is_total.antisymm a b) ∙ reversed (order b a)
   where
@@ -29,12 +29,12 @@ lower_is_gt a b = ap is_lt (order_is_total.antisymm a b) ∙ reversed (order b a
 pub lower-same : (a : Vector) → lower a a ≡ false
 lower-same a = ap is_lt (tied_itself order_is_total a)
 
--- what doesn't go before a vector doesn't go before what isn't behind that one
+-- what doesn't go before a vector doesn't go before what isn't after that one
 pub lower_chain : (a b c : Vector) → lower b a ≡ false → lower c b ≡ false → lower c a ≡ false
 lower_chain a b c ab bc =
     lower_is_gt c a ∙ upto order_is_total a b c (sym (lower_is_gt b a) ∙ ab) (sym (lower_is_gt c b) ∙ bc)
 
--- the lower of two isn't behind the other
+-- the lower of two isn't after the other
 pub lower_one_way : (a b : Vector) → lower a b ≡ true → lower b a ≡ false
 lower_one_way a b before = lower_is_gt b a ∙ go (order a b) before
   where

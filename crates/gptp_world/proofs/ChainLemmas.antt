@@ -115,7 +115,7 @@ last-all : (s : ℕ → Option Node) (P : ℕ → Type 0) (tail n p : ℕ) → 0
 last-all s P tail zero p some ends all = absurd (omega (arith, some))
 last-all s P tail (suc n) p some ends all = ends-all P tail p (places s n (next_number_at s p)) ends all
 
--- ---- a number comes behind the others
+-- ---- a number comes after the others
 
 -- the places of a chain that is made longer
 module _ (s t : ℕ → Option Node) (place tail : ℕ) where

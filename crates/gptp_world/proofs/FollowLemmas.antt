@@ -18,14 +18,14 @@ use Rattle.gptp_words.specs.Lines.{text_of}
 
 -- ---- texts
 
--- the lines of one text behind those of another
+-- the lines of one text after those of another
 pub text_append : (xs ys : List (List ℕ)) → text_of (xs ++ ys) ≡ text_of xs ++ text_of ys
 text_append xs ys = flat_map-append (λ line. line ++ 10 ∷ []) xs ys
 
 -- ---- what is told
 
 module _ {O : Type 0} (tells : Told → WorldState → O → O → List (List ℕ) → Type 0) where
-  -- of some acts and of more behind them
+  -- of some acts and of more after them
   pub tells-append : (ts more : List Transition) (o between o_after : O) (xs ys : List (List ℕ))
       → Tells tells ts o between xs → Tells tells more between o_after ys
       → Tells tells (ts ++ more) o o_after (xs ++ ys)

@@ -10,7 +10,7 @@ use Rattle.gptp_world.specs.Net.{SentNext}
 use Rattle.gptp_model.specs.Sends.{IsUnlinkedPort, SendsOne, SendsAll, written}
 use Rattle.gptp_model.specs.World.{Net}
 
--- one more send behind others, which goes onto a link
+-- one more send after others, which goes onto a link
 sends_more : (now : ℕ) (s : SystemState) (xs : List Sending) (x : Sending) (ds : List Draw) (d : Draw)
     (net between after : Net)
     → SendsAll now s xs ds net between → SendsOne now (own s x.port) (written s x) d between after

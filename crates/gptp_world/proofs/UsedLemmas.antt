@@ -113,7 +113,7 @@ pub used_no : (systems : List System) (channel : Channel) → channel_is_used sy
     → used systems channel ≡ None
 used_no systems channel is = rw is refl
 
--- what the one is, is put behind
+-- what the one is, is put after
 pub used_some : (systems : List System) (channel : Channel) (ports : PortId × PortId)
     → Some (snapshot_link ports) ≡ used systems channel → used_if systems channel ≡ snapshot_link ports ∷ []
 used_some systems channel ports same = by (channel_is_used systems channel) refl

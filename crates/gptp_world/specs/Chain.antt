@@ -10,7 +10,7 @@ use Rattle.gptp_world.specs.declared.chain.Node.{Node}
 abbrev pub with_next : ℕ → Node → Node
 with_next next node = record node { next = next }
 
--- the first of these numbers, and those behind it
+-- the first of these numbers, and those after it
 abbrev pub chain_head : List ℕ → Option ℕ
 chain_head [] = None
 chain_head (number ∷ numbers) = Some number

@@ -1,4 +1,4 @@
--- What happens in a world, act by act: each act with the world before it and behind it.
+-- What happens in a world, act by act: each act with the world before it and after it.
 use Rattle.std.specs.Prelude.{◌≡◌, ◌≤◌, ◌+◌, ℕ, List, [], ◌∷◌, Option}
 use Rattle.gptp_links.specs.declared.bounds.Bounds.{Bounds}
 use Rattle.gptp_scenario.specs.declared.change.Timed.{Timed}
@@ -8,7 +8,7 @@ use Rattle.gptp_model.specs.Advancing.{Happens, Told}
 use Rattle.gptp_model.specs.Pending.{NothingBefore}
 use Rattle.gptp_model.specs.World.{WorldState}
 
--- an act that was done and what was told of it, the world before it, and the world behind it
+-- an act that was done and what was told of it, the world before it, and the world after it
 pub record Transition : Type 0 where
   pub told : Told
   pub before : WorldState

@@ -140,8 +140,8 @@ impl<F: Fate + Drop> World<F> {
         seen
     }
 
-    /// All that is due at a time, before which nothing is pending, is done and seen, and what is put for that time meanwhile.
-    /// It is told what is next, and tells what is next then.
+    /// All that is due at a time, before which nothing is pending, is done and seen, and what is put for that time
+    /// meanwhile. It is told what is next, and tells what is next then.
     fn finish<O: Observer, K: Sink>(
         &mut self,
         alloc: Global,
@@ -170,8 +170,8 @@ impl<F: Fate + Drop> World<F> {
         Ok(next)
     }
 
-    /// All that is due at the next time, at most this, at which something is pending is done and seen: a time before which
-    /// nothing is left, and what is next then.
+    /// All that is due at the next time, at most this, at which something is pending is done and seen: a time before
+    /// which nothing is left, and what is next then.
     fn finish_next<O: Observer, K: Sink>(
         &mut self,
         alloc: Global,
@@ -231,14 +231,14 @@ impl<F: Fate + Drop> World<F> {
         Ok(())
     }
 
-    /// It goes on up to a time, at most 10^15 ns, which hasn't passed, before an observer: what is pending happens, one act
-    /// after another, each of them the next that is due then, and the observer sees each as it was done. The buffer of a
-    /// frame that it saw arrive stands ready for another then. After `Ok` that is its time, and nothing that is due by then
-    /// is left.
+    /// It goes on up to a time, at most 10^15 ns, which hasn't passed, before an observer: what is pending happens, one
+    /// act after another, each of them the next that is due then, and the observer sees each as it was done. The buffer
+    /// of a frame that it saw arrive stands ready for another then. After `Ok` that is its time, and nothing that is
+    /// due by then is left.
     ///
-    /// Errors: [`Cut::Write`] exactly where a write failed; [`Cut::Memory`] where the observer says so, or there is no memory
-    /// for the next act. Then it has gone on up to there, by whole acts, and what the observer told until then stands
-    /// written, or a front of it.
+    /// Errors: [`Cut::Write`] exactly where a write failed; [`Cut::Memory`] where the observer says so, or there is no
+    /// memory for the next act. Then it has gone on up to there, by whole acts, and what the observer told until then
+    /// stands written, or a front of it.
     pub fn go_on<O: Observer, K: Sink>(
         &mut self,
         alloc: Global,

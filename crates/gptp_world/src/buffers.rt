@@ -12,8 +12,8 @@ use std::marker::Model;
 /// The octets that a short buffer has room for at least: the longest message but an Announce has 76.
 const SHORT_FRAME: usize = 96;
 
-/// Empty buffers: short ones for all messages but Announces, and long ones with room for the longest message that a system
-/// sends, of 2,116 octets, so that what is in flight lies close together.
+/// Empty buffers: short ones for all messages but Announces, and long ones with room for the longest message that a
+/// system sends, of 2,116 octets, so that what is in flight lies close together.
 ///
 /// They are seen as the number of frames that can be written, whatever they are, and as their two pools.
 #[derive(Drop)]
@@ -49,8 +49,8 @@ impl Buffers {
         self.short.alloc()
     }
 
-    /// Makes buffers, until so many of each length stand ready. Refused where there is no memory for them; those that were
-    /// made by then stand ready too. Where enough stand ready already it takes no memory.
+    /// Makes buffers, until so many of each length stand ready. Refused where there is no memory for them; those that
+    /// were made by then stand ready too. Where enough stand ready already it takes no memory.
     pub(crate) fn reserve(&mut self, count: usize) -> Result<(), AllocError>
         ensures ok { OnOk result (count ≤ self.new.ready) }
         ensures kept { self.old.ready ≤ self.new.ready }
@@ -84,8 +84,8 @@ impl Buffers {
         self.long.take()
     }
 
-    /// Puts a buffer back, emptied, into the pool of its length. It is dropped where it has no room for 96 octets, or the
-    /// pool no place for it. Takes no memory.
+    /// Puts a buffer back, emptied, into the pool of its length. It is dropped where it has no room for 96 octets, or
+    /// the pool no place for it. Takes no memory.
     pub(crate) fn put_back(&mut self, buffer: Vec<u8>)
         ensures short { self.new.short.ready ≡ short_with (vec_capacity buffer) self.old.short }
         ensures long { self.new.long.ready ≡ long_with (vec_capacity buffer) self.old.long }

@@ -54,7 +54,7 @@ impl Chain {
         }
     }
 
-    /// Puts a number behind all others.
+    /// Puts a number after all others.
     pub(crate) fn push(&mut self, nodes: &mut Slab<Node>, number: u64)
         requires chained { IsChained (get nodes.old) self.old }
         requires few { self.old.count ≤ slab_len nodes.old }

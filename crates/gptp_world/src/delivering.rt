@@ -98,8 +98,9 @@ impl Stage {
         }
     }
 
-    /// Makes room for whatever the system at the end of a lane can leave when it hears the oldest frame of the lane, beyond
-    /// the credit that is left then. Refused where there is no memory for it. The state of the world doesn't change.
+    /// Makes room for whatever the system at the end of a lane can leave when it hears the oldest frame of the lane,
+    /// beyond the credit that is left then. Refused where there is no memory for it. The state of the world doesn't
+    /// change.
     pub(crate) fn make_room_to_hear(
         &mut self,
         lane: Lane,

@@ -32,8 +32,8 @@ pub(crate) struct Ends {
 /// How many places of the table of lanes belong to a system: ports are numbered from 1 to 16.
 const PORT_SPAN: usize = 17;
 
-/// Who is where: the clocks of systems and the ports of links by their places, from 0, in the order in which the network
-/// took them. It doesn't change once it is made, and no call but [`new`](Self::new) takes memory.
+/// Who is where: the clocks of systems and the ports of links by their places, from 0, in the order in which the
+/// network took them. It doesn't change once it is made, and no call but [`new`](Self::new) takes memory.
 ///
 /// It is seen as the list of clocks and that of the ports of links.
 #[derive(Drop)]

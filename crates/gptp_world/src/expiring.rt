@@ -49,8 +49,8 @@ impl Stage {
         self.give(place, Input::Expires(timer), fate);
     }
 
-    /// Makes room for whatever the system at a place can leave when a timer of it expires, beyond the credit that is left
-    /// then. Refused where there is no memory for it. The state of the world doesn't change.
+    /// Makes room for whatever the system at a place can leave when a timer of it expires, beyond the credit that is
+    /// left then. Refused where there is no memory for it. The state of the world doesn't change.
     pub(crate) fn make_room_to_expire(
         &mut self,
         place: usize,

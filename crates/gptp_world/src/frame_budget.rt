@@ -15,8 +15,8 @@ const AHEAD: usize = 32;
 /// What is left of them once two are drawn.
 const LEFT: usize = 30;
 
-/// The credit of each system, by place: how many frames each of its ports may send before a lane is asked for room again.
-/// It is seen as the list of these numbers.
+/// The credit of each system, by place: how many frames each of its ports may send before a lane is asked for room
+/// again. It is seen as the list of these numbers.
 #[derive(Drop)]
 pub(crate) struct FrameBudget {
     frames: Vec<usize>,
@@ -79,8 +79,8 @@ impl Net {
     ghost use Rattle.gptp_world.specs.Net.{IsNet};
     ghost use Rattle.gptp_world.specs.Room.{OnlyRoom};
 
-    /// Makes room ahead at the ports of the system at a place, and draws two off its credit then. Refused where there is no
-    /// memory for it. Nothing changes but the room that there is.
+    /// Makes room ahead at the ports of the system at a place, and draws two off its credit then. Refused where there
+    /// is no memory for it. Nothing changes but the room that there is.
     fn make_room_ahead(
         &mut self,
         frame_budget: &mut FrameBudget,
@@ -102,8 +102,8 @@ impl Net {
         Ok(())
     }
 
-    /// Draws room for two frames at each port of the system at a place off its credit, once more is made where that doesn't
-    /// suffice. Refused where there is no memory for it. Nothing changes but the room that there is.
+    /// Draws room for two frames at each port of the system at a place off its credit, once more is made where that
+    /// doesn't suffice. Refused where there is no memory for it. Nothing changes but the room that there is.
     fn draw(
         &mut self,
         frame_budget: &mut FrameBudget,
@@ -155,9 +155,9 @@ impl Stage {
     ghost use Rattle.gptp_world.specs.FrameBudget.{HasRoomBeyond, IsCovered};
     ghost use Rattle.gptp_world.specs.Stage.{world_of, IsStage};
 
-    /// Makes room for whatever a call of the system at a place can leave that reaches so far, beyond the credit that is left
-    /// then: each of its timers, and two frames at each port that it reaches. Refused where there is no memory for it. The
-    /// state of the world doesn't change.
+    /// Makes room for whatever a call of the system at a place can leave that reaches so far, beyond the credit that is
+    /// left then: each of its timers, and two frames at each port that it reaches. Refused where there is no memory for
+    /// it. The state of the world doesn't change.
     pub(crate) fn make_room_beyond(
         &mut self,
         frame_budget: &mut FrameBudget,

@@ -1,9 +1,9 @@
 //! The world in which systems run: the state that gptp_model describes, kept so that an act costs its own work.
 //!
 //! A [`World`] begins with all systems of a [`Network`] started. An act that is timely, there and due is done whole, as
-//! `specs/Acts.antt` of gptp_model says. Any other act is refused by the first test that it fails, and changes nothing. Left
-//! to itself a world does what is next, up to a time; an [`Observer`] may see each act as it was done, and write lines about
-//! it (`specs/Observing.antt`).
+//! `specs/Acts.antt` of gptp_model says. Any other act is refused by the first test that it fails, and changes nothing.
+//! Left to itself a world does what is next, up to a time; an [`Observer`] may see each act as it was done, and write
+//! lines about it (`specs/Observing.antt`).
 #![tactic(auto)]
 
 mod advancing;

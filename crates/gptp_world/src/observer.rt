@@ -16,12 +16,13 @@ use std::alloc::Global;
 
 /// Sees each act of a world that was done, and writes lines about it.
 pub trait Observer {
-    // what it tells of an act, behind which the world is this, and how the observer stands before and behind it
+    // what it tells of an act, after which the world is this, and how the observer stands before and after it
     ghost tells: { Told → WorldState → Self → Self → List (List ℕ) → Type 0 };
 
     /// It sees an act that was done at a time of at most 10^15 ns, and writes its lines.
     ///
-    /// Errors: [`Cut::Write`] exactly where a write failed, and [`Cut::Memory`]. Then a front of the lines stands written.
+    /// Errors: [`Cut::Write`] exactly where a write failed, and [`Cut::Memory`]. Then a front of the lines stands
+    /// written.
     fn observe<F: Fate + Drop, K: Sink>(
         &mut self,
         alloc: Global,

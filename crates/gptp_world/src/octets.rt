@@ -15,7 +15,8 @@ use gptp_vector::ClockId;
 /// The octets of the longest message that a system sends: an Announce whose path has 256 clocks.
 pub(crate) const LONGEST_FRAME: usize = 2_116;
 
-/// Writes an Announce whose path is these clocks and one behind them into an empty buffer that has room for each message.
+/// Writes an Announce whose path is these clocks and one after them into an empty buffer that has room for each
+/// message.
 fn write_announce(
     head: &Head,
     body: &AnnounceBody,
@@ -50,8 +51,8 @@ pub(crate) fn write_octets(octets: &[u8], out: &mut Vec<u8>)
     let _ = out.extend_from_slice(octets);
 }
 
-/// Writes what a system sends into an empty buffer that has room for it: the message in its one spelling, an Announce with
-/// the trace of the system (IEEE 802.1AS-2020, 10.3.9.23).
+/// Writes what a system sends into an empty buffer that has room for it: the message in its one spelling, an Announce
+/// with the trace of the system (IEEE 802.1AS-2020, 10.3.9.23).
 pub(crate) fn write_send(system: &System, send: &Sending, out: &mut Vec<u8>)
     requires empty { out.old.items ≡ [] }
     requires room { room_for send.now.body ≤ vec_capacity out.old }

@@ -20,8 +20,8 @@ pub(crate) struct ArmedTimer {
     pub number: u64,
 }
 
-/// The timers that run, and the numbers of the arrivals, each at the place of its item. It is seen as the two lists, and
-/// how many more numbers can be put.
+/// The timers that run, and the numbers of the arrivals, each at the place of its item. It is seen as the two lists,
+/// and how many more numbers can be put.
 #[derive(Drop)]
 pub(crate) struct PendingIndex {
     timers: Vec<Option<ArmedTimer>>,
@@ -91,7 +91,7 @@ impl PendingIndex {
         self.nodes.reserve(additional)
     }
 
-    /// Puts a number behind the others at a place.
+    /// Puts a number after the others at a place.
     pub fn push(&mut self, place: usize, number: u64)
         requires place { place < length self.old.queues }
         requires room { 0 < self.old.room }

@@ -175,8 +175,8 @@ impl Stage {
     ghost use Rattle.gptp_model.specs.Sound.{IsSound};
     ghost use Rattle.gptp_world.specs.Stage.{world_of, IsStage};
 
-    /// Makes room for whatever a change can leave: none for a failure, or where nothing will change. Refused where there is no
-    /// memory for it. The state of the world doesn't change.
+    /// Makes room for whatever a change can leave: none for a failure, or where nothing will change. Refused where
+    /// there is no memory for it. The state of the world doesn't change.
     fn make_room_to_change(&mut self, act: &Act, target: ActTarget) -> Result<(), AllocError>
         requires stage { IsStage self.old }
         requires target { IsTargetOf act.now (world_of self.old) target }
@@ -199,8 +199,8 @@ impl Stage {
         }
     }
 
-    /// Makes room for whatever an act can leave, beyond the credit that is left then; a change gives all credit up. Refused
-    /// where there is no memory for it. The state of the world doesn't change.
+    /// Makes room for whatever an act can leave, beyond the credit that is left then; a change gives all credit up.
+    /// Refused where there is no memory for it. The state of the world doesn't change.
     pub(crate) fn make_room_for(
         &mut self,
         act: &Act,

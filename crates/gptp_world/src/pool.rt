@@ -50,9 +50,9 @@ impl Pool {
         self.alloc
     }
 
-    /// Makes buffers, until so many stand ready. Refused where there is no memory for them; those that were made by then
-    /// stand ready too. Where enough stand ready already it takes no memory. Where it makes some it makes places as well for
-    /// as many as found none, so that what is in flight at once comes to have places.
+    /// Makes buffers, until so many stand ready. Refused where there is no memory for them; those that were made by
+    /// then stand ready too. Where enough stand ready already it takes no memory. Where it makes some it makes places
+    /// as well for as many as found none, so that what is in flight at once comes to have places.
     pub(crate) fn reserve(&mut self, count: usize) -> Result<(), AllocError>
         ensures least { self.new.least ≡ self.old.least }
         ensures ok { OnOk result (self.new.ready ≡ max self.old.ready count) }
@@ -81,7 +81,8 @@ impl Pool {
         self.list.pop().unwrap()
     }
 
-    /// Puts a buffer back that has its room, emptied. It is dropped where the pool has no place for it. Takes no memory.
+    /// Puts a buffer back that has its room, emptied. It is dropped where the pool has no place for it. Takes no
+    /// memory.
     pub(crate) fn put_back(&mut self, buffer: Vec<u8>)
         requires { self.old.least ≤ vec_capacity buffer }
         ensures least { self.new.least ≡ self.old.least }
@@ -96,7 +97,7 @@ impl Pool {
     }
 }
 
-/// Puts a buffer behind the others, emptied; it has their room, and the list a place for it.
+/// Puts a buffer after the others, emptied; it has their room, and the list a place for it.
 fn push_empty(least: usize, list: &mut Vec<Vec<u8>>, buffer: Vec<u8>)
     requires place { vec_len list.old < vec_capacity list.old }
     requires room { least ≤ vec_capacity buffer }

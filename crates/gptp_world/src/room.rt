@@ -27,8 +27,8 @@ impl Net {
     ghost use Rattle.gptp_model.specs.World.{port_id};
     ghost use Rattle.gptp_world.specs.Room.{HasRoomAtPorts, HasRoomBothWays, HasRoomFrom, OnlyRoom};
 
-    /// Makes room for so many more frames that a port of the system at a place sends. Refused where there is no memory for
-    /// them.
+    /// Makes room for so many more frames that a port of the system at a place sends. Refused where there is no memory
+    /// for them.
     fn make_room_at(&mut self, place: usize, port: u8, frames: usize) -> Result<(), AllocError>
         requires net { IsNet self.old }
         requires place { place < length self.old.directory.clocks }
@@ -63,8 +63,8 @@ impl Net {
         Ok(())
     }
 
-    /// Makes room for one more frame in each direction of a link. Refused where there is no memory for it. Nothing changes but
-    /// the room that there is.
+    /// Makes room for one more frame in each direction of a link. Refused where there is no memory for it. Nothing
+    /// changes but the room that there is.
     fn make_room_on_link(&mut self, link: usize) -> Result<(), AllocError>
         requires net { IsNet self.old }
         requires link { link < length self.old.cables.items }
@@ -96,8 +96,8 @@ impl Stage {
     ghost use Rattle.gptp_world.specs.Stage.{world_of, HasRoomToCall, HasRoomToCallBoth, IsStage, SystemIs};
     ghost use Rattle.gptp_world.specs.Starting.{HasRoomToStart};
 
-    /// Makes room for whatever a call of the system at a place can leave: each of its timers, and two frames at each port.
-    /// Refused where there is no memory for it. The state of the world doesn't change.
+    /// Makes room for whatever a call of the system at a place can leave: each of its timers, and two frames at each
+    /// port. Refused where there is no memory for it. The state of the world doesn't change.
     pub(crate) fn make_room(&mut self, place: usize) -> Result<(), AllocError>
         requires stage { IsStage self.old }
         requires place { place < length self.old.stations.items }
@@ -111,8 +111,8 @@ impl Stage {
         self.net.make_room_at_ports(place, ports, 2)
     }
 
-    /// Makes room for a start of the system at a place: each of its timers, and a call for each of its ports. Refused where
-    /// there is no memory for it. The state of the world doesn't change.
+    /// Makes room for a start of the system at a place: each of its timers, and a call for each of its ports. Refused
+    /// where there is no memory for it. The state of the world doesn't change.
     pub(crate) fn make_room_to_start(&mut self, place: usize) -> Result<(), AllocError>
         requires stage { IsStage self.old }
         requires place { place < length self.old.stations.items }
@@ -126,8 +126,8 @@ impl Stage {
         self.net.make_room_at_ports(place, ports, 2 * count)
     }
 
-    /// Makes room for the system at a place to start again, where it has failed. Refused where there is no memory for it. The
-    /// state of the world doesn't change.
+    /// Makes room for the system at a place to start again, where it has failed. Refused where there is no memory for
+    /// it. The state of the world doesn't change.
     pub(crate) fn make_room_to_recover(&mut self, place: usize) -> Result<(), AllocError>
         requires stage { IsStage self.old }
         requires place { place < length self.old.stations.items }
@@ -166,8 +166,8 @@ impl Stage {
         self.net.make_room_at_ports(second, far, 2)
     }
 
-    /// Makes room for one more frame on a lane: an entry, a buffer, and a place behind those in flight. Refused where there is
-    /// no memory for it. The state of the world doesn't change.
+    /// Makes room for one more frame on a lane: an entry, a buffer, and a place after those in flight. Refused where
+    /// there is no memory for it. The state of the world doesn't change.
     fn make_room_for_frame(&mut self, lane: Lane) -> Result<(), AllocError>
         requires stage { IsStage self.old }
         requires link { lane.link < length self.old.net.cables.items }
@@ -179,8 +179,8 @@ impl Stage {
         self.net.make_room_on_link(lane.link)
     }
 
-    /// Makes room for a frame that is injected on a lane, where its link is up. Refused where there is no memory for it. The
-    /// state of the world doesn't change.
+    /// Makes room for a frame that is injected on a lane, where its link is up. Refused where there is no memory for
+    /// it. The state of the world doesn't change.
     pub(crate) fn make_room_to_inject(&mut self, lane: Lane) -> Result<(), AllocError>
         requires stage { IsStage self.old }
         requires link { lane.link < length self.old.net.cables.items }

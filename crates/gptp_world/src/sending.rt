@@ -12,7 +12,8 @@ use crate::pending::Pending;
 use gptp_links::{Direction, Fate};
 use gptp_model::Item;
 
-/// Sends one frame on a link that is up, for which it has room, and answers when the frame is due; `None` where it is lost.
+/// Sends one frame on a link that is up, for which it has room, and answers when the frame is due; `None` where it is
+/// lost.
 fn send_on<F: Fate>(
     joined_link: &mut JoinedLink,
     direction: Direction,

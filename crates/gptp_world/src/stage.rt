@@ -5,8 +5,8 @@ use gptp_links::Fate;
 use gptp_model::Station;
 use gptp_system::{Answer, Input, Outbox, Stepped, TimersChanged};
 
-/// All that acts change, but the fate: the time and that of the last change, in ns, the systems, what is between them, and
-/// the outbox of the system that is called, which is empty between calls.
+/// All that acts change, but the fate: the time and that of the last change, in ns, the systems, what is between them,
+/// and the outbox of the system that is called, which is empty between calls.
 #[derive(Drop)]
 pub(crate) struct Stage {
     pub now: u64,

@@ -84,8 +84,8 @@ impl Stage {
         }
     }
 
-    /// The link at a place, which is up, goes down: what is in flight on it is lost, and then its ends are told, its end a
-    /// first.
+    /// The link at a place, which is up, goes down: what is in flight on it is lost, and then its ends are told, its
+    /// end a first.
     pub(crate) fn link_down<F: Fate>(&mut self, link: usize, fate: &mut F)
         requires stage { IsStage self.old }
         requires link { link < length self.old.net.cables.items }
@@ -115,8 +115,8 @@ impl Stage {
         self.tell(b.place, b.port, true, fate);
     }
 
-    /// Makes room for one call of each of the systems at the ends of a link. Refused where there is no memory for it. The
-    /// state of the world doesn't change.
+    /// Makes room for one call of each of the systems at the ends of a link. Refused where there is no memory for it.
+    /// The state of the world doesn't change.
     fn make_room_at_ends(&mut self, link: usize) -> Result<(), AllocError>
         requires stage { IsStage self.old }
         requires link { link < length self.old.net.cables.items }

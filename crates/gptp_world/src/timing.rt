@@ -30,8 +30,8 @@ impl Net {
     ghost use Rattle.gptp_world.specs.Timing.{selected_from, AreSetBut};
     ghost use Rattle.gptp_model.specs.World.{timers_from};
 
-    /// A timer of the system at a place is pending when it is due, and isn't where it doesn't run. That takes room only where
-    /// the system lives.
+    /// A timer of the system at a place is pending when it is due, and isn't where it doesn't run. That takes room only
+    /// where the system lives.
     fn set_timer(&mut self, place: usize, station: &Station, timer: Timer)
         requires place { place < self.old.pending.systems }
         requires room { station.now.live ≡ true → 1 ≤ self.old.pending.room }

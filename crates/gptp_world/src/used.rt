@@ -103,7 +103,7 @@ impl Stage {
         None
     }
 
-    /// Puts a link behind others, where it is up between two live systems.
+    /// Puts a link after others, where it is up between two live systems.
     fn push_used(&self, link: usize, links: &mut Vec<(PortId, PortId)>) -> Result<(), AllocError>
         requires founded { IsFounded self.now }
         requires link { link < length self.now.net.cables.items }

@@ -81,7 +81,8 @@ impl WorldCore {
         }
     }
 
-    /// The live system with a clock, if there is one. In time its ports are capable where they can be, and traces clean.
+    /// The live system with a clock, if there is one. In time its ports are capable where they can be, and traces
+    /// clean.
     pub(crate) fn system(&self, clock: ClockId) -> Option<&System>
         ensures some { IfSome result (λ system. ShowsLive clock self.now system.now) }
         ensures none { IfNone result (AtSystem clock self.now IsLiveSystem → ⊥) }
@@ -122,8 +123,8 @@ impl WorldCore {
         }
     }
 
-    /// The root that the live system with a clock follows, how many steps away that is, and the number of its Slave port.
-    /// In time these are the settled choice.
+    /// The root that the live system with a clock follows, how many steps away that is, and the number of its Slave
+    /// port. In time these are the settled choice.
     pub(crate) fn follows(&self, clock: ClockId) -> Option<(Identity, u16, Option<u8>)>
         ensures some { IfSome result (λ f. AtSystem clock self.now (FollowsRoot f.0 f.1 f.2)) }
         ensures none { IfNone result (AtSystem clock self.now IsLiveSystem → ⊥) }
@@ -139,8 +140,8 @@ impl WorldCore {
         }
     }
 
-    /// What is pending agrees with the state, nothing is due before now, and the rest of what is true of every world, from
-    /// which it follows that it settles and how exact its offsets are.
+    /// What is pending agrees with the state, nothing is due before now, and the rest of what is true of every world,
+    /// from which it follows that it settles and how exact its offsets are.
     pub(crate) fn well_formed(&self)
         ensures sound { IsSound self.now }
         ensures claimed { SettlingInvariant self.now }

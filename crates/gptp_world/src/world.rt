@@ -9,8 +9,8 @@ use gptp_system::System;
 use gptp_vector::{ClockId, Identity, PortId};
 use std::alloc::{AllocError, Global};
 
-/// A simulated world: the systems of a network, what is between them, and the fate that draws for each frame that is sent.
-/// Contracts see the two apart: `world_core` is the state of the world, and `fate` that of the fate.
+/// A simulated world: the systems of a network, what is between them, and the fate that draws for each frame that is
+/// sent. Contracts see the two apart: `world_core` is the state of the world, and `fate` that of the fate.
 #[derive(Drop)]
 pub struct World<F> {
     pub(crate) world_core: WorldCore,
@@ -40,8 +40,8 @@ impl<F: Fate + Drop> World<F> {
     ghost use Rattle.gptp_world.specs.Memory.{AsksForNoMemory};
     ghost use Rattle.gptp_world.specs.Used.{snapshot_link};
 
-    /// The world of a network at time 0: all its systems have started, in their order, and their first frames are in flight.
-    /// Refused for want of memory alone; then the fate is dropped.
+    /// The world of a network at time 0: all its systems have started, in their order, and their first frames are in
+    /// flight. Refused for want of memory alone; then the fate is dropped.
     pub fn new(alloc: Global, network: &Network, fate: F) -> Result<Self, AllocError>
         ensures { IfOk result (λ world. Begun F.answers network.now fate world.fate world.world_core) }
     {
@@ -50,20 +50,21 @@ impl<F: Fate + Drop> World<F> {
         Ok(World { world_core, fate })
     }
 
-    /// An act is done at its time: a frame that is due is delivered, a timer that is due expires, or the network is changed.
-    /// Times are at most 10^15 ns; the bounds that a link is set to keep their ranges, and its greatest delay is at most the
-    /// announce interval.
+    /// An act is done at its time: a frame that is due is delivered, a timer that is due expires, or the network is
+    /// changed. Times are at most 10^15 ns; the bounds that a link is set to keep their ranges, and its greatest delay
+    /// is at most the announce interval.
     ///
-    /// Refused, in this order, with `InThePast` where its time has passed, `Untimely` where something is due earlier, `NoSuch`
-    /// where there is no such link or system, no such port of a timer, or no link at the port of a change, `NotDue`, and
-    /// `OutOfMemory`. Then nothing changes. A frame that is due is delivered to a failed system too, and dropped there.
+    /// Refused, in this order, with `InThePast` where its time has passed, `Untimely` where something is due earlier,
+    /// `NoSuch` where there is no such link or system, no such port of a timer, or no link at the port of a change,
+    /// `NotDue`, and `OutOfMemory`. Then nothing changes. A frame that is due is delivered to a failed system too, and
+    /// dropped there.
     ///
-    /// Where a Follow_Up is delivered and a near system uses it, the offset that it leaves is within the time error of the
-    /// system's way of its clock less its root's, once the world has been calm for the settling span and for as long as a
-    /// Sync takes down that way at most.
+    /// Where a Follow_Up is delivered and a near system uses it, the offset that it leaves is within the time error of
+    /// the system's way of its clock less its root's, once the world has been calm for the settling span and for as
+    /// long as a Sync takes down that way at most.
     ///
-    /// A failure and other bounds of a link ask for no memory, nor does a change that finds its link or system as it should
-    /// become, or an injection where the link is down: these are never refused with `OutOfMemory`.
+    /// A failure and other bounds of a link ask for no memory, nor does a change that finds its link or system as it
+    /// should become, or an injection where the link is down: these are never refused with `OutOfMemory`.
     pub fn act(&mut self, timed: Timed) -> Result<Done, Refused>
         requires moment { timed.at ≤ 1000000000000000 }
         requires fit { IsFitAct timed.act }
@@ -93,9 +94,10 @@ impl<F: Fate + Drop> World<F> {
         self.world_core.act(timed, &mut self.fate)
     }
 
-    /// The acts of a list are done, one after another, up to the first that is refused: answered with its place, from 0, and
-    /// why. Those before it stand. Each keeps the limits that [`act`](Self::act) asks for: times are at most 10^15 ns, the
-    /// bounds that a link is set to keep their ranges, and its greatest delay is at most the announce interval.
+    /// The acts of a list are done, one after another, up to the first that is refused: answered with its place, from
+    /// 0, and why. Those before it stand. Each keeps the limits that [`act`](Self::act) asks for: times are at most
+    /// 10^15 ns, the bounds that a link is set to keep their ranges, and its greatest delay is at most the announce
+    /// interval.
     pub fn play(&mut self, acts: &[Timed]) -> Result<(), (usize, Refused)>
         requires allowed { AreAllowed acts.now }
         requires prompt { AllDelaysFitIntervals self.old.world_core acts.now }
@@ -124,11 +126,11 @@ impl<F: Fate + Drop> World<F> {
         }
     }
 
-    /// It goes on up to a time, at most 10^15 ns: what is pending happens, one act after another, each of them the next that
-    /// is due then. After `Ok` that is its time, and nothing that is due by then is left.
+    /// It goes on up to a time, at most 10^15 ns: what is pending happens, one act after another, each of them the next
+    /// that is due then. After `Ok` that is its time, and nothing that is due by then is left.
     ///
-    /// Refused with `InThePast` where that time has passed, and then nothing changes. Refused with `OutOfMemory` where there
-    /// is no memory for the next act, and then it has gone on up to there, by whole acts.
+    /// Refused with `InThePast` where that time has passed, and then nothing changes. Refused with `OutOfMemory` where
+    /// there is no memory for the next act, and then it has gone on up to there, by whole acts.
     pub fn advance(&mut self, until: u64) -> Result<(), Refused>
         requires moment { until ≤ 1000000000000000 }
         ensures advanced { OnOk result ((told : List Told) × Advanced F.answers until told self.old.fate self.new.fate self.old.world_core self.new.world_core) }
@@ -166,7 +168,8 @@ impl<F: Fate + Drop> World<F> {
         self.world_core.count()
     }
 
-    /// The clock of a system, live or not, by its rank: the least clock has place 0. `None` past the last. Takes no memory.
+    /// The clock of a system, live or not, by its rank: the least clock has place 0. `None` past the last. Takes no
+    /// memory.
     pub fn clock_at(&self, place: usize) -> Option<ClockId>
         ensures { result ≡ slice_get (rising_clocks self.now.world_core) place }
     {
@@ -180,9 +183,9 @@ impl<F: Fate + Drop> World<F> {
         self.world_core.links()
     }
 
-    /// The two ports of the link at a place, from 0, among those that are up between two live systems, in the order in which
-    /// the network took them: that of its end a first. `None` past the last. Takes no memory, and counts from the first of
-    /// all links on; [`list_links`](Self::list_links) gives all of them in one pass.
+    /// The two ports of the link at a place, from 0, among those that are up between two live systems, in the order in
+    /// which the network took them: that of its end a first. `None` past the last. Takes no memory, and counts from the
+    /// first of all links on; [`list_links`](Self::list_links) gives all of them in one pass.
     pub fn link_at(&self, place: usize) -> Option<(PortId, PortId)>
         ensures { option_map snapshot_link result ≡ slice_get (snapshot_of self.now.world_core).links place }
     {
@@ -196,8 +199,8 @@ impl<F: Fate + Drop> World<F> {
         self.world_core.list_links(alloc)
     }
 
-    /// The next act that is due: of all that is pending one of least time, and of those the first that was put. `None` where
-    /// nothing is pending. It is never a change, so [`act`](Self::act) asks nothing of it but its time.
+    /// The next act that is due: of all that is pending one of least time, and of those the first that was put. `None`
+    /// where nothing is pending. It is never a change, so [`act`](Self::act) asks nothing of it but its time.
     pub fn next(&self) -> Option<Timed>
         ensures next { IfSome result (IsNextAct self.now.world_core) }
         ensures fit { IfSome result (λ timed. IsFitAct timed.act) }
@@ -209,16 +212,16 @@ impl<F: Fate + Drop> World<F> {
 
     /// The live system with a clock; `None` where there is none.
     ///
-    /// A world is calm where each link that is up between two live systems loses nothing and is good. Once it has been calm
-    /// for L + 5 announce intervals since the last change, L being how many requests may be lost, a port of the system is
-    /// capable exactly where such a link is at it. From then on traces become clean, by one member in each turn of k + 1
-    /// announce intervals, k being the announce receipt timeout: after c turns the last c + 1 members of the trace that the
-    /// system announces, and of each that its ports hold and that was sent from then on, are different live systems, each
-    /// linked with the next; or the trace is so as a whole, from the root that it names. No such trace that a port holds
-    /// names the system itself. After m turns, where no path over live systems and the links between them has more than m
-    /// systems, each trace that is held, whenever it was sent, is so as a whole, and has as many links as its steps say.
-    /// That is so already once two announce intervals have passed, and k of them and the greatest delay of such a link for
-    /// each of m systems.
+    /// A world is calm where each link that is up between two live systems loses nothing and is good. Once it has been
+    /// calm for L + 5 announce intervals since the last change, L being how many requests may be lost, a port of the
+    /// system is capable exactly where such a link is at it. From then on traces become clean, by one member in each
+    /// turn of k + 1 announce intervals, k being the announce receipt timeout: after c turns the last c + 1 members of
+    /// the trace that the system announces, and of each that its ports hold and that was sent from then on, are
+    /// different live systems, each linked with the next; or the trace is so as a whole, from the root that it names.
+    /// No such trace that a port holds names the system itself. After m turns, where no path over live systems and the
+    /// links between them has more than m systems, each trace that is held, whenever it was sent, is so as a whole, and
+    /// has as many links as its steps say. That is so already once two announce intervals have passed, and k of them
+    /// and the greatest delay of such a link for each of m systems.
     pub fn system(&self, clock: ClockId) -> Option<&System>
         ensures some { IfSome result (λ system. ShowsLive clock self.now.world_core system.now) }
         ensures none { IfNone result (AtSystem clock self.now.world_core IsLiveSystem → ⊥) }
@@ -231,9 +234,9 @@ impl<F: Fate + Drop> World<F> {
         self.world_core.system(clock)
     }
 
-    /// What is true of every world: what is pending agrees with the state, nothing is due before now, each system is at rest and
-    /// keeps its setup, and each port of a live system at a link that is up measures that link. From what more every world
-    /// keeps, whatever happened in it, it follows that it settles, and how exact its offsets are then.
+    /// What is true of every world: what is pending agrees with the state, nothing is due before now, each system is at
+    /// rest and keeps its setup, and each port of a live system at a link that is up measures that link. From what more
+    /// every world keeps, whatever happened in it, it follows that it settles, and how exact its offsets are then.
     pub fn well_formed(&self)
         ensures sound { IsSound self.now.world_core }
         ensures claimed { SettlingInvariant self.now.world_core }
@@ -249,16 +252,16 @@ impl<F: Fate + Drop> World<F> {
         self.world_core.live(clock)
     }
 
-    /// The root that the live system with a clock follows, how many steps away that is, and the number of its Slave port,
-    /// if it has one (IEEE 802.1AS-2020, 10.3.5); `None` where there is no such system.
+    /// The root that the live system with a clock follows, how many steps away that is, and the number of its Slave
+    /// port, if it has one (IEEE 802.1AS-2020, 10.3.5); `None` where there is no such system.
     ///
-    /// Once the world has been calm for (k+3)n + L + 5 announce intervals since the last change, with n systems that live,
-    /// these are the identity of the best system of its component, the least number of steps to that, and the own port of
-    /// the parent, where the system is near: fewer than 255 steps away. The best has no Slave port. So they are after
-    /// (k+3)m + L + 5 intervals already, where no path over live systems and the links between them has more than m; and
-    /// at a distance of d steps after (k+1)m + 2d + L + 5. Where the network has no syncReceiptTimeout, with M the greatest
-    /// delay of these links they are so after the longer of L + 5 intervals and of 2 and k and M for each of m systems, one
-    /// interval more, and M for each of m but one.
+    /// Once the world has been calm for (k+3)n + L + 5 announce intervals since the last change, with n systems that
+    /// live, these are the identity of the best system of its component, the least number of steps to that, and the own
+    /// port of the parent, where the system is near: fewer than 255 steps away. The best has no Slave port. So they are
+    /// after (k+3)m + L + 5 intervals already, where no path over live systems and the links between them has more than
+    /// m; and at a distance of d steps after (k+1)m + 2d + L + 5. Where the network has no syncReceiptTimeout, with M
+    /// the greatest delay of these links they are so after the longer of L + 5 intervals and of 2 and k and M for each
+    /// of m systems, one interval more, and M for each of m but one.
     pub fn follows(&self, clock: ClockId) -> Option<(Identity, u16, Option<u8>)>
         ensures some { IfSome result (λ f. AtSystem clock self.now.world_core (FollowsRoot f.0 f.1 f.2)) }
         ensures none { IfNone result (AtSystem clock self.now.world_core IsLiveSystem → ⊥) }
@@ -270,14 +273,14 @@ impl<F: Fate + Drop> World<F> {
         self.world_core.follows(clock)
     }
 
-    /// The role of a port, from 1, of the live system with a clock (IEEE 802.1AS-2020, 10.3.6); `None` where there is no such
-    /// system or port.
+    /// The role of a port, from 1, of the live system with a clock (IEEE 802.1AS-2020, 10.3.6); `None` where there is
+    /// no such system or port.
     ///
-    /// Once the world has been calm for L + 5 announce intervals since the last change, the port is Disabled exactly where no
-    /// link that is up leads from it to a live system; and once it has been for (k+3)n + L + 5, each port of a near system
-    /// has the role that the tree of fewest steps to the best gives it. So it has after (k+3)m + L + 5 already, where no
-    /// path has more than m systems; and at a distance of d steps after (k+1)m + 2(d+1) + L + 5. Where the network has no
-    /// syncReceiptTimeout, so it has as soon as the system follows.
+    /// Once the world has been calm for L + 5 announce intervals since the last change, the port is Disabled exactly
+    /// where no link that is up leads from it to a live system; and once it has been for (k+3)n + L + 5, each port of a
+    /// near system has the role that the tree of fewest steps to the best gives it. So it has after (k+3)m + L + 5
+    /// already, where no path has more than m systems; and at a distance of d steps after (k+1)m + 2(d+1) + L + 5.
+    /// Where the network has no syncReceiptTimeout, so it has as soon as the system follows.
     pub fn role(&self, clock: ClockId, port: u16) -> Option<Role>
         ensures some { IfSome result (λ role. AtSystem clock self.now.world_core (HasRole port role)) }
         ensures none { IfNone result (AtSystem clock self.now.world_core (HasPort port) → ⊥) }

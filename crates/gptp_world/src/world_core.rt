@@ -71,7 +71,8 @@ impl WorldCore {
     ghost use Rattle.gptp_world.specs.Memory.{AsksForNoMemory};
     ghost use Rattle.gptp_model.specs.Course.{Begun, WasDone};
 
-    /// The world of a network at time 0, whose systems have all started, in their order. Refused for want of memory alone.
+    /// The world of a network at time 0, whose systems have all started, in their order. Refused for want of memory
+    /// alone.
     pub(crate) fn new<F: Fate>(
         alloc: Global,
         network: &Network,
@@ -89,7 +90,8 @@ impl WorldCore {
         })
     }
 
-    /// An act is done at its time, where it can be; otherwise the first test that it fails is answered, and nothing changes.
+    /// An act is done at its time, where it can be; otherwise the first test that it fails is answered, and nothing
+    /// changes.
     pub(crate) fn act<F: Fate>(&mut self, timed: &Timed, fate: &mut F) -> Result<Done, Refused>
         requires moment { timed.now.at ≤ 1000000000000000 }
         requires fit { IsFitAct timed.now.act }
@@ -113,8 +115,8 @@ impl WorldCore {
         }
     }
 
-    /// An act that is ready is done at its time. Refused where there is no memory for what it can leave, and then nothing
-    /// changes.
+    /// An act that is ready is done at its time. Refused where there is no memory for what it can leave, and then
+    /// nothing changes.
     pub(crate) fn perform<F: Fate>(
         &mut self,
         timed: &Timed,

@@ -143,7 +143,8 @@ const END: u64 = SETTLED + 10_000;
 /// How many acts happen by then, at most.
 const ACTS: u32 = 1_000;
 
-/// The number of the clock that heard a frame of so many octets, and what it answered; `None` where an act told of none.
+/// The number of the clock that heard a frame of so many octets, and what it answered; `None` where an act told of
+/// none.
 fn heard(done: &Done, length: usize) -> Option<(u64, Answer)> {
     match done {
         Done::Heard {

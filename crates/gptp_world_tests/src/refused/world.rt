@@ -210,8 +210,8 @@ fn take_down(rt: &HostRuntime, world: &mut World<PcgFate>) -> Result<bool, Fail>
     Ok(change(world, again))
 }
 
-/// Whether nothing comes of octets that are injected where the link is down, and of a link that goes down again. Neither
-/// asks for memory.
+/// Whether nothing comes of octets that are injected where the link is down, and of a link that goes down again.
+/// Neither asks for memory.
 fn change_nothing_below(world: &mut World<PcgFate>, octets: Octets) -> bool {
     let inject = Change::Inject {
         clock: ClockId::from(1),

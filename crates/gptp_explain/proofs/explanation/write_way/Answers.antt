@@ -21,7 +21,7 @@ pub write_path-requires-clause-near : goal.write_path-requires-clause-near
 write_path-requires-clause-near c =
     (c.requires.choice.settled (line_of c.args.line.now) c.requires.stated.stated).near c.if-line.false
 
--- the path, and behind it the lines of all ports
+-- the path, and after it the lines of all ports
 pub returns : goal.returns
 returns c =
     let line = line_of c.args.line.now in let s = system_of (c.args.own, c.args.ports) in

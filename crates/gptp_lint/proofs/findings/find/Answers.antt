@@ -1,4 +1,4 @@
--- One link more is told of behind those before it, and in the end all are, as the law of quiet networks asks.
+-- One link more is told of after those before it, and in the end all are, as the law of quiet networks asks.
 use Rattle.std.proofs.Common.{◌≡◌, ◌++◌, ◌∷◌, ◌+◌, drop, map, ap, sym, subst, ◌∙◌}
 use Rattle.std.specs.Option.{option_to_list}
 use Rattle.std.proofs.lemmas.List.{append-nil, drop_all, drop_more}

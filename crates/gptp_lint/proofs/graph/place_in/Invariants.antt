@@ -1,4 +1,4 @@
--- It is behind those that were passed.
+-- It is after those that were passed.
 use Rattle.std.proofs.Common.{◌≡◌, ◌+◌, drop}
 use Rattle.gptp_lint.specs.Graph.{place_in}
 use Rattle.gptp_lint.proofs.graph.place_in.Given as goal

@@ -1,4 +1,4 @@
--- The system at the place is put behind those before it; there is one.
+-- The system at the place is put after those before it; there is one.
 use Rattle.std.proofs.Common.{◌++◌, ◌∷◌, [], ap, ◌∙◌, refl}
 use Rattle.std.proofs.lemmas.Result.{on_ok_weaker}
 use Rattle.gptp_scenario.specs.declared.network.SystemSpec.{SystemSpec}

@@ -1,4 +1,4 @@
--- The lines of all findings, one kind behind the other.
+-- The lines of all findings, one kind after the other.
 use Rattle.std.proofs.Common.{◌≡◌, ◌++◌, ℕ, List, Option, length, map, nat_lt, refl, subst, ap, ap₂, ◌∙◌}
 use Rattle.std.specs.Prelude.{string_bytes}
 use Rattle.std.specs.List.{AllByRecursion, flat_map}

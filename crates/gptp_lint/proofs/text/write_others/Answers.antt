@@ -1,4 +1,4 @@
--- Lines of one kind behind those of another.
+-- Lines of one kind after those of another.
 use Rattle.std.proofs.Common.{map}
 use Rattle.std.specs.Prelude.{string_bytes}
 use Rattle.std.proofs.lemmas.Result.{on_ok_weaker}

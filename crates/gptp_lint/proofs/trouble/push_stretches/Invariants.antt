@@ -1,4 +1,4 @@
--- The stretches so far, the one that has begun, and those behind it are all.
+-- The stretches so far, the one that has begun, and those after it are all.
 use Rattle.std.proofs.Common.{◌≡◌, ◌++◌, drop}
 use Rattle.gptp_lint.specs.Trouble.{stretches}
 use Rattle.gptp_lint.proofs.TroubleLemmas.{left}

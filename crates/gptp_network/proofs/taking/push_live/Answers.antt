@@ -1,4 +1,4 @@
--- The system at the place lives, and is put behind the others, or it has failed, and they are all.
+-- The system at the place lives, and is put after the others, or it has failed, and they are all.
 use Rattle.std.proofs.Common.{rules, sym, ◌∙◌}
 use Rattle.std.proofs.lemmas.Result.{on_ok_weaker}
 use Rattle.gptp_network.proofs.TakingLemmas.{live_added, live_kept}

@@ -1,4 +1,4 @@
--- The link at the place is up, and is put behind the others where both its ends live, or it is down.
+-- The link at the place is up, and is put after the others where both its ends live, or it is down.
 use Rattle.std.proofs.Common.{sym, ◌∙◌}
 use Rattle.std.proofs.lemmas.Result.{on_ok_weaker}
 use Rattle.gptp_network.specs.SnapshotTables.{seen_links, seen_systems}

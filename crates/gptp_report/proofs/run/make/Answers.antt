@@ -22,7 +22,7 @@ returns-in_err-go_on-clause-broken g c =
     let broken = c.in_err-go_on.ensures.broken in
     after_error c.from_residual.result (broken.ts, broken.o_after, inl broken.breaks, broken.observed)
 
--- behind all that is due before it
+-- after all that is due before it
 pub returns-in_err-done-clause-broken : goal.returns-in_err-done-clause-broken
 returns-in_err-done-clause-broken g c =
     let went = c.in_ok-go_on.ensures.gone in
@@ -39,7 +39,7 @@ returns-in_err-done-clause-broken g c =
           (AppendsSome old new) (all_of old new) went.observed,
     )
 
--- or behind the event
+-- or after the event
 pub returns-clause-broken : goal.returns-clause-broken
 returns-clause-broken g c =
     let went = c.in_ok-go_on.ensures.gone in let some = c.observe.ensures.some in

@@ -18,7 +18,7 @@ returns c =
     let none : length c.args.system.now.ports ≡ c.loop-port.port - 1 = grind (arith, common_steps) in
     rw none c.loop-port.invariant.1
 
--- behind the last port
+-- after the last port
 pub returns-in_ok-write_port : goal.returns-in_ok-write_port
 returns-in_ok-write_port c =
     let port = c.loop-port.port in

@@ -1,4 +1,4 @@
--- Those left, behind what was found so far, are as good as all behind what was found before.
+-- Those left, after what was found so far, are as good as all after what was found before.
 use Rattle.std.proofs.Common.{◌≡◌, drop}
 use Rattle.std.specs.Int.{int_min}
 use Rattle.std.specs.List.{cons_option, reduce}

@@ -31,7 +31,7 @@ loop-to-init g c =
       works = refl;
     })
 
--- ---- a stretch behind which another comes
+-- ---- a stretch after which another comes
 
 pub next_stretch-requires-clause-allowed : goal.next_stretch-requires-clause-allowed
 next_stretch-requires-clause-allowed g c =

@@ -1,4 +1,4 @@
--- The clock of the system at the place is put behind those before it; there is one.
+-- The clock of the system at the place is put after those before it; there is one.
 use Rattle.std.proofs.Common.{◌++◌, ◌∷◌, [], ap, ◌∙◌, refl}
 use Rattle.std.proofs.lemmas.Result.{on_ok_weaker}
 use Rattle.gptp_roles.specs.Selection.{clock_of}

@@ -1,4 +1,4 @@
--- The frame stands behind the others.
+-- The frame comes after the others.
 use Rattle.slab.specs.Slab.{get}
 use Rattle.gptp_links.specs.Flights.{flight_key}
 use Rattle.gptp_links.proofs.FlightLemmas.{changes-pushed, frames-pushed}

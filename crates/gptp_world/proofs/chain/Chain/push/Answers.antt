@@ -1,4 +1,4 @@
--- The number stands behind the others.
+-- The number comes after the others.
 use Rattle.slab.specs.Slab.{get}
 use Rattle.gptp_world.proofs.ChainLemmas.{changes-pushed, numbers-pushed}
 use Rattle.gptp_world.proofs.chain.Chain.push.Goals as goal
