@@ -253,7 +253,7 @@ module _ (now timer : ℕ) (second : Station) (frames : List AnnounceFrame) (ear
       (λ e. absurd (not_back (sym e))) (λ e. refl) j m also)
       i l at
 
-  -- the example_state is calm
+  -- the state is calm
   pub calm : Calm network (example_state now timer second frames)
   calm = record {
     facts = facts;

@@ -21,7 +21,7 @@ waits : (now later timer : ℕ) (second : Station) (frames : List AnnounceFrame)
     → MachineSteps example_says (example_state now timer second frames) (example_state later timer second frames)
 waits now later timer second frames h = inl (record { time = later; later = h; is = refl })
 
--- what the first_system system sends, and its port with the timer due at this time
+-- what the first system sends, and its port with the timer due at this time
 abbrev sent : Send
 sent = record { port = 1; octets = octets }
 
@@ -29,7 +29,7 @@ abbrev first_port : ℕ → Port
 first_port timer = record { held = Mine first_identity 0; log = pos 2; interval = 4; announce = timer }
 
 module _ (now : ℕ) (second : Station) where
-  -- the first_system system's timer expires, and it announces itself
+  -- the first system's timer expires, and it announces itself
   first_reacts : StationReacts example_says (first_system now) (Tick 1) now (first_system (4 + now)) (sent ∷ [])
   first_reacts = record {
     clock = refl;
@@ -130,7 +130,7 @@ module _ (now : ℕ) (second : Station) where
       octets_of x (inl e) = ap (λ (y : Send). y.octets) (sym e)
       octets_of x (inr none) = absurd none
 
--- the second system hears the example_frame, whatever it held before that the Announce replaces
+-- the second system hears the frame, whatever it held before that the Announce replaces
 hears : (now timer : ℕ) (second : Station) (q : Port) → second.live ≡ true → second.clock ≡ 2
     → second.ports ≡ q ∷ [] → q.interval ≡ 4 → q.held ≢ Disabled → Replaces 2 1 announce q.held
     → MachineSteps example_says (example_state now timer second (example_frame now ∷ []))
@@ -225,7 +225,7 @@ hears now timer second q live clock ports interval on replaces = inr (inl (recor
     same_said : (n : ℕ) (a : Announce) → Hear 1 announce ≡ Hear n a → a ≡ announce
     same_said n a e = cc
 
--- the example_state while the second system is lone_system, and while it follows the first_system, is calm
+-- the state while the second system is alone, and while it follows the first, is calm
 alone_calm : (now timer : ℕ) (frames : List AnnounceFrame) → now ≤ 4 → now ≤ timer → timer ≤ now + 4
     → ((f : AnnounceFrame) → In f frames → (now ≤ f.due) × (f.due ≤ now + 1))
     → Calm network (example_state now timer lone_system frames)
@@ -252,7 +252,7 @@ nothing_lapses now timer second frames none =
     none_lapses network (example_state now timer second frames) (λ i s at live.
     each_of_two (λ i (s : Station). s.lapse ≡ None) (first_system timer) second refl none i s at)
 
--- nothing is in flight, or one example_frame
+-- nothing is in flight, or one frame
 none_in_flight : (now : ℕ) (f : AnnounceFrame) → In f [] → (now ≤ f.due) × (f.due ≤ now + 1)
 none_in_flight now f h = absurd h
 
@@ -262,7 +262,7 @@ one_in_flight now due left soon f (inl e) =
     subst (λ (g : AnnounceFrame). (now ≤ g.due) × (g.due ≤ now + 1)) (sym e) (left, soon)
 one_in_flight now due left soon f (inr none) = absurd none
 
--- the first_system system announces itself, with the times worked out
+-- the first system announces itself, with the times worked out
 tells_at : (now timer due : ℕ) (second : Station) → timer ≡ 4 + now → due ≡ 1 + now
     → MachineSteps example_says (example_state now now second [])
     (example_state now timer second (example_frame due ∷ []))

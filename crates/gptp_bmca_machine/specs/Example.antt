@@ -5,7 +5,7 @@ use Rattle.gptp_bmca_machine.specs.Frame.{Announce, AnnounceFrame, Lane}
 use Rattle.gptp_bmca_machine.specs.Station.{Reception, Mine, Received, Station, MachineState}
 use Rattle.gptp_bmca_machine.specs.Network.{Network}
 
--- clocks 1 and 2, the first_system of which is better
+-- clocks 1 and 2, the first of which is better
 abbrev pub first_identity : ℕ
 first_identity = 0xf6f8fe436af80000000000000001
 
@@ -45,7 +45,7 @@ network = record {
   until = λ d p. 27;
 }
 
--- what the first_system system announces, and the octets that say so; no others say anything
+-- what the first system announces, and the octets that say so; no others say anything
 abbrev pub announce : Announce
 announce = record { root = first_identity; steps = 0; source = port_of 1 1; log = pos 2; path = 1 ∷ [] }
 
@@ -55,7 +55,7 @@ octets = 11 ∷ []
 abbrev pub example_says : List ℕ → Announce → Type 0
 example_says text a = (text ≡ octets) × (a ≡ announce)
 
--- a system of one port that knows of itself lone_system, whose Announce timer is due at this time
+-- a system of one port that knows of itself alone, whose Announce timer is due at this time
 abbrev pub lone : ℕ → ℕ → ℕ → Station
 lone clock identity timer = record {
   live = true;
@@ -72,14 +72,14 @@ lone clock identity timer = record {
   lapse = None;
 }
 
--- the first_system system is such a one always, and the second while it has heard_at nothing
+-- the first system is such a one always, and the second while it has heard nothing
 abbrev pub first_system : ℕ → Station
 first_system timer = lone 1 first_identity timer
 
 abbrev pub lone_system : Station
 lone_system = lone 2 second_identity 4
 
--- what the second system received at this time, and how it follows the first_system then
+-- what the second system received at this time, and how it follows the first then
 abbrev pub heard_at : ℕ → Reception
 heard_at at = record { said = announce; at = at; span = 8 }
 
@@ -99,18 +99,18 @@ following at = record {
   lapse = None;
 }
 
--- the example_frame that is due at this time
+-- the frame that is due at this time
 abbrev pub example_frame : ℕ → AnnounceFrame
 example_frame due = record { due = due; octets = octets }
 
--- the two directions of the link, of which only the one from the first_system to the second carries frames
+-- the two directions of the link, of which only the one from the first to the second carries frames
 abbrev pub lane_out : List AnnounceFrame → Lane
 lane_out frames = record { from = port_of 1 1; to = port_of 2 1; loss = 0; is_up = true; frames = frames }
 
 abbrev pub lane_back : Lane
 lane_back = record { from = port_of 2 1; to = port_of 1 1; loss = 0; is_up = true; frames = [] }
 
--- a example_state: the time, the two systems, and what is in flight
+-- a state: the time, the two systems, and what is in flight
 abbrev pub example_state : ℕ → ℕ → Station → List AnnounceFrame → MachineState
 example_state now timer second frames = record {
   time = now;
@@ -118,9 +118,9 @@ example_state now timer second frames = record {
   lanes = lane_out frames ∷ lane_back ∷ [];
 }
 
--- An Announce was heard_at last at this time. The next is sent three later and heard_at one after that: the moment of
+-- An Announce was heard last at this time. The next is sent three later and heard one after that: the moment of
 -- the
--- timer comes, the first_system system announces itself, the moment of the example_frame comes, the second hears it.
+-- timer comes, the first system announces itself, the moment of the frame comes, the second hears it.
 abbrev pub example_turn : ℕ → List MachineState
 example_turn at =
     example_state (3 + at) (3 + at) (following at) []
@@ -134,7 +134,7 @@ abbrev pub turns : ℕ → ℕ → List MachineState
 turns at zero = []
 turns at (suc count) = example_turn at ++ turns (4 + at) count
 
--- The second system hears of the first_system for the first_system time at 2.
+-- The second system hears of the first for the first time at 2.
 abbrev pub opening : List MachineState
 opening =
     example_state 1 1 lone_system []
@@ -143,7 +143,7 @@ opening =
     ∷ example_state 2 5 (following 2) []
     ∷ []
 
--- at time 0 both systems know of themselves lone_system
+-- at time 0 both systems know of themselves alone
 abbrev pub begin : MachineState
 begin = example_state 0 1 lone_system []
 

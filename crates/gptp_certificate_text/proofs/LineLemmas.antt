@@ -1,4 +1,4 @@
--- Single lines: each is spelled_line in one way, by words.
+-- Single lines: each is spelled in one way, by words.
 use Rattle.std.proofs.Common.{◌≡◌, ◌≢◌, ℕ, zero, suc, ◌+◌, ◌<◌, ◌≤◌, ◌==◌, ◌%◌, ◌/◌, ◌^◌, Bool, true, false, not, if◌then◌else◌, List, [], ◌∷◌, ◌++◌, length, codes, inl, inr, refl, sym, ap, subst, ◌∙◌, arith}
 use Rattle.std.specs.Prelude.{Option, Some, None, Result, Ok, Err, IfErr, IfNone, OnErr, decimal, get_or, slice_index}
 use Rattle.std.specs.List.{list_all}
@@ -159,7 +159,7 @@ parent_spelled (Some link) r = record {
   port = decimal_word link.port r.port.most;
 }
 
--- a line that can be read is spelled_line by words
+-- a line that can be read is spelled by words
 pub entry_words : (version : ℕ) (entry : LineKey) → IsReadableEntry version entry → HasWords (spelled_line entry)
 entry_words version (SystemEntry clock root steps true parent) r = record {
   clock = digits_word 8 clock (omega arith);
@@ -212,7 +212,7 @@ pub unfit : (version : ℕ) (after_far : Bool) (line : List ℕ) (form : Form) �
 unfit version after_far line form words is no_fit h =
     no_fit (subst (FitsHere version after_far) (one_form h.form form h.words words (sym h.is ∙ is)) h.fits)
 
--- no entry is spelled_line by these words of a system
+-- no entry is spelled by these words of a system
 pub no_system : (version : ℕ) (words : SystemWords)
     → ((version clock root steps : ℕ) (parent : Option ParentLink)
     → IsReadableEntry version (SystemEntry clock root steps false parent)

@@ -34,13 +34,13 @@ far_words clock root steps = record { clock = clock_text clock; steps = decimal 
 abbrev pub port_words : ℕ → PortLine → PortWords
 port_words clock port = record { clock = clock_text clock; number = decimal port.number; role = port.role }
 
--- how a line is spelled_line
+-- how a line is spelled
 abbrev pub spelled_line : LineKey → Form
 spelled_line (SystemEntry clock root steps true parent) = FarForm (far_words clock root steps)
 spelled_line (SystemEntry clock root steps false parent) = SystemForm (system_words clock root steps parent)
 spelled_line (PortEntry clock port) = PortForm (port_words clock port)
 
--- a line, as it is spelled_line
+-- a line, as it is spelled
 abbrev pub entry_text : LineKey → List ℕ
 entry_text entry = form_text (spelled_line entry)
 

@@ -23,7 +23,7 @@ abbrev pub nearest_rate : ℤ → ℤ
 nearest_rate z = int_max (negsuc 2147483647) (int_min z (pos 2147483647))
 
 -- The same with another rate: the one whose sum with the neighbour's rate is held at the limits of Integer32. Where the
--- sum of the rate sync_received is an Integer32 nothing changes (profile).
+-- sum of the rate received is an Integer32 nothing changes (profile).
 abbrev pub held_sum : SyncInfo → ℤ → SyncInfo
 held_sum s neighbour = record s { rate = nearest_rate (s.rate +ℤ neighbour) -ℤ neighbour }
 

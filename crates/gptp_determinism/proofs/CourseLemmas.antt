@@ -36,7 +36,7 @@ use Rattle.gptp_determinism.proofs.SendLemmas.{draws_once}
 
 -- ---- the next act
 
--- the first pending_entry that is due at a time
+-- the first entry that is due at a time
 first_at : ℕ → List Entry → Option Item
 first_at time [] = None
 first_at time (e ∷ es) = if e.time == time then Some e.item else first_at time es

@@ -64,7 +64,7 @@ pub turns_exists : (p : ℕ) (step : PeerState → PeerState) (now : ℕ) (s : S
     → (t : SystemState) × (sends : List Sending) × Turns p step now s t sends
 turns_exists p step now s = turns_if_exists (is_turned step (number s.ports p)) p step now s
 
--- and the port port_asks then
+-- and the port asks then
 pub asks_exists : (p : ℕ) (step : PeerState → PeerState) (now : ℕ) (s : SystemState)
     → (t : SystemState) × (sends : List Sending) × TurnsAndAsks p step now s t sends
 asks_exists p step now s =

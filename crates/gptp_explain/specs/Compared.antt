@@ -8,7 +8,7 @@ use Rattle.gptp_vector.specs.declared.port.PortId.{PortId}
 use Rattle.gptp_explain.specs.declared.compared.Compared.{Compared}
 use Rattle.gptp_explain.specs.declared.compared.Compared.TheVariants.{Priority1, Class, Accuracy, Variance, Priority2, Clock, Steps, Source, SourcePort}
 
--- an identity_octet of an identity by its place from 0, the most significant first (IEEE 802.1AS-2020, 10.3.2)
+-- an octet of an identity by its place from 0, the most significant first (IEEE 802.1AS-2020, 10.3.2)
 abbrev pub identity_octet : ℕ → ℕ → ℕ
 identity_octet place identity = slice_index (big_bytes 14 identity) place
 

@@ -121,7 +121,7 @@ module _ (parts part count : ℕ) where
 
 module _ (d : DocumentState) (t : Times) (planned : List Planned) (parts part count : ℕ)
     (tried : List OutcomeState) (so_far : Each (IsOutcomeAt d t planned) (case_numbers parts part count) tried) where
-  -- a case more that is_of_part to the part was tried
+  -- a case more that belongs to the part was tried
   pub case_tried : is_of_part parts part count ≡ true → (o : OutcomeState) → IsOutcomeAt d t planned count o
       → Each (IsOutcomeAt d t planned) (case_numbers parts part (count + 1)) (tried ++ o ∷ [])
   case_tried is o outcome =

@@ -21,7 +21,7 @@ use Rattle.gptp_faults.proofs.OutcomeLemmas.{no_number, one_number}
 
 -- ---- how many there are
 
--- one number more, which is_of_part to the part or doesn't
+-- one number more, which belongs to the part or doesn't
 pub part_more : (parts part number : ℕ) (test : Bool) → is_of_part parts part number ≡ test
     → length (case_numbers parts part (number + 1)) ≡ length (case_numbers parts part number) + cond test 1 0
 part_more parts part number true is =

@@ -96,7 +96,7 @@ worst_amount e Without = Some e.counts.without
 worst_amount e Roots = Some e.counts.roots
 worst_amount e Alone = Some e.counts.alone
 
--- the first limit that it exceeds_limit
+-- the first limit that it exceeds
 abbrev pub exceeded_by : Limits → Extremes → Option Limit
 exceeded_by limits e = first_exceeded limits (worst_amount e) all_limits
 

@@ -43,7 +43,7 @@ pub record IsOutcome (d : DocumentState) (t : Times) (number : ℕ) (p : Planned
 
 -- ---- the cases of a part
 
--- a case by its number is_of_part to this part of so many, from 1
+-- a case by its number belongs to this part of so many, from 1
 abbrev pub is_of_part : ℕ → ℕ → ℕ → Bool
 is_of_part parts part number = number % parts + 1 == part
 

@@ -1,4 +1,4 @@
--- Cases in the outcome_order in which they are told (profile).
+-- Cases in the order in which they are told (profile).
 use Rattle.std.specs.Prelude.{ℕ, Bool, List, [], ◌∷◌, Option, Some, None}
 use Rattle.std.specs.List.Sorted.{IsPermutation, IsSortedBy, IsStableBy}
 use Rattle.std.specs.declared.cmp.Ordering.{Ordering}
@@ -37,7 +37,7 @@ worst_of o = greatest_of_two o.down o.back
 abbrev pub is_worse : OutcomeState → OutcomeState → Bool
 is_worse a b = is_lt (outcome_order (worst_of b) (worst_of a))
 
--- outcomes in the outcome_order in which they are told: the worst first, and of equals the first
+-- outcomes in the order in which they are told: the worst first, and of equals the first
 pub record OutcomesAreRanked (outcomes told : List OutcomeState) : Type 0 where
   pub same : IsPermutation outcomes told
   pub worst_first : IsSortedBy is_worse told

@@ -33,7 +33,7 @@ use Rattle.gptp_invariants.proofs.ChoicePlaceLemmas.{IsPortAt, port_from, port_t
 
 -- ---- what is received after a touch
 
--- what a property of the old reception and of what is heard says_announce of the new one
+-- what a property of the old reception and of what is heard says of the new one
 heard_received : (P : Reception → Type 0) (c n now : ℕ) (a : AnnounceView) (h mid : Held)
     → ((r : Reception) → received h ≡ Some r → P r)
     → P (reception a (record { clock = c; port = n }) now) → HeardAs (record { clock = c; port = n }) a now h mid
@@ -88,7 +88,7 @@ seen_kept keep (helds.Mine root steps) (inl off) = absurd cc
 seen_kept keep (helds.Mine root steps) (inr (r, is)) = none-some r is
 seen_kept keep (helds.Received r) kept = tt
 
--- each Announce that is sent says_announce something
+-- each Announce that is sent says something
 abbrev pub AreRead : SystemState → List Sending → Type 0
 AreRead s sends = (x : Sending) → In x sends → IsAnnounce x.body
     → (a : Announce) × says_announce (send_view s x).octets a
@@ -147,7 +147,7 @@ module _ (s' : SystemState) (sends : List Sending) (read : AreRead s' sends) whe
 
 -- ---- all ports
 
--- what is sent says_announce an Announce only where it is one, and the system's own
+-- what is sent says an Announce only where it is one, and the system's own
 abbrev pub AreOwn : Bool → SystemState → List Sending → Type 0
 AreOwn live s sends = (x : Sending) (a : Announce) → In x sends → says_announce (send_view s x).octets a
     → IsOwn (system_view live s) x.port a × IsMasterAt (system_view live s) x.port

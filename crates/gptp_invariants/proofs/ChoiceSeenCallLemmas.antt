@@ -72,7 +72,7 @@ module _ (place : ℕ) (input : Input) (w : WorldState) (draws : List Draw) (ans
       let most = its.few in
       omega arith
 
-  -- what it sends says_announce what fits
+  -- what it sends says what fits
   pub call_sends_fit : (x : Sending) → In x k.sends → SayWhatFits (written k.after x)
   call_sends_fit =
       sends_fit k.after (rest_fits k.after after_fits after_steady.held after_steady.rest) few_ports after_steady.shown

@@ -193,7 +193,7 @@ module _ (at : LinkPlace) (place p : ℕ) (w : WorldState) (draws : List Draw) (
     | inr left ↦ ap waits_view left.1
   ]
 
-  -- another port comes up than the one that reads_as_request: others send
+  -- another port comes up than the one that asks: others send
   module _ (other : at.asking ≡ place → (sender at.direction l.channel).port ≢ p) where
     asks_on : AsksAsBefore (interval_of l.asking.station.setup.params.pdelay) (measure_at l.asking.state)
         (measure_at up_step.after.asking.state)
@@ -229,7 +229,7 @@ module _ (at : LinkPlace) (place p : ℕ) (w : WorldState) (draws : List Draw) (
       };
     }
 
-  -- the port that reads_as_request comes up: it sends its first request
+  -- the port that asks comes up: it sends its first request
   module _ (here : at.asking ≡ place) (port_is : (sender at.direction l.channel).port ≡ p) where
     abbrev now : ℕ
     now = w.time
@@ -375,7 +375,7 @@ module _ (at : LinkPlace) (place p : ℕ) (w : WorldState) (draws : List Draw) (
 -- ---- other ports come up
 
 -- a link that came up: no request is in flight to the port that answers, nothing waits there, and no reply is in flight
--- to the port that reads_as_request
+-- to the port that asks
 pub record IsReady (at : LinkPlace) (time port : ℕ) (w : WorldState) : Type 0 where
   pub link : IsLinkOf at w
   pub orderly : IsOrderly w

@@ -251,7 +251,7 @@ module _ (p : SettlingParams) (at : LinkPlace) (w : WorldState) (sound : IsSound
     ready_port : (port : ℕ) → (sender at.direction s.channel).port ≡ port → IsReady at w.time port brought
     ready_port port is = subst (λ n. IsReady at w.time n brought) is ready
 
-    -- the end a reads_as_request
+    -- the end a asks
     from_a : at.direction ≡ FromA → IsFirstAt w.time at w'
     from_a is = second k.at_b
       where
@@ -273,7 +273,7 @@ module _ (p : SettlingParams) (at : LinkPlace) (w : WorldState) (sound : IsSound
             (of_b c.station c.here) (λ same. absurd (s.apart (same ∙ sym places.1))) first).first
         second (inr (failed, none, same)) = subst (IsFirstAt w.time at) (sym same) first.first
 
-    -- the end b reads_as_request
+    -- the end b asks
     from_b : at.direction ≡ FromB → IsFirstAt w.time at w'
     from_b is = second k.at_b
       where

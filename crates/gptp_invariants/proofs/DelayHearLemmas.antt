@@ -1,4 +1,4 @@
--- What a port makes of octets that it hears, as one that reads_as_request and as one that answers.
+-- What a port makes of octets that it hears, as one that asks and as one that answers.
 use Rattle.std.proofs.Common.{◌≡◌, ◌≢◌, ◌⊎◌, ◌*◌, ℕ, ℤ, ◌-ℤ◌, pos, int_le, Bool, true, List, Some, None, refl, sym, ap, subst, ◌∙◌, inl, inr, eq-eqb, rules}
 use Rattle.std.specs.Prelude.{if◌then◌else◌, ◌==◌}
 use Rattle.std.specs.Option.{option_map_or}
@@ -92,7 +92,7 @@ module _ (k : Setting) (s : SystemState) (now : ℕ) (octets : List ℕ) (x x' :
       go (inl (m, reads, is)) = by m reads
       go (inr (none, is)) = inl (λ request said. none (messages.PdelayReq said.0) said.1, ap waits_view is)
 
--- ---- as one that reads_as_request
+-- ---- as one that asks
 
 -- a delay within the threshold passes the test
 is_at_most : (threshold : ℕ) (delay : ℤ) → IsWithinThreshold threshold delay

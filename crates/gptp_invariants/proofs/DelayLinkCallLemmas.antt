@@ -1,4 +1,4 @@
--- A call, seen at a link: what becomes of the two lanes, of the port that reads_as_request and of the port that
+-- A call, seen at a link: what becomes of the two lanes, of the port that asks and of the port that
 -- answers.
 use Rattle.std.proofs.Common.{◌≡◌, ◌≢◌, ◌⊎◌, ◌+◌, ◌≤◌, ℕ, Bool, true, false, List, [], ◌∷◌, ◌++◌, map, refl, sym, ap, subst, ◌∙◌, inl, inr, eqb-true, eq-eqb}
 use Rattle.std.specs.Prelude.{if◌then◌else◌, ◌==◌}
@@ -48,7 +48,7 @@ same_pdelay p q e = cc
 same_respond : (p q : ℕ) → timers.Respond p ≡ timers.Respond q → p ≡ q
 same_respond p q e = cc
 
--- what a timer makes of a port that reads_as_request: its own Pdelay timer sends the next request, and any other leaves
+-- what a timer makes of a port that asks: its own Pdelay timer sends the next request, and any other leaves
 -- what it
 -- asked
 pub asker_timer : (s : SystemState) (now period : ℕ) (timer : Timer) (n : ℕ) (x x' : Part)
@@ -151,7 +151,7 @@ module _ {at : LinkPlace} {place : ℕ} {input : Input} {w w' : WorldState} {l :
   abbrev news : Direction → List Frame
   news = step.grows.news
 
-  -- what is seen of the port that reads_as_request
+  -- what is seen of the port that asks
   pub asker_is : (pair at w' step.after).asker ≡ asker_view period (measure_at step.after.asking.state)
   asker_is =
       ap (λ (x : Setup). asker_view (interval_of x.params.pdelay) (measure_at step.after.asking.state)) step.period
@@ -200,7 +200,7 @@ module _ {at : LinkPlace} {place : ℕ} {input : Input} {w w' : WorldState} {l :
       → AreMute says (map link_frame_view fs)
   none_mute says fs none f member = absurd (subst (λ gs. In f (map link_frame_view gs)) none member)
 
-  -- what is sent to the port that answers reads_as_request nothing, unless the other's Pdelay timer expires
+  -- what is sent to the port that answers asks nothing, unless the other's Pdelay timer expires
   pub out_mute : (at.asking ≡ place → input ≢ Expires (timers.Pdelay (sender at.direction l.channel).port))
       → (at.asking ≡ place → input ≢ PortUp (sender at.direction l.channel).port)
       → AreMute reads_as_request (map link_frame_view (news at.direction))
@@ -216,7 +216,7 @@ module _ {at : LinkPlace} {place : ℕ} {input : Input} {w w' : WorldState} {l :
       step.grows.said (other_direction at.direction)
       ∙ ap (λ p. said_at s' p sends) (sender_opposite at.direction l.channel)
 
-  -- what is sent to the port that reads_as_request is no reply, unless the other's Respond timer expires
+  -- what is sent to the port that asks is no reply, unless the other's Respond timer expires
   pub back_mute : (at.answering ≡ place → input ≢ Expires (timers.Respond (receiver at.direction l.channel).port))
       → AreMute reads_as_reply (map link_frame_view (news (other_direction at.direction)))
   back_mute timer = elim (same_place at.answering place) [

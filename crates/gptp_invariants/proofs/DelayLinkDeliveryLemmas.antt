@@ -1,4 +1,4 @@
--- A delivery, seen at a link: the port that reads_as_request hears, the port that answers hears, or others send.
+-- A delivery, seen at a link: the port that asks hears, the port that answers hears, or others send.
 use Rattle.std.proofs.Common.{◌≡◌, ◌≢◌, ◌+◌, ◌≤◌, ℕ, Bool, true, false, List, [], ◌∷◌, ◌++◌, map, Option, Some, None, slice_get, slice_set, refl, sym, ap, subst, ◌∙◌, inl, inr, eq-eqb, eqb-true}
 use Rattle.std.specs.Prelude.{if◌then◌else◌, ◌==◌}
 use Rattle.std.proofs.lemmas.List.{append-nil, map-append}
@@ -328,7 +328,7 @@ module _ (link : ℕ) (direction : Direction) (octets : List ℕ) (w : WorldStat
             mute = back_mute step (λ same e. absurd cc);
           }
 
-        -- ---- at the port that reads_as_request
+        -- ---- at the port that asks
 
         module _ (way : direction ≡ other_direction at.direction) where
           port_asks : port ≡ sender at.direction l.channel

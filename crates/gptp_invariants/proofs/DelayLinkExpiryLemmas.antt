@@ -119,7 +119,7 @@ module _ (at : LinkPlace) (place : ℕ) (timer : Timer) (w : WorldState) (draws 
       sym (is ∙ ap (λ (x : SystemState). option_and_then f (number x.ports port.port)) (one_system port other e same)
       ∙ ap (option_and_then f) e.there) ∙ expires_due place timer w draws w' k
 
-  -- ---- the Pdelay timer of the port that reads_as_request
+  -- ---- the Pdelay timer of the port that asks
 
   module _ (here : at.asking ≡ place) (timer_is : timer ≡ timers.Pdelay asker_port.port)
       (part : measure_at step.after.asking.state
@@ -289,7 +289,7 @@ module _ (at : LinkPlace) (place : ℕ) (timer : Timer) (w : WorldState) (draws 
 
   -- ---- any timer
 
-  -- what becomes of the port that reads_as_request
+  -- what becomes of the port that asks
   asker_becomes : ((at.asking ≡ place) × (timer ≡ timers.Pdelay asker_port.port)
       × (measure_at step.after.asking.state
       ≡ part_asked l.asking.station.system w.time after_interval (measure_at l.asking.state)))

@@ -272,7 +272,7 @@ module _ (s s' : SystemState) (p now : ℕ) (owed : Owed) (sends : List Sending)
   abbrev answered_request : Request
   answered_request = request_from owed.requester owed.sequence
 
-  -- what the port sends as pdelay_response and as follow-up
+  -- what the port sends as response and as follow-up
   abbrev first : Sending
   first = pdelay_response (own s p) owed sent.came sent.came-rest
 
@@ -310,7 +310,7 @@ module _ (s s' : SystemState) (p now : ℕ) (owed : Owed) (sends : List Sending)
         requester = fits.from;
       }))
 
-  -- the frames of the port are the pdelay_response and after it the follow-up
+  -- the frames of the port are the response and after it the follow-up
   pub sends_answer : FirstIs reads_as_reply
       (λ (f : SeenFrame). reads_as_reply f.octets (Response (link_identity (own s p)) answered_request owed.t2))
       (FirstIs reads_as_reply

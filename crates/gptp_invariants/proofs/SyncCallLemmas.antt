@@ -109,7 +109,7 @@ relays_held (Some info) now s s' sends k = relays_held_by (has_sync_timeout s.pa
 
 -- ---- what a system follows
 
--- one without a Slave port follows itself, and is_leading where it may
+-- one without a Slave port follows itself, and leads where it may
 leads_itself : (s : SystemState) → IsSteady s → s.slave ≡ None → MayLead s.root → is_leading s ≡ true
 leads_itself s steady none may = by (follows s steady.held steady.rest)
   where

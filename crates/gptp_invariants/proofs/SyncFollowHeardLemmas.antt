@@ -39,7 +39,7 @@ put_unmoved time direction old new x x' k = record {
 abbrev pub RelaysInTime : SystemState → ℕ → ℕ → Type 0
 RelaysInTime x now residence = (due : ℕ) → x.relay ≡ Some due → IsByMost now due residence
 
--- the Sync that is seen to be kept_at_ingress
+-- the Sync that is seen to be kept
 record IsSeenKept (x : SystemState) (source : PortIdentity) (sequence : ℕ) (ingress : ℤ) : Type 0 where
   sync : KeptInSystem
   keeps : x.sync_in ≡ Some sync

@@ -122,7 +122,7 @@ module _ (p : SettlingParams) (settled longest : ℕ) (w : WorldState) (is : IsS
   above_settled : (at : LinkPlace) (f : IsFollower at w) → IsSettledSystem g (state_above at w f)
   above_settled at f = is.choice at.asking f.above.station f.above.here f.above.live (above_near at f)
 
-  -- one that is_leading has no parent
+  -- one that leads has no parent
   leads_alone : (at : LinkPlace) (f : IsFollower at w) → is_leading (state_above at w f) ≡ true → (l : ParentLink)
       → IsParent g (clock (state_above at w f)) l → ⊥
   leads_alone at f leading l follows =
@@ -145,7 +145,7 @@ pub record TellsRight (k : FollowerSetting) (now : ℕ) (s : SystemState) (sends
   pub right : from k ≤ now + (followers.parent_link k).most → FollowUpIsRight k.way k.phase k.place told now
   pub fits : from k ≤ now + (followers.parent_link k).most → ToldFits told
 
--- its own time, where it is_leading
+-- its own time, where it leads
 pub leader_right : (p : SettlingParams) (settled longest : ℕ) (w : WorldState) → IsSettledFrom p settled longest w
     → (at : LinkPlace) (f : IsFollower at w) (steps : ℕ) (h : HasWay p.params at w f steps) (s' : SystemState)
     (sends : List Sending) → is_leading (state_above at w f) ≡ true → LeadsTime w.time (state_above at w f) s' sends

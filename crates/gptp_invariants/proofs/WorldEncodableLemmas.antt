@@ -35,7 +35,7 @@ pub set_fits : (channels : List Channel) (place : ℕ) (old new : Channel) → s
     → ChannelFits new → LinksFit channels → LinksFit (slice_set channels place new)
 set_fits channels place old new here is fit = get-set_all ChannelFits channels place old new here is fit
 
--- all in a world_queue says what fits
+-- all in a queue says what fits
 abbrev FramesFit : List Frame → Type 0
 FramesFit frames = (f : Frame) → In f frames → SayWhatFits f.octets
 

@@ -45,7 +45,7 @@ use Rattle.gptp_lists.proofs.SystemSpecLemmas.{from_map, In-map}
 
 -- ---- one system
 
--- what a steady system says_announce goes on what it holds
+-- what a steady system says goes on what it holds
 may_say : (g : Snapshot) (station : Station) → IsSteady station.system → In (standing_system station) g.systems
     → MaySay g (station_view station)
 may_say g station steady known =

@@ -35,7 +35,7 @@ use Rattle.gptp_bmca_machine.specs.Touch as touches
 abbrev pub port_identity_number : PortId → PortIdentity
 port_identity_number p = port_of p.clock p.port
 
--- what an Announce says_announce of the root, the way to it, and the interval of its sender (IEEE 802.1AS-2020, 10.6.3)
+-- what an Announce says of the root, the way to it, and the interval of its sender (IEEE 802.1AS-2020, 10.6.3)
 abbrev pub said : AnnounceView → Announce
 said a = record {
   root = a.body.root;

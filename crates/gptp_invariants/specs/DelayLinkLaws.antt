@@ -50,7 +50,7 @@ DeliveriesAreActs = (at : LinkPlace) (link : ℕ) (direction : Direction) (octet
     → IsSound w → Delivers link direction octets w draws answer w'
     → IsOneAct at w w' l
 
--- the Pdelay timer of the port that reads_as_request sends a request, and the Respond timer of the port that answers an
+-- the Pdelay timer of the port that asks sends a request, and the Respond timer of the port that answers an
 -- answer
 abbrev pub RequestTimersAsk : Type 0
 RequestTimersAsk = (at : LinkPlace) (w w' : WorldState) (draws : List Draw) (l : IsLinkOf at w)
@@ -63,7 +63,7 @@ AnswerTimersAnswer = (at : LinkPlace) (w w' : WorldState) (draws : List Draw) (l
     → IsSeenAtLink (λ k m m'. AnswerTimerExpires k reads_as_request reads_as_reply m.pair m'.pair) at w w' l
 
 -- a frame that is delivered on this link in this direction is heard by the port that answers, and one in the other by
--- the port that reads_as_request
+-- the port that asks
 abbrev pub AnswerersHear : Type 0
 AnswerersHear = (at : LinkPlace) (octets : List ℕ) (w w' : WorldState) (draws : List Draw) (answer : Option Answer)
     (l : IsLinkOf at w)

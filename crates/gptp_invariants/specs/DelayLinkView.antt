@@ -82,7 +82,7 @@ progress_view (progresses.Answered request response) =
 abbrev pub asked_at : ℕ → Option ℕ → ℕ
 asked_at period due = option_map_or (λ t. t - period) due 0
 
--- a port, as one that reads_as_request
+-- a port, as one that asks
 abbrev pub asker_view : ℕ → Part → Asker
 asker_view period x = record {
   asked = asked_at period x.pdelay;
@@ -137,7 +137,7 @@ setting_view direction channel asking answering = record {
   answering_clock = local_clock answering.phase answering.drift;
 }
 
--- the two ports and the lanes between them, where the asking port reads_as_request at this interval
+-- the two ports and the lanes between them, where the asking port asks at this interval
 abbrev pub pair_view : ℕ → ℕ → Direction → Channel → Part → Part → Pair
 pair_view time period direction channel asking answering = record {
   time = time;
@@ -166,7 +166,7 @@ pub record IsMeasuring (params : Params) (port : PortId) (x : Part) : Type 0 whe
   pub allowed : x.peer.allowed ≡ params.lost
   pub threshold : x.peer.threshold ≡ params.threshold
   pub next : x.peer.next < 2 ^ 16
-  pub reads_as_request : (due : ℕ) → x.pdelay ≡ Some due → interval_of params.pdelay ≤ due
+  pub asks : (due : ℕ) → x.pdelay ≡ Some due → interval_of params.pdelay ≤ due
   pub owes : (due : ℕ) → x.respond ≡ Some due
       → (owed : Owed) × (x.peer.waiting ≡ Some owed) × RequestFits owed.requester owed.sequence
 
@@ -216,7 +216,7 @@ pair at w l =
     pair_view w.time (interval_of l.asking.station.setup.params.pdelay) at.direction l.channel
     (measure_at l.asking.state) (measure_at l.answering.state)
 
--- with the last measurement of the port that reads_as_request
+-- with the last measurement of the port that asks
 abbrev pub meter : (at : LinkPlace) (w : WorldState) → IsLinkOf at w → Meter
 meter at w l = record { pair = pair at w l; last = l.asking.state.peer.last }
 

@@ -6,7 +6,7 @@ use Rattle.gptp_model.specs.World.{WorldState}
 use Rattle.gptp_invariants.specs.DelayLinkView.{IsLinkOf, LinkPlace, reads_as_request, least_delay, meter, pair, reads_as_reply, link_setting}
 
 -- old frames are gone at one time, and exchanges from the other on find nothing old; what is due is known, how far the
--- exchanges are, and what the port that reads_as_request has measured by them
+-- exchanges are, and what the port that asks has measured by them
 pub record IsWatched (gone calm : ℕ) (at : LinkPlace) (w : WorldState) : Type 0 where
   pub link : IsLinkOf at w
   pub good : IsGood (link_setting at w link) gone calm

@@ -495,7 +495,7 @@ linked-turned s one other h =
       room = omega (arith, room);
     }
 
--- frames of the first_frame direction came or went
+-- frames of the first direction came or went
 pub linked-changed : (s t : Slab Flight) (one after other : Lane) → FlightsAreLinked s one other
     → ChangesOneDirection s t one after
     → after.count ≤ after.limit → FlightsAreLinked t after other

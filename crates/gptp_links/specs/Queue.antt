@@ -9,7 +9,7 @@ pub record Frame : Type 0 where
   pub due : ℕ
   pub octets : List ℕ
 
--- the frames in flight, oldest first_frame, and how many more can be sent without being refused
+-- the frames in flight, oldest first, and how many more can be sent without being refused
 pub record Queue : Type 0 where
   pub frames : List Frame
   pub room : ℕ

@@ -85,7 +85,7 @@ pub record IsSecond (g : Snapshot) (a b : ℕ) : Type 0 where
   pub other : b ≢ a
   pub least : (s : System) → In s g.systems → IsBestIdentity g s.clock a → s.identity ≢ a → b ≤ s.identity
 
--- an octet_at of an identity by its place from 0, the most significant first: six, and then the eight of the clock
+-- an octet of an identity by its place from 0, the most significant first: six, and then the eight of the clock
 -- (IEEE 802.1AS-2020, 10.3.2)
 abbrev pub octet_at : ℕ → ℕ → ℕ
 octet_at place identity = slice_index (bytes_high_first 14 identity) place

@@ -15,7 +15,7 @@ abbrev pub relabelled : ℕ → ℕ → Label → Label
 relabelled old new l =
     if l.best == old then record { identity = l.identity; lives = l.lives; best = new } else l
 
--- those that have these bests have the better_label one
+-- those that have these bests have the better one
 abbrev pub united : ℕ → ℕ → List Label → List Label
 united one other ls =
     if nat_lt one other then map (relabelled other one) ls
@@ -53,7 +53,7 @@ best_at l = if l.lives && (l.best == l.identity) then l.identity ∷ [] else []
 abbrev pub bests_in : List Label → List ℕ
 bests_in = flat_map best_at
 
--- the better_label one
+-- the better one
 abbrev pub better_label : ℕ → Option ℕ → ℕ
 better_label id None = id
 better_label id (Some other) = if nat_lt id other then id else other

@@ -72,7 +72,7 @@ agrees_but place w agrees = record {
 abbrev pub replaced : ℕ → Station → WorldState → WorldState
 replaced place station w = record (with_station place station w) { net = all_timers place station w.net }
 
--- it has as many ports as the one before, whose timers may have been pending at any times_of_item
+-- it has as many ports as the one before, whose timers may have been pending at any times
 pub replaced_agrees : (place : ℕ) (w : WorldState) (old new : Station) → slice_get w.stations place ≡ Some old
     → length new.system.ports ≡ length old.system.ports → AgreesBut place w → Agrees (replaced place new w)
 replaced_agrees place w old new here count but (Arrival link direction) =
@@ -151,7 +151,7 @@ relinked_agrees place w old new es here own only agrees (Arrival link direction)
         only.arrivals link direction apart ∙ agrees (Arrival link direction)
         ∙ sym (ap (arriving direction) (get-set_other w.net.channels place link new apart))
 
--- what is pending in both directions where the world_queue of one has changed
+-- what is pending in both directions where the queue of one has changed
 both_ways : (place : ℕ) (direction way : Direction) (channel : Channel) (frames : List Frame) (es es' : List Entry)
     → times_of_item (Arrival place direction) es' ≡ dues frames
     → ((i : Item) → same_item i (Arrival place direction) ≡ false → times_of_item i es' ≡ times_of_item i es)

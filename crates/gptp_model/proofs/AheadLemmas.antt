@@ -78,7 +78,7 @@ pub queue_bounds : (direction : Direction) (frames : List Frame) (channel : Chan
 queue_bounds FromA frames channel = refl
 queue_bounds FromB frames channel = refl
 
--- the world_queue of a link becomes another
+-- the queue of a link becomes another
 pub requeued_fit : (channels : List Channel) (place : ℕ) (direction : Direction) (frames : List Frame)
     (channel : Channel)
     → slice_get channels place ≡ Some channel → AreFit channels

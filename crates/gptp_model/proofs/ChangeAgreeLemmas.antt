@@ -160,7 +160,7 @@ silent_agrees w failed idle none (Arrival link direction) = by (slice_get w.net.
 
 -- ---- what a system starts with
 
--- another stands for a system, with the same timers at the same times_of_item
+-- another stands for a system, with the same timers at the same times
 pub same_due_agrees : (place : ℕ) (w : WorldState) (old new : Station) → slice_get w.stations place ≡ Some old
     → ((timer : Timer) → station_due timer new ≡ station_due timer old) → Agrees w → Agrees (with_station place new w)
 same_due_agrees place w old new here same agrees (Arrival link direction) = agrees (Arrival link direction)

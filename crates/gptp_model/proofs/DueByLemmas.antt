@@ -17,7 +17,7 @@ use Rattle.gptp_model.proofs.PendingLemmas.{same_times-refl, times-set_due_other
 use Rattle.gptp_model.proofs.TimerLemmas.{same_timer}
 
 module _ (time : ℕ) where
-  -- whether an pending_entry is counted
+  -- whether an entry is counted
   abbrev one : Entry → ℕ
   one e = if nat_le e.time time then 1 else 0
 
@@ -62,7 +62,7 @@ module _ (time : ℕ) where
           let all = due_by-step e es in
           let kept = due_by-step e (without_first_entry i es) in rw t (omega (arith, ih, all, kept))
 
-  -- where an item is pending by then, to cancel its first pending_entry makes it one less
+  -- where an item is pending by then, to cancel its first entry makes it one less
   pub due_by-taken : (i : Item) (es : List Entry) (t : ℕ) (ts : List ℕ) → times_of_item i es ≡ t ∷ ts → t ≤ time
       → due_by time (without_first_entry i es) + 1 ≡ due_by time es
   due_by-taken i [] t ts is early = absurd (grind (arith, is))

@@ -73,7 +73,7 @@ times-all_step : (P : ℕ → Type 0) (i : Item) (e : Entry) (es : List Entry) �
 times-all_step P i e es here rest true t = rw t (here, rest)
 times-all_step P i e es here rest false t = rw t rest
 
--- what holds of all times_of_item holds of those of an item
+-- what holds of all times holds of those of an item
 pub times-all : (P : ℕ → Type 0) (i : Item) (es : List Entry) → All (λ (e : Entry). P e.time) es
     → AllByRecursion P (times_of_item i es)
 times-all P i [] all = tt
@@ -110,7 +110,7 @@ first-step (f ∷ fs) rest time t ts is later least =
     let here = later.0 in
     let low = least_of t time fs rest behind in absurd (omega arith)
 
--- where the times_of_item of an item don't fall, the next is the first of them
+-- where the times of an item don't fall, the next is the first of them
 pub next-first : (es : List Entry) (time : ℕ) (i : Item) → IsNext es time i → (t : ℕ) (ts : List ℕ)
     → times_of_item i es ≡ t ∷ ts → AllByRecursion (λ u. t ≤ u) ts → t ≡ time
 next-first es time i next t ts is least =

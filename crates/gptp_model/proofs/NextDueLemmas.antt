@@ -75,7 +75,7 @@ pub later_dues : (f : Frame) (fs : List Frame) → AreDueInOrder (f ∷ fs) → 
 later_dues f [] order = tt
 later_dues f (g ∷ fs) order = (order.0, lower f.due g.due (dues fs) order.0 (later_dues g fs order.1))
 
--- a frame that is next is the oldest of its world_queue
+-- a frame that is next is the oldest of its queue
 pub next_comes : (link : ℕ) (direction : Direction) (time : ℕ) (w : WorldState)
     → ((channel : Channel) → slice_get w.net.channels link ≡ Some channel
     → AreDueInOrder (world_queue direction channel))

@@ -1,4 +1,4 @@
--- What is next in an agenda, as an pending_entry without its number.
+-- What is next in an agenda, as an entry without its number.
 use Rattle.std.proofs.Common.{◌≡◌, ℕ, ◌+◌, ◌<◌, ◌≤◌, ◌==◌, Bool, true, false, List, [], ◌∷◌, Option, Some, None, refl, ap, subst, arith}
 use Rattle.std.specs.List.{All, AllByRecursion}
 use Rattle.std.specs.Option.{option_map}
@@ -27,7 +27,7 @@ low least next n [] e rises found = absurd (grind (arith, found))
 low least next n (x ∷ es) e rises found =
     low-step least next n x es e rises found (low (x.number + 1) next n es e rises.1) (x.number == n) refl
 
--- ---- the least pending_entry
+-- ---- the least entry
 
 no_sooner : (time n : ℕ) (es : List (Numbered Item)) → All (IsNoEarlier {T = Item} time n) es
     → All (λ (e : Entry). time ≤ e.time) (plain es)
@@ -81,7 +81,7 @@ module _ (next n : ℕ) (e : Numbered Item) where
       (λ rest. next-found (x.number + 1) es rises.1 rest (All-tail (IsNoEarlier {T = Item} e.time n) x es all))
       (x.number == n) refl
 
--- an pending_entry by its time and item
+-- an entry by its time and item
 found : (o : Option (Numbered Item)) (time : ℕ) (item : Item) → option_map (λ (e : Numbered Item). e.time) o ≡ Some time
     → option_map (λ (e : Numbered Item). e.item) o ≡ Some item
     → (e : Numbered Item) × (o ≡ Some e) × (e.time ≡ time) × (e.item ≡ item)

@@ -17,7 +17,7 @@ same_itself i = grind (arith, nat_tests)
 pub other_item : (i j k : Item) → same_item j i ≡ false → same_item i k ≡ true → same_item j k ≡ false
 other_item i j k differ same = grind (arith, nat_tests)
 
--- ---- the times_of_item of an item
+-- ---- the times of an item
 
 pub times-append : (i : Item) (es fs : List Entry)
     → times_of_item i (es ++ fs) ≡ times_of_item i es ++ times_of_item i fs
@@ -149,7 +149,7 @@ same_times-is (t ∷ ts) (u ∷ us) same =
     let tail : same_times ts us ≡ true = grind (arith, nat_tests) in
     ap (λ x. x ∷ ts) head ∙ ap (λ xs. u ∷ xs) (same_times-is ts us tail)
 
--- where a timer is pending at its time, its pending_entry stays
+-- where a timer is pending at its time, its entry stays
 pub set_due-kept : (i : Item) (due : Option ℕ) (es : List Entry) → times_of_item i es ≡ timer_time due
     → set_due i due es ≡ es
 set_due-kept i due es is =

@@ -12,8 +12,8 @@ use Rattle.gptp_model.specs.declared.station.Station.{Station}
 use Rattle.gptp_model.specs.Pending.{Entry, times_of_item, without_first_entry, timer_time}
 use Rattle.gptp_model.specs.World.{WorldState, world_queue, timers_from, station_due}
 
--- the times_of_item at which an item of a world should be pending: a timer's due time where it runs;
--- the due times_of_item of the frames in flight
+-- the times at which an item of a world should be pending: a timer's due time where it runs;
+-- the due times of the frames in flight
 abbrev pub expected : WorldState → Item → List ℕ
 expected w (Expiry place timer) =
     option_map_or (λ station. timer_time (station_due timer station)) (slice_get w.stations place) []
@@ -21,7 +21,7 @@ expected w (Arrival link direction) =
     option_map_or (λ channel. map (λ (f : Frame). f.due) (world_queue direction channel))
     (slice_get w.net.channels link) []
 
--- What is pending agrees with the state: each item is pending at just those times_of_item, in order of putting.
+-- What is pending agrees with the state: each item is pending at just those times, in order of putting.
 abbrev pub Agrees : WorldState → Type 0
 Agrees w = (item : Item) → times_of_item item w.net.pending ≡ expected w item
 
@@ -33,7 +33,7 @@ OnlyItsTimers place ports es = (timer : Timer)
     → In timer (timers_from 1 ports) ⊎ (times_of_item (Expiry place timer) es ≡ [])
 
 -- Everything agrees but the timers of the system at a place:
--- those may be pending at any times_of_item, as long as they are its own.
+-- those may be pending at any times, as long as they are its own.
 pub record AgreesBut (place : ℕ) (w : WorldState) : Type 0 where
   pub arrivals : (link : ℕ) (direction : Direction)
       → times_of_item (Arrival link direction) w.net.pending ≡ expected w (Arrival link direction)

@@ -20,7 +20,7 @@ pending_entry time item = record { time = time; item = item }
 abbrev pub plain : List (Numbered Item) → List Entry
 plain = map (λ (e : Numbered Item). pending_entry e.time e.item)
 
--- the times_of_item at which an item is pending, in order of putting
+-- the times at which an item is pending, in order of putting
 abbrev pub times_of_item : Item → List Entry → List ℕ
 times_of_item item [] = []
 times_of_item item (e ∷ es) = if same_item item e.item then e.time ∷ times_of_item item es else times_of_item item es
@@ -51,7 +51,7 @@ abbrev pub put_if : Item → Option ℕ → List Entry → List Entry
 put_if item None es = es
 put_if item (Some time) es = put time item es
 
--- A timer is to run out at this time, or doesn't run: where it is pending so, its pending_entry stays; otherwise that
+-- A timer is to run out at this time, or doesn't run: where it is pending so, its entry stays; otherwise that
 -- is
 -- cancelled, and a new one put.
 abbrev pub set_due : Item → Option ℕ → List Entry → List Entry

@@ -224,7 +224,7 @@ second_lives time w at =
     let stands = second_there time w at in
     record { place = stands.place; station = stands.station; is = stands.is; so = stands.so.live }
 
--- a system that is shown as the second_member has one port
+-- a system that is shown as the second has one port
 pub second_has_port : (time : ℕ) (w : WorldState) (s : SystemState) → IsPairAt time w → ShowsLive 2 w s
     → HasPortNumber s 1
 second_has_port time w s at shows =
@@ -329,7 +329,7 @@ first_plays w role at shown = is_master role (role_shown w 1 role at near_first 
 
 -- ---- what its calls answer
 
--- the second_member is found, and follows the first_member by whatever shows what it follows
+-- the second is found, and follows the first by whatever shows what it follows
 found_following : (time : ℕ) (w : WorldState) (Shows : ℕ → ℕ → ℕ → Option ℕ → Type 0) (clock : ℕ)
     (found : Option (ℕ × ℕ × Option ℕ)) → clock ≡ 2 → IsPairAt time w
     → ((root steps : ℕ) (port : Option ℕ) → Shows 2 root steps port
@@ -364,7 +364,7 @@ followed_by_paths w clock found named at =
     found_following 26000000000 w (λ c root steps port. FollowsByPaths c w root steps port) clock found named at
     (λ root steps port. second_follows_by_paths w root steps port at)
 
--- the second_member lives, by a clock that is its
+-- the second lives, by a clock that is its
 pub lives : (time : ℕ) (w : WorldState) (clock : ℕ) → clock ≡ 2 → IsPairAt time w → AtSystem clock w IsLiveSystem
 lives time w clock named at = subst (λ c. AtSystem c w IsLiveSystem) (sym named) (second_lives time w at)
 
@@ -390,7 +390,7 @@ has_role w (Some role) at none same = absurd cc
 
 -- ---- what it announces
 
--- the first_member alone is joined to the second_member
+-- the first alone is joined to the second
 only_neighbour : (other : ℕ) → Adjacent pair_snapshot 2 other → other ≡ 1
 only_neighbour other (m, n, inl (inl same)) =
     absurd (let clock : 2 ≡ 1 = ap (λ (l : Link). l.a.clock) same in omega (arith, clock))
@@ -398,7 +398,7 @@ only_neighbour other (m, n, inl (inr none)) = absurd none
 only_neighbour other (m, n, inr (inl same)) = ap (λ (l : Link). l.a.clock) same
 only_neighbour other (m, n, inr (inr none)) = absurd none
 
--- a way of one link from the second_member leads to the first_member
+-- a way of one link from the second leads to the first
 one_link : (end : ℕ) (others : List ℕ) → IsPath pair_snapshot 2 end others → length others ≡ 1 → others ≡ 1 ∷ []
 one_link end [] way long = absurd (omega (arith, long))
 one_link end (other ∷ []) way long = ap (λ x. x ∷ []) (only_neighbour other way.route.0)

@@ -68,7 +68,7 @@ module _ {F : Type 0} (answers : Bounds → ℕ → F → Option ℕ → F → T
         (subst (λ p. HasSettledBy p 2 (capable_from p w 0) w) (sym pace_is) late)).tree.settled;
   }
 
--- the second is found, and follows the first_member
+-- the second is found, and follows the first
 pub followed_soon : (w : WorldState) (number : ℕ) (found : Option (ℕ × ℕ × Option ℕ)) → number ≡ 2 → IsPairSoon w
     → IfSome found (λ f. AtSystem number w (FollowsRoot f.0 f.1 f.2))
     → IfNone found (AtSystem number w IsLiveSystem → ⊥) → found ≡ Some (first_member, 1, Some 1)

@@ -56,7 +56,7 @@ first_member = 0xf6f8fe436af80000000000000001
 abbrev pub second_member : ℕ
 second_member = 0xf6f8fe436af80000000000000002
 
--- one port announces each second_member
+-- one port announces each second
 abbrev pub each_second : ArrayVec ℤ
 each_second = record { items = pos 0 ∷ [] }
 
@@ -90,7 +90,7 @@ pair_snapshot = record {
   links = record { a = port_of 1 1; b = port_of 2 1 } ∷ [];
 }
 
--- what both state once all has settled: the second_member follows the first_member
+-- what both state once all has settled: the second follows the first
 abbrev pub leading : SystemLine
 leading = record {
   clock = 1;
@@ -139,11 +139,11 @@ pub record IsPairAt (time : ℕ) (w : WorldState) : Type 0 where
 
 -- ---- what is said and held in it
 
--- what the port of a system received, if it holds that, came from the first_member over nothing between
+-- what the port of a system received, if it holds that, came from the first over nothing between
 abbrev pub HoldsFirstAlone : SystemState → Type 0
 HoldsFirstAlone s = (r : Reception) → received (held_at s 1) ≡ Some r → r.path ≡ 1 ∷ []
 
--- what it received once ports were capable came from the first_member
+-- what it received once ports were capable came from the first
 abbrev pub HoldsFromFirst : SystemState → Type 0
 HoldsFromFirst s = (r : Reception) → received (held_at s 1) ≡ Some r → 15000000000 ≤ r.at
     → r.vector.source ≡ port_id 1 1
@@ -156,7 +156,7 @@ HearsAnnounce number m (Heard clock port answer frame) =
 
 -- ---- how exact offsets are in it
 
--- an act in their world leaves the second_member an offset that is exact but for rounding
+-- an act in their world leaves the second an offset that is exact but for rounding
 abbrev pub WorldsOfTwoAreExact : {F : Type 0} → (Bounds → ℕ → F → Option ℕ → F → Type 0) → Type 0
 WorldsOfTwoAreExact {F} answers = (timed : Timed) (fate fate_after : F) (w w' : WorldState) (done : Done) (offset : ℤ)
     → IsPairSince 27000000000 w → WorldInvariant w → WasDone answers timed fate fate_after w w' done

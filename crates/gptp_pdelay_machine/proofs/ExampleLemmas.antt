@@ -1,4 +1,4 @@
--- The example's exchange is a run from whatever request frame_came before it.
+-- The example's exchange is a run from whatever request came before it.
 use Rattle.std.proofs.Common.{◌≡◌, ◌≤◌, ◌+◌, ◌*◌, ◌++◌, ℕ, ℤ, pos, negsuc, true, List, [], ◌∷◌, Some, None, refl, sym}
 use Rattle.std.proofs.Common.{ap, subst, inl, inr, arith}
 use Rattle.std.proofs.lemmas.Int.{ints}
@@ -295,7 +295,7 @@ link_clocks = record {
   answering = λ t. refl;
 }
 
--- at the first_exchange second nothing is pending
+-- at the first second nothing is pending
 pub first_is_fresh : IsJustChanged example_link second (2 * second) (timer_due first_exchange)
 first_is_fresh = record {
   asked = omega arith;

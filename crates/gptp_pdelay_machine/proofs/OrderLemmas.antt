@@ -188,7 +188,7 @@ module _ (k : Setting) (least : ℕ) (asks : List ℕ → Request → Type 0) (r
   mute_of : (f : LaneFrame) → IsMute (either_order tells replies) f → IsMute replies f
   mute_of f mute reply said = mute (Answers reply) said
 
-  -- frames of which none tells: what is known of the first reply is known of the first frame of either_order kind
+  -- frames of which none tells: what is known of the first reply is known of the first frame of either kind
   untold_first : (P P' : LaneFrame → Type 0) (Q Q' : List LaneFrame → Type 0) (fs : List LaneFrame) → AreUntold tells fs
       → ((f : LaneFrame) → P f → P' f) → ((gs : List LaneFrame) → AreUntold tells gs → Q gs → Q' gs)
       → FirstIs replies P Q fs → FirstIs (either_order tells replies) P' Q' fs

@@ -13,7 +13,7 @@ pub data Progress : Type 0 where
   Answered : ℕ → PortIdentity → ℤ → ℤ → ℤ → Progress
 
 -- `asked` is the time of the last request, which is one period before the request timer is due. The port has `measured`
--- where an exchange was asker_completed since the reset, and so many requests were `lost` in a row without one.
+-- where an exchange was completed since the reset, and so many requests were `lost` in a row without one.
 pub record Asker : Type 0 where
   pub asked : ℕ
   pub progress : Progress

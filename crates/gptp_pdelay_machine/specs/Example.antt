@@ -18,7 +18,7 @@ use Rattle.gptp_pdelay_machine.specs.Runs.{IsPortRun}
 abbrev pub second : ℕ
 second = 1000000000
 
--- Port 1 of clock 1 spells_request port 1 of clock 2. A frame takes up to 500 ns, an answer waits for 1,000 ns, and
+-- Port 1 of clock 1 asks port 1 of clock 2. A frame takes up to 500 ns, an answer waits for 1,000 ns, and
 -- nine requests
 -- may be lost. The other system's clock is a microsecond ahead, and slow.
 abbrev pub example_link : Setting
@@ -55,7 +55,7 @@ spells_request octets r = octets ≡ request_octets r
 abbrev pub replies : List ℕ → Reply → Type 0
 replies octets r = octets ≡ reply_octets r
 
--- a example_port_state of the machine
+-- a state of the machine
 abbrev pub example_port_state : ℕ → Asker → Option Waiting → List LaneFrame → List LaneFrame → Pair
 example_port_state time asker waits out back = record
     { time = time; asker = asker; waits = waits; out = out; back = back }
@@ -151,7 +151,7 @@ module _ (x : Start) where
   exchange = request_sent ∷ request_due ∷ request_heard ∷ answer_due ∷ answer_sent ∷ replies_due ∷ response_heard
       ∷ follow_up_heard ∷ next_due ∷ []
 
--- the exchange of the first_exchange second: the request before it was lost with the example_link, and is still open
+-- the exchange of the first second: the request before it was lost with the link, and is still open
 abbrev pub first_exchange : Start
 first_exchange = record {
   before = record { asked = 0; progress = Asked 0 (pos 0); measured = false; lost = 0; capable = false };
@@ -163,9 +163,9 @@ first_exchange = record {
 abbrev pub next : Start
 next = record { before = done first_exchange; sent = 2 * second; sequence = 2 }
 
--- The two exchanges are a run: the port isn't capable after the first_exchange, and is after the second. All that the
+-- The two exchanges are a run: the port isn't capable after the first, and is after the second. All that the
 -- laws
--- suppose of a port on a good example_link is so here, with the last change at 0 and a threshold of 800 ns.
+-- suppose of a port on a good link is so here, with the last change at 0 and a threshold of 800 ns.
 pub record TwoExchangesMakeCapable : Type 0 where
   pub link_is_good : IsGoodLink example_link.most example_link.turnaround 800
   pub clocks : HasLocalClocks example_link

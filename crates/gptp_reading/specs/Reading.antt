@@ -27,7 +27,7 @@ read_after s link_delay neighbour passed =
     sync_received s link_delay neighbour +ℤ scaled_by (s.rate +ℤ neighbour) passed
 
 -- The same by what a Follow_Up leaves, where the own clock shows this: the root's time as the Sync came is its ingress
--- less the offset, and the rate is the sum of the one sync_received and the neighbour's, held at the limits of
+-- less the offset, and the rate is the sum of the one received and the neighbour's, held at the limits of
 -- Integer32.
 abbrev pub read_from : SyncInfo → ℤ → ℤ → ℤ → ℤ
 read_from known offset neighbour shown =

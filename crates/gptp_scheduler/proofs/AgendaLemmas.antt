@@ -34,7 +34,7 @@ module _ {T : Type 0} where
   lives-number : (n : ℕ) (e : AgendaEntry T) → entry_lives n (Some e) ≡ true → e.number ≡ n
   lives-number n e is = grind (arith, nat_tests)
 
-  -- what stands at a key has the number, where that entry_lives
+  -- what stands at a key has the number, where that lives
   pub lives-held : (n : ℕ) (o : Option (AgendaEntry T)) (e : AgendaEntry T) → o ≡ Some e → entry_lives n o ≡ true
       → e.number ≡ n
   lives-held n o e is living = lives-number n e (sym (ap (entry_lives n) is) ∙ living)

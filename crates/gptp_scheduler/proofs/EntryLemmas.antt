@@ -5,7 +5,7 @@ use Rattle.std.proofs.lemmas.Bool.Decides.{nat_tests}
 use Rattle.gptp_scheduler.specs.Pending.{AgendaEntry, entry_at, without_number}
 
 module _ {T : Type 0} where
-  -- entries of which none has this number are the same without_number it
+  -- entries of which none has this number are the same without it
   pub absent : (es : List (AgendaEntry T)) (n : ℕ) → entry_at es n ≡ None → without_number n es ≡ es
   absent [] n none = refl
   absent (e ∷ es) n none = grind (arith, nat_tests, absent es n)

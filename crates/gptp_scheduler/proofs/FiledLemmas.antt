@@ -222,7 +222,7 @@ module _ {T : Type 0} where
         rise-step low f.number next (held nodes f.key.place) (listed nodes fs) rises.0
         (listed-rise (f.number + 1) fs next rises.1)
 
-    -- ---- without_number what is gone
+    -- ---- without what is gone
 
     abbrev pub kept : Filed → Bool
     kept f = entry_lives f.number (held nodes f.key.place)

@@ -48,7 +48,7 @@ module _ (k : FollowerSetting) (says : List ℕ → Message → Type 0) where
       then : a.came ≡ is.came
       then = cc
 
-  -- the state after an act, where the Sync that is kept_at_ingress is as it was
+  -- the state after an act, where the Sync that is kept is as it was
   same_kept : (a : Option Arrival) (now now' : Option FollowerSync) → now' ≡ now → IsKept k a now → IsKept k a now'
   same_kept a now now' e is = subst (λ n. IsKept k a n) (sym e) is
 
@@ -64,7 +64,7 @@ module _ (k : FollowerSetting) (says : List ℕ → Message → Type 0) where
       by_frame inv.arrival inv.is_kept
       (subst (λ fs. FramesFlow k says inv.arrival fs) act.was inv.flows)
     where
-      -- the state after a frame that leaves what is kept_at_ingress
+      -- the state after a frame that leaves what is kept
       unmoved : (a : Option Arrival) → IsKept k a s.kept → IsMute says act.front → FramesFlow k says a act.rest
           → FollowerInvariant k says s'
       unmoved a is mute flows =
@@ -76,7 +76,7 @@ module _ (k : FollowerSetting) (says : List ℕ → Message → Type 0) where
             known = known_still s s' still.still inv.known;
           }
 
-      -- the state where no Sync is known to be kept_at_ingress
+      -- the state where no Sync is known to be kept
       unkept : FramesFlow k says None act.rest → IsKnownRight k s' → FollowerInvariant k says s'
       unkept flows known = record {
         arrival = None;

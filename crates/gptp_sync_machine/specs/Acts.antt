@@ -25,14 +25,14 @@ abbrev pub KnowsAnew : FollowerSetting → Follower → Follower → Type 0
 KnowsAnew k s s' = (info : SyncInfo) (due : ℕ) → s'.known ≡ Some info → s'.relay ≡ Some due
     → IsByMost s.time due k.way.residence
 
--- nothing is kept_at_ingress or forgotten, and nothing becomes known
+-- nothing is kept or forgotten, and nothing becomes known
 pub record IsUnmoved (s s' : Follower) : Type 0 where
-  pub kept_at_ingress : s'.kept ≡ s.kept
+  pub kept : s'.kept ≡ s.kept
   pub still : KnowsStill s s'
 
--- a Sync of the parent is kept_at_ingress
+-- a Sync of the parent is kept
 pub record KeepsSync (k : FollowerSetting) (sequence : ℕ) (s s' : Follower) : Type 0 where
-  pub kept_at_ingress : s'.kept ≡ Some (kept_at_ingress k.parent sequence (own_clock k s.time))
+  pub kept : s'.kept ≡ Some (kept_at_ingress k.parent sequence (own_clock k s.time))
   pub still : KnowsStill s s'
 
 -- What a Follow_Up tells is known, with the ingress of its Sync. It is to be sent on a residence from now, or where a
@@ -42,8 +42,8 @@ pub record Knows (k : FollowerSetting) (told : Relayed) (ingress : ℤ) (s s' : 
   pub anew : KnowsAnew k s s'
 
 -- What the system makes of octets that it hears. Nothing, where they are neither message. A Sync of the parent is
--- kept_at_ingress.
--- A Follow_Up of the parent with the number of the Sync that is kept_at_ingress is known; or, where a number doesn't
+-- kept.
+-- A Follow_Up of the parent with the number of the Sync that is kept is known; or, where a number doesn't
 -- fit, nothing
 -- is. Whatever they are, what is known stays, or is to be sent on in time.
 pub record FollowerHears (k : FollowerSetting) (says : List ℕ → Message → Type 0) (octets : List ℕ)
@@ -97,7 +97,7 @@ module _ (k : FollowerSetting) (says : List ℕ → Message → Type 0) (s s' : 
   -- the Relay timer expires: what is known is sent on to those that follow the system, or something doesn't fit
   pub record RelayTimerExpires : Type 0 where
     pub now : s.relay ≡ Some s.time
-    pub kept_at_ingress : s'.kept ≡ s.kept
+    pub kept : s'.kept ≡ s.kept
     pub lane : s'.lane ≡ s.lane
     pub relay : s'.relay ≡ None
 

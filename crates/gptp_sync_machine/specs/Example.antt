@@ -23,7 +23,7 @@ pub record SyncAndFollowUp : Type 0 where
   pub sync : List ℕ
   pub follow_up : List ℕ
 
--- The Sync takes the least delay, and the Follow_Up the greatest. Nothing was kept_at_ingress or known before.
+-- The Sync takes the least delay, and the Follow_Up the greatest. Nothing was kept or known before.
 module _ (k : FollowerSetting) (x : SyncAndFollowUp) where
   abbrev pub came : ℕ
   came = x.sent + (parent_link k).least

@@ -66,7 +66,7 @@ module _ (says : List ℕ → Message → Type 0) where
       let hop = bridge used delay rate (own_clock k s.time) in
       BridgeFits hop (carried_on (carried used) hop)
 
-  -- At each Follow_Up that belongs to the Sync that is kept_at_ingress, from when on what comes is right, the offset
+  -- At each Follow_Up that belongs to the Sync that is kept, from when on what comes is right, the offset
   -- that is
   -- computed is within the time error of the system of its clock less the root's.
   abbrev pub OffsetIsExact : Type 0

@@ -26,7 +26,7 @@ abbrev pub IsKnownRight : FollowerSetting → Follower → Type 0
 IsKnownRight k s = (info : SyncInfo) (due : ℕ) → s.known ≡ Some info → s.relay ≡ Some due
     → from k + k.way.residence ≤ due → IsInformed k info due
 
--- the Sync that is kept_at_ingress is this one, where one is known to be
+-- the Sync that is kept is this one, where one is known to be
 abbrev pub IsKept : FollowerSetting → Option Arrival → Option FollowerSync → Type 0
 IsKept k None now = ⊤
 IsKept k (Some a) now = now ≡ Some (kept_at_ingress k.parent a.sequence (own_clock k a.came))

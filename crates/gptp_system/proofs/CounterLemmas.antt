@@ -1,4 +1,4 @@
--- Which changes of a state count_such which sends.
+-- Which changes of a state count which sends.
 use Rattle.std.proofs.Common.{◌≡◌, ◌≤◌, ℕ, zero, suc, ◌+◌, ℤ, Bool, true, false, List, [], ◌∷◌, Option, Some, None, slice_get, refl, sym, ap, subst, ◌∙◌, inl, inr, arith, eq-eqb, eqb-true}
 use Rattle.std.specs.Prelude.{if◌then◌else◌, ◌==◌, ◌&&◌}
 use Rattle.std.specs.Option.{option_map_or}
@@ -129,7 +129,7 @@ counted_then s t u sends a b i q' there =
     let (q, was, first) = a i p at in
     (q, was, record { announces = second.announces ∙ first.announces; syncs = second.syncs ∙ first.syncs })
 
--- sends that count_such as others do
+-- sends that count as others do
 pub counted_alike : (s s' : SystemState) (sends others : List Sending)
     → ((p : ℕ) → announces_at p others ≡ announces_at p sends) → ((p : ℕ) → syncs_at p others ≡ syncs_at p sends)
     → AreCounted s s' sends → AreCounted s s' others

@@ -1,4 +1,4 @@
--- What the ports are after those that are marked announced_again, and after all Master ports counted_by_rates a Sync.
+-- What the ports are after those that are marked announced, and after all Master ports counted a Sync.
 use Rattle.std.proofs.Common.{◌≡◌, ◌⊎◌, ℕ, zero, suc, Bool, true, false, List, [], ◌∷◌, map, Some, slice_get, refl, sym, ap, ◌∙◌, inl, inr}
 use Rattle.std.specs.Prelude.{if◌then◌else◌}
 use Rattle.std.proofs.lemmas.Option.{none-some, same_Some}

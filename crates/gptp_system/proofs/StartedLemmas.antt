@@ -315,7 +315,7 @@ started_later input now s s' sends answer params largest logs calm shown rest st
 
 -- ---- a timer that ran out
 
--- a port that announced_again does so one interval later
+-- a port that announced does so one interval later
 announced_later : (p now : ℕ) (s : SystemState) (i : ℕ) (q' : Port) (t : ℕ)
     → ((i : ℕ) (q : Port) → slice_get s.ports i ≡ Some q → IsLog q.log_interval)
     → p ≡ suc i → slice_get (announced_at p now s).ports i ≡ Some q' → q'.announce ≡ t → now < t

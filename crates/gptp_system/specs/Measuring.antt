@@ -56,19 +56,19 @@ abbrev pub SettlesIf : Bool → ℕ → ℕ → SystemState → SystemState → 
 SettlesIf true p now s s' sends = Selects now (settled p s) s' sends
 SettlesIf false p now s s' sends = Becomes s s' sends
 
--- the port port_asks its neighbour, and again one interval later
+-- the port asks its neighbour, and again one interval later
 abbrev pub asking : ℤ → ℕ → Port → Port
 asking t1 due q = record q { peer = requested t1 q.peer; pdelay = Some due }
 
 abbrev pub port_asks : ℕ → ℕ → SystemState → SystemState
 port_asks p now s = on_port p (asking (local_time s now) (now + interval_of s.params.pdelay)) s
 
--- the pdelay_request has the next sequence number of the port
+-- the request has the next sequence number of the port
 abbrev pub request_of : ℕ → SystemState → Sending
 request_of p s =
     pdelay_request (own s p) s.params.pdelay (option_map_or (λ (q : Port). q.peer.next) (number s.ports p) 0)
 
--- The measuring takes a step, and then the port port_asks: its pdelay_request goes after what the step sends on this
+-- The measuring takes a step, and then the port asks: its request goes after what the step sends on this
 -- port and the
 -- lower ones.
 pub record TurnsAndAsks (p : ℕ) (step : PeerState → PeerState) (now : ℕ) (s s' : SystemState)
@@ -81,7 +81,7 @@ pub record TurnsAndAsks (p : ℕ) (step : PeerState → PeerState) (now : ℕ) (
 
 -- ---- the link of a port comes up or goes down
 
--- the port begins anew, and port_asks
+-- the port begins anew, and asks
 abbrev pub ComesUp : ℕ → ℕ → SystemState → SystemState → List Sending → Type 0
 ComesUp p now s s' sends = TurnsAndAsks p reset_peer now s s' sends
 
@@ -97,7 +97,7 @@ GoesDown p now s s' sends = Selects now (down p s) s' sends
 
 -- ---- timers
 
--- an interval of requests ends: an open pdelay_request is lost, and the next one goes
+-- an interval of requests ends: an open request is lost, and the next one goes
 abbrev pub PdelayExpires : ℕ → ℕ → SystemState → SystemState → List Sending → Type 0
 PdelayExpires p now s s' sends = TurnsAndAsks p after_interval now s s' sends
 
@@ -108,7 +108,7 @@ answering_done q = record q { peer = answered q.peer; respond = None }
 abbrev pub responded : ℕ → SystemState → SystemState
 responded p s = on_port p answering_done s
 
--- the two responses: the time that the pdelay_request came at, and the local time now
+-- the two responses: the time that the request came at, and the local time now
 pub record Responds (p now : ℕ) (s : SystemState) (owed : Owed) (sends : List Sending) : Type 0 where
   pub came : Timestamp
   pub came-rest : ℕ
@@ -133,7 +133,7 @@ pub record RespondExpires (p now : ℕ) (s s' : SystemState) (sends : List Sendi
 
 -- ---- messages
 
--- a pdelay_request is answered one turnaround later, in place of an older one
+-- a request is answered one turnaround later, in place of an older one
 abbrev pub owing : Owed → ℕ → Port → Port
 owing owed due q = record q { peer = answering owed q.peer; respond = Some due }
 

@@ -49,7 +49,7 @@ pdelay_request own log_interval sequence = record {
 abbrev pub no_interval : ℤ
 no_interval = pos 0x7F
 
--- the Pdelay_Resp to a pdelay_request: when it came, the part below a nanosecond as correctionField (11.4.6; profile)
+-- the Pdelay_Resp to a request: when it came, the part below a nanosecond as correctionField (11.4.6; profile)
 abbrev pub pdelay_response : PortId → Answer → Timestamp → ℕ → Sending
 pdelay_response own answer stamp rest = record {
   port = own.port;
@@ -57,7 +57,7 @@ pdelay_response own answer stamp rest = record {
   body = bodies.PdelayResp stamp answer.requester;
 }
 
--- and the Pdelay_Resp_Follow_Up: when the pdelay_response went (11.4.7)
+-- and the Pdelay_Resp_Follow_Up: when the response went (11.4.7)
 abbrev pub response_follow_up : PortId → Answer → Timestamp → ℕ → Sending
 response_follow_up own answer stamp rest = record {
   port = own.port;

@@ -2,7 +2,7 @@
 use Rattle.std.specs.Prelude.{ℕ, ◌+◌, ◌*◌, ◌/◌, ◌&&◌, nat_lt, ℤ, pos, negsuc, unsigned_abs, Bool, true, false, if◌then◌else◌, List, [], ◌++◌, codes}
 use Rattle.gptp_accuracy.specs.AccuracyText.{thousandths_text}
 
--- thousandths of a nanosecond, to the nearest_thousandth, half up
+-- thousandths of a nanosecond, to the nearest, half up
 abbrev pub nearest_thousandth : ℕ → ℕ
 nearest_thousandth amount = (1000 * amount + 32768) / 65536
 

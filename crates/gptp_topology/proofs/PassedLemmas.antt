@@ -1,4 +1,4 @@
--- Each time of a document is told_times of, as its events are passed.
+-- Each time of a document is told of, as its events are passed.
 use Rattle.std.proofs.Common.{◌≡◌, ◌≤◌, ◌<◌, ℕ, Bool, true, false, ◌==◌, cond, List, [], ◌∷◌, ◌++◌, map, slice_get, Some, zero, suc, append_assoc, refl, sym, ap, subst, ◌∙◌, arith}
 use Rattle.std.specs.List.{AllByRecursion}
 use Rattle.std.proofs.lemmas.Bool.{eq-eqb, eqb-true, eqb-false, ne_eqb}
@@ -13,10 +13,10 @@ use Rattle.gptp_topology.specs.Times.{AreCalmTimes, IsCalmTime, times_from, time
 use Rattle.gptp_topology.specs.declared.times.CalmTime.{CalmTime}
 use Rattle.gptp_topology.proofs.CourseLemmas.{all_from_0, behind, not_before, only_past, order_behind, past_by, past_more, still_past, until_now}
 
--- ---- whatever is told_times of a time
+-- ---- whatever is told of a time
 
 -- These events are done, and those are left; the last time so far is this one, and of all times before it something is
--- told_times, which has its time and is so.
+-- told, which has its time and is so.
 pub record Passed {X : Type 0} (at_of : X → ℕ) (Is : X → Type 0) (d : DocumentState) (done left : List Timed) (at : ℕ)
     (xs : List X) : Type 0 where
   pub split : done ++ left ≡ d.events

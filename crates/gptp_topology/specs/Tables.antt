@@ -139,7 +139,7 @@ bound_of n paths marks =
     if is_some (late_of n.params paths) || list_any (λ (m : Mark). m.troubled) marks then None
     else Some (settling_span_with (pace_of n) paths paths.systems)
 
--- what is told_times of a time
+-- what is told of a time
 abbrev pub time_of : NetworkState → List Mark → List Node → ℕ → CalmTime
 time_of n marks os at = record {
   at = at;
@@ -147,7 +147,7 @@ time_of n marks os at = record {
   needs = late_of n.params (paths_of n.params marks os);
 }
 
--- it is told_times where the next time is another
+-- it is told where the next time is another
 abbrev pub told_times : ℕ → CalmTime → List CalmTime → List CalmTime
 told_times next time times = if next == time.at then times else times ++ time ∷ []
 

@@ -76,7 +76,7 @@ at_own k clocks joins l x c q e there small begins place port clock at few here 
           (ap (λ v. port_id v q) (sym clocks_same) ∙ ap (λ v. port_id clock v) (sym ports_same)) begins,
     )
 
--- one more lane is lanes_entered
+-- one more lane is entered
 pub one_entered : (k : ℕ) (clocks : List ℕ) (joins : List Join) (outs : List (Option Lane)) (l : Lane) (x c q : ℕ)
     → ((i j clock : ℕ) → slice_get clocks i ≡ Some clock → slice_get clocks j ≡ Some clock → i ≡ j)
     → AreOuts k clocks joins outs → lane_number l ≡ k → slice_get clocks x ≡ Some c → q ≤ 16
@@ -104,7 +104,7 @@ one_entered k clocks joins outs l x c q differ h e there small begins = record {
       (sym (get_or-set_other outs (17 * x + q) (17 * place + port) (Some l) None apart))
       (at_other k clocks joins outs l x c q differ h e there begins place port clock at few apart)
 
--- both lanes of a link are lanes_entered
+-- both lanes of a link are entered
 pub both_entered : (i : ℕ) (clocks : List ℕ) (joins : List Join) (outs : List (Option Lane)) (join : Join) (ends : Ends)
     → IsPlan clocks joins → AreOuts (2 * i) clocks joins outs → slice_get joins i ≡ Some join
     → slice_get clocks ends.a ≡ Some join.a.clock → slice_get clocks ends.b ≡ Some join.b.clock

@@ -18,7 +18,7 @@ use Rattle.gptp_world.specs.Pending.{PendingView}
 use Rattle.gptp_lists.proofs.MappedLemmas.{mapped_there}
 use Rattle.gptp_lists.proofs.PlaceLemmas.{get-set_same, get-set_other, map-set, map-set_same, same_place}
 
--- a link whose world_queue in one direction became another, and nothing else of it
+-- a link whose queue in one direction became another, and nothing else of it
 pub channel_sent : (d : Direction) (old new : JoinedLink) (frames : List Frame) → new.a ≡ old.a → new.b ≡ old.b
     → links.ChangesOnly d old.link new.link
     → (links.queue d new.link).frames ≡ frames → channel_of new ≡ with_queue d frames (channel_of old)

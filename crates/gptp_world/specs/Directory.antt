@@ -99,7 +99,7 @@ pub record AreOuts (k : ℕ) (clocks : List ℕ) (joins : List Join) (outs : Lis
   pub each : (place port clock : ℕ) → slice_get clocks place ≡ Some clock → port ≤ 16
       → IsOut k joins (record { clock = clock; port = port }) (slice_index_or outs (17 * place + port) None)
 
--- the table once both lanes of a link are lanes_entered
+-- the table once both lanes of a link are entered
 abbrev pub lanes_entered : ℕ → Join → Ends → List (Option Lane) → List (Option Lane)
 lanes_entered link join ends outs =
     slice_set

@@ -103,7 +103,7 @@ pub record HasRoomToInject (lane : Lane) (net : Between) : Type 0 where
   pub buffer : 1 ≤ net.buffers.ready
   pub frame : HasRoomOn 1 lane net.cables.items
 
--- no_room changes but the room that there is, and there is no less of it
+-- nothing changes but the room that there is, and there is no less of it
 pub record OnlyRoom (net net' : Between) : Type 0 where
   pub same : between net' ≡ between net
   pub directory : net'.directory ≡ net.directory
