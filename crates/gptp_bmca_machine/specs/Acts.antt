@@ -8,7 +8,8 @@ use Rattle.gptp_bmca_machine.specs.Touch.{StationTouch, Hear, Grow}
 use Rattle.gptp_bmca_machine.specs.Reacts.{StationReacts}
 
 -- A lane takes up what the system with clock c sends. What is sent from its port enters after all others, or is lost;
--- nothing is lost where the link is up and has no loss. When it will be due is not said here.
+-- nothing is lost where the link is up and has no loss. When it will be due is not said here. Queues of worlds are
+-- first in, first out, and carry octets as they were sent.
 pub record LaneStep (c : ℕ) (sends : List Send) (l l' : Lane) : Type 0 where
   pub from : l'.from ≡ l.from
   pub to : l'.to ≡ l.to
@@ -21,7 +22,8 @@ pub record LaneStep (c : ℕ) (sends : List Send) (l l' : Lane) : Type 0 where
   pub arrives : l.loss ≡ 0 → l.is_up ≡ true → (x : Send) → In x sends → l.from ≡ port_of c x.port
       → (f : AnnounceFrame) × In f news × (f.octets ≡ x.octets)
 
--- one live system is touched and answers, and its sends enter their lanes; every other system stays as it is
+-- One live system is touched and answers, and its sends enter their lanes; every other system stays as it is. Shown of
+-- worlds by expiries_are_seen and deliveries_are_seen.
 pub record StationAnswers (says : Spelling) (touch : StationTouch) (w w' : MachineState) : Type 0 where
   pub place : ℕ
   pub s : Station
@@ -37,7 +39,8 @@ pub record StationAnswers (says : Spelling) (touch : StationTouch) (w w' : Machi
   pub lanes : (j : ℕ) (l' : Lane) → slice_get w'.lanes j ≡ Some l'
       → (l : Lane) × (slice_get w.lanes j ≡ Some l) × LaneStep s.clock sends l l'
 
--- the oldest frame f of the lane l at place j is due, and taken off it
+-- The oldest frame f of the lane l at place j is due, and taken off it. So it is of each delivery of a world, by
+-- deliveries_are_seen.
 pub record Pops (j : ℕ) (l : Lane) (f : AnnounceFrame) (fs : List AnnounceFrame) (w w' : MachineState) : Type 0 where
   pub here : slice_get w.lanes j ≡ Some l
   pub frames : l.frames ≡ f ∷ fs
@@ -48,7 +51,8 @@ pub record Pops (j : ℕ) (l : Lane) (f : AnnounceFrame) (fs : List AnnounceFram
       → ((n ≡ j) × (m ≡ record l { frames = fs })) ⊎ ((n ≢ j) × (slice_get w.lanes n ≡ Some m))
 
 -- A frame is delivered to the live system at the other end. An Announce that is heard is what the frame says, and at a
--- port that isn't disabled a frame that says an Announce is heard as one.
+-- port that isn't disabled a frame that says an Announce is heard as one. Shown of worlds by deliveries_are_seen:
+-- clocks differ, so that one system hears the frame.
 pub record Arrives (says : Spelling) (w w' : MachineState) : Type 0 where
   pub j : ℕ
   pub l : Lane
@@ -60,11 +64,13 @@ pub record Arrives (says : Spelling) (w w' : MachineState) : Type 0 where
   pub call : StationAnswers says touch mid w'
   pub owner : call.s.clock ≡ l.to.clock
   pub heard : (n : ℕ) (a : Announce) → touch ≡ Hear n a → (n ≡ l.to.port) × says f.octets a
+  -- hearing makes nothing too old
   pub young : (n : ℕ) → touch ≡ Grow n → ⊥
   pub hears : (i : ℕ) (q : Port) (a : Announce) → l.to.port ≡ suc i → slice_get call.s.ports i ≡ Some q
       → q.held ≢ Disabled → says f.octets a → (b : Announce) × (touch ≡ Hear l.to.port b)
 
--- a frame is delivered and does nothing: it says no Announce, or whoever should receive it has failed
+-- A frame is delivered and does nothing: it says no Announce, or whoever should receive it has failed. Every delivery
+-- of a world that doesn't arrive is so, by deliveries_are_seen.
 pub record Drops (says : Spelling) (w w' : MachineState) : Type 0 where
   pub j : ℕ
   pub l : Lane
@@ -80,8 +86,9 @@ pub record Lapses (s : Station) (i now : ℕ) : Type 0 where
   pub slave : s.slave ≡ Some (suc i)
   pub due : s.lapse ≡ Some now
 
--- Something that is no delivery happens at a live system: a timer expires, or anything else. What a port received
--- is dropped only once its span has passed (IEEE 802.1AS-2020, 10.3.12), or where it lapses.
+-- Something that is no delivery happens at a live system: a timer expires, or anything else. What a port received is
+-- dropped only once its span has passed (IEEE 802.1AS-2020, 10.3.12), or where it lapses. Shown of worlds by
+-- expiries_are_seen: the timer by which it ages is due when its span has passed.
 pub record Runs (says : Spelling) (w w' : MachineState) : Type 0 where
   pub touch : StationTouch
   pub call : StationAnswers says touch w w'
@@ -93,12 +100,14 @@ pub record Runs (says : Spelling) (w w' : MachineState) : Type 0 where
 abbrev pub StationActs : Spelling → MachineState → MachineState → Type 0
 StationActs says w w' = Arrives says w w' ⊎ (Drops says w w' ⊎ Runs says w w')
 
--- a moment comes; that nothing due before it is left is a fact of the state
+-- A moment comes; that nothing due before it is left is a fact of the state. Time that passes in a world is so, by
+-- time_is_seen.
 pub record MomentComes (w w' : MachineState) : Type 0 where
   pub time : ℕ
   pub later : w.time ≤ time
   pub is : w' ≡ record w { time = time }
 
--- one step: a moment comes, or something happens
+-- One step: a moment comes, or something happens. Each act of a sound and legible world that leaves its network as it
+-- is does the latter, by acts_are_seen.
 abbrev pub MachineSteps : Spelling → MachineState → MachineState → Type 0
 MachineSteps says w w' = MomentComes w w' ⊎ StationActs says w w'

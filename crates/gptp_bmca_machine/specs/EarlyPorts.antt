@@ -20,6 +20,7 @@ pub record EarlyPortsHear (says : Spelling) (n : Network) (w w' : MachineState) 
       → slice_get w'.stations (n.place u) ≡ Some s' → slice_get s'.ports i ≡ Some q' → q.held ≢ Disabled
       → q'.held ≢ Disabled
 
--- claims are made of a link only once the port that hears is capable: then nothing need be known
+-- Claims are made of a link only once the port that hears is capable: then nothing need be known. So it is of worlds,
+-- by `network_with` of gptp_invariants. In runs after news `EarlyPortsHear` takes its place.
 abbrev pub ClaimsWhenReady : Network → Type 0
 ClaimsWhenReady n = (d : ℕ) (p q : PortIdentity) → Joins n.graph p q → n.ready q ≤ n.claimed d p

@@ -11,8 +11,9 @@ pub record Announce : Type 0 where
   pub log : ℤ
   pub path : List ℕ
 
--- Which octets say which Announce. Every law is over all such relations: nothing of the message grammar is used, and
--- octets that say none may stand for any other message.
+-- Which octets say which Announce; in worlds it is as the message grammar has it. Every law is over all such relations:
+-- nothing of the grammar is used, and octets that say none may stand for any other message. Octets may say several
+-- Announces, and whether they say one needn't be decidable.
 abbrev pub Spelling : Type 1
 Spelling = List ℕ → Announce → Type 0
 

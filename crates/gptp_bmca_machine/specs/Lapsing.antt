@@ -18,7 +18,9 @@ pub record FollowsFarther (g : Snapshot) (s : Station) (d : ℕ) : Type 0 where
   pub here : IsDistance g s.clock (suc d)
   pub follows : FollowsFrom g s d
 
--- what a system received from a near one doesn't lapse now, once claims are made of the links that lead from that
+-- What a system received from a near one doesn't lapse now, once claims are made of the links that lead from that. It
+-- is a premise of each step, of the state before it. Without a syncReceiptTimeout no lapse timer of a world runs
+-- (`IsSetTo` of gptp_invariants); with one it follows from `SyncsAreExpected`, by syncs_come_in_time.
 abbrev pub NothingNearLapses : Network → MachineState → Type 0
 NothingNearLapses n w = (i : ℕ) (s : Station) (d due : ℕ) → slice_get w.stations i ≡ Some s → s.live ≡ true → d < 255
     → (follows : FollowsFrom n.graph s d) → n.claimed d follows.from ≤ w.time → s.lapse ≡ Some due

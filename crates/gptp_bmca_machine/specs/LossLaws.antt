@@ -1,5 +1,5 @@
 -- Laws on losses in a network at rest: nothing gets better by one, and nothing moves where no live system's best or
--- distance changes.
+-- distance changes. They are of the machine alone, and shown of no world.
 use Rattle.std.specs.Prelude.{◌≡◌, ◌<◌, ◌≤◌, ℕ, true, List, [], ◌∷◌, Some, slice_get}
 use Rattle.gptp_lists.specs.Members.{In}
 use Rattle.gptp_graph.specs.Snapshot.{System, PortIdentity, Snapshot, clocks, Joins, IsLinked, IsWellFormed}

@@ -18,7 +18,8 @@ pub record SyncTiming : Type 0 where
 -- when each port on a link is capable; when all that is held is sound; the times of Syncs, and for how long at most a
 -- settled system waits for the next Sync of the best; how long settling takes anyway from when all is sound, and how
 -- much more each step of distance; from when claims are made of the link that leads from a port, by the distance of its
--- system, and before which time the timer of such a port has run out where it had to be waited for.
+-- system, and before which time the timer of such a port has run out where it had to be waited for. That of a world is
+-- `network_of` of gptp_invariants, which settles system by system, or `network_at_once`.
 pub record Network : Type 0 where
   pub graph : Snapshot
   pub reach : ℕ
@@ -79,16 +80,22 @@ pub record IsTimed (n : Network) (d : ℕ) (p q : PortIdentity) : Type 0 where
   pub delay : n.most ≤ n.step
 
 -- The snapshot is a network's, and no path of it has more systems than is said; each link has its times, and before any
--- system has settled claims are made and ports are capable.
+-- system has settled claims are made and ports are capable. Shown of worlds by worlds_have_networks, of their times by
+-- networks_are_timed.
 pub record IsSettlingNetwork (n : Network) : Type 0 where
+  -- a network takes only what is well formed, and its world stays so, by stands_well
   pub graph : IsWellFormed n.graph
+  -- so many systems live, or gptp_graph reads the number off the links, by paths_bounded
   pub paths : BoundsPaths n.graph n.reach
+  -- No interval exceeds the largest. Where systems settle in turn, the wait for Sync, an announce interval and the
+  -- largest delay are together at most `step`.
   pub timed : (d : ℕ) (p q : PortIdentity) → Joins n.graph p q → IsTimed n d p q
   pub begun : n.start ≤ since n 0
   pub bare : n.bare ≤ n.off
   pub ready : (p : PortIdentity) → IsLinked n.graph p → n.ready p ≤ since n 0
 
--- what is held is sound from when it is wholly clean
+-- What is held is sound from when it is wholly clean: a turn for each system of a path after the start. Shown of worlds
+-- by claim_is_kept.
 pub record BecomesClean (n : Network) : Type 0 where
   pub after : n.start ≤ n.sound
   pub begins : BeginsLater (network_setting n)

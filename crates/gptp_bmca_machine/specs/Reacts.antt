@@ -22,7 +22,7 @@ KeepsHeld (Mine root steps) = ⊥
 
 -- A master port holds the own root and steps; its master vector is lower than what it had received
 -- (IEEE 802.1AS-2020, 10.3.13). It announces at once where either is new to it; where neither is, it may do so or leave
--- its timer alone.
+-- its timer alone. In a world it does so then where its timer expires.
 pub record BecomesMaster (says : Spelling) (c n now root steps : ℕ) (mid : Held) (q q' : Port) (sends : List Send)
     : Type 0 where
   pub mine : q'.held ≡ Mine root steps
@@ -52,8 +52,9 @@ pub record IsOwn (s : Station) (n : ℕ) (a : Announce) : Type 0 where
 abbrev pub IsMasterAt : Station → ℕ → Type 0
 IsMasterAt s n = (i : ℕ) × (q : Port) × (n ≡ suc i) × (slice_get s.ports i ≡ Some q) × (q.held ≡ Mine s.root s.steps)
 
--- The system s answers to the touch by becoming s' and sending these. Each port makes its step, and each Announce
--- sent is the system's own, from a master port.
+-- The system s answers to the touch by becoming s' and sending these. Each port makes its step, and each Announce sent
+-- is the system's own, from a master port. Shown of worlds by expiries_are_seen and deliveries_are_seen, from the
+-- contracts of gptp_receipt on what is heard and ages, and of gptp_roles on roles.
 pub record StationReacts (says : Spelling) (s : Station) (touch : StationTouch) (now : ℕ) (s' : Station)
     (sends : List Send)
     : Type 0 where
@@ -62,4 +63,5 @@ pub record StationReacts (says : Spelling) (s : Station) (touch : StationTouch) 
   pub ports : (i : ℕ) (q' : Port) → slice_get s'.ports i ≡ Some q'
       → (q : Port) × (slice_get s.ports i ≡ Some q)
       × PortStep says s.clock (suc i) now touch s'.root s'.steps q q' sends
+  -- what a system of a world writes reads as what it was written from
   pub tells : (x : Send) (a : Announce) → In x sends → says x.octets a → IsOwn s' x.port a × IsMasterAt s' x.port

@@ -1,4 +1,4 @@
--- Laws on news that come to a network at rest: no announce interval has to pass.
+-- Laws on news that come to a network at rest: no announce interval has to pass. They are of the machine alone.
 use Rattle.std.specs.Prelude.{◌≡◌, ◌⊎◌, ◌<◌, ◌≤◌, ◌+◌, ℕ, suc, List, Some, slice_get}
 use Rattle.gptp_graph.specs.Snapshot.{System, PortIdentity, port_of, Joins}
 use Rattle.gptp_bmca_machine.specs.Frame.{Spelling, Lane}

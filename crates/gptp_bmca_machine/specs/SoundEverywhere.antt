@@ -23,7 +23,8 @@ LaneIsSound says g l = (f : AnnounceFrame) (a : Announce) → In f l.frames → 
 abbrev pub StationIsSound : Snapshot → Station → Type 0
 StationIsSound g s = (place : ℕ) (r : Reception) → HoldsAt s place r → CameSound g s.clock (suc place) r
 
--- each lane is so, and each live system
+-- Each lane is so, and each live system. Shown of worlds by stays_sound and rest_is_sound; that they settle by it shows
+-- news_worlds_settle.
 pub record IsSoundEverywhere (says : Spelling) (g : Snapshot) (w : MachineState) : Type 0 where
   pub lanes : (j : ℕ) (l : Lane) → slice_get w.lanes j ≡ Some l → LaneIsSound says g l
   pub stations : (i : ℕ) (s : Station) → slice_get w.stations i ≡ Some s → s.live ≡ true → StationIsSound g s

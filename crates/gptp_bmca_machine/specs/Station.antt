@@ -41,7 +41,8 @@ pub record Station : Type 0 where
   pub relay : Option ℕ
   pub lapse : Option ℕ
 
--- the time, the systems, and one lane for each direction of each link
+-- The time, the systems, and one lane for each direction of each link. `view` of gptp_invariants makes it of a world,
+-- by stations_are_seen and lanes_are_seen.
 pub record MachineState : Type 0 where
   pub time : ℕ
   pub stations : List Station

@@ -75,6 +75,6 @@ SyncActs says says_sync n w w' = ((act : Arrives says w w') × SyncArrives says 
     ⊎ (((act : Drops says w w') × SyncDrops says says_sync w w' act)
     ⊎ ((act : Runs says w w') × SyncRuns says says_sync n w w' act))
 
--- one step: a moment comes, or something happens
+-- One step: a moment comes, or something happens. Shown of worlds by acts_tell_syncs.
 abbrev pub SyncSteps : Spelling → SaysSync → Network → MachineState → MachineState → Type 0
 SyncSteps says says_sync n w w' = MomentComes w w' ⊎ SyncActs says says_sync n w w'

@@ -23,7 +23,7 @@ pub record HasSyncTimers (n : Network) (now : ℕ) (s : Station) : Type 0 where
   pub relay : (due : ℕ) → s.relay ≡ Some due → (now ≤ due) × (due ≤ now + n.syncs.residence)
   pub lapse : (due : ℕ) → s.lapse ≡ Some due → MayLead s.root
 
--- all live systems are so
+-- all live systems are so: nothing due earlier is left, and steps keep it, by acts_tell_syncs
 abbrev pub HaveSyncTimers : Network → MachineState → Type 0
 HaveSyncTimers n w = (i : ℕ) (s : Station) → slice_get w.stations i ≡ Some s → s.live ≡ true
     → HasSyncTimers n w.time s
@@ -35,9 +35,12 @@ abbrev pub wait : Network → ℕ → ℕ
 wait n d = n.syncs.interval + d * (n.syncs.residence + n.most) + n.most
 
 -- For every distance that a path allows, a settled system waits no longer than is said, which is shorter than the span
--- of lapse timers; and claims are made of its links once that wait is over.
+-- of lapse timers; and claims are made of its links once that wait is over. Shown of worlds by claim_is_kept.
 pub record IsPrompt (n : Network) : Type 0 where
+  -- Where paths have links, `sync_wait` of a world is at least a sync interval, the largest delay for each link of the
+  -- longest, and the residence time for each of these links but one.
   pub covers : (d : ℕ) → suc d < n.reach → wait n d ≤ n.sync_wait
+  -- in a quiet world, by `SyncsComeInTime` of gptp_scenario
   pub short : n.sync_wait < n.syncs.span
   pub bare : n.bare ≤ since n 0
   pub waits : (d : ℕ) (p : PortIdentity) → since n d + n.sync_wait ≤ n.claimed d p
@@ -73,7 +76,8 @@ pub record IsExpected (says_sync : SaysSync) (n : Network) (stations : List Stat
   pub hears : HearsBy says_sync n stations lanes d from by
   pub soon : (by + n.syncs.span ≤ due + wait n d) ⊎ (by < since n d + wait n d)
 
--- so it is for every system with a lapse timer that follows a near one that has settled
+-- So it is for every system with a lapse timer that follows a near one that has settled. Each step keeps it, by
+-- syncs_are_expected; each world keeps it in `IsSettling` of gptp_invariants.
 abbrev pub SyncsAreExpected : SaysSync → Network → MachineState → Type 0
 SyncsAreExpected says_sync n w = (i : ℕ) (s : Station) (d due : ℕ) → slice_get w.stations i ≡ Some s → s.live ≡ true
     → d < 255 → (follows : FollowsFarther n.graph s d) → since n d ≤ w.time → s.lapse ≡ Some due

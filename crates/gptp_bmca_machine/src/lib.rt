@@ -4,8 +4,17 @@
 //! flight on it. A step of it says of a real step no more than the argument needs: who may send what, what an
 //! Announce does to what a port holds, that a lane is first in, first out. Octets are opaque, and which of them say
 //! which Announce, Sync or Follow_Up is a parameter of every law. What is known of a state besides is a list of facts
-//! of one item each, `Calm`; a world has a settling theorem once it is shown to be such a machine
-//! (docs/WORLD_FACTS.md).
+//! of one item each, `Calm`; a world has a settling theorem once it is shown to be such a machine.
+//!
+//! The comments in `specs/` say of each of these facts why it is so of a simulated world, and by which law of
+//! `gptp_invariants`. Its laws `claim_is_kept` and `worlds_settle` draw the conclusion act by act, of every world. The
+//! one premise, that quiet links make ports capable (`AreCapableFrom`), is shown port by port by `gptp_pdelay_machine`,
+//! and the module `claimed` joins them.
+//!
+//! Nothing else is required: no order of due times within a queue, no formula for them and no least delay. Of frames in
+//! flight at the last change only when they are due matters, and of what was held then only how long it stays and that
+//! it is no loop. Of a failed system only its clock and its place are used. No claim is carried through a change: a
+//! change moves the time from which all must be sound, and before that time nothing is claimed.
 //!
 //! The definitions stand in `specs/`. Each function of this crate is a law: it does nothing, and its contract is a
 //! theorem about the definitions. Once what was in flight at the last change is gone, traces become clean: a system
@@ -22,8 +31,9 @@
 //!
 //! Where links come up, systems join or a priority gets better, what was wholly clean is sound, and stays so: no turn
 //! has to pass. In a network at rest no announce interval has to pass either. After losses in a network at rest each
-//! system that is as far as before from the same best keeps its root and its steps. An example run shows that the laws
-//! are of something.
+//! system that is as far as before from the same best keeps its root and its steps. `gptp_invariants` shows of worlds
+//! that all stays sound after news, and that they settle by it; what is said of a network at rest and of losses is of
+//! the machine alone. An example run shows that the laws are of something.
 //!
 //! Lemmas for the crates above, over any relation of octets and messages, are in the public modules of `proofs/`.
 #![tactic(auto)]

@@ -18,7 +18,7 @@ use Rattle.gptp_sync_machine.specs.Runs.{IsFollowerRun}
 -- a Sync and its Follow_Up that are sent over the last link of a way at one time, and the octets of both
 pub record SyncAndFollowUp : Type 0 where
   pub sequence : ℕ
-  pub example_told : Relayed
+  pub told : Relayed
   pub sent : ℕ
   pub sync : List ℕ
   pub follow_up : List ℕ
