@@ -1,5 +1,7 @@
 -- The acts that two ports and their lanes see, on a link that loses nothing. How long a frame takes isn't said here:
 -- the due times of frames are facts of the state before and after.
+--
+-- Each act of a world but a change is one of these, or time that passes. A change begins the laws anew.
 use Rattle.std.specs.Prelude.{◌≡◌, ◌++◌, ℕ, ◌+◌, List, ◌∷◌, Some, None}
 use Rattle.gptp_pdelay_machine.specs.Lanes.{LaneFrame, AreMute, FirstIs}
 use Rattle.gptp_pdelay_machine.specs.Messages.{Request, Reply, Response, FollowUp}
@@ -24,7 +26,9 @@ SendsAnswer k replies waiting time news = SendsReply replies (Response k.answeri
     (SendsReply replies (FollowUp k.answering waiting.request (k.answering_clock time)) (AreMute replies)) news
 
 module _ (k : Setting) (asks : List ℕ → Request → Type 0) (replies : List ℕ → Reply → Type 0) (p p' : Pair) where
-  -- the request timer expires, one period after the last request: an open request is given up, and the next one is sent
+  -- The request timer expires, one period after the last request: an open request is given up, and the next one is
+  -- sent. This is the Pdelay timer of the port that asks, which sends one Pdelay_Req (own_timers_act of
+  -- gptp_invariants). It sends one otherwise only where its link comes up, which is a change.
   pub record RequestTimerExpires : Type 0 where
     pub time : p'.time ≡ p.time
     pub waits : p'.waits ≡ p.waits
@@ -37,7 +41,8 @@ module _ (k : Setting) (asks : List ℕ → Request → Type 0) (replies : List 
     pub out : p'.out ≡ p.out ++ news
     pub sent : SendsRequest asks (own_request k sequence) news
 
-  -- the oldest frame arrives at the port that asks, which sends no request now
+  -- The oldest frame arrives at the port that asks, which sends no request now. Shown of worlds by
+  -- own_deliveries_are_heard.
   pub record AskerHears : Type 0 where
     pub time : p'.time ≡ p.time
     pub waits : p'.waits ≡ p.waits
@@ -51,7 +56,8 @@ module _ (k : Setting) (asks : List ℕ → Request → Type 0) (replies : List 
     pub out : p'.out ≡ p.out ++ news
     pub mute : AreMute asks news
 
-  -- the oldest frame arrives at the port that answers, which answers nothing now
+  -- The oldest frame arrives at the port that answers, which answers nothing now: that is left to its Respond timer.
+  -- Shown of worlds by own_deliveries_are_heard.
   pub record AnswererHears : Type 0 where
     pub time : p'.time ≡ p.time
     pub asker : p'.asker ≡ p.asker
@@ -65,7 +71,9 @@ module _ (k : Setting) (asks : List ℕ → Request → Type 0) (replies : List 
     pub back : p'.back ≡ p.back ++ news
     pub mute : AreMute replies news
 
-  -- the answer's timer expires: the answer is sent, and nothing waits
+  -- The answer's timer expires: the answer is sent, and nothing waits. This is the Respond timer of the port that
+  -- answers, which sends both replies once and in turn. What is encoded reads back, a time below 2^48 seconds too.
+  -- Shown of worlds by own_timers_act.
   pub record AnswerTimerExpires : Type 0 where
     pub time : p'.time ≡ p.time
     pub asker : p'.asker ≡ p.asker
@@ -78,7 +86,8 @@ module _ (k : Setting) (asks : List ℕ → Request → Type 0) (replies : List 
     pub back : p'.back ≡ p.back ++ news
     pub sent : SendsAnswer k replies waiting p.time news
 
-  -- either port may send, as when the other end asks on its own account: no request of the one, no reply of the other
+  -- Either port may send, as when the other end asks on its own account: no request of the one, no reply of the other,
+  -- since each port sends these only by the two timers above. This is any other act of a world.
   pub record OthersSend : Type 0 where
     pub time : p'.time ≡ p.time
     pub asker : p'.asker ≡ p.asker
@@ -90,7 +99,9 @@ module _ (k : Setting) (asks : List ℕ → Request → Type 0) (replies : List 
     pub asks_nothing : AreMute asks ahead
     pub replies_nothing : AreMute replies behind
 
-  -- one act
+  -- One act. It happens when its timer or its frame is due, and changes the state of one system. What that system sends
+  -- is appended to its lanes, each once and in order. A delivery takes away the oldest frame of one lane. Shown of
+  -- worlds by expiries_are_acts and deliveries_are_acts.
   pub data PortActs : Type 0 where
     asks_again : RequestTimerExpires → PortActs
     asker_hears : AskerHears → PortActs

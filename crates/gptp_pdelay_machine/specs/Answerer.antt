@@ -24,7 +24,7 @@ pub record IsOneRequest (asks : List ℕ → Request → Type 0) (octets : List 
   pub only : (other : Request) → asks octets other → other ≡ request
 
 -- What the port makes of octets that it hears: a request is noted in place of the one that waited, and anything else
--- leaves that one.
+-- leaves that one. Shown of worlds by own_deliveries_are_heard of gptp_invariants.
 abbrev pub Notes : Setting → (List ℕ → Request → Type 0) → ℕ → List ℕ → Option Waiting → Option Waiting → Type 0
 Notes k asks time octets w w' =
     (((request : Request) → asks octets request → ⊥) × (w' ≡ w))

@@ -13,7 +13,9 @@ pub data Progress : Type 0 where
   Answered : ℕ → PortIdentity → ℤ → ℤ → ℤ → Progress
 
 -- `asked` is the time of the last request, which is one period before the request timer is due. The port has `measured`
--- where an exchange was completed since the reset, and so many requests were `lost` in a row without one.
+-- where an exchange was completed since the reset, and so many requests were `lost` in a row without one. At a
+-- live port whose link is up that timer runs (stays_measured of gptp_invariants); the rest is read off the port's peer
+-- (links_are_seen).
 pub record Asker : Type 0 where
   pub asked : ℕ
   pub progress : Progress
@@ -51,6 +53,10 @@ asker_completed good a =
 -- it is recorded, with the local time as t4. Where one is recorded, a follow-up to it completes the exchange, which is
 -- good at least where the four times are those of one exchange over the link. Other replies send no request; no more is
 -- said of them.
+--
+-- These are contracts of the calls for a frame. Shown of worlds by own_deliveries_are_heard of gptp_invariants. A
+-- `follow_up` is good by exchanges_are_good and exchanges_show_neighbor: the link is good, the clocks are within their
+-- limits, and the neighbour rate is clamped, and 0 at first.
 pub record TakesReply (k : Setting) (replies : List ℕ → Reply → Type 0) (time : ℕ) (octets : List ℕ)
     (a a' : Asker) : Type 0
   where

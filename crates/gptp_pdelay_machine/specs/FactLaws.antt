@@ -22,6 +22,9 @@ FactsHoldLater = (k : Setting) (gone time : ℕ) (p : Pair)
 
 -- The limits on threshold, turnaround and intervals leave an exchange over a good link its time, where old frames are
 -- gone one announce interval after the last change, and exchanges that begin two after it find nothing old.
+--
+-- A document is tested for the limits, where the period is at most the announce interval of every port; no act changes
+-- the setup. A calm world has good links in use, which lose nothing.
 abbrev pub TimingIsEnough : Type 0
 TimingIsEnough = (k : Setting) (threshold change interval : ℕ)
     → IsGoodLink k.most k.turnaround threshold → 2 * threshold + k.turnaround < k.period → k.period ≤ interval

@@ -31,13 +31,15 @@ module _ (k : Setting) (least : ℕ) (asks : List ℕ → Request → Type 0) (r
     pub measured : MeasuredSince k least first m.pair.asker m.last
 
   -- Such a request is sent by this time: nothing is pending and the next request is due by then, or it was sent once
-  -- old frames were gone.
+  -- old frames were gone. It is the case of a link whose other end recovers, and isn't shown of worlds.
   abbrev pub AsksBy : ℕ → ℕ → Meter → Type 0
   AsksBy gone by m =
       (NothingIsPending asks replies m.pair × (m.pair.asker.asked + k.period ≤ by))
       ⊎ ((first : ℕ) × (gone ≤ first) × (first ≤ by) × InvFirst first m)
 
-  -- the port has just sent its first request, and nothing else is in flight or waits
+  -- The port has just sent its first request, and nothing else is in flight or waits. So it is where the two systems
+  -- start (starts_are_first of gptp_invariants), and where a link between two live systems comes up (links_come_up):
+  -- both lanes were empty, and the Respond timer of what was noted was stopped.
   pub record HasJustAsked (sequence first : ℕ) (p : Pair) : Type 0 where
     pub asked : p.asker.asked ≡ first
     pub progress : p.asker.progress ≡ Asked sequence (k.asking_clock first)

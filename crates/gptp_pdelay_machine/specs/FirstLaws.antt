@@ -8,7 +8,8 @@ use Rattle.gptp_pdelay_machine.specs.Meter.{Meter, MeterActs, MeterPasses}
 use Rattle.gptp_pdelay_machine.specs.Measured.{HasMeasured}
 use Rattle.gptp_pdelay_machine.specs.First.{AsksBy, InvFirst, HasJustAsked}
 
--- how long an exchange over the link takes at most
+-- How long an exchange over the link takes at most. It is less than the period by the limits of TimingIsEnough, since
+-- the greatest delay of a good link is at most the threshold.
 abbrev pub exchange_span : Setting → ℕ
 exchange_span k = k.most + k.turnaround + k.most
 

@@ -27,8 +27,9 @@ module _ (k : Setting) (least : ℕ) (asks : List ℕ → Request → Type 0) (r
 abbrev pub PortInvariant : Setting → (List ℕ → Request → Type 0) → (List ℕ → Reply → Type 0) → ℕ → ℕ → Pair → Type 0
 PortInvariant k asks replies gone calm p = InvFrom k 0 asks replies gone calm p
 
--- just after a change nothing is known but that what is in flight is due by `gone`, and that what waits is answered
--- within the turnaround from then
+-- Just after a change nothing is known but that what is in flight is due by `gone`, and that what waits is answered
+-- within the turnaround from then. In a world the request timer is due within one period, the answer's timer within one
+-- turnaround, and a frame within one largest announce interval. Shown by links_are_fresh of gptp_invariants.
 pub record IsJustChanged (k : Setting) (gone calm : ℕ) (p : Pair) : Type 0 where
   pub asked : p.asker.asked < calm
   pub out : (f : LaneFrame) → In f p.out → f.due ≤ gone

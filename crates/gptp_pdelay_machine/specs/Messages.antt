@@ -1,4 +1,5 @@
--- The three messages of a peer delay exchange, by the fields that it uses (IEEE 802.1AS-2020, 11.4.5 to 11.4.7).
+-- The three messages of a peer delay exchange, by the fields that it uses (IEEE 802.1AS-2020, 11.4.5 to 11.4.7). Octets
+-- of a world are what `decode` reads in them, one message at most.
 use Rattle.std.specs.Prelude.{ℕ, ℤ}
 use Rattle.gptp_graph.specs.Snapshot.{PortIdentity}
 

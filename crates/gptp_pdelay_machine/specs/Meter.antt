@@ -24,7 +24,8 @@ pub record Measures (last last' : Option Measurement) (t1 t2 t3 t4 : ℤ) : Type
   pub delay_is : measured.delay ≡ mean_delay measured.rate (t4 -ℤ t1) (t3 -ℤ t2)
 
 -- What octets that it hears make of the last measurement. Where they are no reply, or a response to the open request,
--- it stays; a follow-up to the recorded response measures anew. No more is said of other replies.
+-- it stays; a follow-up to the recorded response measures anew, by the contract of `on_follow_up`. No more is said of
+-- other replies.
 pub record TakesMeasure (k : Setting) (replies : List ℕ → Reply → Type 0) (octets : List ℕ) (a : Asker)
     (last last' : Option Measurement) : Type 0
   where
@@ -36,7 +37,7 @@ pub record TakesMeasure (k : Setting) (replies : List ℕ → Reply → Type 0) 
 
 module _ (k : Setting) (asks : List ℕ → Request → Type 0) (replies : List ℕ → Reply → Type 0) (m m' : Meter) where
   -- One act of the two ports, and what becomes of the last measurement: it stays but for what the port hears, and where
-  -- an open request is given up it may go.
+  -- an open request is given up it may go. Shown of worlds by acts_are_acts of gptp_invariants.
   pub data MeterActs : Type 0 where
     meter_asks : RequestTimerExpires k asks replies m.pair m'.pair
         → (m.pair.asker.progress ≡ Closed → m'.last ≡ m.last) → MeterActs

@@ -13,7 +13,7 @@ abbrev pub least_exchange : Setting → ℕ → ℕ
 least_exchange k least = least + k.turnaround + least
 
 -- The port wasn't capable before its first request and had measured nothing. It records no response before that can be
--- back, and isn't capable before its second exchange can be complete.
+-- back, and isn't capable before its second exchange can be complete. This isn't shown of worlds.
 pub record IsNotBefore (k : Setting) (least first : ℕ) (p : Pair) : Type 0 where
   pub answered : (sequence : ℕ) (source : PortIdentity) (t1 t2 t4 : ℤ)
       → p.asker.progress ≡ Answered sequence source t1 t2 t4 → p.asker.asked + least_exchange k least ≤ p.time

@@ -32,7 +32,8 @@ module _ (asks : List ℕ → Request → Type 0) (replies : List ℕ → Reply 
       → first + k.period + least_exchange k least ≤ m.pair.time
 
   -- Every act keeps the order of what is in flight to the port, where what tells is sent to it from a time on by which
-  -- its second request was answered.
+  -- its second request was answered. That is so where the greatest delay of the link is below twice the least: the
+  -- port at the other end isn't capable sooner. It isn't shown of worlds.
   abbrev pub OrderIsKept : (List ℕ → Type 0) → Type 0
   OrderIsKept tells = (k : Setting) (least gone first from : ℕ) (m m' : Meter)
       → exchange_span k < k.period → first + k.period + k.most + k.turnaround < from
@@ -41,7 +42,7 @@ module _ (asks : List ℕ → Request → Type 0) (replies : List ℕ → Reply 
       → IsOrdered k tells replies first m.pair.asker m.pair.back
       → IsOrdered k tells replies first m'.pair.asker m'.pair.back
 
-  -- So what tells finds the port capable, where it is no reply.
+  -- So what tells finds the port capable, where it is no reply: an Announce is none.
   abbrev pub ToldIsHeard : (List ℕ → Type 0) → Type 0
   ToldIsHeard tells = (k : Setting) (first : ℕ) (m m' : Meter)
       → ((octets : List ℕ) (reply : Reply) → tells octets → replies octets reply → ⊥)

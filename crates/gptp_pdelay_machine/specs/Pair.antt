@@ -5,8 +5,9 @@ use Rattle.gptp_pdelay_machine.specs.Lanes.{LaneFrame}
 use Rattle.gptp_pdelay_machine.specs.Asker.{Asker}
 use Rattle.gptp_pdelay_machine.specs.Answerer.{Waiting}
 
--- `out` are the frames in flight to the port that answers, `back` those to the port that asks, the oldest first; a
--- request `waits` from when it came until it is answered
+-- `out` are the frames in flight to the port that answers, `back` those to the port that asks, the oldest first. A
+-- request `waits` from when it came until it is answered, which is while the Respond timer runs (links_are_seen of
+-- gptp_invariants).
 pub record Pair : Type 0 where
   pub time : ℕ
   pub asker : Asker

@@ -6,6 +6,9 @@ use Rattle.gptp_graph.specs.Snapshot.{PortIdentity}
 -- the link, `turnaround` the time that an answer waits, `period` the interval between two requests and `allowed` how
 -- many in a row may be lost (allowedLostResponses, IEEE 802.1AS-2020, 11.5.3). The clocks give the two systems' local
 -- times, in 2^-16 ns, at each time.
+--
+-- No act changes a phase or a drift, and a system that recovers has the clock that it had. The ports are of two
+-- systems, so a response never has the own clock as its source. Shown of worlds by acts_are_acts of gptp_invariants.
 pub record Setting : Type 0 where
   pub asking : PortIdentity
   pub answering : PortIdentity

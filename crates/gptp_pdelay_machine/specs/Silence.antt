@@ -3,17 +3,18 @@ use Rattle.std.specs.Prelude.{◌≡◌, ◌≢◌, ◌⊎◌, ℕ, ◌+◌, ◌
 use Rattle.gptp_pdelay_machine.specs.Asker.{Asker, Closed, asker_after_interval, asks_now}
 use Rattle.gptp_pdelay_machine.specs.Setting.{Setting}
 
--- the time, and the port that asks
+-- The time, and the port that asks. Loss doesn't matter, nor do delays up to the largest announce interval. Seen of
+-- worlds by ports_are_seen of gptp_invariants.
 pub record Unanswered : Type 0 where
   pub time : ℕ
   pub asker : Asker
 
--- the last request isn't in the future, and the request timer isn't late
+-- The last request isn't in the future, and the request timer isn't late. Shown of worlds by timers_are_known.
 pub record TimerFacts (k : Setting) (s : Unanswered) : Type 0 where
   pub asked : s.asker.asked ≤ s.time
   pub request_timer : s.time ≤ s.asker.asked + k.period
 
--- the request timer expires: an open request is given up, and the next one is sent
+-- The request timer expires: an open request is given up, and the next one is sent. Shown of worlds by own_timer_asks.
 pub record AsksInVain (k : Setting) (s s' : Unanswered) : Type 0 where
   pub time : s'.time ≡ s.time
   pub now : s.asker.asked + k.period ≡ s.time
@@ -21,7 +22,9 @@ pub record AsksInVain (k : Setting) (s s' : Unanswered) : Type 0 where
   pub t1 : ℤ
   pub asker : s'.asker ≡ asks_now s.time sequence t1 (asker_after_interval k.allowed s.asker.progress s.asker)
 
--- an old frame is heard, whatever it does to the exchange: it sends no request, and loses none
+-- An old frame is heard, whatever it does to the exchange: it sends no request, and loses none. No act sends on a lane
+-- whose sender has failed, so what is delivered was in flight at the last change, and is due by an announce interval
+-- after it. Shown of worlds by old_frames_are_heard.
 pub record HearsOld (gone : ℕ) (s s' : Unanswered) : Type 0 where
   pub time : s'.time ≡ s.time
   pub old : s.time ≤ gone

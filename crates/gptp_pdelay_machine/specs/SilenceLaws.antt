@@ -16,7 +16,8 @@ InvUnansweredHoldsLater = (k : Setting) (gone time : ℕ) (s : Unanswered)
     → InvUnanswered k gone s
     → InvUnanswered k gone (record s { time = time })
 
--- it holds just after every change
+-- It holds just after every change. At every time no more requests are lost than may be, and the last request was sent
+-- by the last change. Shown of worlds by silent_at_first of gptp_invariants.
 abbrev pub InvUnansweredBegins : Type 0
 InvUnansweredBegins = (k : Setting) (gone : ℕ) (s : Unanswered)
     → s.asker.lost ≤ k.allowed → s.asker.asked ≤ gone

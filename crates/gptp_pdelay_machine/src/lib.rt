@@ -10,10 +10,20 @@
 //! The definitions stand in `specs/`. Each function of this crate is a law: it does nothing, and its contract is a
 //! theorem about the definitions. On a link that is up, loses nothing and is good, between two live systems, the port
 //! is capable from L + 5 announce intervals after the last change on, where L is the number of requests that may be
-//! lost, and what it has measured is that of two exchanges over the link from five on; on a link whose other end has
+//! lost, and what it has measured is that of two exchanges over the link from five on. On a link whose other end has
 //! failed it isn't capable from L + 5 on. Where a request finds nothing old in flight, the port is capable sooner: one
-//! interval between requests and one exchange after that request. `docs/LINK_FACTS.md` lists what a network
-//! must show to be such a machine. Lemmas for the crates above are in the public modules of `proofs/`.
+//! interval between requests and one exchange after that request. Lemmas for the crates above are in the public modules
+//! of `proofs/`.
+//!
+//! What a world must show to be such a machine is said where it is defined, with the law of gptp_invariants that shows
+//! it. Nothing else is supposed. By these laws each port on a good link is watched from the last change on
+//! (`watches_begin`, `watches_are_kept`) and becomes capable (`ports_become_capable`, `used_ports_become_capable`). It
+//! has then measured its link (`used_links_are_measured`, `links_are_measured`). Beside a failed system it becomes
+//! incapable (`silent_ports_become_incapable`). After a first request `first_goes_on` and `first_is_full` show it.
+//!
+//! On another link between two live systems, one that loses frames or isn't good, nothing is claimed. A port with no
+//! link that is up isn't capable at any time (`ports_without_link_are_disabled`). The change that takes its link down
+//! resets it, and when a failed system recovers its ports are as they are made.
 #![tactic(auto)]
 
 mod bounds;

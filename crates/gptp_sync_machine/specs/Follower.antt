@@ -7,8 +7,11 @@ use Rattle.gptp_error_laws.specs.TimeError.{WayLink, Way, link_at}
 use Rattle.gptp_error_laws.specs.WayLaws.{IsDocumented, shown_at}
 
 -- The way to the system from its root, the phases of the clocks on it, in ns, and the place of its last link on it,
--- counted from 0; the port of the parent on that link; the time from which the network is settled, and a delay that no
--- link on which time is carried exceeds, in ns.
+-- counted from 0; the port of the parent on that link. The time from which the network is settled, and a delay that no
+-- link on which time is carried exceeds, in ns (of a world, the threshold).
+--
+-- The `way` goes from the root along parents, by the snapshot, the setups and the bounds of links (`Parts`; way_exists,
+-- way_is_one). Its ends are the clocks of the system and of its root (way_leads_to, way_ends_at_parent).
 pub record FollowerSetting : Type 0 where
   pub way : Way
   pub phase : ℕ → ℕ
@@ -34,7 +37,8 @@ root_clock k t = shown_at k.way k.phase 0 t
 abbrev pub from : FollowerSetting → ℕ
 from k = k.settled + suc k.place * (k.longest + k.way.residence)
 
--- what a setting has to be
+-- What a setting has to be. Its numbers are those of a document, and no good link takes longer than the threshold.
+-- Shown by ways_are_settings.
 pub record IsSetting (k : FollowerSetting) : Type 0 where
   pub documented : IsDocumented k.way
   pub on_way : k.place < length k.way.links

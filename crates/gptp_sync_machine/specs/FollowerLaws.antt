@@ -18,7 +18,8 @@ use Rattle.gptp_sync_machine.specs.Acts.{FollowerActs, FollowerWaits, kept_at_in
 use Rattle.gptp_sync_machine.specs.Invariant.{FollowerInvariant, IsJustSettled}
 use Rattle.gptp_sync_machine.specs.Runs.{IsFollowerRun}
 
--- The system with the setting k is the parent of that with k': the way goes on over one link, from the same root.
+-- The system with the setting k is the parent of that with k': the way goes on over one link, from the same root. Shown
+-- of parents in a snapshot by parents_are_parents.
 pub record IsParentOf (k k' : FollowerSetting) : Type 0 where
   pub link : WayLink
   pub way : k'.way ≡ longer k.way link
@@ -66,8 +67,7 @@ module _ (says : List ℕ → Message → Type 0) where
       let hop = bridge used delay rate (own_clock k s.time) in
       BridgeFits hop (carried_on (carried used) hop)
 
-  -- At each Follow_Up that belongs to the Sync that is kept, from when on what comes is right, the offset
-  -- that is
+  -- At each Follow_Up that belongs to the Sync that is kept, from when on what comes is right, the offset that is
   -- computed is within the time error of the system of its clock less the root's.
   abbrev pub OffsetIsExact : Type 0
   OffsetIsExact = (k : FollowerSetting) (s : Follower) (front : LaneFrame) (rest : List LaneFrame)

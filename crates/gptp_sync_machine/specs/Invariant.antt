@@ -39,7 +39,8 @@ pub record FollowerInvariant (k : FollowerSetting) (says : List ℕ → Message 
   pub known : IsKnownRight k s
 
 -- As the network becomes settled nothing is known but that what is in flight was sent before that, and that what is
--- known was told before that.
+-- known was told before that. So it is as the moment comes that is at or after `settled` (carried_time_is_kept of
+-- gptp_invariants).
 pub record IsJustSettled (k : FollowerSetting) (s : Follower) : Type 0 where
   pub lane : (f : LaneFrame) → In f s.lane → f.due < k.settled + (parent_link k).most
   pub relay : (due : ℕ) → s.relay ≡ Some due → due < k.settled + k.way.residence

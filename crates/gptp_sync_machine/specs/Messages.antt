@@ -8,7 +8,8 @@ pub data Message : Type 0 where
   Sync : PortIdentity → ℕ → Message
   FollowUp : PortIdentity → ℕ → Relayed → Message
 
--- The octets are this one message, and no other.
+-- The octets are this one message, and no other. `decode` reads those of a world as one message at most: a Sync of two
+-- steps, or a Follow_Up.
 pub record IsOneMessage (says : List ℕ → Message → Type 0) (octets : List ℕ) (message : Message) : Type 0 where
   pub said : says octets message
   pub only : (other : Message) → says octets other → other ≡ message

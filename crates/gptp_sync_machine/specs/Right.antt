@@ -16,7 +16,8 @@ abbrev pub measured_error_at : Way → ℕ → ℕ
 measured_error_at w i = ceil_div (2202000000000 * jitter_at w i) w.interval + 3
 
 -- What a port has measured of the link at a place is right: the neighbour rate is near that of the two clocks, and the
--- mean link delay lies between the least and the greatest delay of the link (IEEE 802.1AS-2020, 11.2.19.3).
+-- mean link delay lies between the least and the greatest delay of the link (IEEE 802.1AS-2020, 11.2.19.3). Shown by
+-- exchanges_measure_right and parents_are_measured, from what measuring_settles of gptp_pdelay_machine says of a port.
 pub record IsMeasuredAt (w : Way) (i : ℕ) (rate delay : ℤ) : Type 0 where
   pub limited : IsNeighborRate rate
   pub rate_within : AreWithin (measured_error_at w i) rate (steady_rate_at w i)
@@ -68,7 +69,8 @@ abbrev pub IsModest : Way → ℕ → Type 0
 IsModest w i = unsigned_abs (sum_below i (steady_rate_at w)) ≤ 1700000000
 
 -- The rate to which the neighbour rate is added has a sum of 32 bits with it. It is the one that was told; or where the
--- sum of that hasn't, the one whose sum is held at the nearest limit (profile).
+-- sum of that hasn't, the one whose sum is held at the nearest limit (profile). Shown by rates_are_held; the sum is
+-- modest on each way of a document, by ways_are_modest.
 pub record IsHeldAt (w : Way) (i : ℕ) (told neighbour held : ℤ) : Type 0 where
   pub fits : FitsRate (held +ℤ neighbour)
   pub nearest : (held ≡ told) ⊎ (IsModest w i × (((held +ℤ neighbour ≡ pos 2147483647) × (held ≤ℤ told))

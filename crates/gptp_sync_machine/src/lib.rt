@@ -11,6 +11,12 @@
 //! the time error of gptp_error_laws; and so is the offset that a system computes at each Follow_Up that belongs to the
 //! Sync that it keeps. Nothing says that a Sync comes. Lemmas for the crates above are in the public modules of
 //! `proofs/`.
+//!
+//! What a world must show to be such a machine is said where it is defined. Nothing else is supposed. Each near live
+//! system that isn't its own root is one machine from when the network is settled (`settled_worlds_follow` of
+//! gptp_invariants). The invariant begins by itself, and every act that changes nothing of the network keeps it
+//! (`carried_time_is_kept`). So it holds in every world wherever that is calm for long enough
+//! (`carried_time_is_claimed`), and `offsets_are_exact` says what a Follow_Up that is used then leaves.
 #![tactic(auto)]
 
 mod coding;
