@@ -118,8 +118,7 @@ example_state now timer second frames = record {
   lanes = lane_out frames ∷ lane_back ∷ [];
 }
 
--- An Announce was heard last at this time. The next is sent three later and heard one after that: the moment of
--- the
+-- An Announce was heard last at this time. The next is sent three later and heard one after that: the moment of the
 -- timer comes, the first system announces itself, the moment of the frame comes, the second hears it.
 abbrev pub example_turn : ℕ → List MachineState
 example_turn at =

@@ -17,18 +17,15 @@ way drift links residence =
       residence = residence;
     }
 
--- One link of exactly 500 ns between two clocks without drift: what is left is rounding, 12 units, and 7
--- for
--- (20 * 500 + 1000) / 1500.
+-- One link of exactly 500 ns between two clocks without drift: what is left is rounding, 12 units, and 7 for (20 * 500
+-- + 1000) / 1500.
 abbrev pub plain_way : Way
 plain_way = way (pos 0) (example_way_link 500 500 (pos 0) ∷ []) 1000
 
--- The plant's ring of examples/ring.toml from its fourth bridge to its second, after the link between the
--- grandmaster
--- and the second failed: three links of 390 to 410 ns. Each link costs 65556 * 20 + 6 + 12 = 1311138, and
--- its rate is
--- right within 44040 + 4. The first bridge costs 1430 * 44044 / 33550000, rounded up, which is 2, and the second
--- 1430 * 88088 / 33550000, which is 4.
+-- The plant's ring of examples/ring.toml from its fourth bridge to its second, after the link between the grandmaster
+-- and the second failed: three links of 390 to 410 ns. Each link costs 65556 * 20 + 6 + 12 = 1311138, and its rate is
+-- right within 44040 + 4. The first bridge costs 1430 * 44044 / 33550000, rounded up, which is 2, and the second 1430 *
+-- 88088 / 33550000, which is 4.
 abbrev pub ring_way : Way
 ring_way = way (pos 0) (example_way_link 390 410 (pos 0) ∷ example_way_link 390 410 (pos 0) ∷ example_way_link 390 410
     (pos 0) ∷ []) 1000
@@ -39,16 +36,14 @@ two_links_way = way (pos 0) (example_way_link 390 410 (pos 0) ∷ example_way_li
 
 -- Three links of jitter 0, 20 and 500 ns and a residence of 10 ms. The links cost 19, 1311138 and 65556 * 500 + 22. At
 -- the first bridge the rate is right within 4, and it costs 10000410 * 4 / 33550000, rounded up, which is 2; at the
--- second within 4 + 44044, and it costs 10000720 * 44048 / 33550000, which is 13131. What the jitter of the last
--- link
+-- second within 4 + 44044, and it costs 10000720 * 44048 / 33550000, which is 13131. What the jitter of the last link
 -- makes of its rate costs nothing.
 abbrev pub unequal_way : Way
 unequal_way = way (pos 0) (example_way_link 500 500 (pos 0) ∷ example_way_link 390 410
     (pos 0) ∷ example_way_link 200 700 (pos 0) ∷ []) 10000000
 
 -- A root that is as fast as a clock may be, over a bridge that is as slow, and which keeps a Sync for 10 ms. The
--- neighbour rate of the first link ought to be 439848634 and is 439804651, the limit: unlike by 43983. With
--- the 4 of
+-- neighbour rate of the first link ought to be 439848634 and is 439804651, the limit: unlike by 43983. With the 4 of
 -- rounding the bridge costs 10000500 * 43987 / 33550000, rounded up, which is 13112; each link costs 19.
 abbrev pub limit_way : Way
 limit_way = way (pos 219902325) (example_way_link 500 500 (neg_ℤ (pos 219902325)) ∷ example_way_link 500 500

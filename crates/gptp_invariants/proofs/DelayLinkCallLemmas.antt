@@ -48,8 +48,7 @@ same_pdelay p q e = cc
 same_respond : (p q : ℕ) → timers.Respond p ≡ timers.Respond q → p ≡ q
 same_respond p q e = cc
 
--- what a timer makes of a port that asks: its own Pdelay timer sends the next request, and any other leaves
--- what it
+-- what a timer makes of a port that asks: its own Pdelay timer sends the next request, and any other leaves what it
 -- asked
 pub asker_timer : (s : SystemState) (now period : ℕ) (timer : Timer) (n : ℕ) (x x' : Part)
     → IsPartAfter s now (Expires timer) n x x'

@@ -76,8 +76,7 @@ abbrev pub step_with : SettlingParams → SyncPaths → ℕ
 step_with p paths = 2 * largest_interval p + step_more p paths
 
 -- How long settling takes, as the machine of gptp_bmca_machine has it: anyway, for each step of distance, and for a
--- Sync;
--- how much later claims are made of links by each step; and whether all that is held has to become clean first.
+-- Sync; how much later claims are made of links by each step; and whether all that is held has to become clean first.
 pub record SettlingTimes : Type 0 where
   pub slack : ℕ
   pub step : ℕ

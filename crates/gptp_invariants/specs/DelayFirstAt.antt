@@ -9,8 +9,7 @@ use Rattle.gptp_model.specs.World.{Channel, WorldState, receiver, sender}
 use Rattle.gptp_invariants.specs.DelayMeasured.{StationIsLiveAt}
 use Rattle.gptp_invariants.specs.DelayLinkView.{IsLinkOf, LinkPlace, reads_as_request, least_delay, meter, pair, reads_as_reply, link_setting}
 
--- The port that asks sent it at this time: since then exchanges are in their phases, and what they had to
--- measure is
+-- The port that asks sent it at this time: since then exchanges are in their phases, and what they had to measure is
 -- measured.
 pub record IsFirstAt (first : ℕ) (at : LinkPlace) (w : WorldState) : Type 0 where
   pub link : IsLinkOf at w

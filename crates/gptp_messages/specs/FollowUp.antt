@@ -21,8 +21,7 @@ written_sync = 0 ∷ 0 ∷ 0 ∷ 0 ∷ 0 ∷ 0 ∷ 0 ∷ 0 ∷ 0 ∷ 0 ∷ []
 abbrev pub follow_up_tlvs : List ℕ → List ℕ
 follow_up_tlvs f = slice_range f 44 (message_length f)
 
--- The octets are TLVs, the first Follow_Up information TLV of which has 28 octets and this
--- cumulativeScaledRateOffset
+-- The octets are TLVs, the first Follow_Up information TLV of which has 28 octets and this cumulativeScaledRateOffset
 -- (IEEE 802.1AS-2020, 11.4.4.3).
 pub record ReadsRate (octets : List ℕ) (rate : ℤ) : Type 0 where
   pub value : List ℕ

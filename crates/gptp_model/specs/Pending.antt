@@ -51,8 +51,7 @@ abbrev pub put_if : Item → Option ℕ → List Entry → List Entry
 put_if item None es = es
 put_if item (Some time) es = put time item es
 
--- A timer is to run out at this time, or doesn't run: where it is pending so, its entry stays; otherwise that
--- is
+-- A timer is to run out at this time, or doesn't run: where it is pending so, its entry stays; otherwise that is
 -- cancelled, and a new one put.
 abbrev pub set_due : Item → Option ℕ → List Entry → List Entry
 set_due item due es = if same_times (times_of_item item es) (timer_time due) then es else put_if item due

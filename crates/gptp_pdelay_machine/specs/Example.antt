@@ -18,8 +18,7 @@ use Rattle.gptp_pdelay_machine.specs.Runs.{IsPortRun}
 abbrev pub second : ℕ
 second = 1000000000
 
--- Port 1 of clock 1 asks port 1 of clock 2. A frame takes up to 500 ns, an answer waits for 1,000 ns, and
--- nine requests
+-- Port 1 of clock 1 asks port 1 of clock 2. A frame takes up to 500 ns, an answer waits for 1,000 ns, and nine requests
 -- may be lost. The other system's clock is a microsecond ahead, and slow.
 abbrev pub example_link : Setting
 example_link = record {
@@ -163,8 +162,7 @@ first_exchange = record {
 abbrev pub next : Start
 next = record { before = done first_exchange; sent = 2 * second; sequence = 2 }
 
--- The two exchanges are a run: the port isn't capable after the first, and is after the second. All that the
--- laws
+-- The two exchanges are a run: the port isn't capable after the first, and is after the second. All that the laws
 -- suppose of a port on a good link is so here, with the last change at 0 and a threshold of 800 ns.
 pub record TwoExchangesMakeCapable : Type 0 where
   pub link_is_good : IsGoodLink example_link.most example_link.turnaround 800

@@ -41,8 +41,7 @@ one = measured_meter first_exchange None
 abbrev pub two : Measurement
 two = measured_meter next (Some one)
 
--- The states of the two exchanges are a run, over a link of exactly 500 ns. The first takes the clocks
--- for equal, and
+-- The states of the two exchanges are a run, over a link of exactly 500 ns. The first takes the clocks for equal, and
 -- measures 1490 units of 2^-16 ns above 500 ns. The second sees that the neighbour is slow by 10^8 parts in 2^41, and
 -- measures 500 ns by the neighbour's clock.
 pub record TwoExchangesMeasure : Type 0 where

@@ -41,8 +41,7 @@ ReadingIsRight = (w : Way) (phase : ℕ → ℕ) (i : ℕ) (told : Relayed) (sen
     *ℤ read_after (info_of (at_rate told held) ingress) delay rate (shown_at w phase (suc i) now -ℤ ingress))
     (pos 33550000 *ℤ shown_at w phase 0 now)
 
--- At each Follow_Up that belongs to the Sync that is kept, from when on what comes is right: what is read
--- from it at
+-- At each Follow_Up that belongs to the Sync that is kept, from when on what comes is right: what is read from it at
 -- any later time is within the time error, and within the error of the rate so far times the span since, to which the
 -- jitter of the link is added.
 abbrev pub ReadingIsExact : (List ℕ → Message → Type 0) → Type 0

@@ -10,8 +10,7 @@ pub record AgendaEntry (T : Type 0) : Type 0 where
   pub number : ℕ
   pub item : T
 
--- an agenda: the number of the next entry, the entries in order of putting, how many more can be put without
--- being
+-- an agenda: the number of the next entry, the entries in order of putting, how many more can be put without being
 -- refused, and the greatest time taken so far, at first 0
 pub record Pending (T : Type 0) : Type 0 where
   pub next : ℕ

@@ -68,8 +68,7 @@ abbrev pub request_of : ℕ → SystemState → Sending
 request_of p s =
     pdelay_request (own s p) s.params.pdelay (option_map_or (λ (q : Port). q.peer.next) (number s.ports p) 0)
 
--- The measuring takes a step, and then the port asks: its request goes after what the step sends on this
--- port and the
+-- The measuring takes a step, and then the port asks: its request goes after what the step sends on this port and the
 -- lower ones.
 pub record TurnsAndAsks (p : ℕ) (step : PeerState → PeerState) (now : ℕ) (s s' : SystemState)
     (sends : List Sending) : Type 0 where
