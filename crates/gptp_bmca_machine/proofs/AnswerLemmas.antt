@@ -9,10 +9,10 @@ use Rattle.gptp_bmca_machine.specs.Station.{Reception, Held, Disabled, Aged, Min
 use Rattle.gptp_bmca_machine.specs.Touch.{StationTouch, Hear, Grow, HeldInTouch}
 use Rattle.gptp_bmca_machine.specs.Reacts.{KeepsHeld, BecomesMaster, IsOwn, IsMasterAt, PortStep}
 use Rattle.gptp_bmca_machine.specs.Acts.{LaneStep, StationAnswers}
-use Rattle.gptp_bmca_machine.specs.Stage.{Wiring, from_port, IsFinal, AllFinal, FrameSaysAnnounce, FinalAnnounceStays, Stage}
+use Rattle.gptp_bmca_machine.specs.LinkStage.{Wiring, from_port, IsFinal, AllFinal, FrameSaysAnnounce, FinalAnnounceStays, LinkStage}
 use Rattle.gptp_bmca_machine.specs.Link.{HasSettled, TellerIsReady, TellerIsSettled, IsTeller, HearsSettled, IsLaneOf, Ends, StaysOn, Stand, LinkSettles}
 use Rattle.gptp_bmca_machine.proofs.PlaceLemmas.{same_mine, same_there}
-use Rattle.gptp_bmca_machine.proofs.StageLemmas.{enters, begins, tells, keeps, hears, young}
+use Rattle.gptp_bmca_machine.proofs.LinkStageLemmas.{enters, begins, tells, keeps, hears, young}
 use Rattle.gptp_bmca_machine.proofs.HearingLemmas.{mid_stays, mid_mine, final_taken, mid_on, final_kept}
 
 module _ (says : Spelling) (k : Wiring) (touch : StationTouch) (w w' : MachineState)
@@ -297,17 +297,17 @@ module _ (says : Spelling) (k : Wiring) (touch : StationTouch) (w w' : MachineSt
       → slice_get w.lanes k.lane ≡ Some l → slice_get w'.lanes k.lane ≡ Some l'
       → (step : LaneStep call.s.clock call.sends l l')
       → (pv'.announce ≡ pv.announce) ⊎ ((f : AnnounceFrame) × In f step.news × FrameSaysAnnounce says f)
-      → Stage says k pv.announce held l.frames → Stage says k pv'.announce held l'.frames
+      → LinkStage says k pv.announce held l.frames → LinkStage says k pv'.announce held l'.frames
   sent_on settled v pv pv' held l l' at port has lane_at lane_at' step timing stage =
-      subst (Stage says k pv'.announce held) (sym step.behind) (go timing)
+      subst (LinkStage says k pv'.announce held) (sym step.behind) (go timing)
     where
       final : AllFinal says k step.news
       final = news_final settled l l' lane_at step
 
       go : (pv'.announce ≡ pv.announce) ⊎ ((f : AnnounceFrame) × In f step.news × FrameSaysAnnounce says f)
-          → Stage says k pv'.announce held (l.frames ++ step.news)
+          → LinkStage says k pv'.announce held (l.frames ++ step.news)
       go (inl same) =
-          subst (λ t. Stage says k t held (l.frames ++ step.news)) (sym same)
+          subst (λ t. LinkStage says k t held (l.frames ++ step.news)) (sym same)
           (enters says k pv.announce held l.frames step.news final stage)
       go (inr (f, new, said)) =
           tells says k w.time pv.announce pv'.announce held l.frames step.news f final new said
@@ -319,11 +319,11 @@ module _ (says : Spelling) (k : Wiring) (touch : StationTouch) (w w' : MachineSt
       → (TellerIsReady k v pv → ⊥) → slice_get w.lanes k.lane ≡ Some l → slice_get w'.lanes k.lane ≡ Some l'
       → (step : LaneStep call.s.clock call.sends l l')
       → (f : AnnounceFrame) × In f step.news × FrameSaysAnnounce says f
-      → Stage says k pv'.announce held l'.frames
+      → LinkStage says k pv'.announce held l'.frames
   begins_now settled v pv pv' held l l' at port not lane_at lane_at' step (f, new, said) =
       let soon : f.due ≤ w.time + k.most = due_soon l l' lane_at' step f new in
       let early : w.time + k.most < k.before = (ends.teller v pv at port).early not in
-      subst (Stage says k pv'.announce held) (sym step.behind)
+      subst (LinkStage says k pv'.announce held) (sym step.behind)
       (begins says k pv'.announce held l.frames step.news f (news_final settled l l' lane_at step) new said
       (omega arith))
 
@@ -331,7 +331,7 @@ module _ (says : Spelling) (k : Wiring) (touch : StationTouch) (w w' : MachineSt
   answered : ((pv pu pu' : Port) (l : Lane) (stood : Stand k w pv pu l) → TellerIsReady k stood.v pv
       → HearsSettled k pu'
       → (pu.held ≢ Disabled → pu'.held ≢ Disabled) → Hearing stood.u pu pu'
-      → Stage says k pv.announce pu'.held l.frames)
+      → LinkStage says k pv.announce pu'.held l.frames)
       → LinkSettles says k w'
   answered hearing late pv' pu' l' stand has' =
       by_parts (call.lanes k.lane l' stand.lane) (hearer_step stand.u pu' stand.hearer stand.hearer_port)
@@ -343,11 +343,11 @@ module _ (says : Spelling) (k : Wiring) (touch : StationTouch) (w w' : MachineSt
       settles' = ends'.hearer stand.u pu' stand.hearer stand.hearer_port since'
 
       by_parts : ((l : Lane) × (slice_get w.lanes k.lane ≡ Some l) × LaneStep call.s.clock call.sends l l')
-          → HearerStep pu' → Stage says k pv'.announce pu'.held l'.frames
+          → HearerStep pu' → LinkStage says k pv'.announce pu'.held l'.frames
       by_parts (l, lane_at, step) (u, pu, u_at, pu_at, hears) =
           by_teller (teller_step settled stand.v pv' l l' has'.1 stand.teller stand.teller_port lane_at step)
         where
-          by_teller : TellerStep pv' step.news → Stage says k pv'.announce pu'.held l'.frames
+          by_teller : TellerStep pv' step.news → LinkStage says k pv'.announce pu'.held l'.frames
           by_teller (v, pv, v_at, pv_at, inr (not, told)) =
               begins_now settled v pv pv' pu'.held l l' v_at pv_at not lane_at stand.lane step told
           by_teller (v, pv, v_at, pv_at, inl (has, timing)) =
@@ -373,7 +373,7 @@ module _ (says : Spelling) (k : Wiring) (touch : StationTouch) (w w' : MachineSt
       → slice_get call.s.ports k.hearer_port ≡ Some q → q.held ≡ Received r → r.at + r.span ≤ w.time)
       → LinkSettles says k w'
   called link deaf ages = answered (λ pv pu pu' l stood has settles' on hearing. elim hearing [
-    | inl (other, same) ↦ subst (λ h. Stage says k pv.announce h l.frames) (sym same) (link since pv pu l stood has)
+    | inl (other, same) ↦ subst (λ h. LinkStage says k pv.announce h l.frames) (sym same) (link since pv pu l stood has)
     | inr (here, is, answer) ↦ keeps says k pv.announce pu.held pu'.held l.frames
         (held_on pv pu pu' l stood has settles' on answer (λ a. deaf a here)
         (λ r grown. ages pu r here grown
@@ -385,7 +385,7 @@ module _ (says : Spelling) (k : Wiring) (touch : StationTouch) (w w' : MachineSt
   pub heard : (f : AnnounceFrame) (a : Announce) → touch ≡ Hear (suc k.hearer_port) a → says f.octets a
       → k.hearer_place ≡ call.place
       → ((pv pu : Port) (l : Lane) (stood : Stand k w pv pu l) → TellerIsReady k stood.v pv
-      → Stage says k pv.announce pu.held (f ∷ l.frames))
+      → LinkStage says k pv.announce pu.held (f ∷ l.frames))
       → LinkSettles says k w'
   heard f a touched said place link =
       answered (λ pv pu pu' l stood has settles' on hearing. elim hearing [

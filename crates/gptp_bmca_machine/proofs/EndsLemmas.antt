@@ -17,7 +17,7 @@ use Rattle.gptp_bmca_machine.specs.Station.{Reception, Disabled, Mine, Received,
 use Rattle.gptp_bmca_machine.specs.Vectors.{master}
 use Rattle.gptp_bmca_machine.specs.Facts.{FollowsItself, FollowsPort}
 use Rattle.gptp_bmca_machine.specs.Sound.{RunIsSound}
-use Rattle.gptp_bmca_machine.specs.Stage.{Wiring}
+use Rattle.gptp_bmca_machine.specs.LinkStage.{Wiring}
 use Rattle.gptp_bmca_machine.specs.Link.{final_vector, StandsAt, TellerIsReady, TellerIsSettled, HearsSettled, IsLaneOf, LaneIsOnTime, Ends, LapsesLater, HearsOn, StaysOn}
 use Rattle.gptp_bmca_machine.specs.Network.{Network, IsTimed, IsSettlingNetwork, since, wiring}
 use Rattle.gptp_bmca_machine.specs.Calm.{IsCalmPort, HasLane, Calm}

@@ -7,7 +7,7 @@ use Rattle.gptp_bmca_machine.specs.Station.{Reception, Held, Disabled, Aged, Min
 use Rattle.gptp_bmca_machine.specs.Vectors.{message, master}
 use Rattle.gptp_bmca_machine.specs.Touch.{StationTouch, Hear, Tick, Grow, Enable, Disable, Other, HeldInTouch, Replaces}
 use Rattle.gptp_bmca_machine.specs.Reacts.{PortStep}
-use Rattle.gptp_bmca_machine.specs.Stage.{Wiring, IsFinal}
+use Rattle.gptp_bmca_machine.specs.LinkStage.{Wiring, IsFinal}
 use Rattle.gptp_bmca_machine.specs.Link.{final_vector, HearsSettled}
 
 -- a touch that is no Hear and no Grow of the port, and doesn't disable it, leaves what it received

@@ -17,7 +17,7 @@ use Rattle.gptp_bmca_machine.specs.Acts.{MachineSteps}
 use Rattle.gptp_bmca_machine.specs.Facts.{station_system}
 use Rattle.gptp_bmca_machine.specs.CleanInvariant.{TracesAreClean}
 use Rattle.gptp_bmca_machine.specs.Sound.{RunIsSound}
-use Rattle.gptp_bmca_machine.specs.Stage.{IsFinal}
+use Rattle.gptp_bmca_machine.specs.LinkStage.{IsFinal}
 use Rattle.gptp_bmca_machine.specs.Link.{Stand, LinkSettles}
 use Rattle.gptp_bmca_machine.specs.Network.{Network, IsSettlingNetwork, network_setting, machine_clean_from, since, wiring}
 use Rattle.gptp_bmca_machine.specs.Calm.{Calm}

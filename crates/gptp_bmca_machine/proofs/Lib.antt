@@ -5,7 +5,7 @@ pub mod EachLiveLemmas
 pub mod HeldLemmas
 pub mod SelectedLemmas
 pub mod CleanLemmas
-pub mod StageLemmas
+pub mod LinkStageLemmas
 pub mod HearingLemmas
 pub mod PopLemmas
 pub mod AnswerLemmas

@@ -6,9 +6,9 @@ use Rattle.gptp_bmca_machine.specs.Frame.{Announce, Spelling, Lane}
 use Rattle.gptp_bmca_machine.specs.Station.{Reception, Received, Port, Station, MachineState}
 use Rattle.gptp_bmca_machine.specs.Touch.{StationTouch, Hear, Tick, Grow, Enable, Disable, Other}
 use Rattle.gptp_bmca_machine.specs.Acts.{Arrives, Drops, Runs, StationActs, MachineSteps}
-use Rattle.gptp_bmca_machine.specs.Stage.{Wiring, to_port, IsFinal, FrameSaysAnnounce, Stage}
+use Rattle.gptp_bmca_machine.specs.LinkStage.{Wiring, to_port, IsFinal, FrameSaysAnnounce, LinkStage}
 use Rattle.gptp_bmca_machine.specs.Link.{TellerIsReady, Ends, LapsesLater, HearsOn, StaysOn, Stand, LinkSettles}
-use Rattle.gptp_bmca_machine.proofs.StageLemmas.{settled}
+use Rattle.gptp_bmca_machine.proofs.LinkStageLemmas.{settled}
 use Rattle.gptp_bmca_machine.proofs.PlaceLemmas.{same_there}
 use Rattle.gptp_bmca_machine.proofs.PopLemmas.{ends_popped, stood_popped, other_lane, silent_frame}
 use Rattle.gptp_bmca_machine.proofs.AnswerLemmas.{called, heard}
@@ -130,10 +130,10 @@ module _ (says : Spelling) (k : Wiring) where
             number = (act.heard n a touched).0 ∙ ap (λ (p : PortIdentity). p.port) to
 
             stage : (pv pu : Port) (l : Lane) (stand : Stand k act.mid pv pu l) → TellerIsReady k stand.v pv
-                → Stage says k pv.announce pu.held (act.f ∷ l.frames)
+                → LinkStage says k pv.announce pu.held (act.f ∷ l.frames)
             stage pv pu l stand has = elim (act.pops.lanes k.lane l stand.lane) [
-              | inl (here, is) ↦ subst (λ (x : Lane). Stage says k pv.announce pu.held (act.f ∷ x.frames)) (sym is)
-                  (subst (Stage says k pv.announce pu.held) act.pops.frames
+              | inl (here, is) ↦ subst (λ (x : Lane). LinkStage says k pv.announce pu.held (act.f ∷ x.frames)) (sym is)
+                  (subst (LinkStage says k pv.announce pu.held) act.pops.frames
                   (link (subst (λ t. k.from ≤ t) act.pops.time (since_mid late)) pv pu act.l
                   (stood_popped says k act.j act.l act.f act.fs w act.mid act.pops act.l lane_at pv pu l stand) has))
               | inr (apart, stood) ↦ absurd (apart same)

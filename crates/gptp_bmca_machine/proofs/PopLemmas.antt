@@ -4,9 +4,9 @@ use Rattle.gptp_lists.specs.Members.{In}
 use Rattle.gptp_bmca_machine.specs.Frame.{Spelling, AnnounceFrame, Lane}
 use Rattle.gptp_bmca_machine.specs.Station.{Port, MachineState}
 use Rattle.gptp_bmca_machine.specs.Acts.{Pops}
-use Rattle.gptp_bmca_machine.specs.Stage.{Wiring, FrameSaysAnnounce, Stage}
+use Rattle.gptp_bmca_machine.specs.LinkStage.{Wiring, FrameSaysAnnounce, LinkStage}
 use Rattle.gptp_bmca_machine.specs.Link.{IsTeller, IsLaneOf, LaneIsOnTime, Ends, Stand, LinkSettles}
-use Rattle.gptp_bmca_machine.proofs.StageLemmas.{misses}
+use Rattle.gptp_bmca_machine.proofs.LinkStageLemmas.{misses}
 
 module _ (says : Spelling) (k : Wiring) where
   -- the link keeps its ends when a frame is taken off a lane
@@ -79,9 +79,9 @@ module _ (says : Spelling) (k : Wiring) where
       → LinkSettles says k w → LinkSettles says k w'
   silent_frame j l f fs w w' pops same silent link since pv pu l' stand settled =
       elim (pops.lanes k.lane l' stand.lane) [
-        | inl (here, is) ↦ subst (λ (x : Lane). Stage says k pv.announce pu.held x.frames) (sym is)
+        | inl (here, is) ↦ subst (λ (x : Lane). LinkStage says k pv.announce pu.held x.frames) (sym is)
             (misses says k pv.announce pu.held f fs (silent since' pv pu stood)
-            (subst (Stage says k pv.announce pu.held) pops.frames (link since' pv pu l stood settled)))
+            (subst (LinkStage says k pv.announce pu.held) pops.frames (link since' pv pu l stood settled)))
         | inr (apart, at) ↦ absurd (apart same)
       ]
     where

@@ -14,7 +14,7 @@ use Rattle.gptp_graph.proofs.ExistenceLemmas.{distance_exists}
 use Rattle.gptp_graph.proofs.PathBoundLemmas.{IsDistance-within}
 use Rattle.gptp_bmca_machine.specs.Frame.{Announce, Spelling, AnnounceFrame}
 use Rattle.gptp_bmca_machine.specs.Station.{Held, Disabled, MachineState}
-use Rattle.gptp_bmca_machine.specs.Stage.{IsFinal, FinalAnnounceStays, Stage}
+use Rattle.gptp_bmca_machine.specs.LinkStage.{IsFinal, FinalAnnounceStays, LinkStage}
 use Rattle.gptp_bmca_machine.specs.Link.{HasSettled, IsTeller, Ends, Stand, LinkSettles}
 use Rattle.gptp_bmca_machine.specs.Network.{Network, IsSettlingNetwork, since, settled_from, wiring}
 use Rattle.gptp_bmca_machine.specs.Calm.{Calm}
@@ -22,7 +22,7 @@ use Rattle.gptp_bmca_machine.specs.Levels.{LeadsFarther, LevelSettles, Invariant
 use Rattle.gptp_bmca_machine.specs.Run.{last_state, NearHaveSettled}
 use Rattle.gptp_bmca_machine.specs.SoundLaws.{IsSoundOnLinks, AllAreNear, HasNews, IsNewsRun}
 use Rattle.gptp_bmca_machine.specs.RestLaws.{LinkStays, SameWiring, StandsAsBefore, IsResting, NewsAtRest}
-use Rattle.gptp_bmca_machine.proofs.StageLemmas.{settled}
+use Rattle.gptp_bmca_machine.proofs.LinkStageLemmas.{settled}
 use Rattle.gptp_bmca_machine.proofs.NearestLemmas.{equal_within}
 use Rattle.gptp_bmca_machine.proofs.RestLemmas.{Chooses}
 use Rattle.gptp_bmca_machine.proofs.EndsLemmas.{AllChoose, capable_at, ends}
@@ -209,7 +209,7 @@ module _ (says : Spelling) (n n' : Network) (net : IsSettlingNetwork n) (net' : 
           stood.teller stand.v (subst (λ i. slice_get w'.stations i ≡ Some stand.v) (same.place v) stand.teller)
 
       go : ((e : ℕ) × IsDistance n.graph v e × (e < 255))
-          → Stage says (wiring n' d best v p u q) pv.announce pu.held l.frames
+          → LinkStage says (wiring n' d best v p u q) pv.announce pu.held l.frames
       go (e, here, close) = inr (inr (stays_so says n n' same d here.best best v p u q root pv.announce pu.held l.frames
           (links_stay says n net w rests.calm rests.invariant rests.late d here.best v p u q
           (subst (λ x. x < 255) (sym steps) close)

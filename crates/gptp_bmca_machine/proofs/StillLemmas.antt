@@ -19,7 +19,7 @@ use Rattle.gptp_bmca_machine.specs.Vectors.{master}
 use Rattle.gptp_bmca_machine.specs.Acts.{MachineSteps}
 use Rattle.gptp_bmca_machine.specs.Facts.{station_system, FollowsItself, FollowsPort}
 use Rattle.gptp_bmca_machine.specs.Sound.{ReceivedFits}
-use Rattle.gptp_bmca_machine.specs.Stage.{Wiring, IsFinal, FinalAnnounceStays}
+use Rattle.gptp_bmca_machine.specs.LinkStage.{Wiring, IsFinal, FinalAnnounceStays}
 use Rattle.gptp_bmca_machine.specs.Link.{final_vector, StandsAt, TellerIsReady, TellerIsSettled, HearsSettled, IsLaneOf, LaneIsOnTime, Ends, Stand, LinkSettles}
 use Rattle.gptp_bmca_machine.specs.Network.{Network, IsSettlingNetwork, wiring}
 use Rattle.gptp_bmca_machine.specs.Calm.{IsCalmPort, HasLane, Calm}

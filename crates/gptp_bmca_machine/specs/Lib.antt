@@ -8,7 +8,7 @@ pub mod Clean
 pub mod Facts
 pub mod CleanInvariant
 pub mod CleanLaws
-pub mod Stage
+pub mod LinkStage
 pub mod Link
 pub mod LinkLaws
 pub mod AtRest

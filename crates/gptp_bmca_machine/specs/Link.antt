@@ -5,7 +5,7 @@ use Rattle.gptp_graph.specs.Order.{IsLower}
 use Rattle.gptp_bmca_machine.specs.Frame.{Announce, Spelling, AnnounceFrame, Lane}
 use Rattle.gptp_bmca_machine.specs.Station.{Reception, Disabled, Mine, Received, Port, Station, MachineState}
 use Rattle.gptp_bmca_machine.specs.Vectors.{master}
-use Rattle.gptp_bmca_machine.specs.Stage.{Wiring, from_port, to_port, Stage}
+use Rattle.gptp_bmca_machine.specs.LinkStage.{Wiring, from_port, to_port, LinkStage}
 
 -- the message vector of a final Announce
 abbrev pub final_vector : Wiring → List ℕ
@@ -115,4 +115,4 @@ pub record Stand (k : Wiring) (w : MachineState) (pv pu : Port) (l : Lane) : Typ
 abbrev pub LinkSettles : Spelling → Wiring → MachineState → Type 0
 LinkSettles says k w = k.from ≤ w.time → (pv pu : Port) (l : Lane) (stand : Stand k w pv pu l)
     → TellerIsReady k stand.v pv
-    → Stage says k pv.announce pu.held l.frames
+    → LinkStage says k pv.announce pu.held l.frames

@@ -3,7 +3,7 @@ use Rattle.std.specs.Prelude.{◌≡◌, ◌≤◌}
 use Rattle.gptp_bmca_machine.specs.Frame.{Spelling, Lane}
 use Rattle.gptp_bmca_machine.specs.Station.{Reception, Received, Port, MachineState}
 use Rattle.gptp_bmca_machine.specs.Acts.{MachineSteps}
-use Rattle.gptp_bmca_machine.specs.Stage.{Wiring, IsFinal}
+use Rattle.gptp_bmca_machine.specs.LinkStage.{Wiring, IsFinal}
 use Rattle.gptp_bmca_machine.specs.Link.{TellerIsReady, Ends, LapsesLater, HearsOn, StaysOn, Stand, LinkSettles}
 
 -- every step keeps that the link is at one of the stages whenever the teller has settled

@@ -3,7 +3,7 @@ use Rattle.std.specs.Prelude.{◌≡◌, ◌⊎◌, ◌≤◌, ◌+◌, ◌*◌,
 use Rattle.gptp_graph.specs.Snapshot.{System, PortIdentity, Snapshot, port_of, Joins, IsLinked, IsWellFormed}
 use Rattle.gptp_graph.specs.PathBound.{BoundsPaths}
 use Rattle.gptp_bmca_machine.specs.Facts.{NetworkSetting, turn, BeginsLater}
-use Rattle.gptp_bmca_machine.specs.Stage.{Wiring}
+use Rattle.gptp_bmca_machine.specs.LinkStage.{Wiring}
 
 -- the sync interval, how long after a Follow_Up a system relays it, and how long after one its lapse timer is due
 pub record SyncTiming : Type 0 where

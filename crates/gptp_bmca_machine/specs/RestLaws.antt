@@ -3,7 +3,7 @@ use Rattle.std.specs.Prelude.{◌≡◌, ◌⊎◌, ◌<◌, ◌≤◌, ◌+◌,
 use Rattle.gptp_graph.specs.Snapshot.{System, PortIdentity, port_of, Joins}
 use Rattle.gptp_bmca_machine.specs.Frame.{Spelling, Lane}
 use Rattle.gptp_bmca_machine.specs.Station.{Disabled, Port, Station, MachineState}
-use Rattle.gptp_bmca_machine.specs.Stage.{Wiring, FinalAnnounceStays}
+use Rattle.gptp_bmca_machine.specs.LinkStage.{Wiring, FinalAnnounceStays}
 use Rattle.gptp_bmca_machine.specs.Link.{Stand}
 use Rattle.gptp_bmca_machine.specs.Network.{Network, IsSettlingNetwork, settled_from, wiring}
 use Rattle.gptp_bmca_machine.specs.Calm.{Calm}

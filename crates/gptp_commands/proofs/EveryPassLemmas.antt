@@ -11,11 +11,11 @@ use Rattle.gptp_network.specs.Span.{IsBound, IsCalmAt}
 use Rattle.gptp_network.proofs.SpanLemmas.{bound_exists}
 use Rattle.gptp_scenario.specs.Network.{IsNetwork}
 use Rattle.gptp_scenario.specs.declared.change.Timed.{Timed}
-use Rattle.gptp_world.specs.Transitions.{PassesTo, Transition, transition}
+use Rattle.gptp_world.specs.Transitions.{PassesTo, ActTrace, transition}
 use Rattle.gptp_report.specs.Transitions.{Courses, Makes}
 use Rattle.gptp_accuracy.specs.declared.errors.TimeErrors.{TimeErrors}
 use Rattle.gptp_accuracy.proofs.CalmLemmas.{calm_dec}
-use Rattle.gptp_timeline.specs.Timeline.{AllPass, AreErrorsIf, Passage, end_before, later_than, now_of}
+use Rattle.gptp_timeline.specs.Timeline.{AllPass, AreErrorsIf, StretchTrace, end_before, later_than, now_of}
 use Rattle.gptp_timeline.proofs.EventLemmas.{all_now, fewer_later, filter_in_order}
 use Rattle.gptp_timeline.proofs.UnfoldLemmas.{now_and_later}
 
@@ -33,7 +33,7 @@ module _ {F : Type 0} (answers : Bounds → ℕ → F → Option ℕ → F → T
   -- ---- two parts of what happens
 
   -- where all that is due by a time has happened, nothing more does by then
-  nothing_more : (until : ℕ) (ts : List Transition) (fate drawn : F) (w between : WorldState)
+  nothing_more : (until : ℕ) (ts : List ActTrace) (fate drawn : F) (w between : WorldState)
       → PassesTo answers until ts fate drawn w between → PassesTo answers until [] drawn drawn between between
   nothing_more until ts fate drawn w between k = record {
     ahead = let now : between.time ≡ until = ap (λ (v : WorldState). v.time) k.is in omega (arith, now);
@@ -44,7 +44,7 @@ module _ {F : Type 0} (answers : Bounds → ℕ → F → Option ℕ → F → T
   }
 
   -- so an event is made at once after what is due by its time
-  made_at_once : (event : Timed) (ts : List Transition) (fate fate_after : F) (w w' : WorldState)
+  made_at_once : (event : Timed) (ts : List ActTrace) (fate fate_after : F) (w w' : WorldState)
       (k : Makes answers event ts fate fate_after w w')
       → Makes answers event (transition event k.done k.between w' ∷ []) k.drawn fate_after k.between w'
   made_at_once event ts fate fate_after w w' k = record {
@@ -60,14 +60,14 @@ module _ {F : Type 0} (answers : Bounds → ℕ → F → Option ℕ → F → T
   -- what happens with some events and others after them: up to the time of the first of the others, and from then on
   record HaveParts (until : ℕ) (events : List Timed) (event : Timed) (later : List Timed) (fate fate_after : F)
       (w w' : WorldState) : Type 0 where
-    front : List Transition
-    back : List Transition
+    front : List ActTrace
+    back : List ActTrace
     middle : F
     world : WorldState
     begins : Courses answers event.at events front fate middle w world
     ends : Courses answers until (event ∷ later) back middle fate_after world w'
 
-  have_parts : (until : ℕ) (events : List Timed) (event : Timed) (later : List Timed) (ts : List Transition)
+  have_parts : (until : ℕ) (events : List Timed) (event : Timed) (later : List Timed) (ts : List ActTrace)
       (fate fate_after : F) (w w' : WorldState)
       → Courses answers until (events ++ event ∷ later) ts fate fate_after w w'
       → HaveParts until events event later fate fate_after w w'
@@ -102,18 +102,18 @@ module _ {F : Type 0} (answers : Bounds → ℕ → F → Option ℕ → F → T
   module _ (exact : Bool) (d : DocumentState) (until : ℕ) where
     -- several stretches that pass from a time on
     pub record HavePassed (from : ℕ) (events : List Timed) (fate fate_after : F) (w w' : WorldState) : Type 0 where
-      pub first : Passage
-      pub others : List Passage
+      pub first : StretchTrace
+      pub others : List StretchTrace
       pub pass : AllPass answers exact d until from events fate fate_after w w' (first ∷ others)
 
     -- whatever happens with events, it is stretches that pass
     abbrev CanPass : ℕ → List Timed → Type 0
-    CanPass from events = (ts : List Transition) (fate fate_after : F) (w w' : WorldState)
+    CanPass from events = (ts : List ActTrace) (fate fate_after : F) (w w' : WorldState)
         → Courses answers until events ts fate fate_after w w' → HavePassed from events fate fate_after w w'
 
     module _ (bounds : (at : ℕ) → (bound : Option ℕ) × IsBound d at bound)
         (errors : (at to : ℕ) → (errors : Option TimeErrors) × AreErrorsIf exact d at to errors) where
-      abbrev passage : ℕ → ℕ → List Timed → List Transition → WorldState → Passage
+      abbrev passage : ℕ → ℕ → List Timed → List ActTrace → WorldState → StretchTrace
       passage from to events acts after = record {
         from = from;
         to = to;

@@ -30,7 +30,7 @@ use Rattle.gptp_accuracy.proofs.OneLemmas.{errors_once}
 use Rattle.gptp_accuracy.proofs.WayLemmas.{one_each}
 use Rattle.gptp_timeline.specs.End.{IsDefaultEnd, end_behind}
 use Rattle.gptp_timeline.specs.Limits.{is_exceeded, verdict_lines}
-use Rattle.gptp_timeline.specs.Timeline.{AreErrorsBy, HoldsBy, Passage, TimelineOf, all_exceeded, all_lines, none_waits, start_lines}
+use Rattle.gptp_timeline.specs.Timeline.{AreErrorsBy, HoldsBy, StretchTrace, TimelineOf, all_exceeded, all_lines, none_waits, start_lines}
 use Rattle.gptp_timeline.specs.declared.limits.Limit.{Limit}
 use Rattle.gptp_timeline.specs.declared.timeline.TimelineOptions.{TimelineOptions}
 use Rattle.gptp_timeline.proofs.RightLemmas.{timelines_are_right}
@@ -143,7 +143,7 @@ module _ (input : List ℕ) (d : DocumentState) (means : Means input d) where
       documents_unfold draws draws_answer_all d until (generator seed) playable injects early in
       let k = document_passes draws true d until (λ at. bound_at d at network) errors_at events ts run.started run.drawn
       start w run.courses in
-      let passages : List Passage = k.first ∷ k.others in
+      let passages : List StretchTrace = k.first ∷ k.others in
       let names : List ℕ = rising_clocks start in
       let verdict : Option Limit = all_exceeded options.limits names none_waits passages None in
       let lines : List (List ℕ) =

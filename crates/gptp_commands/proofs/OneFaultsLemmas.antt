@@ -18,7 +18,7 @@ use Rattle.gptp_timeline.specs.Ends.{EndState}
 use Rattle.gptp_timeline.specs.LastTwo.{EndsOf, end_in, ends_in, last_two}
 use Rattle.gptp_timeline.specs.Shown.{shown}
 use Rattle.gptp_timeline.specs.Stretch.{roots_of, waits}
-use Rattle.gptp_timeline.specs.Timeline.{AllPass, Passage, none_waits}
+use Rattle.gptp_timeline.specs.Timeline.{AllPass, StretchTrace, none_waits}
 use Rattle.gptp_faults.specs.Faults.{FaultsOf}
 use Rattle.gptp_faults.specs.Laws.{RunsEndOnce}
 use Rattle.gptp_faults.specs.Refusals.{RefusesFaults}
@@ -37,13 +37,13 @@ use Rattle.gptp_commands.proofs.VerdictLemmas.{AreSame, same_refusal}
 
 -- ---- a run
 
-same_end : (names : List ℕ) (since : ℕ → Option ℕ) (p q : Passage) → IsSamePassage p q
+same_end : (names : List ℕ) (since : ℕ → Option ℕ) (p q : StretchTrace) → IsSamePassage p q
     → end_in names since p ≡ end_in names since q
 same_end names since p q k =
     let stretch = same_stretch names since p q k in
     λ i. record { stretch = stretch i; roots = roots_of (map (λ name. shown name (k.after i)) names) }
 
-same_ends : (names : List ℕ) (since : ℕ → Option ℕ) (ps qs : List Passage) → SamePassages ps qs
+same_ends : (names : List ℕ) (since : ℕ → Option ℕ) (ps qs : List StretchTrace) → SamePassages ps qs
     → ends_in names since ps ≡ ends_in names since qs
 same_ends names since [] [] k = refl
 same_ends names since [] (q ∷ qs) k = absurd k

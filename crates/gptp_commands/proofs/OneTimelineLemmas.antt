@@ -17,13 +17,13 @@ use Rattle.gptp_scenario.specs.Network.{pace_of}
 use Rattle.gptp_scenario.specs.SettlingTime.{settling_span_with}
 use Rattle.gptp_scenario.specs.SyncWait.{sync_paths}
 use Rattle.gptp_scenario.specs.declared.change.Timed.{Timed}
-use Rattle.gptp_report.specs.Transitions.{Courses, Transition}
+use Rattle.gptp_report.specs.Transitions.{Courses, ActTrace}
 use Rattle.gptp_determinism.specs.Named.{AnswersOnce, IsNamed}
-use Rattle.gptp_determinism.specs.TransitionLaws.{SameTransitions}
+use Rattle.gptp_determinism.specs.ActTraceLaws.{SameTransitions}
 use Rattle.gptp_determinism.proofs.CourseLemmas.{begins_once}
 use Rattle.gptp_determinism.proofs.MeantLemmas.{meant_named, meant_names}
 use Rattle.gptp_determinism.proofs.NameLemmas.{begun_named, NamesOne}
-use Rattle.gptp_determinism.proofs.TransitionLemmas.{courses_named, courses_once}
+use Rattle.gptp_determinism.proofs.ActTraceLemmas.{courses_named, courses_once}
 use Rattle.gptp_accuracy.specs.declared.errors.SystemError.{SystemError}
 use Rattle.gptp_accuracy.specs.declared.errors.TimeErrors.{TimeErrors}
 use Rattle.gptp_accuracy.proofs.OneLemmas.{errors_once}
@@ -33,7 +33,7 @@ use Rattle.gptp_timeline.specs.Limits.{exceeded_after, is_exceeded, verdict_line
 use Rattle.gptp_timeline.specs.Shown.{shown}
 use Rattle.gptp_timeline.specs.Stretch.{counted, measured, waits}
 use Rattle.gptp_timeline.specs.StretchText.{after_line, system_accuracy}
-use Rattle.gptp_timeline.specs.Timeline.{AllPass, AreErrorsBy, AreErrorsIf, IsPassage, Passage, TimelineOf, accuracy_at, timeline_accuracy_lines, all_exceeded, all_lines, is_begun, later_than, none_waits, passage_lines, start_lines, stretch_of}
+use Rattle.gptp_timeline.specs.Timeline.{AllPass, AreErrorsBy, AreErrorsIf, IsPassage, StretchTrace, TimelineOf, accuracy_at, timeline_accuracy_lines, all_exceeded, all_lines, is_begun, later_than, none_waits, passage_lines, start_lines, stretch_of}
 use Rattle.gptp_timeline.specs.declared.limits.Limits.{Limits}
 use Rattle.gptp_timeline.specs.declared.timeline.TimelineOptions.{TimelineOptions}
 use Rattle.gptp_commands.specs.declared.failure.Status.{Status}
@@ -83,7 +83,7 @@ one_errors_if false d at to a b names x y =
 -- ---- one stretch
 
 -- two stretches are one: when they are, what happens in them, and what is known of them
-pub record IsSamePassage (p q : Passage) : Type 0 where
+pub record IsSamePassage (p q : StretchTrace) : Type 0 where
   pub from : p.from ≡ q.from
   pub to : p.to ≡ q.to
   pub events : p.events ≡ q.events
@@ -94,7 +94,7 @@ pub record IsSamePassage (p q : Passage) : Type 0 where
 
 module _ {F : Type 0} (answers : Bounds → ℕ → F → Option ℕ → F → Type 0) (once : AnswersOnce answers)
     (exact : Bool) (d : DocumentState) (names : HasOneEach d.network) (until : ℕ) where
-  one_passage : (from : ℕ) (events : List Timed) (fate f g : F) (w : WorldState) (p q : Passage) → IsNamed w
+  one_passage : (from : ℕ) (events : List Timed) (fate f g : F) (w : WorldState) (p q : StretchTrace) → IsNamed w
       → IsPassage answers exact d until from events fate f w p → IsPassage answers exact d until from events fate g w q
       → IsSamePassage p q × (f ≡ g)
   one_passage from events fate f g w p q is k l =
@@ -117,14 +117,14 @@ module _ {F : Type 0} (answers : Bounds → ℕ → F → Option ℕ → F → T
         way.fate_is,
       )
 
-  passage_named : (from : ℕ) (events : List Timed) (fate f : F) (w : WorldState) (p : Passage) → IsNamed w
+  passage_named : (from : ℕ) (events : List Timed) (fate f : F) (w : WorldState) (p : StretchTrace) → IsNamed w
       → IsPassage answers exact d until from events fate f w p → IsNamed p.after
   passage_named from events fate f w p is k =
       courses_named answers p.to p.events p.acts fate f w p.after is k.courses
 
 -- ---- all stretches
 
-abbrev pub SamePassages : List Passage → List Passage → Type 0
+abbrev pub SamePassages : List StretchTrace → List StretchTrace → Type 0
 SamePassages [] [] = ⊤
 SamePassages [] (q ∷ qs) = ⊥
 SamePassages (p ∷ ps) [] = ⊥
@@ -132,7 +132,7 @@ SamePassages (p ∷ ps) (q ∷ qs) = IsSamePassage p q × SamePassages ps qs
 
 module _ {F : Type 0} (answers : Bounds → ℕ → F → Option ℕ → F → Type 0) (once : AnswersOnce answers)
     (exact : Bool) (d : DocumentState) (names : HasOneEach d.network) (until : ℕ) where
-  pub all_pass_once : (from : ℕ) (events : List Timed) (fate f g : F) (w v u : WorldState) (ps qs : List Passage)
+  pub all_pass_once : (from : ℕ) (events : List Timed) (fate f g : F) (w v u : WorldState) (ps qs : List StretchTrace)
       → IsNamed w → AllPass answers exact d until from events fate f w v ps
       → AllPass answers exact d until from events fate g w u qs → SamePassages ps qs
   all_pass_once from events fate f g w v u [] qs is k l = absurd k
@@ -160,13 +160,13 @@ module _ {F : Type 0} (answers : Bounds → ℕ → F → Option ℕ → F → T
 
 -- ---- their lines
 
-same_accuracy_at : (from : Option ℕ) (ts us : List Transition) (systems : List SystemError) → SameTransitions ts us
+same_accuracy_at : (from : Option ℕ) (ts us : List ActTrace) (systems : List SystemError) → SameTransitions ts us
     → accuracy_at from ts systems ≡ accuracy_at from us systems
 same_accuracy_at None ts us systems k = refl
 same_accuracy_at (Some from) ts us systems k =
     λ i. flat_map (system_accuracy from (λ name. same_errors_from name (Some from) ts us k i)) systems
 
-same_accuracy : (ts us : List Transition) (a b : Option TimeErrors) → SameTransitions ts us → SameErrors a b
+same_accuracy : (ts us : List ActTrace) (a b : Option TimeErrors) → SameTransitions ts us → SameErrors a b
     → timeline_accuracy_lines ts a ≡ timeline_accuracy_lines us b
 same_accuracy ts us None None k same = refl
 same_accuracy ts us None (Some u) k same = absurd same
@@ -175,7 +175,7 @@ same_accuracy ts us (Some t) (Some u) k (from, systems) =
     ap₂ (λ (time : Option ℕ) (errors : List SystemError). accuracy_at time ts errors) from systems
     ∙ same_accuracy_at u.from ts us u.systems.items k
 
-pub same_stretch : (names : List ℕ) (since : ℕ → Option ℕ) (p q : Passage) → IsSamePassage p q
+pub same_stretch : (names : List ℕ) (since : ℕ → Option ℕ) (p q : StretchTrace) → IsSamePassage p q
     → stretch_of names since p ≡ stretch_of names since q
 same_stretch names since p q k =
     let measures = same_measures names since p.to p.acts q.acts k.acts
@@ -189,7 +189,8 @@ same_stretch names since p q k =
       counts = counted (map (λ name. shown name (k.after i)) names);
     }
 
-same_passage : (options : TimelineOptions) (names : List ℕ) (since : ℕ → Option ℕ) (p q : Passage) → IsSamePassage p q
+same_passage : (options : TimelineOptions) (names : List ℕ) (since : ℕ → Option ℕ) (p q : StretchTrace)
+    → IsSamePassage p q
     → passage_lines options names since p ≡ passage_lines options names since q
 same_passage options names since p q k =
     let acts = same_acts options names p.acts q.acts k.acts in
@@ -197,7 +198,7 @@ same_passage options names since p q k =
     let accuracy = same_accuracy p.acts q.acts p.errors q.errors k.acts k.errors in
     λ i. acts i ++ after_line (stretch i) ∷ accuracy i
 
-same_lines : (options : TimelineOptions) (names : List ℕ) (since : ℕ → Option ℕ) (ps qs : List Passage)
+same_lines : (options : TimelineOptions) (names : List ℕ) (since : ℕ → Option ℕ) (ps qs : List StretchTrace)
     → SamePassages ps qs → all_lines options names since ps ≡ all_lines options names since qs
 same_lines options names since [] [] k = refl
 same_lines options names since [] (q ∷ qs) k = absurd k
@@ -208,7 +209,7 @@ same_lines options names since (p ∷ ps) (q ∷ qs) (first, rest) =
     ∙ same_lines options names (waits q.acts since) ps qs rest in
     λ i. same_passage options names since p q first i ++ later i
 
-same_exceeded : (limits : Limits) (names : List ℕ) (since begun : ℕ → Option ℕ) (ps qs : List Passage)
+same_exceeded : (limits : Limits) (names : List ℕ) (since begun : ℕ → Option ℕ) (ps qs : List StretchTrace)
     → ◌≡◌ {A = ℕ → Option ℕ} since begun → SamePassages ps qs
     → all_exceeded limits names since ps ≡ all_exceeded limits names begun qs
 same_exceeded limits names since begun [] [] e k = refl

@@ -7,9 +7,9 @@ use Rattle.gptp_model.specs.World.{WorldState}
 use Rattle.gptp_model.specs.declared.done.Done.{Done}
 use Rattle.gptp_model.specs.declared.done.Done.TheVariants.{Heard, Quiet}
 use Rattle.gptp_scenario.specs.declared.change.Timed.{Timed}
-use Rattle.gptp_report.specs.Transitions.{Transition, transition}
+use Rattle.gptp_report.specs.Transitions.{ActTrace, transition}
 use Rattle.gptp_determinism.specs.ActLaws.{SameDone}
-use Rattle.gptp_determinism.specs.TransitionLaws.{IsSameTransition, SameTransitions}
+use Rattle.gptp_determinism.specs.ActTraceLaws.{IsSameTransition, SameTransitions}
 use Rattle.gptp_timeline.specs.Changes.{change_lines}
 use Rattle.gptp_timeline.specs.Limits.{amount_of}
 use Rattle.gptp_timeline.specs.Measures.{ended_by, greatest, one_at, since_after}
@@ -30,16 +30,16 @@ same_received (Heard clock port answer frame) (Heard number reached said octets)
     λ i. receiver_clock (clocks i) (answers i) (items i)
 
 -- what depends on these alone is the same
-same_by : {X : Type 0} (G : Timed → Option ℕ → WorldState → WorldState → X) (t u : Transition) → IsSameTransition t u
+same_by : {X : Type 0} (G : Timed → Option ℕ → WorldState → WorldState → X) (t u : ActTrace) → IsSameTransition t u
     → G t.told.timed (received_by t.told.done) t.before t.after
     ≡ G u.told.timed (received_by u.told.done) u.before u.after
 same_by G t u k = λ i. G (k.timed i) (same_received t.told.done u.told.done k.done i) (k.before i) (k.after i)
 
 -- an act of which nothing is told, at this time and between these worlds
-abbrev quiet : Timed → WorldState → WorldState → Transition
+abbrev quiet : Timed → WorldState → WorldState → ActTrace
 quiet timed w w' = transition timed Quiet w w'
 
-same_act : (options : TimelineOptions) (names : List ℕ) (t u : Transition) → IsSameTransition t u
+same_act : (options : TimelineOptions) (names : List ℕ) (t u : ActTrace) → IsSameTransition t u
     → act_lines options names t ≡ act_lines options names u
 same_act options names t u k =
     same_by (λ (timed : Timed) (received : Option ℕ) (w w' : WorldState).
@@ -50,27 +50,27 @@ same_act options names t u k =
 abbrev receives_of : ℕ → Option ℕ → Bool
 receives_of name received = option_map_or (λ clock. clock == name) received false
 
-same_wait : (since : ℕ → Option ℕ) (t u : Transition) → IsSameTransition t u
+same_wait : (since : ℕ → Option ℕ) (t u : ActTrace) → IsSameTransition t u
     → ◌≡◌ {A = ℕ → Option ℕ} (waits_after t since) (waits_after u since)
 same_wait since t u k =
     same_by (λ (timed : Timed) (received : Option ℕ) (w w' : WorldState) (name : ℕ).
     since_after timed.at (receives_of name received) (is_expecting (shown name w)) (is_expecting (shown name w'))
     (since name)) t u k
 
-same_ended : (names : List ℕ) (since : ℕ → Option ℕ) (t u : Transition) → IsSameTransition t u
+same_ended : (names : List ℕ) (since : ℕ → Option ℕ) (t u : ActTrace) → IsSameTransition t u
     → ended_in names since t ≡ ended_in names since u
 same_ended names since t u k =
     same_by (λ (timed : Timed) (received : Option ℕ) (w w' : WorldState).
     filter_map (λ name. option_map (one_at name) (ended_by timed.at (is_change timed.act) (receives_of name received)
     (is_expecting (shown name w')) (since name))) names) t u k
 
-same_error : (t u : Transition) → IsSameTransition t u → error_in t ≡ error_in u
+same_error : (t u : ActTrace) → IsSameTransition t u → error_in t ≡ error_in u
 same_error t u k =
     same_by (λ (timed : Timed) (received : Option ℕ) (w w' : WorldState).
     option_and_then (λ name.
     option_map (λ error. one_at name (unsigned_abs error)) (error_at name (quiet timed w w'))) received) t u k
 
-same_counts : (name : ℕ) (from : Option ℕ) (t u : Transition) → IsSameTransition t u
+same_counts : (name : ℕ) (from : Option ℕ) (t u : ActTrace) → IsSameTransition t u
     → counts_for name from t ≡ counts_for name from u
 same_counts name from t u k =
     same_by (λ (timed : Timed) (received : Option ℕ) (w w' : WorldState).
@@ -78,7 +78,7 @@ same_counts name from t u k =
 
 -- ---- several acts
 
-pub same_acts : (options : TimelineOptions) (names : List ℕ) (ts us : List Transition) → SameTransitions ts us
+pub same_acts : (options : TimelineOptions) (names : List ℕ) (ts us : List ActTrace) → SameTransitions ts us
     → flat_map (act_lines options names) ts ≡ flat_map (act_lines options names) us
 same_acts options names [] [] k = refl
 same_acts options names [] (u ∷ us) k = absurd k
@@ -86,7 +86,7 @@ same_acts options names (t ∷ ts) [] k = absurd k
 same_acts options names (t ∷ ts) (u ∷ us) (first, rest) =
     λ i. same_act options names t u first i ++ same_acts options names ts us rest i
 
-pub same_waits : (ts us : List Transition) (since : ℕ → Option ℕ) → SameTransitions ts us
+pub same_waits : (ts us : List ActTrace) (since : ℕ → Option ℕ) → SameTransitions ts us
     → ◌≡◌ {A = ℕ → Option ℕ} (waits ts since) (waits us since)
 same_waits [] [] since k = refl
 same_waits [] (u ∷ us) since k = absurd k
@@ -95,7 +95,7 @@ same_waits (t ∷ ts) (u ∷ us) since (first, rest) =
     ap (λ (begun : ℕ → Option ℕ). waits ts begun) (same_wait since t u first)
     ∙ same_waits ts us (waits_after u since) rest
 
-all_ended : (names : List ℕ) (ts us : List Transition) (since : ℕ → Option ℕ) → SameTransitions ts us
+all_ended : (names : List ℕ) (ts us : List ActTrace) (since : ℕ → Option ℕ) → SameTransitions ts us
     → ended names since ts ≡ ended names since us
 all_ended names [] [] since k = refl
 all_ended names [] (u ∷ us) since k = absurd k
@@ -106,10 +106,10 @@ all_ended names (t ∷ ts) (u ∷ us) since (first, rest) =
     λ i. same_ended names since t u first i ++ later i
 
 -- a test of acts has the same answer
-abbrev SameTest : (Transition → Bool) → Type 0
-SameTest test = (t u : Transition) → IsSameTransition t u → test t ≡ test u
+abbrev SameTest : (ActTrace → Bool) → Type 0
+SameTest test = (t u : ActTrace) → IsSameTransition t u → test t ≡ test u
 
-last_same : (test : Transition → Bool) (ts us : List Transition) → SameTest test → SameTransitions ts us
+last_same : (test : ActTrace → Bool) (ts us : List ActTrace) → SameTest test → SameTransitions ts us
     → last_at test ts ≡ last_at test us
 last_same test [] [] same k = refl
 last_same test [] (u ∷ us) same k = absurd k
@@ -131,14 +131,14 @@ known_same : (names : List ℕ) → SameTest (leaves_another same_known names)
 known_same names t u k =
     λ i. list_any (λ name. not (same_known (shown name (k.before i)) (shown name (k.after i)))) names
 
-all_errors : (ts us : List Transition) → SameTransitions ts us → filter_map error_in ts ≡ filter_map error_in us
+all_errors : (ts us : List ActTrace) → SameTransitions ts us → filter_map error_in ts ≡ filter_map error_in us
 all_errors [] [] k = refl
 all_errors [] (u ∷ us) k = absurd k
 all_errors (t ∷ ts) [] k = absurd k
 all_errors (t ∷ ts) (u ∷ us) (first, rest) = λ i. cons_option (same_error t u first i) (all_errors ts us rest i)
 
 -- of those that pass a test
-errors_if : (t : Transition) (passes : Bool) (ts : List Transition)
+errors_if : (t : ActTrace) (passes : Bool) (ts : List ActTrace)
     → filter_map error_in (cond passes (t ∷ ts) ts)
     ≡ cond passes (cons_option (error_in t) (filter_map error_in ts)) (filter_map error_in ts)
 errors_if t true ts = refl
@@ -149,25 +149,25 @@ same_if : {X : Type 0} (p q : Bool) (one other : Option X) (xs ys : List X) → 
 same_if p q one other xs ys tests ones others =
     λ i. cond (tests i) (cons_option (ones i) (others i)) (others i)
 
-counted_errors : (name : ℕ) (from : Option ℕ) (ts us : List Transition) → SameTransitions ts us
+counted_errors : (name : ℕ) (from : Option ℕ) (ts us : List ActTrace) → SameTransitions ts us
     → filter_map error_in (filter (counts_for name from) ts) ≡ filter_map error_in (filter (counts_for name from) us)
 counted_errors name from [] [] k = refl
 counted_errors name from [] (u ∷ us) k = absurd k
 counted_errors name from (t ∷ ts) [] k = absurd k
 counted_errors name from (t ∷ ts) (u ∷ us) (first, rest) =
-    let counts : Transition → Bool = counts_for name from in
+    let counts : ActTrace → Bool = counts_for name from in
     errors_if t (counts t) (filter counts ts)
     ∙ same_if (counts t) (counts u) (error_in t) (error_in u) (filter_map error_in (filter counts ts))
     (filter_map error_in (filter counts us)) (same_counts name from t u first) (same_error t u first)
     (counted_errors name from ts us rest)
     ∙ sym (errors_if u (counts u) (filter counts us))
 
-pub same_errors_from : (name : ℕ) (from : Option ℕ) (ts us : List Transition) → SameTransitions ts us
+pub same_errors_from : (name : ℕ) (from : Option ℕ) (ts us : List ActTrace) → SameTransitions ts us
     → error_from name from ts ≡ error_from name from us
 same_errors_from name from ts us k = λ i. amount_of (greatest (counted_errors name from ts us k i))
 
 -- what is measured of them
-pub same_measures : (names : List ℕ) (since : ℕ → Option ℕ) (time : ℕ) (ts us : List Transition)
+pub same_measures : (names : List ℕ) (since : ℕ → Option ℕ) (time : ℕ) (ts us : List ActTrace)
     → SameTransitions ts us → measured names since time ts ≡ measured names since time us
 same_measures names since time ts us k =
     let choice = last_same (leaves_another same_choice names) ts us (choice_same names) k in

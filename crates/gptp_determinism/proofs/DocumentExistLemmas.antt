@@ -37,7 +37,7 @@ use Rattle.gptp_network.specs.Snapshot.{events_by}
 use Rattle.gptp_network.proofs.EventLemmas.{events_allowed}
 use Rattle.gptp_network.proofs.PassLemmas.{passes}
 use Rattle.gptp_network.proofs.SnapshotLemmas.{clock_after}
-use Rattle.gptp_report.specs.Transitions.{Courses, Makes, Passes, PassesTo, Transition, Unfolds, transition}
+use Rattle.gptp_report.specs.Transitions.{Courses, Makes, Passes, PassesTo, ActTrace, Unfolds, transition}
 use Rattle.gptp_theorem.specs.PlayedLaws.{IsPlayable}
 use Rattle.gptp_theorem.specs.Reached.{Shape, StandsAsPlanned, shape, shape_after, channel_wire}
 use Rattle.gptp_theorem.proofs.BeginLemmas.{begun_stands}
@@ -196,7 +196,7 @@ start_at_all (e ∷ events) = omega arith
 -- ---- a world stands as the network does all the way
 
 module _ {F : Type 0} (answers : Bounds → ℕ → F → Option ℕ → F → Type 0) (n : NetworkState) (events : List Timed) where
-  passes_stand : (until : ℕ) (ts : List Transition) (fate f : F) (w v : WorldState)
+  passes_stand : (until : ℕ) (ts : List ActTrace) (fate f : F) (w v : WorldState)
       → Passes answers until ts fate f w v → StandsAsPlanned n events w → StandsAsPlanned n events v
   passes_stand until [] fate f w v k so = subst (StandsAsPlanned n events) (sym k.1) so
   passes_stand until (t ∷ ts) fate f w v (drawn, is, k, rest) so =
@@ -205,7 +205,7 @@ module _ {F : Type 0} (answers : Bounds → ℕ → F → Option ℕ → F → T
       (acts_stand n events timed.act (at timed.at w) k.was_done.draws t.told.done t.after
       (no_change k.next.item timed.act w k.next.act) k.was_done.acts (time_stands n events w timed.at so))
 
-  pub passes_to_stand : (until : ℕ) (ts : List Transition) (fate f : F) (w v : WorldState)
+  pub passes_to_stand : (until : ℕ) (ts : List ActTrace) (fate f : F) (w v : WorldState)
       → PassesTo answers until ts fate f w v → StandsAsPlanned n events w → StandsAsPlanned n events v
   passes_to_stand until ts fate f w v k so =
       subst (StandsAsPlanned n events) (sym k.is)
@@ -216,7 +216,7 @@ module _ {F : Type 0} (answers : Bounds → ℕ → F → Option ℕ → F → T
 -- An event is made, and the world can go on, and stands as the network does after it.
 pub record HasMade {F : Type 0} (answers : Bounds → ℕ → F → Option ℕ → F → Type 0) (n : NetworkState)
     (before : List Timed) (event : Timed) (fate : F) (w : WorldState) : Type 0 where
-  pub ts : List Transition
+  pub ts : List ActTrace
   pub fate_after : F
   pub after : WorldState
   pub makes : Makes answers event ts fate fate_after w after
@@ -228,7 +228,7 @@ pub record HasMade {F : Type 0} (answers : Bounds → ℕ → F → Option ℕ �
 -- Events are made one after another, and then all happens that is due by a time.
 pub record HasCourse {F : Type 0} (answers : Bounds → ℕ → F → Option ℕ → F → Type 0) (n : NetworkState)
     (before events : List Timed) (until : ℕ) (fate : F) (w : WorldState) : Type 0 where
-  pub ts : List Transition
+  pub ts : List ActTrace
   pub fate_after : F
   pub after : WorldState
   pub courses : Courses answers until events ts fate fate_after w after
@@ -324,7 +324,7 @@ pub record HasBegun {F : Type 0} (answers : Bounds → ℕ → F → Option ℕ 
 pub record HasUnfolded {F : Type 0} (answers : Bounds → ℕ → F → Option ℕ → F → Type 0) (d : DocumentState) (until : ℕ)
     (fate : F) : Type 0 where
   pub start : WorldState
-  pub ts : List Transition
+  pub ts : List ActTrace
   pub after : WorldState
   pub unfolds : Unfolds answers d until fate start ts after
   pub can : CanGoOn after

@@ -8,7 +8,7 @@ pub mod LineLemmas
 pub mod RunLemmas
 pub mod MeantLemmas
 pub mod SoFarLemmas
-pub mod TransitionLemmas
+pub mod ActTraceLemmas
 pub mod ReadLemmas
 pub mod DecisionLemmas
 pub mod MeasuringExistLemmas

@@ -24,7 +24,7 @@ use Rattle.gptp_report.specs.FrameLine.{frame_line, frame_type_of, IsOfType}
 use Rattle.gptp_report.specs.Report.{calm_line, restless_line, time_line, IsChangeLine, Reports, ShowsSystems}
 use Rattle.gptp_report.specs.Run.{Goes, ShowsDone, ShowsFrames, ShowsIf}
 use Rattle.gptp_report.specs.SystemLines.{system_lines}
-use Rattle.gptp_report.specs.Transitions.{Courses, Makes, Transition, transition}
+use Rattle.gptp_report.specs.Transitions.{Courses, Makes, ActTrace, transition}
 use Rattle.gptp_report.proofs.FrameLemmas.{makes_changes}
 use Rattle.gptp_determinism.specs.ExistenceLaws.{DocumentsLead}
 use Rattle.gptp_determinism.proofs.DocumentExistLemmas.{has_unfolded}
@@ -38,7 +38,7 @@ use Rattle.gptp_determinism.proofs.ReadLemmas.{frames_are_judged}
 abbrev pub AreTold : List Told → Type 0
 AreTold = AllByRecursion (λ (one : Told). TellsOctets one.done)
 
-told_octets : (ts : List Transition) → AllTellOctets ts → AreTold (all_told ts)
+told_octets : (ts : List ActTrace) → AllTellOctets ts → AreTold (all_told ts)
 told_octets [] all = tt
 told_octets (t ∷ ts) all = (all.0, told_octets ts all.1)
 
@@ -47,13 +47,13 @@ told_behind [] more all rest = rest
 told_behind (one ∷ told) more all rest = (all.0, told_behind told more all.1 rest)
 
 -- of some acts with others after them
-octets-parts : (ts us : List Transition) → AllTellOctets (ts ++ us) → AllTellOctets ts × AllTellOctets us
+octets-parts : (ts us : List ActTrace) → AllTellOctets (ts ++ us) → AllTellOctets ts × AllTellOctets us
 octets-parts [] us all = (tt, all)
 octets-parts (t ∷ ts) us all = let (front, back) = octets-parts ts us all.1 in ((all.0, front), back)
 
 module _ {F : Type 0} (answers : Bounds → ℕ → F → Option ℕ → F → Type 0) where
   -- of octets where all that happens meanwhile is
-  before_event : (event : Timed) (ts : List Transition) (fate f : F) (w v : WorldState)
+  before_event : (event : Timed) (ts : List ActTrace) (fate f : F) (w v : WorldState)
       (k : Makes answers event ts fate f w v) → AllTellOctets ts → AreTold (all_told k.first)
   before_event event ts fate f w v k all =
       let last = transition event k.done k.between v in
@@ -65,7 +65,7 @@ module _ {F : Type 0} (answers : Bounds → ℕ → F → Option ℕ → F → T
     goes : Goes answers until events told fate f w v
     octets : AreTold told
 
-  courses_told : (until : ℕ) (events : List Timed) (ts : List Transition) (fate f : F) (w v : WorldState)
+  courses_told : (until : ℕ) (events : List Timed) (ts : List ActTrace) (fate f : F) (w v : WorldState)
       → Courses answers until events ts fate f w v → AllTellOctets ts → IsToldSo until events fate f w v
   courses_told until [] ts fate f w v k all = record {
     told = all_told ts;

@@ -28,7 +28,7 @@ use Rattle.gptp_model.proofs.AdvanceLemmas.{can_happen, happened, next_not_befor
 use Rattle.gptp_model.proofs.MomentLemmas.{nothing_before-next}
 use Rattle.gptp_model.proofs.NextDueLemmas.{next_runs_out}
 use Rattle.gptp_model.proofs.SoundLemmas.{later_sound}
-use Rattle.gptp_report.specs.Transitions.{Passes, PassesTo, Transition, transition}
+use Rattle.gptp_report.specs.Transitions.{Passes, PassesTo, ActTrace, transition}
 use Rattle.gptp_determinism.specs.ExistenceLaws.{ActsExist, WaysExist}
 use Rattle.gptp_determinism.specs.GoingOn.{AnswersAll, AllAreOctets, CanGoOn, InjectsOctets, IsOfOctets}
 use Rattle.gptp_determinism.proofs.BeginExistLemmas.{acts_exist}
@@ -124,10 +124,10 @@ abbrev pub TellsOctets : Done → Type 0
 TellsOctets Quiet = ⊤
 TellsOctets (Heard clock port answer frame) = AllAreOctets frame.items
 
-abbrev pub AllTellOctets : List Transition → Type 0
-AllTellOctets = AllByRecursion (λ (t : Transition). TellsOctets t.told.done)
+abbrev pub AllTellOctets : List ActTrace → Type 0
+AllTellOctets = AllByRecursion (λ (t : ActTrace). TellsOctets t.told.done)
 
-pub octets-append : (ts us : List Transition) → AllTellOctets ts → AllTellOctets us → AllTellOctets (ts ++ us)
+pub octets-append : (ts us : List ActTrace) → AllTellOctets ts → AllTellOctets us → AllTellOctets (ts ++ us)
 octets-append [] us all more = more
 octets-append (t ∷ ts) us all more = (all.0, octets-append ts us all.1 more)
 
@@ -151,7 +151,7 @@ done_octets (Changing change) time w v draws done can k = subst TellsOctets (sym
 -- From a world acts are done until nothing is due by a time. It can go on then, and all that is told is of octets.
 record GoesBy {F : Type 0} (answers : Bounds → ℕ → F → Option ℕ → F → Type 0) (until : ℕ) (fate : F) (w : WorldState)
     : Type 0 where
-  ts : List Transition
+  ts : List ActTrace
   fate_after : F
   after : WorldState
   passes : Passes answers until ts fate fate_after w after
@@ -232,7 +232,7 @@ module _ {F : Type 0} (answers : Bounds → ℕ → F → Option ℕ → F → T
 -- It goes on to a time, and can go on then; and all that is told meanwhile is of octets.
 pub record GoesTo {F : Type 0} (answers : Bounds → ℕ → F → Option ℕ → F → Type 0) (until : ℕ) (fate : F)
     (w : WorldState) : Type 0 where
-  pub ts : List Transition
+  pub ts : List ActTrace
   pub fate_after : F
   pub after : WorldState
   pub passes : PassesTo answers until ts fate fate_after w after

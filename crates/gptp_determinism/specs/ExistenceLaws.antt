@@ -22,7 +22,7 @@ use Rattle.gptp_model.specs.World.{WorldState}
 use Rattle.gptp_theorem.specs.PlayedLaws.{IsPlayable}
 use Rattle.gptp_report.specs.Report.{Reports}
 use Rattle.gptp_report.specs.Run.{LeadsTo}
-use Rattle.gptp_report.specs.Transitions.{PassesTo, Transition, Unfolds}
+use Rattle.gptp_report.specs.Transitions.{PassesTo, ActTrace, Unfolds}
 use Rattle.gptp_determinism.specs.GoingOn.{AnswersAll, AllAreOctets, CanGoOn, HearsOctets, InjectsOctets}
 
 -- Every frame reads as a message, or is refused.
@@ -51,7 +51,7 @@ ActsExist {F} answers = AnswersAll answers → (timed : Timed) (fate : F) (w : W
 abbrev pub WaysExist : {F : Type 0} → (Bounds → ℕ → F → Option ℕ → F → Type 0) → Type 0
 WaysExist {F} answers = AnswersAll answers → (until : ℕ) (fate : F) (w : WorldState)
     → CanGoOn w → w.time ≤ until → IsMoment until
-    → (ts : List Transition) × (f : F) × (v : WorldState) × PassesTo answers until ts fate f w v × CanGoOn v
+    → (ts : List ActTrace) × (f : F) × (v : WorldState) × PassesTo answers until ts fate f w v × CanGoOn v
 
 -- what these events inject is octets that a frame can have
 abbrev pub AllInject : List Timed → Type 0
@@ -61,7 +61,7 @@ AllInject = AllByRecursion (λ (timed : Timed). InjectsOctets timed.act)
 abbrev pub DocumentsUnfold : {F : Type 0} → (Bounds → ℕ → F → Option ℕ → F → Type 0) → Type 0
 DocumentsUnfold {F} answers = AnswersAll answers → (d : DocumentState) (until : ℕ) (fate : F)
     → IsPlayable d → AllInject d.events → IsMoment until
-    → (start : WorldState) × (ts : List Transition) × (w : WorldState) × Unfolds answers d until fate start ts w
+    → (start : WorldState) × (ts : List ActTrace) × (w : WorldState) × Unfolds answers d until fate start ts w
     × CanGoOn w
 
 -- A document leads to a world, with the lines of its frames and a report.

@@ -5,5 +5,5 @@ pub mod ActLaws
 pub mod CourseLaws
 pub mod RunLaws
 pub mod SoFar
-pub mod TransitionLaws
+pub mod ActTraceLaws
 pub mod ExistenceLaws

@@ -11,7 +11,7 @@ ghost use Rattle.gptp_determinism.specs.ExistenceLaws.{ActsExist, BeginningsExis
 ghost use Rattle.gptp_determinism.specs.RunLaws.{LeadsOnce, MeantIsNamed, PlayedIsNamed, PlaysOnce, ReportsOnce, StatesOnce};
 ghost use Rattle.gptp_determinism.specs.SoFar.{LeadsBeginSo};
 ghost use Rattle.gptp_determinism.specs.StepLaws.{StepsOnce};
-ghost use Rattle.gptp_determinism.specs.TransitionLaws.{CoursesAreNamed, CoursesOnce};
+ghost use Rattle.gptp_determinism.specs.ActTraceLaws.{CoursesAreNamed, CoursesOnce};
 
 use gptp_links::Fate;
 

@@ -12,7 +12,7 @@ use Rattle.gptp_scenario.specs.declared.change.Timed.{Timed}
 use Rattle.gptp_timeline.specs.Ends.{EndState}
 use Rattle.gptp_timeline.specs.LastTwo.{end_in, ends_in, last_two}
 use Rattle.gptp_timeline.specs.Stretch.{waits}
-use Rattle.gptp_timeline.specs.Timeline.{AllPass, end_before, later_than, Passage}
+use Rattle.gptp_timeline.specs.Timeline.{AllPass, end_before, later_than, StretchTrace}
 use Rattle.gptp_timeline.proofs.PastLemmas.{PastBy}
 
 -- ---- events later than a time
@@ -125,8 +125,8 @@ second_late down up from time left k late =
 module _ {F : Type 0} (answers : Bounds → ℕ → F → Option ℕ → F → Type 0) (d : DocumentState) (until : ℕ)
     (names : List ℕ) where
   -- A stretch among several that begins and ends with these events, and ended so.
-  pub record IsBetween (down up : ℕ) (passages : List Passage) (e : EndState) : Type 0 where
-    pub passage : Passage
+  pub record IsBetween (down up : ℕ) (passages : List StretchTrace) (e : EndState) : Type 0 where
+    pub passage : StretchTrace
     pub member : In passage passages
     pub from_is : passage.from ≡ down
     pub to_is : passage.to ≡ up
@@ -134,13 +134,13 @@ module _ {F : Type 0} (answers : Bounds → ℕ → F → Option ℕ → F → T
     pub ended : e ≡ end_in names since passage
 
   -- it is so of these
-  abbrev FindsIt : List Passage → Type 0
+  abbrev FindsIt : List StretchTrace → Type 0
   FindsIt passages = (down up from : ℕ) (left : List Timed) (since : ℕ → Option ℕ) (fate fate_after : F)
       (w w' : WorldState) (a b : EndState) → AreLast down up from left
       → AllPass answers false d until from left fate fate_after w w' passages
       → last_two (ends_in names since passages) ≡ Some (a, b) → IsBetween down up passages a
 
-  pub last_but_one : (passages : List Passage) (down up from : ℕ) (left : List Timed) (since : ℕ → Option ℕ)
+  pub last_but_one : (passages : List StretchTrace) (down up from : ℕ) (left : List Timed) (since : ℕ → Option ℕ)
       (fate fate_after : F) (w w' : WorldState) (a b : EndState) → AreLast down up from left
       → AllPass answers false d until from left fate fate_after w w' passages
       → last_two (ends_in names since passages) ≡ Some (a, b) → IsBetween down up passages a

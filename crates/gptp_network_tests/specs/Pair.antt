@@ -25,7 +25,7 @@ use Rattle.gptp_model.specs.declared.done.Done.{Done}
 use Rattle.gptp_model.specs.declared.done.Done.TheVariants.{Heard, Quiet}
 use Rattle.gptp_model.specs.World.{WorldState, port_id}
 use Rattle.gptp_network.specs.Document.{DocumentState}
-use Rattle.gptp_report.specs.Transitions.{Transition, Unfolds}
+use Rattle.gptp_report.specs.Transitions.{ActTrace, Unfolds}
 use Rattle.gptp_invariants.specs.WorldCalmFor.{IsCalmFor}
 use Rattle.gptp_invariants.specs.WorldStanding.{snapshot_of}
 use Rattle.gptp_invariants.specs.SyncTimedClaim.{WorldInvariant}
@@ -165,7 +165,7 @@ WorldsOfTwoAreExact {F} answers = (timed : Timed) (fate fate_after : F) (w w' : 
 
 -- so does each act of a run of their document
 abbrev pub RunsOfTwoAreExact : {F : Type 0} → (Bounds → ℕ → F → Option ℕ → F → Type 0) → Type 0
-RunsOfTwoAreExact {F} answers = (until : ℕ) (fate : F) (start w : WorldState) (ts : List Transition) (t : Transition)
+RunsOfTwoAreExact {F} answers = (until : ℕ) (fate : F) (start w : WorldState) (ts : List ActTrace) (t : ActTrace)
     (offset : ℤ)
     → until ≤ 1000000000000000 → Unfolds answers pair_document until fate start ts w → In t ts
     → IsPairSince 27000000000 t.before → WorldInvariant t.before → t.before.time ≤ t.told.timed.at

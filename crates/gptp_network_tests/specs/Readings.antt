@@ -8,7 +8,7 @@ use Rattle.gptp_scenario.specs.declared.change.Timed.{Timed}
 use Rattle.gptp_model.specs.Course.{WasDone}
 use Rattle.gptp_model.specs.declared.done.Done.{Done}
 use Rattle.gptp_model.specs.World.{WorldState}
-use Rattle.gptp_report.specs.Transitions.{Transition, Unfolds}
+use Rattle.gptp_report.specs.Transitions.{ActTrace, Unfolds}
 use Rattle.gptp_invariants.specs.SyncTimedClaim.{WorldInvariant}
 use Rattle.gptp_reading.specs.Readings.{LeavesReading}
 use Rattle.gptp_network_tests.specs.Pair.{IsPairSince, pair_document}
@@ -23,7 +23,7 @@ WorldsOfTwoReadExactly {F} answers = (timed : Timed) (fate fate_after : F) (w w'
 
 -- so it is by each act of a run of their document
 abbrev pub RunsOfTwoReadExactly : {F : Type 0} → (Bounds → ℕ → F → Option ℕ → F → Type 0) → Type 0
-RunsOfTwoReadExactly {F} answers = (until : ℕ) (fate : F) (start w : WorldState) (ts : List Transition) (t : Transition)
+RunsOfTwoReadExactly {F} answers = (until : ℕ) (fate : F) (start w : WorldState) (ts : List ActTrace) (t : ActTrace)
     (read : ℤ)
     → until ≤ 1000000000000000 → Unfolds answers pair_document until fate start ts w → In t ts
     → IsPairSince 27000000000 t.before → WorldInvariant t.before → t.before.time ≤ t.told.timed.at

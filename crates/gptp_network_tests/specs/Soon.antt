@@ -6,7 +6,7 @@ use Rattle.gptp_links.specs.declared.bounds.Bounds.{Bounds}
 use Rattle.gptp_lists.specs.Members.{In}
 use Rattle.gptp_scenario.specs.Network.{IsNetwork}
 use Rattle.gptp_theorem.specs.Headline.{IsSettled}
-use Rattle.gptp_report.specs.Transitions.{Transition, Unfolds}
+use Rattle.gptp_report.specs.Transitions.{ActTrace, Unfolds}
 use Rattle.gptp_network_tests.specs.Pair.{IsPairAt, pair_document, pair_network}
 
 -- It has settled by this time: one interval between requests of 1 s, one exchange of 2 us and 1 ns, one announce
@@ -17,7 +17,7 @@ pub record IsPairSoon (w : WorldState) : Type 0 where
 
 -- so each act of a run of their document leaves a settled world from then on
 abbrev pub RunsOfTwoSettleSoon : {F : Type 0} → (Bounds → ℕ → F → Option ℕ → F → Type 0) → Type 0
-RunsOfTwoSettleSoon {F} answers = (until : ℕ) (fate : F) (start w : WorldState) (ts : List Transition) (t : Transition)
+RunsOfTwoSettleSoon {F} answers = (until : ℕ) (fate : F) (start w : WorldState) (ts : List ActTrace) (t : ActTrace)
     → IsNetwork pair_network → Unfolds answers pair_document until fate start ts w → In t ts
     → 2000002501 ≤ t.told.timed.at
     → IsSettled t.after

@@ -47,7 +47,7 @@ use Rattle.gptp_model.specs.Pending.{NothingBefore}
 use Rattle.gptp_model.specs.Views.{ShowsLive}
 use Rattle.gptp_model.specs.World.{WorldState, receiver}
 use Rattle.gptp_world.proofs.InitialLemmas.{initial_sound}
-use Rattle.gptp_report.specs.Transitions.{Transition, transition}
+use Rattle.gptp_report.specs.Transitions.{ActTrace, transition}
 use Rattle.gptp_bmca_machine.specs.Settled.{IsSlaveOf}
 use Rattle.gptp_invariants.specs.ChoiceCalm.{sync_paths_of}
 use Rattle.gptp_invariants.specs.WorldCalmFor.{IsCalmFor, span_over}
@@ -93,21 +93,21 @@ same_roots g s s' wf clocks choice choice' =
 -- ---- who was heard
 
 -- by one of these acts a system used a Follow_Up, and its Lapse timer is due a span later
-record HeardAt (acts : List Transition) (number due span : ℕ) : Type 0 where
-  act : Transition
+record HeardAt (acts : List ActTrace) (number due span : ℕ) : Type 0 where
+  act : ActTrace
   member : In act acts
   uses : UsesFollowUp number act.told.done
   moment : due ≡ act.told.timed.at + span
 
 -- A Lapse timer of a near live system was started by the time from which the network is settled, or by a Follow_Up.
-abbrev IsStarted : List Transition → ℕ → ℕ → ℕ → ℕ → Type 0
+abbrev IsStarted : List ActTrace → ℕ → ℕ → ℕ → ℕ → Type 0
 IsStarted acts settled span number due = (due ≤ settled + span) ⊎ HeardAt acts number due span
 
-abbrev IsTimedBy : Snapshot → List Transition → ℕ → ℕ → Station → Type 0
+abbrev IsTimedBy : Snapshot → List ActTrace → ℕ → ℕ → Station → Type 0
 IsTimedBy g acts settled span station = station.live ≡ true → IsNear g (clock station.system) → (due : ℕ)
     → station.system.lapse ≡ Some due → IsStarted acts settled span (clock station.system) due
 
-record AreTimed (p : SettlingParams) (acts : List Transition) (w : WorldState) : Type 0 where
+record AreTimed (p : SettlingParams) (acts : List ActTrace) (w : WorldState) : Type 0 where
   claimed : KeepsAll p w
   each : Each w
   timed : (m settled : ℕ) → IsCalmBy p m settled w → settled ≤ w.time → (place : ℕ) (station : Station)
@@ -124,7 +124,7 @@ calm_earlier p m settled w time calm = record {
   passed = calm.passed;
 }
 
-timed_later : (p : SettlingParams) (acts : List Transition) (w : WorldState) (time : ℕ) → w.time ≤ time
+timed_later : (p : SettlingParams) (acts : List ActTrace) (w : WorldState) (time : ℕ) → w.time ≤ time
     → NothingBefore time w.net.pending → AreTimed p acts w → AreTimed p acts (at time w)
 timed_later p acts w time later first are = record {
   claimed = claim_later p w time later first are.claimed;
@@ -147,7 +147,7 @@ timed_later p acts w time later first are = record {
 -- ---- one act
 
 -- what a call makes of the timer
-module _ (g : Snapshot) (wf : IsWellFormed g) (acts : List Transition) (settled span now : ℕ) (input : Input)
+module _ (g : Snapshot) (wf : IsWellFormed g) (acts : List ActTrace) (settled span now : ℕ) (input : Input)
     (answer : Answer) (s s' : SystemState) (clocks : clock s' ≡ clock s) (spans : lapse_span s.params ≡ span)
     (choice : IsSettledSystem g s) (choice' : IsSettledSystem g s')
     (old : (due : ℕ) → s.lapse ≡ Some due → IsStarted acts settled span (clock s) due)
@@ -220,16 +220,16 @@ calm_before p m settled w w' k calm = record {
       omega (arith, passed, same, more);
 }
 
-module _ {F : Type 0} (answers' : Bounds → ℕ → F → Option ℕ → F → Type 0) (p : SettlingParams) (acts : List Transition)
+module _ {F : Type 0} (answers' : Bounds → ℕ → F → Option ℕ → F → Type 0) (p : SettlingParams) (acts : List ActTrace)
     (timed : Timed) (done : Done) (w w' : WorldState) (k : IsKeptAct answers' timed done w w')
     (are : AreTimed p acts w) where
   abbrev then : WorldState
   then = at timed.at w
 
-  abbrev one : Transition
+  abbrev one : ActTrace
   one = transition timed done w w'
 
-  abbrev more : List Transition
+  abbrev more : List ActTrace
   more = acts ++ one ∷ []
 
   abbrev span : ℕ
@@ -415,7 +415,7 @@ timed_begins answers' n fate fate_after w network k =
           late);
     }
 
-module _ (p : SettlingParams) (acts : List Transition) (w : WorldState) (are : AreTimed p acts w)
+module _ (p : SettlingParams) (acts : List ActTrace) (w : WorldState) (are : AreTimed p acts w)
     (calm : WorldIsCalm p w)
     (earlier number port : ℕ) (s : SystemState) (above : 0 < p.params.sync_timeout)
     (passed : HasPassed p (path_bound (snapshot_of w)) (at earlier w))

@@ -30,7 +30,7 @@ use Rattle.gptp_model.specs.Prompt.{HavePace}
 use Rattle.gptp_model.specs.Views.{ShowsLive}
 use Rattle.gptp_model.specs.World.{WorldState}
 use Rattle.gptp_network.specs.Document.{DocumentState}
-use Rattle.gptp_report.specs.Transitions.{Transition, Unfolds, transition}
+use Rattle.gptp_report.specs.Transitions.{ActTrace, Unfolds, transition}
 use Rattle.gptp_sync_machine.specs.Tree.{IsWayTo}
 use Rattle.gptp_invariants.specs.ChoiceCalm.{IsQuietWorld, sync_paths_of}
 use Rattle.gptp_invariants.specs.WorldSettlingInvariant.{KeepsAll}
@@ -56,9 +56,9 @@ use Rattle.gptp_reading.proofs.RunLemmas.{AreKept, IsKeptAct, one_more, runs_kee
 -- ---- what lasts
 
 -- no act is later than the world, and from each act since the last change the network lasts
-record Lasts (acts : List Transition) (w : WorldState) : Type 0 where
-  early : (t : Transition) → In t acts → t.told.timed.at ≤ w.time
-  kept : (t : Transition) → In t acts → w.last_change < t.told.timed.at → KeepsNetwork t.before w
+record Lasts (acts : List ActTrace) (w : WorldState) : Type 0 where
+  early : (t : ActTrace) → In t acts → t.told.timed.at ≤ w.time
+  kept : (t : ActTrace) → In t acts → w.last_change < t.told.timed.at → KeepsNetwork t.before w
 
 -- whatever the time of either world is
 still : (v w : WorldState) (time : ℕ) → KeepsNetwork v w → KeepsNetwork v (at time w)
@@ -79,22 +79,22 @@ since_then v w time k = record {
   change = k.change;
 }
 
-lasts_later : (acts : List Transition) (w : WorldState) (time : ℕ) → w.time ≤ time → Lasts acts w
+lasts_later : (acts : List ActTrace) (w : WorldState) (time : ℕ) → w.time ≤ time → Lasts acts w
     → Lasts acts (at time w)
 lasts_later acts w time later so = record {
   early = λ t member. let before = so.early t member in omega (arith, before, later);
   kept = λ t member since. still t.before w time (so.kept t member since);
 }
 
-module _ {F : Type 0} (answers : Bounds → ℕ → F → Option ℕ → F → Type 0) (acts : List Transition) (timed : Timed)
+module _ {F : Type 0} (answers : Bounds → ℕ → F → Option ℕ → F → Type 0) (acts : List ActTrace) (timed : Timed)
     (done : Done) (w w' : WorldState) (k : IsKeptAct answers timed done w w') (so : Lasts acts w) where
   abbrev then : WorldState
   then = at timed.at w
 
-  abbrev one : Transition
+  abbrev one : ActTrace
   one = transition timed done w w'
 
-  abbrev more : List Transition
+  abbrev more : List ActTrace
   more = acts ++ one ∷ []
 
   before : Lasts acts then
@@ -108,18 +108,18 @@ module _ {F : Type 0} (answers : Bounds → ℕ → F → Option ℕ → F → T
       by (Expire number timer) acts = acts_time (Expire number timer) then k.was.draws done w' tt acts
       by (Changing change) acts = change_time change then k.was.draws done w' acts
 
-  early_more : (t : Transition) → In t more → t.told.timed.at ≤ w'.time
+  early_more : (t : ActTrace) → In t more → t.told.timed.at ≤ w'.time
   early_more t member = by (In-parts t acts (one ∷ []) member)
     where
       by : In t acts ⊎ In t (one ∷ []) → t.told.timed.at ≤ w'.time
       by (inl old) = let it = before.early t old in let now = moment in omega (arith, it, now)
       by (inr (inl same)) =
           let now = moment in
-          subst (λ (x : Transition). x.told.timed.at ≤ w'.time) (sym same) (omega (arith, now))
+          subst (λ (x : ActTrace). x.told.timed.at ≤ w'.time) (sym same) (omega (arith, now))
       by (inr (inr none)) = absurd none
 
   -- an act that changes nothing
-  kept_still : KeepsNetwork then w' → (t : Transition) → In t more → w'.last_change < t.told.timed.at
+  kept_still : KeepsNetwork then w' → (t : ActTrace) → In t more → w'.last_change < t.told.timed.at
       → KeepsNetwork t.before w'
   kept_still keeps t member since = by (In-parts t acts (one ∷ []) member)
     where
@@ -128,10 +128,10 @@ module _ {F : Type 0} (answers : Bounds → ℕ → F → Option ℕ → F → T
           let same = keeps.change in
           keeps_on t.before then w' (before.kept t old (omega (arith, since, same))) keeps
       by (inr (inl same)) =
-          subst (λ (x : Transition). KeepsNetwork x.before w') (sym same) (since_then w w' timed.at keeps)
+          subst (λ (x : ActTrace). KeepsNetwork x.before w') (sym same) (since_then w w' timed.at keeps)
       by (inr (inr none)) = absurd none
 
-  kept_more : (t : Transition) → In t more → w'.last_change < t.told.timed.at
+  kept_more : (t : ActTrace) → In t more → w'.last_change < t.told.timed.at
       → KeepsNetwork t.before w'
   kept_more t member since = by timed.act k.was.acts
     where
@@ -280,12 +280,12 @@ runs_read_in_time answers d until fate start w acts act p m steps number earlier
 
 -- the world before an act that was done since the network had come down, as it is where the run ends
 pub record IsLikeEnd {F : Type 0} (answers : Bounds → ℕ → F → Option ℕ → F → Type 0) (w : WorldState)
-    (act : Transition) : Type 0 where
+    (act : ActTrace) : Type 0 where
   pub kept : IsKeptAct answers act.told.timed act.told.done act.before act.after
   pub keeps : KeepsNetwork act.before w
 
 pub runs_have_readings : {F : Type 0} (answers : Bounds → ℕ → F → Option ℕ → F → Type 0) (p : SettlingParams)
-    (m steps earlier number time : ℕ) (w : WorldState) (act : Transition) (s : SystemState) (way : Way)
+    (m steps earlier number time : ℕ) (w : WorldState) (act : ActTrace) (s : SystemState) (way : Way)
     (phase : ℕ → ℕ) → IsLikeEnd answers w act → WorldIsCalm p w → BoundsPaths (snapshot_of w) m
     → HasComeDown p m (suc steps) earlier w → earlier ≤ act.told.timed.at
     → UsesFollowUp number act.told.done → ShowsLive number act.after s → IsNear (snapshot_of w) number
@@ -303,7 +303,7 @@ runs_have_readings answers p m steps earlier number time w act s way phase is ca
 
 -- of every world where a run ends all is claimed
 pub ends_claimed : {F : Type 0} (answers : Bounds → ℕ → F → Option ℕ → F → Type 0) (d : DocumentState) (until : ℕ)
-    (fate : F) (start w : WorldState) (acts : List Transition) → IsPlayable d → until ≤ 10 ^ 18
+    (fate : F) (start w : WorldState) (acts : List ActTrace) → IsPlayable d → until ≤ 10 ^ 18
     → Unfolds answers d until fate start acts w → WorldInvariant w
 ends_claimed answers d until fate start w acts playable moment unfolds =
     let (also, kept) = runs_keep answers (λ us x. AreKept answers us) (one_more answers)
@@ -311,7 +311,7 @@ ends_claimed answers d until fate start w acts playable moment unfolds =
     also
 
 pub like_end : {F : Type 0} (answers : Bounds → ℕ → F → Option ℕ → F → Type 0) (d : DocumentState) (until : ℕ)
-    (fate : F) (start w : WorldState) (acts : List Transition) (act : Transition) → IsPlayable d → until ≤ 10 ^ 18
+    (fate : F) (start w : WorldState) (acts : List ActTrace) (act : ActTrace) → IsPlayable d → until ≤ 10 ^ 18
     → Unfolds answers d until fate start acts w → In act acts → w.last_change < act.told.timed.at
     → IsLikeEnd answers w act
 like_end answers d until fate start w acts act playable moment unfolds member since =

@@ -22,7 +22,7 @@ use Rattle.gptp_world.proofs.SettlingInvariantLemmas.{next_octet}
 use Rattle.gptp_world.proofs.InitialLemmas.{initial_sound}
 use Rattle.gptp_network.specs.Document.{DocumentState}
 use Rattle.gptp_network.specs.Snapshot.{events_by}
-use Rattle.gptp_report.specs.Transitions.{Courses, Makes, Passes, PassesTo, Transition, Unfolds, transition}
+use Rattle.gptp_report.specs.Transitions.{Courses, Makes, Passes, PassesTo, ActTrace, Unfolds, transition}
 use Rattle.gptp_invariants.specs.WorldEncodableLaws.{SetsAnOctet}
 use Rattle.gptp_invariants.specs.SyncTimedClaim.{WorldInvariant}
 use Rattle.gptp_invariants.proofs.SyncExactLemmas.{all_begins, all_kept, all_later}
@@ -48,18 +48,18 @@ pub record IsKeptAct {F : Type 0} (answers : Bounds → ℕ → F → Option ℕ
 -- ---- acts one after another
 
 module _ {F : Type 0} (answers : Bounds → ℕ → F → Option ℕ → F → Type 0) (least : ℕ)
-    (Q : List Transition → WorldState → Type 0)
-    (act_keeps : (ts : List Transition) (timed : Timed) (done : Done) (w w' : WorldState)
+    (Q : List ActTrace → WorldState → Type 0)
+    (act_keeps : (ts : List ActTrace) (timed : Timed) (done : Done) (w w' : WorldState)
     → IsKeptAct answers timed done w w' → Q ts w → Q (ts ++ transition timed done w w' ∷ []) w')
-    (later_keeps : (ts : List Transition) (w : WorldState) (time : ℕ) → w.time ≤ time
+    (later_keeps : (ts : List ActTrace) (w : WorldState) (time : ℕ) → w.time ≤ time
     → NothingBefore time w.net.pending → Q ts w → Q ts (at time w)) where
   -- a world of which all is claimed, none of whose ports announces at an interval below the least; and so it is
-  record IsKept (ts : List Transition) (w : WorldState) : Type 0 where
+  record IsKept (ts : List ActTrace) (w : WorldState) : Type 0 where
     all : WorldInvariant w
     slow : NoneFaster least w
     so : Q ts w
 
-  kept_act : (ts : List Transition) (timed : Timed) (done : Done) (w w' : WorldState)
+  kept_act : (ts : List ActTrace) (timed : Timed) (done : Done) (w w' : WorldState)
       → IsKeptAct answers timed done w w' → IsKept ts w → IsKept (ts ++ transition timed done w w' ∷ []) w'
   kept_act ts timed done w w' k kept = record {
     all = all_kept answers timed k.fate k.fate_after w w' done k.fit k.prompt k.octet k.was k.all;
@@ -69,11 +69,11 @@ module _ {F : Type 0} (answers : Bounds → ℕ → F → Option ℕ → F → T
   }
 
   -- what happens by itself up to a time
-  record IsKeptUntil (until : ℕ) (ts : List Transition) (w' : WorldState) : Type 0 where
+  record IsKeptUntil (until : ℕ) (ts : List ActTrace) (w' : WorldState) : Type 0 where
     kept : IsKept ts w'
     early : w'.time ≤ until
 
-  passes_keep : (until : ℕ) (before ts : List Transition) (fate fate_after : F) (w w' : WorldState)
+  passes_keep : (until : ℕ) (before ts : List ActTrace) (fate fate_after : F) (w w' : WorldState)
       → until ≤ 10 ^ 18 → Passes answers until ts fate fate_after w w' → IsKept before w → w.time ≤ until
       → IsKeptUntil until (before ++ ts) w'
   passes_keep until before [] fate fate_after w w' moment (same, is) kept early = record {
@@ -104,7 +104,7 @@ module _ {F : Type 0} (answers : Bounds → ℕ → F → Option ℕ → F → T
       (omega (arith, then, in_time)) in
       subst (λ us. IsKeptUntil until us w') (append_assoc before (t ∷ []) ts) on
 
-  passes_to_keep : (until : ℕ) (before ts : List Transition) (fate fate_after : F) (w w' : WorldState)
+  passes_to_keep : (until : ℕ) (before ts : List ActTrace) (fate fate_after : F) (w w' : WorldState)
       → until ≤ 10 ^ 18 → PassesTo answers until ts fate fate_after w w' → IsKept before w
       → IsKept (before ++ ts) w'
   passes_to_keep until before ts fate fate_after w w' moment k kept =
@@ -118,7 +118,7 @@ module _ {F : Type 0} (answers : Bounds → ℕ → F → Option ℕ → F → T
       subst (IsKept (before ++ ts)) (sym k.is) later
 
   -- an event is made
-  makes_keep : (event : Timed) (before ts : List Transition) (fate fate_after : F) (w w' : WorldState)
+  makes_keep : (event : Timed) (before ts : List ActTrace) (fate fate_after : F) (w w' : WorldState)
       → IsFitEvent least event → Makes answers event ts fate fate_after w w' → IsKept before w
       → IsKept (before ++ ts) w'
   makes_keep event before ts fate fate_after w w' fit k kept =
@@ -140,7 +140,7 @@ module _ {F : Type 0} (answers : Bounds → ℕ → F → Option ℕ → F → T
       (append_assoc before k.first (made ∷ []) ∙ ap (λ us. before ++ us) (sym k.are))
       (kept_act (before ++ k.first) event k.done k.between w' act on)
 
-  courses_keep : (until : ℕ) (events : List Timed) (before ts : List Transition) (fate fate_after : F)
+  courses_keep : (until : ℕ) (events : List Timed) (before ts : List ActTrace) (fate fate_after : F)
       (w w' : WorldState) → until ≤ 10 ^ 18 → AllByRecursion (IsFitEvent least) events
       → Courses answers until events ts fate fate_after w w' → IsKept before w → IsKept (before ++ ts) w'
   courses_keep until [] before ts fate fate_after w w' moment fit k kept =
@@ -151,7 +151,7 @@ module _ {F : Type 0} (answers : Bounds → ℕ → F → Option ℕ → F → T
       subst (λ us. IsKept us w') (append_assoc before first rest ∙ ap (λ us. before ++ us) (sym are))
       (courses_keep until events (before ++ first) rest drawn fate_after between w' moment fit.1 k made)
 
-  pub begun_keeps : (until : ℕ) (events : List Timed) (ts : List Transition) (fate fate_after : F)
+  pub begun_keeps : (until : ℕ) (events : List Timed) (ts : List ActTrace) (fate fate_after : F)
       (start w : WorldState) → until ≤ 10 ^ 18 → AllByRecursion (IsFitEvent least) events
       → Courses answers until events ts fate fate_after start w → WorldInvariant start → NoneFaster least start
       → Q [] start → WorldInvariant w × Q ts w
@@ -164,12 +164,12 @@ module _ {F : Type 0} (answers : Bounds → ℕ → F → Option ℕ → F → T
 
 -- what every act and the time that passes keep is so where a run ends
 pub runs_keep : {F : Type 0} (answers : Bounds → ℕ → F → Option ℕ → F → Type 0)
-    (Q : List Transition → WorldState → Type 0)
-    → ((ts : List Transition) (timed : Timed) (done : Done) (w w' : WorldState)
+    (Q : List ActTrace → WorldState → Type 0)
+    → ((ts : List ActTrace) (timed : Timed) (done : Done) (w w' : WorldState)
     → IsKeptAct answers timed done w w' → Q ts w → Q (ts ++ transition timed done w w' ∷ []) w')
-    → ((ts : List Transition) (w : WorldState) (time : ℕ) → w.time ≤ time → NothingBefore time w.net.pending → Q ts w
+    → ((ts : List ActTrace) (w : WorldState) (time : ℕ) → w.time ≤ time → NothingBefore time w.net.pending → Q ts w
     → Q ts (at time w))
-    → (d : DocumentState) (until : ℕ) (fate : F) (start w : WorldState) (ts : List Transition) → IsPlayable d
+    → (d : DocumentState) (until : ℕ) (fate : F) (start w : WorldState) (ts : List ActTrace) → IsPlayable d
     → until ≤ 10 ^ 18 → Unfolds answers d until fate start ts w → Q [] start → WorldInvariant w × Q ts w
 runs_keep answers Q act_keeps later_keeps d until fate start w ts playable moment k so =
     let sound = initial_sound d.network playable.network in
@@ -179,17 +179,17 @@ runs_keep answers Q act_keeps later_keeps d until fate start w ts playable momen
     (begun_none_faster answers d.network fate k.started start sound.wired.setups k.begun) so
 
 -- each of these acts was done so
-abbrev pub AreKept : {F : Type 0} → (Bounds → ℕ → F → Option ℕ → F → Type 0) → List Transition → Type 0
-AreKept answers ts = (t : Transition) → In t ts → IsKeptAct answers t.told.timed t.told.done t.before t.after
+abbrev pub AreKept : {F : Type 0} → (Bounds → ℕ → F → Option ℕ → F → Type 0) → List ActTrace → Type 0
+AreKept answers ts = (t : ActTrace) → In t ts → IsKeptAct answers t.told.timed t.told.done t.before t.after
 
-pub one_more : {F : Type 0} (answers : Bounds → ℕ → F → Option ℕ → F → Type 0) (ts : List Transition) (timed : Timed)
+pub one_more : {F : Type 0} (answers : Bounds → ℕ → F → Option ℕ → F → Type 0) (ts : List ActTrace) (timed : Timed)
     (done : Done) (w w' : WorldState) → IsKeptAct answers timed done w w' → AreKept answers ts
     → AreKept answers (ts ++ transition timed done w w' ∷ [])
 one_more answers ts timed done w w' act kept t member =
     elim (In-parts t ts (transition timed done w w' ∷ []) member) [
       | inl before ↦ kept t before
       | inr (inl same) ↦
-          subst (λ (v : Transition). IsKeptAct answers v.told.timed v.told.done v.before v.after) (sym same) act
+          subst (λ (v : ActTrace). IsKeptAct answers v.told.timed v.told.done v.before v.after) (sym same) act
       | inr (inr none) ↦ absurd none
     ]
 

@@ -16,7 +16,7 @@ use Rattle.gptp_model.specs.Acts.{at}
 use Rattle.gptp_model.specs.Views.{ShowsLive}
 use Rattle.gptp_model.specs.World.{WorldState}
 use Rattle.gptp_network.specs.Document.{DocumentState}
-use Rattle.gptp_report.specs.Transitions.{Transition, Unfolds}
+use Rattle.gptp_report.specs.Transitions.{ActTrace, Unfolds}
 use Rattle.gptp_invariants.specs.ChoiceCalm.{sync_paths_of}
 use Rattle.gptp_invariants.specs.WorldSettlingInvariant.{SettlingInvariant}
 use Rattle.gptp_invariants.specs.WorldStanding.{snapshot_of}
@@ -39,8 +39,8 @@ abbrev pub WorldsAreRecent : Type 0
 WorldsAreRecent = (w : WorldState) → SettlingInvariant w → HeadlineOnAge w
 
 -- by one of these acts the system with this clock used a Follow_Up, no more than a span before a time
-pub record HeardWithin (acts : List Transition) (number span time : ℕ) : Type 0 where
-  pub act : Transition
+pub record HeardWithin (acts : List ActTrace) (number span time : ℕ) : Type 0 where
+  pub act : ActTrace
   pub member : In act acts
   pub uses : UsesFollowUp number act.told.done
   pub lately : time ≤ act.told.timed.at + span
@@ -49,7 +49,7 @@ pub record HeardWithin (acts : List Transition) (number span time : ℕ) : Type 
 -- earlier and has waited for a Sync since. Then each near system that has a Slave port, and follows a root that may be
 -- grandmaster, used a Follow_Up no longer ago than such a system waits for the next Sync. What it reads is no older.
 abbrev pub RunsHearInTime : {F : Type 0} → (Bounds → ℕ → F → Option ℕ → F → Type 0) → Type 0
-RunsHearInTime {F} answers = (d : DocumentState) (until : ℕ) (fate : F) (start w : WorldState) (acts : List Transition)
+RunsHearInTime {F} answers = (d : DocumentState) (until : ℕ) (fate : F) (start w : WorldState) (acts : List ActTrace)
     (p : SettlingParams) (earlier number port : ℕ) (s : SystemState)
     → IsPlayable d → until ≤ 10 ^ 18 → Unfolds answers d until fate start acts w
     → WorldIsCalm p w → 0 < p.params.sync_timeout → HasPassed p (path_bound (snapshot_of w)) (at earlier w)
@@ -59,8 +59,8 @@ RunsHearInTime {F} answers = (d : DocumentState) (until : ℕ) (fate : F) (start
 
 -- by one of these acts, no more than a span before a time, the system was left a reading that at the time differs from
 -- this by no more than an error
-pub record ReadsWithin (acts : List Transition) (number span time error : ℕ) (shown : ℤ) : Type 0 where
-  pub act : Transition
+pub record ReadsWithin (acts : List ActTrace) (number span time error : ℕ) (shown : ℤ) : Type 0 where
+  pub act : ActTrace
   pub member : In act acts
   pub lately : time ≤ act.told.timed.at + span
   pub read : ℤ
@@ -71,7 +71,7 @@ pub record ReadsWithin (acts : List Transition) (number span time error : ℕ) (
 -- system has a reading as the run ends, which a Follow_Up left it no longer ago than the wait. It is within the reading
 -- error for the wait of what the clock of the best shows.
 abbrev pub RunsReadLately : {F : Type 0} → (Bounds → ℕ → F → Option ℕ → F → Type 0) → Type 0
-RunsReadLately {F} answers = (d : DocumentState) (until : ℕ) (fate : F) (start w : WorldState) (acts : List Transition)
+RunsReadLately {F} answers = (d : DocumentState) (until : ℕ) (fate : F) (start w : WorldState) (acts : List ActTrace)
     (p : SettlingParams) (earlier steps number port error : ℕ) (s : SystemState) (shown : ℤ)
     → IsPlayable d → until ≤ 10 ^ 18 → Unfolds answers d until fate start acts w
     → WorldIsCalm p w → 0 < p.params.sync_timeout → HasComeDown p (path_bound (snapshot_of w)) (suc steps) earlier w

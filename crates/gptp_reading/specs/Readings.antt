@@ -22,7 +22,7 @@ use Rattle.gptp_model.specs.declared.done.Done.{Done}
 use Rattle.gptp_model.specs.Views.{ShowsLive}
 use Rattle.gptp_model.specs.World.{WorldState}
 use Rattle.gptp_network.specs.Document.{DocumentState}
-use Rattle.gptp_report.specs.Transitions.{Transition, Unfolds}
+use Rattle.gptp_report.specs.Transitions.{ActTrace, Unfolds}
 use Rattle.gptp_invariants.specs.WorldStanding.{snapshot_of}
 use Rattle.gptp_invariants.specs.SyncTimedClaim.{WorldInvariant}
 use Rattle.gptp_theorem.specs.Headline.{HasComeDown, WorldIsCalm, UsesFollowUp}
@@ -85,16 +85,16 @@ WorldsHaveReadings {F} answers = (timed : Timed) (fate fate_after : F) (w w' : W
 
 -- each act of a run of a document leaves exact readings too, whatever is drawn for the frames meanwhile
 abbrev pub RunsReadExactly : {F : Type 0} → (Bounds → ℕ → F → Option ℕ → F → Type 0) → Type 0
-RunsReadExactly {F} answers = (d : DocumentState) (until : ℕ) (fate : F) (start w : WorldState) (ts : List Transition)
-    (t : Transition) → IsPlayable d → until ≤ 10 ^ 18 → Unfolds answers d until fate start ts w → In t ts
+RunsReadExactly {F} answers = (d : DocumentState) (until : ℕ) (fate : F) (start w : WorldState) (ts : List ActTrace)
+    (t : ActTrace) → IsPlayable d → until ≤ 10 ^ 18 → Unfolds answers d until fate start ts w → In t ts
     → HeadlineOnReadings t.before t.told.timed.at t.after t.told.done
 
 -- A run may end at any time. Where it ends in a calm world, what a near system reads there is exact by each Follow_Up
 -- that it used once a Sync had had the time to come down from when the network was settled. For one that was used no
 -- longer ago than a span it is within the reading error for that span of what the clock of the best shows.
 abbrev pub RunsReadInTime : {F : Type 0} → (Bounds → ℕ → F → Option ℕ → F → Type 0) → Type 0
-RunsReadInTime {F} answers = (d : DocumentState) (until : ℕ) (fate : F) (start w : WorldState) (acts : List Transition)
-    (act : Transition) (p : SettlingParams) (m steps number earlier later error : ℕ) (read shown : ℤ)
+RunsReadInTime {F} answers = (d : DocumentState) (until : ℕ) (fate : F) (start w : WorldState) (acts : List ActTrace)
+    (act : ActTrace) (p : SettlingParams) (m steps number earlier later error : ℕ) (read shown : ℤ)
     → IsPlayable d → until ≤ 10 ^ 18 → Unfolds answers d until fate start acts w → In act acts
     → WorldIsCalm p w → BoundsPaths (snapshot_of w) m → HasComeDown p m (suc steps) earlier w
     → earlier ≤ act.told.timed.at → w.time ≤ act.told.timed.at + later

@@ -21,7 +21,7 @@ use Rattle.gptp_report.specs.declared.frame_line.FrameType.{FrameType}
 use Rattle.gptp_report.specs.Following.{tells_frames, ShowsDoneIf}
 use Rattle.gptp_world.specs.Observing.{Observed, Tells}
 use Rattle.gptp_report.specs.Run.{BreaksOff, Changed, Goes, GoesSoFar, LeadsSoFar, LeadsTo, ShowsDone, ShowsFrames, ShowsIf}
-use Rattle.gptp_report.specs.Transitions.{Breaks, Courses, CoursesSoFar, Makes, Transition}
+use Rattle.gptp_report.specs.Transitions.{Breaks, Courses, CoursesSoFar, Makes, ActTrace}
 use Rattle.gptp_words.specs.Lines.{text_of}
 use Rattle.gptp_system.specs.declared.answer.Answer.{Answer}
 use Rattle.gptp_world.proofs.FollowLemmas.{all_told, passes_advances}
@@ -42,12 +42,12 @@ heard_shown at clock port answer frame octets So same (kind, is, so) = (
 -- ---- lines
 
 -- the lines of all acts, where they are asked for
-abbrev ShowsAll : Bool → List Transition → List (List ℕ) → Type 0
+abbrev ShowsAll : Bool → List ActTrace → List (List ℕ) → Type 0
 ShowsAll asked [] lines = lines ≡ []
 ShowsAll asked (t ∷ ts) lines = (first : List (List ℕ)) × (rest : List (List ℕ))
     × ShowsDoneIf asked t.told.timed.at t.told.done first × ShowsAll asked ts rest × (lines ≡ first ++ rest)
 
-tells_all : (ts : List Transition) (o o_after : Frames) (lines : List (List ℕ)) → Tells tells_frames ts o o_after lines
+tells_all : (ts : List ActTrace) (o o_after : Frames) (lines : List (List ℕ)) → Tells tells_frames ts o o_after lines
     → ShowsAll o.asked ts lines
 tells_all [] o o_after lines (same, none) = none
 tells_all (t ∷ ts) o o_after lines (between, first, rest, (same, one), others, is) = (
@@ -59,14 +59,14 @@ tells_all (t ∷ ts) o o_after lines (between, first, rest, (same, one), others,
 )
 
 -- the lines of some acts and of more after them, apart
-record Parted (asked : Bool) (ts more : List Transition) (lines : List (List ℕ)) : Type 0 where
+record Parted (asked : Bool) (ts more : List ActTrace) (lines : List (List ℕ)) : Type 0 where
   front : List (List ℕ)
   back : List (List ℕ)
   first : ShowsAll asked ts front
   second : ShowsAll asked more back
   are : lines ≡ front ++ back
 
-parted : (asked : Bool) (ts more : List Transition) (lines : List (List ℕ)) → ShowsAll asked (ts ++ more) lines
+parted : (asked : Bool) (ts more : List ActTrace) (lines : List (List ℕ)) → ShowsAll asked (ts ++ more) lines
     → Parted asked ts more lines
 parted asked [] more lines shows =
     record { front = []; back = lines; first = refl; second = shows; are = refl }
@@ -79,7 +79,7 @@ parted asked (t ∷ ts) more lines (first, rest, one, others, is) =
       are = is ∙ ap (λ zs. first ++ zs) h.are ∙ sym (append_assoc first h.front h.back);
     }
 
-shows_frames : (asked : Bool) (ts : List Transition) (lines : List (List ℕ)) → ShowsAll asked ts lines
+shows_frames : (asked : Bool) (ts : List ActTrace) (lines : List (List ℕ)) → ShowsAll asked ts lines
     → ShowsIf asked (all_told ts) lines
 shows_frames true [] lines none = none
 shows_frames false [] lines none = none
@@ -123,7 +123,7 @@ module _ {F : Type 0} (answers : Bounds → ℕ → F → Option ℕ → F → T
   made_quiet event fate fate_after w w' done (change, is) was =
       (subst (λ a. Acts a (at event.at w) was.draws done w') is was.acts).0
 
-  pub makes_changes : (event : Timed) (ts : List Transition) (fate fate_after : F) (w w' : WorldState)
+  pub makes_changes : (event : Timed) (ts : List ActTrace) (fate fate_after : F) (w w' : WorldState)
       (k : Makes answers event ts fate fate_after w w')
       → Changed answers event (all_told k.first) fate fate_after w w'
   makes_changes event ts fate fate_after w w' k = record {
@@ -141,7 +141,7 @@ module _ {F : Type 0} (answers : Bounds → ℕ → F → Option ℕ → F → T
   }
 
   -- the lines of what is due by the time of an event, which itself shows none
-  before_event : (asked : Bool) (event : Timed) (ts : List Transition) (fate fate_after : F) (w w' : WorldState)
+  before_event : (asked : Bool) (event : Timed) (ts : List ActTrace) (fate fate_after : F) (w w' : WorldState)
       (lines : List (List ℕ)) (k : Makes answers event ts fate fate_after w w') → IsChanging event
       → ShowsAll asked ts lines → ShowsIf asked (all_told k.first) lines
   before_event asked event ts fate fate_after w w' lines k changing shows =
@@ -165,7 +165,7 @@ module _ {F : Type 0} (answers : Bounds → ℕ → F → Option ℕ → F → T
     goes : Goes answers until events told fate fate_after w w'
     shows : ShowsIf asked told lines
 
-  courses_run : (asked : Bool) (until : ℕ) (events : List Timed) (ts : List Transition) (fate fate_after : F)
+  courses_run : (asked : Bool) (until : ℕ) (events : List Timed) (ts : List ActTrace) (fate fate_after : F)
       (w w' : WorldState) (lines : List (List ℕ)) → AllByRecursion IsChanging events
       → Courses answers until events ts fate fate_after w w' → ShowsAll asked ts lines
       → Runs asked until events fate fate_after w w' lines
@@ -205,7 +205,7 @@ module _ {F : Type 0} (answers : Bounds → ℕ → F → Option ℕ → F → T
     goes : GoesSoFar answers until events told fate w
     shows : ShowsIf asked told lines
 
-  break_off : (asked : Bool) (until : ℕ) (ts : List Transition) (fate : F) (w : WorldState)
+  break_off : (asked : Bool) (until : ℕ) (ts : List ActTrace) (fate : F) (w : WorldState)
       → Breaks answers until ts fate w → BreaksOff answers until (all_told ts) fate w
   break_off asked until ts fate w k = record {
     fate_after = k.fate_after;
@@ -213,7 +213,7 @@ module _ {F : Type 0} (answers : Bounds → ℕ → F → Option ℕ → F → T
     advances = passes_advances answers until ts fate k.fate_after w k.after k.passes;
   }
 
-  courses_run_so_far : (asked : Bool) (until : ℕ) (events : List Timed) (ts : List Transition) (fate : F)
+  courses_run_so_far : (asked : Bool) (until : ℕ) (events : List Timed) (ts : List ActTrace) (fate : F)
       (w : WorldState) (lines : List (List ℕ)) → AllByRecursion IsChanging events
       → CoursesSoFar answers until events ts fate w → ShowsAll asked ts lines
       → RunsSoFar asked until events fate w lines
@@ -263,7 +263,7 @@ module _ {F : Type 0} (answers : Bounds → ℕ → F → Option ℕ → F → T
   -- ---- the whole
 
   pub leads_to : (d : DocumentState) (until : ℕ) (o o_after : Frames) (fate started drawn : F)
-      (start world : WorldState) (So : List ℕ → Type 0) (ts : List Transition) → AreEvents d.network d.events
+      (start world : WorldState) (So : List ℕ → Type 0) (ts : List ActTrace) → AreEvents d.network d.events
       → Begun answers d.network fate started start
       → Courses answers until (events_by until d.events) ts started drawn start world
       → Observed tells_frames ts o o_after So
@@ -282,7 +282,7 @@ module _ {F : Type 0} (answers : Bounds → ℕ → F → Option ℕ → F → T
       )
 
   pub leads_so_far : (d : DocumentState) (until : ℕ) (o o_after : Frames) (fate started : F) (start : WorldState)
-      (So : List ℕ → Type 0) (ts : List Transition) → AreEvents d.network d.events
+      (So : List ℕ → Type 0) (ts : List ActTrace) → AreEvents d.network d.events
       → Begun answers d.network fate started start
       → CoursesSoFar answers until (events_by until d.events) ts started start
       → Observed tells_frames ts o o_after So

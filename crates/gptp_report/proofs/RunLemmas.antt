@@ -14,13 +14,13 @@ use Rattle.gptp_report.specs.Following.{BreaksAbout, BreaksSeen, MakesIf}
 use Rattle.gptp_world.specs.Observing.{Observed, TellsAct}
 use Rattle.gptp_report.specs.Run.{Goes, GoesSoFar, LeadsSoFar, LeadsTo}
 use Rattle.gptp_world.specs.Following.{Follows, PassesSeen}
-use Rattle.gptp_report.specs.Transitions.{Breaks, Courses, CoursesSoFar, Makes, Passes, PassesTo, Transition, transition}
+use Rattle.gptp_report.specs.Transitions.{Breaks, Courses, CoursesSoFar, Makes, Passes, PassesTo, ActTrace, transition}
 use Rattle.gptp_world.proofs.FollowLemmas.{observed_more, observed_none, observed_one}
 
 -- ---- what stays
 
 module _ {F : Type 0} (answers : Bounds → ℕ → F → Option ℕ → F → Type 0) where
-  passes_stay : (until : ℕ) (ts : List Transition) (fate fate_after : F) (w w' : WorldState) → HaveTheirSetups w
+  passes_stay : (until : ℕ) (ts : List ActTrace) (fate fate_after : F) (w w' : WorldState) → HaveTheirSetups w
       → Passes answers until ts fate fate_after w w' → Stays w w'
   passes_stay until [] fate fate_after w w' setups (same, is) = subst (Stays w) (sym is) (same_stays w setups)
   passes_stay until (t ∷ ts) fate fate_after w w' setups (drawn, is, happens, rest) =
@@ -29,21 +29,21 @@ module _ {F : Type 0} (answers : Bounds → ℕ → F → Option ℕ → F → T
       (passes_stay until ts drawn fate_after t.after w' (stays_setups w t.after first) rest)
 
   -- what goes on to a time leaves each system with its parameters
-  pub passed_stays : (until : ℕ) (ts : List Transition) (fate fate_after : F) (w w' : WorldState) → HaveTheirSetups w
+  pub passed_stays : (until : ℕ) (ts : List ActTrace) (fate fate_after : F) (w w' : WorldState) → HaveTheirSetups w
       → PassesTo answers until ts fate fate_after w w' → Stays w w'
   passed_stays until ts fate fate_after w w' setups k =
       let stays = passes_stay until ts fate fate_after w k.between setups k.passes in
       subst (Stays w) (sym k.is) (record { stations = stays.stations; links = stays.links })
 
   -- so does an event
-  made_stays : (event : Timed) (ts : List Transition) (fate fate_after : F) (w w' : WorldState) → HaveTheirSetups w
+  made_stays : (event : Timed) (ts : List ActTrace) (fate fate_after : F) (w w' : WorldState) → HaveTheirSetups w
       → Makes answers event ts fate fate_after w w' → Stays w w'
   made_stays event ts fate fate_after w w' setups k =
       let first = passed_stays event.at k.first fate k.drawn w k.between setups k.passes in
       stays_on w k.between w' first
       (done_stays answers event k.drawn fate_after k.between w' k.done (stays_setups w k.between first) k.made)
 
-  pub made_if_stays : (due : Bool) (event : Timed) (ts : List Transition) (fate fate_after : F) (w w' : WorldState)
+  pub made_if_stays : (due : Bool) (event : Timed) (ts : List ActTrace) (fate fate_after : F) (w w' : WorldState)
       → HaveTheirSetups w → MakesIf answers due event ts fate fate_after w w' → Stays w w'
   made_if_stays true event ts fate fate_after w w' setups k = made_stays event ts fate fate_after w w' setups k
   made_if_stays false event ts fate fate_after w w' setups (none, same, is) =
@@ -73,7 +73,7 @@ module _ {F O : Type 0} (answers : Bounds → ℕ → F → Option ℕ → F →
       → PassesSeen answers tells event.at fate drawn w between o mid First
       → WasDone answers event drawn fate_after between w' done
       → TellsAct tells (record { timed = event; done = done }) w' mid o_after Second
-      → (ts : List Transition) × Makes answers event ts fate fate_after w w' × Observed tells ts o o_after Both
+      → (ts : List ActTrace) × Makes answers event ts fate fate_after w w' × Observed tells ts o o_after Both
   makes_seen event done fate drawn fate_after w between w' o mid o_after First Second Both both passes was told =
       let last = transition event done between w' in (
         passes.ts ++ last ∷ [],
@@ -97,11 +97,11 @@ module _ {F O : Type 0} (answers : Bounds → ℕ → F → Option ℕ → F →
   -- The world went on with some events; with those that are left it goes on with all, or breaks off among all.
   pub record WentSoFar (until : ℕ) (events left : List Timed) (fate drawn : F) (w between : WorldState) (o mid : O)
       (So : List ℕ → Type 0) : Type 0 where
-    pub ts : List Transition
-    pub more : (rest : List Transition) (fate_after : F) (w' : WorldState)
+    pub ts : List ActTrace
+    pub more : (rest : List ActTrace) (fate_after : F) (w' : WorldState)
         → Courses answers until (events_by until left) rest drawn fate_after between w'
         → Courses answers until (events_by until events) (ts ++ rest) fate fate_after w w'
-    pub breaks : (rest : List Transition) → CoursesSoFar answers until (events_by until left) rest drawn between
+    pub breaks : (rest : List ActTrace) → CoursesSoFar answers until (events_by until left) rest drawn between
         → CoursesSoFar answers until (events_by until events) (ts ++ rest) fate w
     pub observed : Observed tells ts o mid So
 
@@ -115,7 +115,7 @@ module _ {F O : Type 0} (answers : Bounds → ℕ → F → Option ℕ → F →
   }
 
   -- one event more goes before those that are left, if it is due
-  next_event : (due : Bool) (until : ℕ) (event : Timed) (left : List Timed) (first rest : List Transition)
+  next_event : (due : Bool) (until : ℕ) (event : Timed) (left : List Timed) (first rest : List ActTrace)
       (drawn next fate_after : F) (between after w' : WorldState) → nat_le event.at until ≡ due
       → MakesIf answers due event first drawn next between after
       → Courses answers until (events_by until left) rest next fate_after after w'
@@ -127,7 +127,7 @@ module _ {F O : Type 0} (answers : Bounds → ℕ → F → Option ℕ → F →
       (subst (λ x. Courses answers until (events_by until left) rest next fate_after x w') stays courses))
 
   -- so it does where it breaks off after it
-  next_breaks : (due : Bool) (until : ℕ) (event : Timed) (left : List Timed) (first rest : List Transition)
+  next_breaks : (due : Bool) (until : ℕ) (event : Timed) (left : List Timed) (first rest : List ActTrace)
       (drawn next : F) (between after : WorldState) → nat_le event.at until ≡ due
       → MakesIf answers due event first drawn next between after
       → CoursesSoFar answers until (events_by until left) rest next after
@@ -140,7 +140,7 @@ module _ {F O : Type 0} (answers : Bounds → ℕ → F → Option ℕ → F →
 
   pub went_more : (until : ℕ) (events : List Timed) (event : Timed) (left : List Timed) (fate drawn next : F)
       (w between after : WorldState) (o mid o_after : O) (First Second Both : List ℕ → Type 0)
-      (first : List Transition)
+      (first : List ActTrace)
       → ((one two : List ℕ) → First one → Second two → Both (one ++ two))
       → WentSoFar until events (event ∷ left) fate drawn w between o mid First
       → MakesIf answers (nat_le event.at until) event first drawn next between after
@@ -165,7 +165,7 @@ module _ {F O : Type 0} (answers : Bounds → ℕ → F → Option ℕ → F →
       → ((one two : List ℕ) → First one → Second two → Both (one ++ two))
       → WentSoFar until events [] fate drawn w between o mid First
       → PassesSeen answers tells until drawn fate_after between w' mid o_after Second
-      → (ts : List Transition) × Courses answers until (events_by until events) ts fate fate_after w w'
+      → (ts : List ActTrace) × Courses answers until (events_by until events) ts fate fate_after w w'
       × Observed tells ts o o_after Both
   went_all until events fate drawn fate_after w between w' o mid o_after First Second Both both all passes = (
     all.ts ++ passes.ts,
@@ -181,7 +181,7 @@ module _ {F O : Type 0} (answers : Bounds → ℕ → F → Option ℕ → F →
       inl (record { fate_after = fate; after = w; passes = (refl, refl) })
 
   -- it breaks off about the next event, which is due
-  about_event : (until : ℕ) (event : Timed) (left : List Timed) (rest : List Transition) (drawn : F)
+  about_event : (until : ℕ) (event : Timed) (left : List Timed) (rest : List ActTrace) (drawn : F)
       (between : WorldState) → nat_le event.at until ≡ true → BreaksAbout answers event rest drawn between
       → CoursesSoFar answers until (events_by until (event ∷ left)) rest drawn between
   about_event until event left rest drawn between due (inl breaks) = rw due (inl breaks)
@@ -197,12 +197,12 @@ module _ {F O : Type 0} (answers : Bounds → ℕ → F → Option ℕ → F →
       ))
 
   pub went_to_event : (until : ℕ) (events : List Timed) (event : Timed) (left : List Timed) (fate drawn : F)
-      (w between : WorldState) (o mid o_after : O) (First Second Both : List ℕ → Type 0) (rest : List Transition)
+      (w between : WorldState) (o mid o_after : O) (First Second Both : List ℕ → Type 0) (rest : List ActTrace)
       → ((one two : List ℕ) → First one → Second two → Both (one ++ two))
       → WentSoFar until events (event ∷ left) fate drawn w between o mid First
       → nat_le event.at until ≡ true → BreaksAbout answers event rest drawn between
       → Observed tells rest mid o_after Second
-      → (ts : List Transition) × (last : O) × CoursesSoFar answers until (events_by until events) ts fate w
+      → (ts : List ActTrace) × (last : O) × CoursesSoFar answers until (events_by until events) ts fate w
       × Observed tells ts o last Both
   went_to_event until events event left fate drawn w between o mid o_after First Second Both rest both so_far due
       breaks seen = (
@@ -214,11 +214,11 @@ module _ {F O : Type 0} (answers : Bounds → ℕ → F → Option ℕ → F →
 
   -- or after the last
   pub went_to_end : (until : ℕ) (events : List Timed) (fate drawn : F) (w between : WorldState) (o mid o_after : O)
-      (First Second Both : List ℕ → Type 0) (rest : List Transition)
+      (First Second Both : List ℕ → Type 0) (rest : List ActTrace)
       → ((one two : List ℕ) → First one → Second two → Both (one ++ two))
       → WentSoFar until events [] fate drawn w between o mid First
       → Breaks answers until rest drawn between → Observed tells rest mid o_after Second
-      → (ts : List Transition) × (last : O) × CoursesSoFar answers until (events_by until events) ts fate w
+      → (ts : List ActTrace) × (last : O) × CoursesSoFar answers until (events_by until events) ts fate w
       × Observed tells ts o last Both
   went_to_end until events fate drawn w between o mid o_after First Second Both rest both all breaks seen = (
     all.ts ++ rest,

@@ -8,7 +8,7 @@ use Rattle.gptp_model.specs.World.{WorldState}
 use Rattle.gptp_words.specs.Lines.{text_of}
 use Rattle.gptp_report.specs.declared.frames.Frames.{Frames}
 use Rattle.gptp_report.specs.Run.{ShowsDone}
-use Rattle.gptp_report.specs.Transitions.{Breaks, Makes, Transition}
+use Rattle.gptp_report.specs.Transitions.{Breaks, Makes, ActTrace}
 use Rattle.gptp_world.specs.Observing.{Observed}
 
 -- ---- before any observer
@@ -17,19 +17,19 @@ use Rattle.gptp_world.specs.Observing.{Observed}
 pub record BreaksSeen {F O : Type 0} (answers : Bounds → ℕ → F → Option ℕ → F → Type 0)
     (tells : Told → WorldState → O → O → List (List ℕ) → Type 0) (until : ℕ) (fate : F) (w : WorldState) (o : O)
     (So : List ℕ → Type 0) : Type 0 where
-  pub ts : List Transition
+  pub ts : List ActTrace
   pub o_after : O
   pub breaks : Breaks answers until ts fate w
   pub observed : Observed tells ts o o_after So
 
 -- An event was made, if it was due; otherwise nothing happened.
-abbrev pub MakesIf : {F : Type 0} → (Bounds → ℕ → F → Option ℕ → F → Type 0) → Bool → Timed → List Transition → F → F
+abbrev pub MakesIf : {F : Type 0} → (Bounds → ℕ → F → Option ℕ → F → Type 0) → Bool → Timed → List ActTrace → F → F
     → WorldState → WorldState → Type 0
 MakesIf answers true event ts fate fate_after w w' = Makes answers event ts fate fate_after w w'
 MakesIf answers false event ts fate fate_after w w' = (ts ≡ []) × (fate_after ≡ fate) × (w' ≡ w)
 
 -- it broke off before an event, or after it
-abbrev pub BreaksAbout : {F : Type 0} → (Bounds → ℕ → F → Option ℕ → F → Type 0) → Timed → List Transition → F
+abbrev pub BreaksAbout : {F : Type 0} → (Bounds → ℕ → F → Option ℕ → F → Type 0) → Timed → List ActTrace → F
     → WorldState → Type 0
 BreaksAbout {F} answers event ts fate w =
     Breaks answers event.at ts fate w

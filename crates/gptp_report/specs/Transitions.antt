@@ -7,12 +7,12 @@ use Rattle.gptp_scenario.specs.declared.change.Timed.{Timed}
 use Rattle.gptp_model.specs.declared.done.Done.{Done}
 use Rattle.gptp_model.specs.Course.{Begun, WasDone}
 use Rattle.gptp_model.specs.World.{WorldState}
-pub use Rattle.gptp_world.specs.Transitions.{Passes, PassesTo, Transition, transition}
+pub use Rattle.gptp_world.specs.Transitions.{Passes, PassesTo, ActTrace, transition}
 
 -- Once all that is due by its time has happened, an event is made.
-pub record Makes {F : Type 0} (answers : Bounds → ℕ → F → Option ℕ → F → Type 0) (event : Timed) (ts : List Transition)
+pub record Makes {F : Type 0} (answers : Bounds → ℕ → F → Option ℕ → F → Type 0) (event : Timed) (ts : List ActTrace)
     (fate fate_after : F) (w w' : WorldState) : Type 0 where
-  pub first : List Transition
+  pub first : List ActTrace
   pub drawn : F
   pub between : WorldState
   pub passes : PassesTo answers event.at first fate drawn w between
@@ -21,17 +21,17 @@ pub record Makes {F : Type 0} (answers : Bounds → ℕ → F → Option ℕ →
   pub are : ts ≡ first ++ transition event done between w' ∷ []
 
 -- Events are made so, one after another; then all that is due by the end happens.
-abbrev pub Courses : {F : Type 0} → (Bounds → ℕ → F → Option ℕ → F → Type 0) → ℕ → List Timed → List Transition
+abbrev pub Courses : {F : Type 0} → (Bounds → ℕ → F → Option ℕ → F → Type 0) → ℕ → List Timed → List ActTrace
     → F → F → WorldState → WorldState → Type 0
 Courses answers until [] ts fate fate_after w w' = PassesTo answers until ts fate fate_after w w'
 Courses {F} answers until (event ∷ events) ts fate fate_after w w' =
-    (first : List Transition) × (rest : List Transition) × (drawn : F) × (between : WorldState)
+    (first : List ActTrace) × (rest : List ActTrace) × (drawn : F) × (between : WorldState)
     × Makes answers event first fate drawn w between × Courses answers until events rest drawn fate_after between w'
     × (ts ≡ first ++ rest)
 
 -- The world of a document begins, and goes on with its events up to a time.
 pub record Unfolds {F : Type 0} (answers : Bounds → ℕ → F → Option ℕ → F → Type 0) (d : DocumentState) (until : ℕ)
-    (fate : F) (start : WorldState) (ts : List Transition) (w : WorldState) : Type 0 where
+    (fate : F) (start : WorldState) (ts : List ActTrace) (w : WorldState) : Type 0 where
   pub started : F
   pub begun : Begun answers d.network fate started start
   pub drawn : F
@@ -40,18 +40,18 @@ pub record Unfolds {F : Type 0} (answers : Bounds → ℕ → F → Option ℕ �
 -- ---- as far as it gets
 
 -- Acts were done, each the next that was pending then, none later than a time; then it broke off.
-pub record Breaks {F : Type 0} (answers : Bounds → ℕ → F → Option ℕ → F → Type 0) (until : ℕ) (ts : List Transition)
+pub record Breaks {F : Type 0} (answers : Bounds → ℕ → F → Option ℕ → F → Type 0) (until : ℕ) (ts : List ActTrace)
     (fate : F) (w : WorldState) : Type 0 where
   pub fate_after : F
   pub after : WorldState
   pub passes : Passes answers until ts fate fate_after w after
 
 -- Some of the events are made, one after another, and after them it breaks off.
-abbrev pub CoursesSoFar : {F : Type 0} → (Bounds → ℕ → F → Option ℕ → F → Type 0) → ℕ → List Timed → List Transition
+abbrev pub CoursesSoFar : {F : Type 0} → (Bounds → ℕ → F → Option ℕ → F → Type 0) → ℕ → List Timed → List ActTrace
     → F → WorldState → Type 0
 CoursesSoFar answers until [] ts fate w = Breaks answers until ts fate w
 CoursesSoFar {F} answers until (event ∷ events) ts fate w =
     Breaks answers event.at ts fate w
-    ⊎ ((first : List Transition) × (rest : List Transition) × (drawn : F) × (between : WorldState)
+    ⊎ ((first : List ActTrace) × (rest : List ActTrace) × (drawn : F) × (between : WorldState)
     × Makes answers event first fate drawn w between × CoursesSoFar answers until events rest drawn between
     × (ts ≡ first ++ rest))

@@ -11,7 +11,7 @@ ghost use Rattle.gptp_network.specs.Snapshot.{events_by};
 ghost use Rattle.gptp_report.specs.Run.{LeadsSoFar, LeadsTo};
 ghost use Rattle.gptp_sink.specs.Sink.{AppendsSome};
 ghost use Rattle.gptp_world.specs.Observing.{Observed};
-ghost use Rattle.gptp_report.specs.Transitions.{Courses, CoursesSoFar, Makes, Transition};
+ghost use Rattle.gptp_report.specs.Transitions.{Courses, CoursesSoFar, Makes, ActTrace};
 
 use crate::following::{done_of, go_on};
 use crate::frames::Frames;
@@ -32,10 +32,10 @@ fn make<F: Fate + Drop, O: Observer, K: Sink>(
 ) -> Result<(), Cut>
     requires allowed { IsAllowed event.now }
     requires prompt { DelaysFitIntervals world.old.world_core event.now.act }
-    ensures made { OnOk result ((ts : List Transition)
+    ensures made { OnOk result ((ts : List ActTrace)
         × Makes F.answers event.now ts world.old.fate world.new.fate world.old.world_core world.new.world_core
         × Observed O.tells ts observer.old observer.new (Appends (K.written sink.old) (K.written sink.new))) }
-    ensures broken { OnErr result ((ts : List Transition) × (o_after : O)
+    ensures broken { OnErr result ((ts : List ActTrace) × (o_after : O)
         × BreaksAbout F.answers event.now ts world.old.fate world.old.world_core
         × Observed O.tells ts observer.old o_after (AppendsSome (K.written sink.old) (K.written sink.new))) }
     ensures works { result ≢ Err Cut.Write → K.failures sink.new ≡ K.failures sink.old }
@@ -58,11 +58,11 @@ fn make_if_due<F: Fate + Drop, O: Observer, K: Sink>(
 ) -> Result<(), Cut>
     requires allowed { IsAllowed event.now }
     requires prompt { DelaysFitIntervals world.old.world_core event.now.act }
-    ensures made { OnOk result ((ts : List Transition) × MakesIf F.answers (nat_le event.now.at until) event.now ts
+    ensures made { OnOk result ((ts : List ActTrace) × MakesIf F.answers (nat_le event.now.at until) event.now ts
         world.old.fate world.new.fate world.old.world_core world.new.world_core
         × Observed O.tells ts observer.old observer.new (Appends (K.written sink.old) (K.written sink.new))) }
     ensures due { OnErr result (nat_le event.now.at until ≡ true) }
-    ensures broken { OnErr result ((ts : List Transition) × (o_after : O)
+    ensures broken { OnErr result ((ts : List ActTrace) × (o_after : O)
         × BreaksAbout F.answers event.now ts world.old.fate world.old.world_core
         × Observed O.tells ts observer.old o_after (AppendsSome (K.written sink.old) (K.written sink.new))) }
     ensures works { result ≢ Err Cut.Write → K.failures sink.new ≡ K.failures sink.old }
@@ -93,10 +93,10 @@ pub fn play<F: Fate + Drop, O: Observer, K: Sink>(
     requires events { AreAllowed events.now }
     requires prompt { AllDelaysFitIntervals world.old.world_core events.now }
     requires moment { until ≤ 1000000000000000 }
-    ensures played { OnOk result ((ts : List Transition) × Courses F.answers until (events_by until events.now) ts
+    ensures played { OnOk result ((ts : List ActTrace) × Courses F.answers until (events_by until events.now) ts
         world.old.fate world.new.fate world.old.world_core world.new.world_core
         × Observed O.tells ts observer.old observer.new (Appends (K.written sink.old) (K.written sink.new))) }
-    ensures broken { OnErr result ((ts : List Transition) × (o_after : O)
+    ensures broken { OnErr result ((ts : List ActTrace) × (o_after : O)
         × CoursesSoFar F.answers until (events_by until events.now) ts world.old.fate world.old.world_core
         × Observed O.tells ts observer.old o_after (AppendsSome (K.written sink.old) (K.written sink.new))) }
     ensures works { result ≢ Err Cut.Write → K.failures sink.new ≡ K.failures sink.old }

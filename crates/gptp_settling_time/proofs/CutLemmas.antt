@@ -13,7 +13,7 @@ use Rattle.gptp_model.specs.Initial.{initial}
 use Rattle.gptp_model.specs.Pending.{NothingBefore}
 use Rattle.gptp_model.specs.World.{WorldState}
 use Rattle.gptp_model.proofs.AdvanceLemmas.{nothing_sooner}
-use Rattle.gptp_world.specs.Transitions.{Passes, PassesTo, Transition, transition}
+use Rattle.gptp_world.specs.Transitions.{Passes, PassesTo, ActTrace, transition}
 use Rattle.gptp_network.specs.Document.{DocumentState}
 use Rattle.gptp_network.specs.Snapshot.{events_by}
 use Rattle.gptp_report.specs.Transitions.{Courses, Makes, Unfolds}
@@ -63,25 +63,25 @@ module _ {F : Type 0} (answers : Bounds → ℕ → F → Option ℕ → F → T
   -- ---- times
 
   -- an act is done at its time
-  done_at : (until : ℕ) (t : Transition) (fate drawn : F) (w : WorldState)
+  done_at : (until : ℕ) (t : ActTrace) (fate drawn : F) (w : WorldState)
       → Happens answers until t.told fate drawn w t.after → t.after.time ≡ t.told.timed.at
   done_at until t fate drawn w happens =
       let timed = t.told.timed in let was = happens.was_done in
       acts_time timed.act (at timed.at w) was.draws t.told.done t.after
       (no_change happens.next.item timed.act w happens.next.act) was.acts
 
-  made_at : (event : Timed) (first : List Transition) (fate drawn : F) (w between : WorldState) → IsMade event
+  made_at : (event : Timed) (first : List ActTrace) (fate drawn : F) (w between : WorldState) → IsMade event
       → (k : Makes answers event first fate drawn w between) → between.time ≡ event.at
   made_at event first fate drawn w between is k =
       change_time is.change (at event.at k.between) k.made.draws k.done between
       (subst (λ act. Acts act (at event.at k.between) k.made.draws k.done between) is.act k.made.acts)
 
   -- no act is earlier than the world in which it passes
-  passes_later : (until : ℕ) (ts : List Transition) (fate fate_after : F) (w w' : WorldState)
-      → Passes answers until ts fate fate_after w w' → (u : Transition) → In u ts → w.time ≤ u.told.timed.at
+  passes_later : (until : ℕ) (ts : List ActTrace) (fate fate_after : F) (w w' : WorldState)
+      → Passes answers until ts fate fate_after w w' → (u : ActTrace) → In u ts → w.time ≤ u.told.timed.at
   passes_later until [] fate fate_after w w' k u member = absurd member
   passes_later until (t ∷ ts) fate fate_after w w' (drawn, before, happens, rest) u (inl same) =
-      subst (λ (v : Transition). w.time ≤ v.told.timed.at) (sym same) happens.was_done.ready.timely.now
+      subst (λ (v : ActTrace). w.time ≤ v.told.timed.at) (sym same) happens.was_done.ready.timely.now
   passes_later until (t ∷ ts) fate fate_after w w' (drawn, before, happens, rest) u (inr behind) =
       let later = passes_later until ts drawn fate_after t.after w' rest u behind in
       let time = done_at until t fate drawn w happens in
@@ -89,21 +89,21 @@ module _ {F : Type 0} (answers : Bounds → ℕ → F → Option ℕ → F → T
       omega (arith, later, time, now)
 
   -- and none is later than that by which it is to pass
-  passes_sooner : (until : ℕ) (ts : List Transition) (fate fate_after : F) (w w' : WorldState)
-      → Passes answers until ts fate fate_after w w' → (u : Transition) → In u ts → u.told.timed.at ≤ until
+  passes_sooner : (until : ℕ) (ts : List ActTrace) (fate fate_after : F) (w w' : WorldState)
+      → Passes answers until ts fate fate_after w w' → (u : ActTrace) → In u ts → u.told.timed.at ≤ until
   passes_sooner until [] fate fate_after w w' k u member = absurd member
   passes_sooner until (t ∷ ts) fate fate_after w w' (drawn, before, happens, rest) u (inl same) =
-      subst (λ (v : Transition). v.told.timed.at ≤ until) (sym same) happens.early
+      subst (λ (v : ActTrace). v.told.timed.at ≤ until) (sym same) happens.early
   passes_sooner until (t ∷ ts) fate fate_after w w' (drawn, before, happens, rest) u (inr behind) =
       passes_sooner until ts drawn fate_after t.after w' rest u behind
 
   -- so it is where an event is made
-  record IsWithin (from to : ℕ) (u : Transition) : Type 0 where
+  record IsWithin (from to : ℕ) (u : ActTrace) : Type 0 where
     later : from ≤ u.told.timed.at
     sooner : u.told.timed.at ≤ to
 
-  makes_within : (event : Timed) (ts : List Transition) (fate fate_after : F) (w w' : WorldState)
-      → Makes answers event ts fate fate_after w w' → (u : Transition) → In u ts → IsWithin w.time event.at u
+  makes_within : (event : Timed) (ts : List ActTrace) (fate fate_after : F) (w w' : WorldState)
+      → Makes answers event ts fate fate_after w w' → (u : ActTrace) → In u ts → IsWithin w.time event.at u
   makes_within event ts fate fate_after w w' k u member =
       elim (In-parts u k.first (transition event k.done k.between w' ∷ []) (subst (In u) k.are member)) [
         | inl passed ↦ record {
@@ -119,8 +119,8 @@ module _ {F : Type 0} (answers : Bounds → ℕ → F → Option ℕ → F → T
       last : IsWithin w.time event.at (transition event k.done k.between w')
       last = record { later = k.passes.ahead; sooner = now }
 
-  courses_later : (until : ℕ) (events : List Timed) (ts : List Transition) (fate fate_after : F) (w w' : WorldState)
-      → AllByRecursion IsMade events → Courses answers until events ts fate fate_after w w' → (u : Transition)
+  courses_later : (until : ℕ) (events : List Timed) (ts : List ActTrace) (fate fate_after : F) (w w' : WorldState)
+      → AllByRecursion IsMade events → Courses answers until events ts fate fate_after w w' → (u : ActTrace)
       → In u ts → w.time ≤ u.told.timed.at
   courses_later until [] ts fate fate_after w w' is k u member =
       passes_later until ts fate fate_after w k.between k.passes u member
@@ -134,8 +134,8 @@ module _ {F : Type 0} (answers : Bounds → ℕ → F → Option ℕ → F → T
             omega (arith, later, time, ahead)
       ]
 
-  courses_sooner : (until : ℕ) (events : List Timed) (ts : List Transition) (fate fate_after : F) (w w' : WorldState)
-      → AllByRecursion (IsBy until) events → Courses answers until events ts fate fate_after w w' → (u : Transition)
+  courses_sooner : (until : ℕ) (events : List Timed) (ts : List ActTrace) (fate fate_after : F) (w w' : WorldState)
+      → AllByRecursion (IsBy until) events → Courses answers until events ts fate fate_after w w' → (u : ActTrace)
       → In u ts → u.told.timed.at ≤ until
   courses_sooner until [] ts fate fate_after w w' are k u member =
       passes_sooner until ts fate fate_after w k.between k.passes u member
@@ -150,7 +150,7 @@ module _ {F : Type 0} (answers : Bounds → ℕ → F → Option ℕ → F → T
       ]
 
   -- no event of a course is earlier than the world in which it begins
-  none_by : (early until : ℕ) (events : List Timed) (ts : List Transition) (fate fate_after : F) (w w' : WorldState)
+  none_by : (early until : ℕ) (events : List Timed) (ts : List ActTrace) (fate fate_after : F) (w w' : WorldState)
       → AllByRecursion IsMade events → Courses answers until events ts fate fate_after w w' → early < w.time
       → events_by early events ≡ []
   none_by early until [] ts fate fate_after w w' is k late = refl
@@ -172,14 +172,14 @@ module _ {F : Type 0} (answers : Bounds → ℕ → F → Option ℕ → F → T
 
   module _ (early : ℕ) where
     -- what passes by then, with each act that is done by then
-    record IsCut (ts : List Transition) (fate : F) (w : WorldState) : Type 0 where
-      first : List Transition
+    record IsCut (ts : List ActTrace) (fate : F) (w : WorldState) : Type 0 where
+      first : List ActTrace
       drawn : F
       after : WorldState
       to : PassesTo answers early first fate drawn w after
-      all : (u : Transition) → In u ts → u.told.timed.at ≤ early → In u first
+      all : (u : ActTrace) → In u ts → u.told.timed.at ≤ early → In u first
 
-    cut_passes : (until : ℕ) (ts : List Transition) (fate fate_after : F) (w w' : WorldState) → w.time ≤ early
+    cut_passes : (until : ℕ) (ts : List ActTrace) (fate fate_after : F) (w w' : WorldState) → w.time ≤ early
         → early ≤ until → Passes answers until ts fate fate_after w w' → NothingBefore (until + 1) w'.net.pending
         → IsCut ts fate w
     cut_passes until [] fate fate_after w w' ahead less (same, is) none = record {
@@ -220,7 +220,7 @@ module _ {F : Type 0} (answers : Bounds → ℕ → F → Option ℕ → F → T
           all = λ u member soon. elim member [
             | inl same ↦
                 let again : t.told.timed.at ≤ early =
-                subst (λ (v : Transition). v.told.timed.at ≤ early) same soon in
+                subst (λ (v : ActTrace). v.told.timed.at ≤ early) same soon in
                 absurd (omega (arith, again, late))
             | inr behind ↦
                 let later = passes_later until ts drawn fate_after t.after w' rest u behind in
@@ -252,14 +252,14 @@ module _ {F : Type 0} (answers : Bounds → ℕ → F → Option ℕ → F → T
             }
 
     -- what goes on with events by then
-    record IsCourse (events : List Timed) (ts : List Transition) (fate : F) (w : WorldState) : Type 0 where
-      first : List Transition
+    record IsCourse (events : List Timed) (ts : List ActTrace) (fate : F) (w : WorldState) : Type 0 where
+      first : List ActTrace
       drawn : F
       after : WorldState
       courses : Courses answers early (events_by early events) first fate drawn w after
-      all : (u : Transition) → In u ts → u.told.timed.at ≤ early → In u first
+      all : (u : ActTrace) → In u ts → u.told.timed.at ≤ early → In u first
 
-    cut_courses : (until : ℕ) (events : List Timed) (ts : List Transition) (fate fate_after : F) (w w' : WorldState)
+    cut_courses : (until : ℕ) (events : List Timed) (ts : List ActTrace) (fate fate_after : F) (w w' : WorldState)
         → early ≤ until → AllByRecursion IsMade events → Courses answers until events ts fate fate_after w w'
         → w.time ≤ early → IsCourse events ts fate w
     cut_courses until [] ts fate fate_after w w' less is k ahead =
@@ -309,7 +309,7 @@ module _ {F : Type 0} (answers : Bounds → ℕ → F → Option ℕ → F → T
                       | inr made ↦ elim made [
                         | inl same ↦
                             let again : event.at ≤ early =
-                            subst (λ (v : Transition). v.told.timed.at ≤ early) same by_then in
+                            subst (λ (v : ActTrace). v.told.timed.at ≤ early) same by_then in
                             absurd (omega (arith, again, late))
                         | inr nobody ↦ absurd nobody
                       ]
@@ -323,8 +323,8 @@ module _ {F : Type 0} (answers : Bounds → ℕ → F → Option ℕ → F → T
   -- ---- runs
 
   -- no act of a run is later than its end
-  pub acts_by : (d : DocumentState) (until : ℕ) (fate : F) (first w : WorldState) (ts : List Transition)
-      → Unfolds answers d until fate first ts w → (u : Transition) → In u ts → u.told.timed.at ≤ until
+  pub acts_by : (d : DocumentState) (until : ℕ) (fate : F) (first w : WorldState) (ts : List ActTrace)
+      → Unfolds answers d until fate first ts w → (u : ActTrace) → In u ts → u.told.timed.at ≤ until
   acts_by d until fate first w ts k u member =
       courses_sooner until (events_by until d.events) ts k.started k.drawn first w (all_by until d.events) k.courses u
       member

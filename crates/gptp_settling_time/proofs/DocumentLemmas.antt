@@ -13,7 +13,7 @@ use Rattle.gptp_scenario.specs.SyncWait.{sync_paths}
 use Rattle.gptp_scenario.specs.declared.change.Timed.{Timed}
 use Rattle.gptp_scenario.specs.declared.sync_wait.SyncPaths.{SyncPaths}
 use Rattle.gptp_model.specs.World.{WorldState}
-use Rattle.gptp_world.specs.Transitions.{Transition}
+use Rattle.gptp_world.specs.Transitions.{ActTrace}
 use Rattle.gptp_network.specs.Document.{DocumentState}
 use Rattle.gptp_network.specs.Snapshot.{events_by}
 use Rattle.gptp_report.specs.Transitions.{Courses, Unfolds}
@@ -37,7 +37,7 @@ use Rattle.gptp_settling_time.proofs.CutLemmas.{acts_by, runs_begin_so}
 use Rattle.gptp_settling_time.proofs.FindsLemmas.{Finds, finds_gains, finds_rested}
 
 module _ {F : Type 0} (answers : Bounds → ℕ → F → Option ℕ → F → Type 0) (d : DocumentState) (until start settled : ℕ)
-    (fate : F) (first w : WorldState) (ts : List Transition) (playable : IsPlayable d)
+    (fate : F) (first w : WorldState) (ts : List ActTrace) (playable : IsPlayable d)
     (k : Unfolds answers d until fate first ts w) (is : SettlesSoon d until start settled) where
   abbrev n : NetworkState
   n = d.network
@@ -104,14 +104,14 @@ module _ {F : Type 0} (answers : Bounds → ℕ → F → Option ℕ → F → T
       let now = found.now in
       (settled_as w found.end (omega (arith, on, now)), found.end.news.sound)
 
-  pub act_finds : (t : Transition) → In t ts → settled ≤ t.told.timed.at → last_change all < t.told.timed.at
+  pub act_finds : (t : ActTrace) → In t ts → settled ≤ t.told.timed.at → last_change all < t.told.timed.at
       → IsSettledAs d until t.after
   act_finds t member on later =
       let step = found.each t member later in
       let time = step.time in
       settled_as t.after step.after (omega (arith, on, time))
 
-  pub act_is_exact : (t : Transition) → In t ts → until ≤ 10 ^ 18 → last_change all + largest_interval p ≤ settled
+  pub act_is_exact : (t : ActTrace) → In t ts → until ≤ 10 ^ 18 → last_change all + largest_interval p ≤ settled
       → AreExactFrom p settled t.before t.told.timed.at t.after t.told.done
   act_is_exact t member shown old = λ steps number error offset ahead late leaves near way is_ahead.
       let some = interval_positive p.largest keeps_first.claim.pace.largest in
@@ -132,13 +132,13 @@ module _ {F : Type 0} (answers : Bounds → ℕ → F → Option ℕ → F → T
       document_settles answers d until start settled fate first w ts playable k is on
 
   -- a run up to the time of an act of it, in which that act is done
-  record IsRunTo (d : DocumentState) (fate : F) (first : WorldState) (t : Transition) : Type 0 where
-    ts : List Transition
+  record IsRunTo (d : DocumentState) (fate : F) (first : WorldState) (t : ActTrace) : Type 0 where
+    ts : List ActTrace
     w : WorldState
     unfolds : Unfolds answers d t.told.timed.at fate first ts w
     member : In t ts
 
-  run_to : (d : DocumentState) (until : ℕ) (fate : F) (first w : WorldState) (ts : List Transition) (t : Transition)
+  run_to : (d : DocumentState) (until : ℕ) (fate : F) (first w : WorldState) (ts : List ActTrace) (t : ActTrace)
       → IsPlayable d → Unfolds answers d until fate first ts w → In t ts → IsRunTo d fate first t
   run_to d until fate first w ts t playable k member =
       let soon = acts_by answers d until fate first w ts k t member in

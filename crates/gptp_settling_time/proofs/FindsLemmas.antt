@@ -9,7 +9,7 @@ use Rattle.gptp_scenario.specs.Calm.{last_change}
 use Rattle.gptp_scenario.specs.Network.{NetworkState, pace_of}
 use Rattle.gptp_scenario.specs.declared.change.Timed.{Timed}
 use Rattle.gptp_model.specs.World.{WorldState}
-use Rattle.gptp_world.specs.Transitions.{PassesTo, Transition, transition}
+use Rattle.gptp_world.specs.Transitions.{PassesTo, ActTrace, transition}
 use Rattle.gptp_network.specs.Document.{DocumentState}
 use Rattle.gptp_report.specs.Transitions.{Courses, Makes}
 use Rattle.gptp_theorem.specs.PlayedLaws.{IsMade, IsPlayable}
@@ -30,15 +30,15 @@ module _ {F : Type 0} (answers : Bounds → ℕ → F → Option ℕ → F → T
   IsLast w = IsLastTo d m start settled all w
 
   -- each act that is later than all events is done in such a world, and so is the end
-  pub record Finds (ts : List Transition) (w w' : WorldState) : Type 0 where
+  pub record Finds (ts : List ActTrace) (w w' : WorldState) : Type 0 where
     pub early : w.time ≤ last_change all
-    pub each : (t : Transition) → In t ts → last_change all < t.told.timed.at → IsStep answers IsLast t
-    pub soon : (t : Transition) → In t ts → last_change all < t.told.timed.at → t.told.timed.at ≤ until
+    pub each : (t : ActTrace) → In t ts → last_change all < t.told.timed.at → IsStep answers IsLast t
+    pub soon : (t : ActTrace) → In t ts → last_change all < t.told.timed.at → t.told.timed.at ≤ until
     pub end : IsLast w'
     pub now : w'.time ≡ until
 
   -- what passes after all events
-  finds_last : (ts : List Transition) (fate fate_after : F) (w w' : WorldState)
+  finds_last : (ts : List ActTrace) (fate fate_after : F) (w w' : WorldState)
       → PassesTo answers until ts fate fate_after w w' → IsNewsTo d start all w → w.last_change ≡ w.time
       → Finds ts w w'
   finds_last ts fate fate_after w w' k so now =
@@ -63,9 +63,9 @@ module _ {F : Type 0} (answers : Bounds → ℕ → F → Option ℕ → F → T
       }
 
   -- an event comes before all that
-  finds_more : (event : Timed) (first rest ts : List Transition) (fate drawn : F) (w between w' : WorldState)
+  finds_more : (event : Timed) (first rest ts : List ActTrace) (fate drawn : F) (w between w' : WorldState)
       → (k : Makes answers event first fate drawn w between)
-      → ((t : Transition) → In t k.first → t.told.timed.at ≤ event.at) → between.time ≡ event.at
+      → ((t : ActTrace) → In t k.first → t.told.timed.at ≤ event.at) → between.time ≡ event.at
       → ts ≡ first ++ rest → Finds rest between w' → Finds ts w w'
   finds_more event first rest ts fate drawn w between w' k soon time are on =
       let ahead = k.passes.ahead in
@@ -81,17 +81,17 @@ module _ {F : Type 0} (answers : Bounds → ℕ → F → Option ℕ → F → T
       now : event.at ≤ event.at
       now = omega arith
 
-      sooner : (t : Transition) → In t first → t.told.timed.at ≤ event.at
+      sooner : (t : ActTrace) → In t first → t.told.timed.at ≤ event.at
       sooner t member = elim (In-parts t k.first (transition event k.done k.between between ∷ [])
           (subst (In t) k.are member)) [
             | inl passed ↦ soon t passed
             | inr made ↦ elim made [
-              | inl same ↦ subst (λ (v : Transition). v.told.timed.at ≤ event.at) (sym same) now
+              | inl same ↦ subst (λ (v : ActTrace). v.told.timed.at ≤ event.at) (sym same) now
               | inr none ↦ absurd none
             ]
           ]
 
-      behind : (t : Transition) → In t ts → last_change all < t.told.timed.at → In t rest
+      behind : (t : ActTrace) → In t ts → last_change all < t.told.timed.at → In t rest
       behind t member late = elim (In-parts t first rest (subst (In t) are member)) [
         | inl here ↦
             let passed = sooner t here in
@@ -101,7 +101,7 @@ module _ {F : Type 0} (answers : Bounds → ℕ → F → Option ℕ → F → T
       ]
 
   -- where each event takes nothing away
-  pub finds_gains : (made : List Timed) (from : ℕ) (events : List Timed) (ts : List Transition) (fate fate_after : F)
+  pub finds_gains : (made : List Timed) (from : ℕ) (events : List Timed) (ts : List ActTrace) (fate fate_after : F)
       (w w' : WorldState) → made ++ events ≡ all → AllByRecursion IsMade events
       → AllByRecursion (IsFitEvent (least_of d)) events → AllTakeNothing n made events
       → AreCapableFrom n made from events start → Courses answers until events ts fate fate_after w w'
@@ -133,7 +133,7 @@ module _ {F : Type 0} (answers : Bounds → ℕ → F → Option ℕ → F → T
       (nothing : AllTakeNothing n earlier (one ∷ others)) (anyway : AreCapableAnyway n earlier from)
       (gain : AreCapableNext n earlier from one next)
       (capable : AreCapableFrom n (earlier ++ one ∷ []) next others start) where
-    pub finds_rested : (made left : List Timed) (ts : List Transition) (fate fate_after : F) (w w' : WorldState)
+    pub finds_rested : (made left : List Timed) (ts : List ActTrace) (fate fate_after : F) (w w' : WorldState)
         → made ++ left ≡ earlier → earlier ++ one ∷ others ≡ all → AllByRecursion IsMade (left ++ one ∷ others)
         → AllByRecursion (IsFitEvent (least_of d)) (left ++ one ∷ others)
         → Courses answers until (left ++ one ∷ others) ts fate fate_after w w' → KeepsTo d made w → Finds ts w w'

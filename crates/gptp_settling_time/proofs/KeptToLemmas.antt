@@ -14,7 +14,7 @@ use Rattle.gptp_model.specs.World.{WorldState}
 use Rattle.gptp_model.proofs.AdvanceLemmas.{next_fits}
 use Rattle.gptp_model.proofs.PromptLemmas.{next_prompt, stays_none_faster}
 use Rattle.gptp_model.proofs.StayLemmas.{done_stays}
-use Rattle.gptp_world.specs.Transitions.{Transition}
+use Rattle.gptp_world.specs.Transitions.{ActTrace}
 use Rattle.gptp_world.proofs.SettlingInvariantLemmas.{next_octet}
 use Rattle.gptp_network.specs.Document.{DocumentState}
 use Rattle.gptp_invariants.specs.WorldSettlingInvariant.{KeepsAll}
@@ -71,7 +71,7 @@ module _ (d : DocumentState) (events : List Timed) where
     timed = λ old. timed_later (pace_of d.network) m start settled w time later first (so.timed old);
   }
 
-  module _ {F : Type 0} (answers : Bounds → ℕ → F → Option ℕ → F → Type 0) (t : Transition) (fate drawn : F)
+  module _ {F : Type 0} (answers : Bounds → ℕ → F → Option ℕ → F → Type 0) (t : ActTrace) (fate drawn : F)
       (w : WorldState) (next : IsNextAct w t.told.timed)
       (was : WasDone answers t.told.timed fate drawn w t.after t.told.done) where
     pub keeps_act : KeepsTo d events w → KeepsTo d events t.after

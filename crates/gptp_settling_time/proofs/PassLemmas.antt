@@ -8,13 +8,13 @@ use Rattle.gptp_model.specs.Pending.{NothingBefore}
 use Rattle.gptp_model.specs.Views.{IsNextAct}
 use Rattle.gptp_model.specs.World.{WorldState}
 use Rattle.gptp_model.proofs.AdvanceLemmas.{nothing_sooner}
-use Rattle.gptp_world.specs.Transitions.{Passes, PassesTo, Transition}
+use Rattle.gptp_world.specs.Transitions.{Passes, PassesTo, ActTrace}
 use Rattle.gptp_invariants.proofs.SyncFollowClaimLemmas.{acts_time}
 use Rattle.gptp_theorem.proofs.PlayedLemmas.{no_change}
 
 -- this is so of the worlds before and after an act, which was done at its time
 pub record IsStep {F : Type 0} (answers : Bounds → ℕ → F → Option ℕ → F → Type 0) (So : WorldState → Type 0)
-    (t : Transition) : Type 0 where
+    (t : ActTrace) : Type 0 where
   pub before : So t.before
   pub after : So t.after
   pub fate : F
@@ -24,17 +24,17 @@ pub record IsStep {F : Type 0} (answers : Bounds → ℕ → F → Option ℕ �
 
 -- so it is of each of these acts, none of which is later than a time, and of the world that they lead to
 pub record HavePassed {F : Type 0} (answers : Bounds → ℕ → F → Option ℕ → F → Type 0) (So : WorldState → Type 0)
-    (until : ℕ) (ts : List Transition) (w' : WorldState) : Type 0 where
-  pub each : (t : Transition) → In t ts → IsStep answers So t
-  pub soon : (t : Transition) → In t ts → t.told.timed.at ≤ until
+    (until : ℕ) (ts : List ActTrace) (w' : WorldState) : Type 0 where
+  pub each : (t : ActTrace) → In t ts → IsStep answers So t
+  pub soon : (t : ActTrace) → In t ts → t.told.timed.at ≤ until
   pub end : So w'
   pub early : w'.time ≤ until
 
 module _ {F : Type 0} (answers : Bounds → ℕ → F → Option ℕ → F → Type 0) (So : WorldState → Type 0)
     (later : (w : WorldState) (time : ℕ) → w.time ≤ time → NothingBefore time w.net.pending → So w → So (at time w))
-    (acts : (t : Transition) (fate drawn : F) (w : WorldState) → IsNextAct w t.told.timed
+    (acts : (t : ActTrace) (fate drawn : F) (w : WorldState) → IsNextAct w t.told.timed
     → WasDone answers t.told.timed fate drawn w t.after t.told.done → So w → So t.after) (until : ℕ) where
-  passes : (ts : List Transition) (fate fate_after : F) (w w' : WorldState)
+  passes : (ts : List ActTrace) (fate fate_after : F) (w w' : WorldState)
       → Passes answers until ts fate fate_after w w' → w.time ≤ until → So w → HavePassed answers So until ts w'
   passes [] fate fate_after w w' (same, is) early so = record {
     each = λ t member. absurd member;
@@ -63,14 +63,14 @@ module _ {F : Type 0} (answers : Bounds → ℕ → F → Option ℕ → F → T
           | inr behind ↦ more.each u behind
         ];
         soon = λ u member. elim member [
-          | inl same ↦ subst (λ (v : Transition). v.told.timed.at ≤ until) (sym same) in_time
+          | inl same ↦ subst (λ (v : ActTrace). v.told.timed.at ≤ until) (sym same) in_time
           | inr behind ↦ more.soon u behind
         ];
         end = more.end;
         early = more.early;
       }
 
-  pub passes_to : (ts : List Transition) (fate fate_after : F) (w w' : WorldState)
+  pub passes_to : (ts : List ActTrace) (fate fate_after : F) (w w' : WorldState)
       → PassesTo answers until ts fate fate_after w w' → So w → HavePassed answers So until ts w'
   passes_to ts fate fate_after w w' k so =
       let on = passes ts fate fate_after w k.between k.passes k.ahead so in

@@ -16,7 +16,7 @@ use Rattle.gptp_scenario.specs.SyncWait.{sync_paths}
 use Rattle.gptp_model.specs.World.{WorldState}
 use Rattle.gptp_network.specs.Document.{DocumentState}
 use Rattle.gptp_network.specs.Snapshot.{events_by}
-use Rattle.gptp_report.specs.Transitions.{Transition, Unfolds}
+use Rattle.gptp_report.specs.Transitions.{ActTrace, Unfolds}
 use Rattle.gptp_invariants.specs.WorldSound.{IsSoundWorld}
 use Rattle.gptp_theorem.specs.Headline.{IsSettled}
 use Rattle.gptp_theorem.specs.HeadlineLaws.{HasSnapshotOf}
@@ -41,14 +41,14 @@ pub record IsSettledAs (d : DocumentState) (until : ℕ) (w : WorldState) : Type
 -- is sound.
 abbrev pub DocumentsSettleSoon : {F : Type 0} → (Bounds → ℕ → F → Option ℕ → F → Type 0) → Type 0
 DocumentsSettleSoon {F} answers = (d : DocumentState) (until start settled : ℕ) (fate : F) (first w : WorldState)
-    (ts : List Transition)
+    (ts : List ActTrace)
     → IsPlayable d → Unfolds answers d until fate first ts w → SettlesSoon d until start settled → settled ≤ until
     → IsSettledAs d until w × IsSoundWorld w
 
 -- So is the world after each act of a run, at the time of the act: by the events up to then, all of which are earlier.
 abbrev pub ActsFindSettled : {F : Type 0} → (Bounds → ℕ → F → Option ℕ → F → Type 0) → Type 0
 ActsFindSettled {F} answers = (d : DocumentState) (until start settled : ℕ) (fate : F) (first w : WorldState)
-    (ts : List Transition) (t : Transition)
+    (ts : List ActTrace) (t : ActTrace)
     → IsPlayable d → Unfolds answers d until fate first ts w → In t ts
     → SettlesSoon d t.told.timed.at start settled → settled ≤ t.told.timed.at
     → last_change (events_by t.told.timed.at d.events) < t.told.timed.at
@@ -58,7 +58,7 @@ ActsFindSettled {F} answers = (d : DocumentState) (until start settled : ℕ) (f
 -- announce interval has passed from the last event.
 abbrev pub RunsAreExactSoon : {F : Type 0} → (Bounds → ℕ → F → Option ℕ → F → Type 0) → Type 0
 RunsAreExactSoon {F} answers = (d : DocumentState) (until start settled : ℕ) (fate : F) (first w : WorldState)
-    (ts : List Transition) (t : Transition)
+    (ts : List ActTrace) (t : ActTrace)
     → IsPlayable d → Unfolds answers d until fate first ts w → In t ts → t.told.timed.at ≤ 10 ^ 18
     → SettlesSoon d t.told.timed.at start settled
     → last_change (events_by t.told.timed.at d.events) + largest_interval (pace_of d.network) ≤ settled
@@ -66,7 +66,7 @@ RunsAreExactSoon {F} answers = (d : DocumentState) (until start settled : ℕ) (
 
 -- For a run up to a time begins with one up to each earlier time, in which each act is done that is done by then.
 abbrev pub RunsBeginSo : {F : Type 0} → (Bounds → ℕ → F → Option ℕ → F → Type 0) → Type 0
-RunsBeginSo {F} answers = (d : DocumentState) (until early : ℕ) (fate : F) (first w : WorldState) (ts : List Transition)
+RunsBeginSo {F} answers = (d : DocumentState) (until early : ℕ) (fate : F) (first w : WorldState) (ts : List ActTrace)
     → IsPlayable d → Unfolds answers d until fate first ts w → early ≤ until
-    → (us : List Transition) × (v : WorldState) × Unfolds answers d early fate first us v
-    × ((t : Transition) → In t ts → t.told.timed.at ≤ early → In t us)
+    → (us : List ActTrace) × (v : WorldState) × Unfolds answers d early fate first us v
+    × ((t : ActTrace) → In t ts → t.told.timed.at ≤ early → In t us)

@@ -18,7 +18,7 @@ use Rattle.gptp_model.proofs.StayLemmas.{done_stays}
 use Rattle.gptp_world.proofs.SettlingInvariantLemmas.{next_octet}
 use Rattle.gptp_world.proofs.InitialLemmas.{initial_sound}
 use Rattle.gptp_network.specs.Snapshot.{events_by}
-use Rattle.gptp_report.specs.Transitions.{Courses, Makes, Passes, PassesTo, Transition, transition}
+use Rattle.gptp_report.specs.Transitions.{Courses, Makes, Passes, PassesTo, ActTrace, transition}
 use Rattle.gptp_invariants.specs.WorldEncodableLaws.{SetsAnOctet}
 use Rattle.gptp_invariants.specs.SyncTimedClaim.{WorldInvariant}
 use Rattle.gptp_invariants.proofs.SyncExactLemmas.{all_begins, all_kept, all_later}
@@ -28,10 +28,10 @@ use Rattle.gptp_theorem.proofs.SettlingInvariantLemmas.{IsFitEvent, events_fit, 
 use Rattle.gptp_theorem.proofs.HeadlineLemmas.{worlds_are_exact}
 
 -- each of these acts leaves exact offsets
-abbrev AreExact : List Transition → Type 0
-AreExact ts = (t : Transition) → In t ts → HeadlineOnTime t.before t.told.timed.at t.after t.told.done
+abbrev AreExact : List ActTrace → Type 0
+AreExact ts = (t : ActTrace) → In t ts → HeadlineOnTime t.before t.told.timed.at t.after t.told.done
 
-both_exact : (ts us vs : List Transition) → vs ≡ ts ++ us → AreExact ts → AreExact us → AreExact vs
+both_exact : (ts us vs : List ActTrace) → vs ≡ ts ++ us → AreExact ts → AreExact us → AreExact vs
 both_exact ts us vs are first rest t member = elim (In-parts t ts us (subst (In t) are member)) [
   | inl before ↦ first t before
   | inr behind ↦ rest t behind
@@ -54,12 +54,12 @@ module _ {F : Type 0} (answers : Bounds → ℕ → F → Option ℕ → F → T
   }
 
   -- what happens by itself up to a time
-  record IsExactUntil (until : ℕ) (ts : List Transition) (w' : WorldState) : Type 0 where
+  record IsExactUntil (until : ℕ) (ts : List ActTrace) (w' : WorldState) : Type 0 where
     each : AreExact ts
     kept : IsKept w'
     early : w'.time ≤ until
 
-  passes_exact : (until : ℕ) (ts : List Transition) (fate fate_after : F) (w w' : WorldState)
+  passes_exact : (until : ℕ) (ts : List ActTrace) (fate fate_after : F) (w w' : WorldState)
       → until ≤ 10 ^ 18 → Passes answers until ts fate fate_after w w' → IsKept w → w.time ≤ until
       → IsExactUntil until ts w'
   passes_exact until [] fate fate_after w w' moment (same, is) kept early = record {
@@ -81,7 +81,7 @@ module _ {F : Type 0} (answers : Bounds → ℕ → F → Option ℕ → F → T
       (worlds_are_exact answers timed fate drawn w t.after t.told.done kept.all was (omega (arith, moment, in_time))) in
       record {
         each = λ u member. elim member [
-          | inl same ↦ subst (λ (v : Transition). HeadlineOnTime v.before v.told.timed.at v.after v.told.done)
+          | inl same ↦ subst (λ (v : ActTrace). HeadlineOnTime v.before v.told.timed.at v.after v.told.done)
               (sym same) one
           | inr behind ↦ later.each u behind
         ];
@@ -89,7 +89,7 @@ module _ {F : Type 0} (answers : Bounds → ℕ → F → Option ℕ → F → T
         early = later.early;
       }
 
-  passes_to_exact : (until : ℕ) (ts : List Transition) (fate fate_after : F) (w w' : WorldState)
+  passes_to_exact : (until : ℕ) (ts : List ActTrace) (fate fate_after : F) (w w' : WorldState)
       → until ≤ 10 ^ 18 → PassesTo answers until ts fate fate_after w w' → IsKept w
       → AreExact ts × IsKept w'
   passes_to_exact until ts fate fate_after w w' moment k kept =
@@ -100,7 +100,7 @@ module _ {F : Type 0} (answers : Bounds → ℕ → F → Option ℕ → F → T
       (on.each, subst IsKept (sym k.is) later)
 
   -- an event is made
-  makes_exact : (event : Timed) (ts : List Transition) (fate fate_after : F) (w w' : WorldState)
+  makes_exact : (event : Timed) (ts : List ActTrace) (fate fate_after : F) (w w' : WorldState)
       → IsFitEvent least event → Makes answers event ts fate fate_after w w' → IsKept w → AreExact ts × IsKept w'
   makes_exact event ts fate fate_after w w' fit k kept =
       let moment = fit.moment in
@@ -108,7 +108,7 @@ module _ {F : Type 0} (answers : Bounds → ℕ → F → Option ℕ → F → T
       let on = passes_to_exact event.at k.first fate k.drawn w k.between early k.passes kept in
       let made = transition event k.done k.between w' in
       let one : AreExact (made ∷ []) = λ t member. elim member [
-        | inl same ↦ subst (λ (v : Transition). HeadlineOnTime v.before v.told.timed.at v.after v.told.done) (sym same)
+        | inl same ↦ subst (λ (v : ActTrace). HeadlineOnTime v.before v.told.timed.at v.after v.told.done) (sym same)
             (worlds_are_exact answers event k.drawn fate_after k.between w' k.done on.1.all k.made early)
         | inr none ↦ absurd none
       ] in (
@@ -117,7 +117,7 @@ module _ {F : Type 0} (answers : Bounds → ℕ → F → Option ℕ → F → T
             (prompt_within least event.act k.between on.1.slow fit.prompt) fit.octet k.made on.1,
       )
 
-  courses_exact : (until : ℕ) (events : List Timed) (ts : List Transition) (fate fate_after : F) (w w' : WorldState)
+  courses_exact : (until : ℕ) (events : List Timed) (ts : List ActTrace) (fate fate_after : F) (w w' : WorldState)
       → until ≤ 10 ^ 18 → AllByRecursion (IsFitEvent least) events
       → Courses answers until events ts fate fate_after w w' → IsKept w → AreExact ts
   courses_exact until [] ts fate fate_after w w' moment fit k kept =

@@ -17,7 +17,7 @@ use Rattle.gptp_model.specs.World.{WorldState}
 use Rattle.gptp_network.specs.Document.{DocumentState}
 use Rattle.gptp_network.specs.Snapshot.{IsSnapshot, events_by}
 use Rattle.gptp_report.specs.Run.{PlaysRun}
-use Rattle.gptp_report.specs.Transitions.{Transition, Unfolds}
+use Rattle.gptp_report.specs.Transitions.{ActTrace, Unfolds}
 use Rattle.gptp_invariants.specs.WorldSettlingInvariant.{SettlingInvariant}
 use Rattle.gptp_invariants.specs.WorldKnown.{AreSet}
 use Rattle.gptp_invariants.specs.WorldStanding.{snapshot_of}
@@ -52,8 +52,8 @@ WorldsAreExact {F} answers = (timed : Timed) (fate fate_after : F) (w w' : World
 
 -- so does each act of a run of a document, whatever is drawn for the frames meanwhile
 abbrev pub RunsAreExact : {F : Type 0} → (Bounds → ℕ → F → Option ℕ → F → Type 0) → Type 0
-RunsAreExact {F} answers = (d : DocumentState) (until : ℕ) (fate : F) (start w : WorldState) (ts : List Transition)
-    (t : Transition) → IsPlayable d → until ≤ 10 ^ 18 → Unfolds answers d until fate start ts w → In t ts
+RunsAreExact {F} answers = (d : DocumentState) (until : ℕ) (fate : F) (start w : WorldState) (ts : List ActTrace)
+    (t : ActTrace) → IsPlayable d → until ≤ 10 ^ 18 → Unfolds answers d until fate start ts w → In t ts
     → HeadlineOnTime t.before t.told.timed.at t.after t.told.done
 
 -- the snapshot of the world is that of the document at a time, but for the order of the systems

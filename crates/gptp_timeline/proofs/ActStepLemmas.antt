@@ -5,7 +5,7 @@ use Rattle.std.proofs.lemmas.Bool.Decides.{nat_tests}
 use Rattle.std.proofs.lemmas.Option.{slice_get-map}
 use Rattle.gptp_model.specs.World.{WorldState}
 use Rattle.gptp_graph.specs.Order.{IsRising}
-use Rattle.gptp_world.specs.Transitions.{Transition}
+use Rattle.gptp_world.specs.Transitions.{ActTrace}
 use Rattle.gptp_system.specs.State.{SystemState}
 use Rattle.gptp_timeline.specs.Changes.{change_lines}
 use Rattle.gptp_timeline.specs.Measures.{one_at}
@@ -45,7 +45,7 @@ module _ (names : List ℕ) (rising : IsRising names) (clock i : ℕ) (member : 
 -- ---- an act at one system
 
 module _ (summary offsets : Bool) (from : Option ℕ) (names : List ℕ) (rising : IsRising names) (begun : ℕ → Option ℕ)
-    (errors : ℕ → Option ℕ) (ts : List Transition) (t : Transition) (clock i : ℕ)
+    (errors : ℕ → Option ℕ) (ts : List ActTrace) (t : ActTrace) (clock i : ℕ)
     (member : slice_get names i ≡ Some clock) (act : is_event t ≡ false)
     (others : (name : ℕ) → (name ≡ clock → ⊥) → shown name t.after ≡ shown name t.before)
     (quiet : (name : ℕ) → (name ≡ clock → ⊥) → receives name t ≡ false) where

@@ -14,7 +14,7 @@ use Rattle.gptp_lists.proofs.SystemSpecLemmas.{slice_get-In}
 use Rattle.gptp_scenario.specs.declared.change.Change.{Change}
 use Rattle.gptp_scenario.specs.declared.change.Act.{Act}
 use Rattle.gptp_scenario.specs.declared.change.Act.TheVariants.{Change as Changing, Deliver, Expire}
-use Rattle.gptp_world.specs.Transitions.{Transition}
+use Rattle.gptp_world.specs.Transitions.{ActTrace}
 use Rattle.gptp_system.specs.declared.answer.Answer.{Answer}
 use Rattle.gptp_timeline.specs.EventLine.{event_line}
 use Rattle.gptp_timeline.specs.Receipts.{received_by, receiver_clock}
@@ -34,7 +34,7 @@ no_more true lines = append-nil lines
 no_more false lines = append-nil lines
 
 module _ (options : TimelineOptions) (from : Option ℕ) (names : List ℕ) (rising : IsRising names)
-    (begun : ℕ → Option ℕ) (errors : ℕ → Option ℕ) (ts : List Transition) (t : Transition) (o : WatchState)
+    (begun : ℕ → Option ℕ) (errors : ℕ → Option ℕ) (ts : List ActTrace) (t : ActTrace) (o : WatchState)
     (tracks : Tracks options.summary options.offsets from names begun errors ts t.before o) where
   abbrev pub Stepped : Act → Done → Type 0
   Stepped act done =
@@ -132,7 +132,7 @@ module _ (options : TimelineOptions) (from : Option ℕ) (names : List ℕ) (ris
 
 -- ---- no other system receives time
 
-module _ (names : List ℕ) (t : Transition) (named : AreNamed names t.before) where
+module _ (names : List ℕ) (t : ActTrace) (named : AreNamed names t.before) where
   none_receives : (received : Option ℕ) → received_by t.told.done ≡ received
       → ((clock : ℕ) → received ≡ Some clock → In clock names) → (name : ℕ) → (In name names → ⊥)
       → receives name t ≡ false

@@ -7,7 +7,7 @@ use Rattle.std.proofs.lemmas.Bool.{and_parts}
 use Rattle.std.proofs.lemmas.Bool.Decides.{nat_tests}
 use Rattle.std.proofs.lemmas.List.Elements.{filter-append, filter_map-append}
 use Rattle.gptp_lists.specs.Members.{In}
-use Rattle.gptp_world.specs.Transitions.{Transition}
+use Rattle.gptp_world.specs.Transitions.{ActTrace}
 use Rattle.gptp_timeline.specs.Laws.{ErrorIsWithin}
 use Rattle.gptp_timeline.specs.Measures.{better_if, greatest, greatest_from, one_at}
 use Rattle.gptp_timeline.specs.Receipts.{received_by}
@@ -33,7 +33,7 @@ picked : (t : Bool) (x y : Greatest)
 picked true x y = refl
 picked false x y = refl
 
-module _ (name : ℕ) (from : Option ℕ) (t : Transition) where
+module _ (name : ℕ) (from : Option ℕ) (t : ActTrace) where
   -- its own receipt counts, if it does
   alone : (best : Option Greatest) (test : Bool) (error : Option Greatest) → counts_for name from t ≡ test
       → error_in t ≡ error
@@ -82,7 +82,7 @@ module _ (name : ℕ) (from : Option ℕ) (t : Transition) where
       (ap (λ r. counts_from from (at_of t) && r) is ∙ both_false (counts_from from (at_of t))) refl)
 
   -- after one act more
-  pub errors_more : (ts : List Transition)
+  pub errors_more : (ts : List ActTrace)
       → error_from name from (ts ++ t ∷ []) ≡ errors_next from t (λ n. error_from n from ts) name
   errors_more ts =
       ap (λ us. amount_in (greatest (filter_map error_in us))) (filter-append (counts_for name from) ts (t ∷ []))
@@ -106,7 +106,7 @@ module _ (name from bound : ℕ) where
   IsBelow g = g.amount ≤ bound
 
   -- where the errors of the receipts of a system are, so are those that count for the greatest of them
-  counted_within : (ts : List Transition) → ((t : Transition) → In t ts → ErrorIsWithin name from bound t)
+  counted_within : (ts : List ActTrace) → ((t : ActTrace) → In t ts → ErrorIsWithin name from bound t)
       → AllByRecursion IsBelow (filter_map error_in (filter (counts_for name (Some from)) ts))
   counted_within [] each = tt
   counted_within (t ∷ ts) each =
@@ -136,7 +136,7 @@ module _ (name from bound : ℕ) where
           (one (error_at name t) refl late own))
           all)
 
-  pub errors_within : (ts : List Transition) → ((t : Transition) → In t ts → ErrorIsWithin name from bound t)
+  pub errors_within : (ts : List ActTrace) → ((t : ActTrace) → In t ts → ErrorIsWithin name from bound t)
       → IfSome (error_from name (Some from) ts) (λ amount. amount ≤ bound)
   errors_within ts each =
       amount (greatest (filter_map error_in (filter (counts_for name (Some from)) ts)))

@@ -21,12 +21,12 @@ use Rattle.gptp_theorem.specs.PlayedLaws.{IsPlayable}
 use Rattle.gptp_theorem.proofs.AlikeLemmas.{best, clock_among, distance, turned}
 use Rattle.gptp_report.specs.Transitions.{Courses}
 use Rattle.gptp_system.specs.State.{SystemState}
-use Rattle.gptp_world.specs.Transitions.{Transition}
+use Rattle.gptp_world.specs.Transitions.{ActTrace}
 use Rattle.gptp_timeline.specs.Each.{Each}
 use Rattle.gptp_timeline.specs.Laws.{AreRoots, Follow, IsShownRoot}
 use Rattle.gptp_timeline.specs.Shown.{live_system, shown}
 use Rattle.gptp_timeline.specs.Stretch.{roots_of}
-use Rattle.gptp_timeline.specs.Timeline.{AllPass, now_of, Passage, TimelineOf}
+use Rattle.gptp_timeline.specs.Timeline.{AllPass, now_of, StretchTrace, TimelineOf}
 use Rattle.gptp_timeline.specs.declared.timeline.TimelineOptions.{TimelineOptions}
 use Rattle.gptp_timeline.proofs.PastLemmas.{last_past, past_both}
 use Rattle.gptp_timeline.proofs.RestLemmas.{found_live, IsAtRest, lives_there, stands_there}
@@ -113,7 +113,7 @@ module _ (w : WorldState) (P : ℕ → ℕ → Type 0) where
 
 -- its world has that time
 courses_end : {F : Type 0} (answers : Bounds → ℕ → F → Option ℕ → F → Type 0) (until : ℕ) (events : List Timed)
-    (ts : List Transition) (fate fate_after : F) (w w' : WorldState)
+    (ts : List ActTrace) (fate fate_after : F) (w w' : WorldState)
     → Courses answers until events ts fate fate_after w w' → w'.time ≡ until
 courses_end answers until [] ts fate fate_after w w' k = ap (λ (v : WorldState). v.time) k.is
 courses_end answers until (e ∷ es) ts fate fate_after w w' (first, rest, drawn, between, makes, k, are) =
@@ -164,8 +164,8 @@ module _ {F : Type 0} (answers : Bounds → ℕ → F → Option ℕ → F → T
           let live = found_live name w.stations s is in
           subst (λ c. In c names) live.is_named (keeps.named.each live.place live.station live.here)
 
-  pub follow_there : (exact : Bool) (until : ℕ) (passages : List Passage) (fate fate_after : F)
-      (start after : WorldState) (p : Passage) (bound : ℕ) (g : Snapshot) → Keeps answers d playable names [] start
+  pub follow_there : (exact : Bool) (until : ℕ) (passages : List StretchTrace) (fate fate_after : F)
+      (start after : WorldState) (p : StretchTrace) (bound : ℕ) (g : Snapshot) → Keeps answers d playable names [] start
       → AllPass answers exact d until 0 (events_by until d.events) fate fate_after start after passages → In p passages
       → p.bound ≡ Some bound → (IsSpan d p.from bound → p.from + bound ≤ p.to) → IsSnapshot d p.from g
       → AreRoots g (roots_of (map (λ name. shown name p.after) names))

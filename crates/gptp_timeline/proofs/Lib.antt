@@ -21,7 +21,7 @@ pub mod CountLemmas
 pub mod RootLemmas
 pub mod HeardLemmas
 pub mod ChainStepLemmas
-pub mod KeptLemmas
+pub mod StretchesSoFarLemmas
 pub mod PassLemmas
 pub mod NameLemmas
 pub mod ObservedLemmas

@@ -4,7 +4,7 @@ use Rattle.std.specs.List.{filter_map, list_any}
 use Rattle.std.specs.Option.{option_or}
 use Rattle.std.proofs.lemmas.List.Elements.{filter_map-append}
 use Rattle.std.proofs.lemmas.Option.{same_Some}
-use Rattle.gptp_world.specs.Transitions.{Transition}
+use Rattle.gptp_world.specs.Transitions.{ActTrace}
 use Rattle.gptp_timeline.specs.Measures.{better_if, greatest, greatest_from, last_if}
 use Rattle.gptp_timeline.specs.Stretch.{at_of, ended, ended_in, error_in, last_at, waits, waits_after, worst_error}
 use Rattle.gptp_timeline.specs.declared.measures.Greatest.{Greatest}
@@ -23,7 +23,7 @@ last_before true at last other = refl
 last_before false at last other = refl
 
 -- after one act more
-pub last_more : (test : Transition → Bool) (ts : List Transition) (t : Transition)
+pub last_more : (test : ActTrace → Bool) (ts : List ActTrace) (t : ActTrace)
     → last_at test (ts ++ t ∷ []) ≡ last_if (not (test t)) (at_of t) (last_at test ts)
 last_more test [] t = last_alone (test t) (at_of t)
 last_more test (u ∷ us) t =
@@ -86,7 +86,7 @@ better_one f (n ∷ ns) (suc place) name best there none =
 
 -- ---- waits and errors after one act more
 
-pub ended_more : (names : List ℕ) (since : ℕ → Option ℕ) (ts us : List Transition)
+pub ended_more : (names : List ℕ) (since : ℕ → Option ℕ) (ts us : List ActTrace)
     → ended names since (ts ++ us) ≡ ended names since ts ++ ended names (waits ts since) us
 ended_more names since [] us = refl
 ended_more names since (t ∷ ts) us =
@@ -94,11 +94,11 @@ ended_more names since (t ∷ ts) us =
     ∙ sym (append_assoc (ended_in names since t) (ended names (waits_after t since) ts)
     (ended names (waits ts (waits_after t since)) us))
 
-pub waits_more : (ts us : List Transition) (since : ℕ → Option ℕ) → waits (ts ++ us) since ≡ waits us (waits ts since)
+pub waits_more : (ts us : List ActTrace) (since : ℕ → Option ℕ) → waits (ts ++ us) since ≡ waits us (waits ts since)
 waits_more [] us since = refl
 waits_more (t ∷ ts) us since = waits_more ts us (waits_after t since)
 
-pub longest_more : (names : List ℕ) (since : ℕ → Option ℕ) (ts : List Transition) (t : Transition)
+pub longest_more : (names : List ℕ) (since : ℕ → Option ℕ) (ts : List ActTrace) (t : ActTrace)
     → greatest (ended names since (ts ++ t ∷ []))
     ≡ greatest_from (greatest (ended names since ts)) (ended_in names (waits ts since) t)
 longest_more names since ts t =
@@ -106,12 +106,12 @@ longest_more names since ts t =
     ∙ ap (λ rest. greatest (ended names since ts ++ rest)) (append-nil (ended_in names (waits ts since) t))
     ∙ greatest_both None (ended names since ts) (ended_in names (waits ts since) t)
 
-error_alone : (best : Option Greatest) (t : Transition) (o : Option Greatest) → error_in t ≡ o
+error_alone : (best : Option Greatest) (t : ActTrace) (o : Option Greatest) → error_in t ≡ o
     → greatest_from best (filter_map error_in (t ∷ [])) ≡ better_if best (error_in t)
 error_alone best t None is = rw is refl
 error_alone best t (Some x) is = rw is refl
 
-pub worst_more : (ts : List Transition) (t : Transition)
+pub worst_more : (ts : List ActTrace) (t : ActTrace)
     → worst_error (ts ++ t ∷ []) ≡ better_if (worst_error ts) (error_in t)
 worst_more ts t =
     ap greatest (filter_map-append error_in ts (t ∷ []))

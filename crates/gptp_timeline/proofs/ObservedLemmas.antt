@@ -13,7 +13,7 @@ use Rattle.gptp_lists.specs.Members.{In}
 use Rattle.gptp_scenario.specs.Network.{NetworkState}
 use Rattle.gptp_scenario.specs.declared.change.Timed.{Timed}
 use Rattle.gptp_world.specs.Observing.{Tells}
-use Rattle.gptp_world.specs.Transitions.{Transition}
+use Rattle.gptp_world.specs.Transitions.{ActTrace}
 use Rattle.gptp_report.specs.Transitions.{Courses, CoursesSoFar}
 use Rattle.gptp_accuracy.specs.declared.errors.TimeErrors.{TimeErrors}
 use Rattle.gptp_timeline.specs.Changes.{change_lines}
@@ -24,7 +24,7 @@ use Rattle.gptp_timeline.specs.Passing.{watch_before}
 use Rattle.gptp_timeline.specs.Shown.{is_expecting, live_among, shown, shown_of}
 use Rattle.gptp_timeline.specs.Stretch.{at_of, counted, ended, error_from, roots_of, shown_of_all, under_way, waits}
 use Rattle.gptp_timeline.specs.StretchText.{after_line, ended_stretch, error_among, system_accuracy, wait_of}
-use Rattle.gptp_timeline.specs.Timeline.{Passage, accuracy_at, timeline_accuracy_lines, act_lines, end_lines, ended_of, exact_time, is_begun, kept_accuracy, kept_accuracy_at, none_waits, start_lines, stretch_of}
+use Rattle.gptp_timeline.specs.Timeline.{StretchTrace, accuracy_at, timeline_accuracy_lines, act_lines, end_lines, ended_of, exact_time, is_begun, kept_accuracy, kept_accuracy_at, none_waits, start_lines, stretch_of}
 use Rattle.gptp_timeline.specs.Watch.{WatchState, watch_begun, event_look, lines_all, see_act, see_all, seen_lines, tells_changes, unless, unseen, without_error}
 use Rattle.gptp_timeline.specs.declared.counts.Counts.{Counts}
 use Rattle.gptp_timeline.specs.declared.measures.Greatest.{Greatest}
@@ -63,13 +63,13 @@ pub record Rests (options : TimelineOptions) (names : List ℕ) (since : ℕ →
 -- In a stretch in which receipts count from a time on it keeps what is defined over the acts so far; before the stretch
 -- systems waited since then.
 pub record Observes (options : TimelineOptions) (names : List ℕ) (since : ℕ → Option ℕ) (from : Option ℕ)
-    (ts : List Transition) (w : WorldState) (o : WatchState) : Type 0 where
+    (ts : List ActTrace) (w : WorldState) (o : WatchState) : Type 0 where
   pub named : AreNamed names w
   pub tracks : Tracks options.summary options.offsets from names since (λ name. error_from name from ts) ts w o
   pub others : (name : ℕ) → (In name names → ⊥) → error_from name from ts ≡ None
 
 -- a passage is that of a plan
-pub record IsOfPlan (plan : Plan) (p : Passage) : Type 0 where
+pub record IsOfPlan (plan : Plan) (p : StretchTrace) : Type 0 where
   pub from_is : plan.from ≡ p.from
   pub to_is : plan.to ≡ p.to
   pub begins_is : plan.begins_with_event ≡ is_begun p.events
@@ -119,7 +119,7 @@ start_told options w o first =
 -- ---- the same of other errors, and of another world with the same systems
 
 retrack : (summary offsets : Bool) (from : Option ℕ) (names : List ℕ) (since errors others : ℕ → Option ℕ)
-    (ts : List Transition) (w : WorldState) (o : WatchState) → ((name : ℕ) → others name ≡ errors name)
+    (ts : List ActTrace) (w : WorldState) (o : WatchState) → ((name : ℕ) → others name ≡ errors name)
     → Tracks summary offsets from names since errors ts w o → Tracks summary offsets from names since others ts w o
 retrack summary offsets from names since errors others ts w o same tracks = record {
   summary_is = tracks.summary_is;
@@ -146,7 +146,7 @@ ended_with s roots = record { stretch = s; roots = roots }
 
 -- ---- how exact systems were
 
-accuracy_kept : (ts : List Transition) (kept : List Watched) (errors : Option TimeErrors)
+accuracy_kept : (ts : List ActTrace) (kept : List Watched) (errors : Option TimeErrors)
     → ((clock : ℕ) → error_among kept clock ≡ error_from clock (exact_time errors) ts)
     → kept_accuracy kept errors ≡ timeline_accuracy_lines ts errors
 accuracy_kept ts kept None are = refl
@@ -182,7 +182,7 @@ module _ (options : TimelineOptions) (names : List ℕ) (since : ℕ → Option 
   -- ---- its acts
 
   module _ (from : Option ℕ) where
-    moved : (ts : List Transition) (w w' : WorldState) (o : WatchState) → w'.stations ≡ w.stations
+    moved : (ts : List ActTrace) (w w' : WorldState) (o : WatchState) → w'.stations ≡ w.stations
         → Observes options names since from ts w o → Observes options names since from ts w' o
     moved ts w w' o same observes = record {
       named = same_named names w w' same observes.named;
@@ -198,7 +198,7 @@ module _ (options : TimelineOptions) (names : List ℕ) (since : ℕ → Option 
     }
 
     -- after one more
-    act_step : (ts : List Transition) (t : Transition) (o : WatchState)
+    act_step : (ts : List ActTrace) (t : ActTrace) (o : WatchState)
         → Observes options names since from ts t.before o → IsDone t
         → Observes options names since from (ts ++ t ∷ []) t.after
         (see_act (at_of t) t.told.timed.act t.told.done t.after o)
@@ -225,7 +225,7 @@ module _ (options : TimelineOptions) (names : List ℕ) (since : ℕ → Option 
         )
 
     -- after several
-    chained : (us ts : List Transition) (w w' : WorldState) (before after : List Station) (o o_after : WatchState)
+    chained : (us ts : List ActTrace) (w w' : WorldState) (before after : List Station) (o o_after : WatchState)
         (lines : List (List ℕ)) → before ≡ w.stations → Chain us before after → w'.stations ≡ after
         → Tells tells_changes us o o_after lines → Observes options names since from ts w o
         → Observes options names since from (ts ++ us) w' o_after × (lines ≡ flat_map (act_lines options names) us)
@@ -246,7 +246,7 @@ module _ (options : TimelineOptions) (names : List ℕ) (since : ℕ → Option 
         )
 
   module _ {F : Type 0} (answers : Bounds → ℕ → F → Option ℕ → F → Type 0) (from : Option ℕ) (until : ℕ)
-      (events : List Timed) (ts : List Transition) (fate : F) (w : WorldState) (o o_after : WatchState)
+      (events : List Timed) (ts : List ActTrace) (fate : F) (w : WorldState) (o o_after : WatchState)
       (lines : List (List ℕ)) (begins : Observes options names since from [] w o)
       (tells : Tells tells_changes ts o o_after lines) where
     -- they pass
@@ -273,7 +273,7 @@ module _ (options : TimelineOptions) (names : List ℕ) (since : ℕ → Option 
 
   -- ---- a stretch ends
 
-  module _ (plan : Plan) (p : Passage) (is : IsOfPlan plan p) (o : WatchState)
+  module _ (plan : Plan) (p : StretchTrace) (is : IsOfPlan plan p) (o : WatchState)
       (observes : Observes options names since (exact_time p.errors) p.acts p.after o) where
     abbrev now : ℕ → Option ℕ
     now = waits p.acts since
@@ -333,7 +333,7 @@ module _ (options : TimelineOptions) (names : List ℕ) (since : ℕ → Option 
         (ap (kept_accuracy o.systems) is.errors_are ∙ accuracy_kept p.acts o.systems p.errors errors_are)
 
   -- the observer is where the next can begin
-  pub stretch_rests : (from : Option ℕ) (ts : List Transition) (w : WorldState) (o : WatchState)
+  pub stretch_rests : (from : Option ℕ) (ts : List ActTrace) (w : WorldState) (o : WatchState)
       → Observes options names since from ts w o → Rests options names (waits ts since) w o
   stretch_rests from ts w o observes = record {
     named = observes.named;

@@ -1,7 +1,7 @@
 -- What an observer keeps after a delivery or an expiry at one system.
 use Rattle.std.proofs.Common.{◌≡◌, ℕ, Bool, true, false, not, List, [], ◌∷◌, ◌++◌, Option, Some, None, option_map, slice_get, slice_set, refl, sym, ap, subst, ◌∙◌}
 use Rattle.gptp_graph.specs.Order.{IsRising}
-use Rattle.gptp_world.specs.Transitions.{Transition}
+use Rattle.gptp_world.specs.Transitions.{ActTrace}
 use Rattle.gptp_timeline.specs.Measures.{better_if, ended_by, greatest, greatest_from, last_if, one_at}
 use Rattle.gptp_timeline.specs.Shown.{is_expecting, same_choice, same_roles, shown}
 use Rattle.gptp_timeline.specs.Stretch.{at_of, ended, ended_in, is_event, last_at, leaves_another, receives, same_known, waits, worst_error}
@@ -28,7 +28,7 @@ passed_wait at false true None still = refl
 passed_wait at false true (Some since) still = refl
 passed_wait at false false since still = ap (ended_by at false false false) (still refl)
 
-module _ (names : List ℕ) (rising : IsRising names) (t : Transition) (clock place : ℕ)
+module _ (names : List ℕ) (rising : IsRising names) (t : ActTrace) (clock place : ℕ)
     (here : slice_get names place ≡ Some clock)
     (others : (name : ℕ) → (name ≡ clock → ⊥) → shown name t.after ≡ shown name t.before) where
   apart_from : (i n : ℕ) → slice_get names i ≡ Some n → (i ≡ place → ⊥) → n ≡ clock → ⊥
@@ -63,7 +63,7 @@ module _ (names : List ℕ) (rising : IsRising names) (t : Transition) (clock pl
 module _ (summary offsets : Bool) (from : Option ℕ) (names : List ℕ) (rising : IsRising names) (begun : ℕ → Option ℕ)
   where
     -- before the error of a receipt is taken: what is kept of the system and what is measured, but of errors
-    pub record TakesOne (errors : ℕ → Option ℕ) (ts : List Transition) (t : Transition) (o : WatchState) : Type 0 where
+    pub record TakesOne (errors : ℕ → Option ℕ) (ts : List ActTrace) (t : ActTrace) (o : WatchState) : Type 0 where
       pub summary_is : o.summary ≡ summary
       pub offsets_is : o.offsets ≡ offsets
       pub from_is : o.exact_from ≡ from
@@ -73,7 +73,7 @@ module _ (summary offsets : Bool) (from : Option ℕ) (names : List ℕ) (rising
           (last_at (leaves_another same_known names) (ts ++ t ∷ [])) (greatest (ended names begun (ts ++ t ∷ [])))
           (worst_error ts)
 
-    pub own_taken : (errors : ℕ → Option ℕ) (ts : List Transition) (t : Transition) (o : WatchState)
+    pub own_taken : (errors : ℕ → Option ℕ) (ts : List ActTrace) (t : ActTrace) (o : WatchState)
         (received : Bool) (place clock : ℕ) (x : Watched) → Tracks summary offsets from names begun errors ts t.before o
         → is_event t ≡ false → slice_get o.systems place ≡ Some x → x.clock ≡ clock
         → ((name : ℕ) → (name ≡ clock → ⊥) → shown name t.after ≡ shown name t.before)

@@ -11,7 +11,7 @@ use Rattle.gptp_network.specs.Document.{DocumentState}
 use Rattle.gptp_network.specs.Snapshot.{events_by}
 use Rattle.gptp_scenario.specs.declared.change.Timed.{Timed}
 use Rattle.gptp_world.specs.Observing.{Observed, Tells}
-use Rattle.gptp_world.specs.Transitions.{Transition}
+use Rattle.gptp_world.specs.Transitions.{ActTrace}
 use Rattle.gptp_report.specs.Transitions.{Courses, CoursesSoFar}
 use Rattle.gptp_world.proofs.FollowLemmas.{text_append}
 use Rattle.gptp_report.proofs.RunLemmas.{made_if_stays, passed_stays}
@@ -21,9 +21,9 @@ use Rattle.gptp_timeline.specs.LastTwo.{all_kept, end_in, end_of, kept_after, no
 use Rattle.gptp_timeline.specs.Passing.{first_time, StretchIsSeen, IsSeenSoFar, StopsSeen}
 use Rattle.gptp_timeline.specs.Stretch.{roots_of, shown_of_all, waits}
 use Rattle.gptp_timeline.specs.StretchText.{after_line, ended_stretch}
-use Rattle.gptp_timeline.specs.Timeline.{act_lines, all_lines, AllPass, AreErrorsIf, end_before, end_lines, ended_of, exact_time, is_begun, kept_accuracy, IsPassage, IsTimelinePlan, later_than, none_waits, now_of, Passage, passage_lines, SomePass}
+use Rattle.gptp_timeline.specs.Timeline.{act_lines, all_lines, AllPass, AreErrorsIf, end_before, end_lines, ended_of, exact_time, is_begun, kept_accuracy, IsPassage, IsTimelinePlan, later_than, none_waits, now_of, StretchTrace, passage_lines, SomePass}
 use Rattle.gptp_timeline.specs.Watch.{watch_begun, tells_changes, WatchState}
-use Rattle.gptp_timeline.specs.declared.ends.Kept.{Kept}
+use Rattle.gptp_timeline.specs.declared.ends.StretchesSoFar.{StretchesSoFar}
 use Rattle.gptp_timeline.specs.declared.measures.Measures.{Measures}
 use Rattle.gptp_timeline.specs.declared.stretch.Stretch.{Stretch}
 use Rattle.gptp_timeline.specs.declared.timeline.Plan.{Plan}
@@ -89,7 +89,7 @@ end_text plan o s m xs empty between after octets is measures systems none line 
 
 module _ {F : Type 0} (answers : Bounds → ℕ → F → Option ℕ → F → Type 0) where
   -- they leave each system with its clock and its parameters
-  pub courses_stay : (until : ℕ) (events : List Timed) (ts : List Transition) (fate fate_after : F) (w w' : WorldState)
+  pub courses_stay : (until : ℕ) (events : List Timed) (ts : List ActTrace) (fate fate_after : F) (w w' : WorldState)
       → HaveTheirSetups w → Courses answers until events ts fate fate_after w w' → Stays w w'
   courses_stay until [] ts fate fate_after w w' setups k = passed_stays answers until ts fate fate_after w w' setups k
   courses_stay until (e ∷ es) ts fate fate_after w w' setups (first, rest, drawn, between, makes, courses, is) =
@@ -108,17 +108,18 @@ module _ {F : Type 0} (answers : Bounds → ℕ → F → Option ℕ → F → T
 module _ {F : Type 0} (answers : Bounds → ℕ → F → Option ℕ → F → Type 0) (exact : Bool) (d : DocumentState) (until : ℕ)
     (options : TimelineOptions) (names : List ℕ) (events : List Timed) (fate : F) (w : WorldState) where
   -- Stretches passed, the first from 0 on with these events; the next begins at a time with those that are left.
-  pub record Gone (from : ℕ) (left : List Timed) (drawn : F) (between : WorldState) (kept : Kept)
+  pub record Gone (from : ℕ) (left : List Timed) (drawn : F) (between : WorldState) (kept : StretchesSoFar)
       (since : ℕ → Option ℕ) (lines : List (List ℕ)) : Type 0 where
-    pub passages : List Passage
-    pub more : (q : Passage) (qs : List Passage) (fate_after : F) (w' : WorldState)
+    pub passages : List StretchTrace
+    pub more : (q : StretchTrace) (qs : List StretchTrace) (fate_after : F) (w' : WorldState)
         → AllPass answers exact d until from left drawn fate_after between w' (q ∷ qs)
         → AllPass answers exact d until 0 events fate fate_after w w' (passages ++ q ∷ qs)
-    pub some : (qs : List Passage) (ts : List Transition) → SomePass answers exact d until from left drawn between qs ts
+    pub some : (qs : List StretchTrace) (ts : List ActTrace)
+        → SomePass answers exact d until from left drawn between qs ts
         → SomePass answers exact d until 0 events fate w (passages ++ qs) ts
-    pub lines_are : (qs : List Passage)
+    pub lines_are : (qs : List StretchTrace)
         → lines ++ all_lines options names since qs ≡ all_lines options names none_waits (passages ++ qs)
-    pub kept_is : (qs : List Passage) → all_kept options.limits names since qs kept
+    pub kept_is : (qs : List StretchTrace) → all_kept options.limits names since qs kept
         ≡ all_kept options.limits names none_waits (passages ++ qs) none_kept
 
   pub gone_none : Gone 0 events fate w none_kept none_waits []
@@ -131,29 +132,29 @@ module _ {F : Type 0} (answers : Bounds → ℕ → F → Option ℕ → F → T
   }
 
   -- all stretches passed, to these lines
-  pub record AllGone (fate_after : F) (w' : WorldState) (verdict : Kept) (all : List (List ℕ)) : Type 0 where
-    pub passages : List Passage
+  pub record AllGone (fate_after : F) (w' : WorldState) (verdict : StretchesSoFar) (all : List (List ℕ)) : Type 0 where
+    pub passages : List StretchTrace
     pub pass : AllPass answers exact d until 0 events fate fate_after w w' passages
     pub verdict_is : verdict ≡ all_kept options.limits names none_waits passages none_kept
     pub are : all ≡ all_lines options names none_waits passages
 
   -- or some of them did
   pub record SomeGone (some_lines : List (List ℕ)) : Type 0 where
-    pub passages : List Passage
-    pub acts : List Transition
+    pub passages : List StretchTrace
+    pub acts : List ActTrace
     pub pass : SomePass answers exact d until 0 events fate w passages acts
     pub are : some_lines
         ≡ all_lines options names none_waits passages ++ flat_map (act_lines options names) acts
 
   -- one stretch more after which another comes
-  module _ (from to : ℕ) (left : List Timed) (drawn next : F) (between : WorldState) (kept : Kept)
+  module _ (from to : ℕ) (left : List Timed) (drawn next : F) (between : WorldState) (kept : StretchesSoFar)
       (since : ℕ → Option ℕ) (lines : List (List ℕ)) (gone : Gone from left drawn between kept since lines)
-      (p : Passage) (passage : IsPassage answers exact d until from left drawn next between p)
+      (p : StretchTrace) (passage : IsPassage answers exact d until from left drawn next between p)
       (is : first_time (later_than from left) ≡ Some to) where
     to_is : p.to ≡ to
     to_is = passage.to_is ∙ ends_before until (later_than from left) to is
 
-    behind : (qs : List Passage) → gone.passages ++ p ∷ qs ≡ (gone.passages ++ p ∷ []) ++ qs
+    behind : (qs : List StretchTrace) → gone.passages ++ p ∷ qs ≡ (gone.passages ++ p ∷ []) ++ qs
     behind qs = sym (append_assoc gone.passages (p ∷ []) qs)
 
     pub gone_more : Gone to (later_than from left) next p.after
@@ -186,9 +187,9 @@ module _ {F : Type 0} (answers : Bounds → ℕ → F → Option ℕ → F → T
     }
 
   -- the last of them
-  module _ (from : ℕ) (left : List Timed) (drawn : F) (between : WorldState) (kept : Kept)
+  module _ (from : ℕ) (left : List Timed) (drawn : F) (between : WorldState) (kept : StretchesSoFar)
       (since : ℕ → Option ℕ) (lines : List (List ℕ)) (gone : Gone from left drawn between kept since lines) where
-    pub gone_all : (p : Passage) (next : F) → IsPassage answers exact d until from left drawn next between p
+    pub gone_all : (p : StretchTrace) (next : F) → IsPassage answers exact d until from left drawn next between p
         → later_than from left ≡ []
         → AllGone next p.after (kept_after options.limits (end_in names since p) kept)
         (lines ++ passage_lines options names since p)
@@ -200,7 +201,7 @@ module _ {F : Type 0} (answers : Bounds → ℕ → F → Option ℕ → F → T
           ∙ gone.lines_are (p ∷ []);
     }
 
-    lines_of : (qs : List Passage) (ts : List Transition) (more : List (List ℕ))
+    lines_of : (qs : List StretchTrace) (ts : List ActTrace) (more : List (List ℕ))
         → more ≡ all_lines options names since qs ++ flat_map (act_lines options names) ts
         → lines ++ more
         ≡ all_lines options names none_waits (gone.passages ++ qs) ++ flat_map (act_lines options names) ts
@@ -209,7 +210,7 @@ module _ {F : Type 0} (answers : Bounds → ℕ → F → Option ℕ → F → T
         ∙ sym (append_assoc lines (all_lines options names since qs) (flat_map (act_lines options names) ts))
         ∙ ap (λ front. front ++ flat_map (act_lines options names) ts) (gone.lines_are qs)
 
-    some_gone : (qs : List Passage) (ts : List Transition) (more : List (List ℕ))
+    some_gone : (qs : List StretchTrace) (ts : List ActTrace) (more : List (List ℕ))
         → SomePass answers exact d until from left drawn between qs ts
         → more ≡ all_lines options names since qs ++ flat_map (act_lines options names) ts → SomeGone (lines ++ more)
     some_gone qs ts more pass are = record {
@@ -227,13 +228,13 @@ module _ {F : Type 0} (answers : Bounds → ℕ → F → Option ℕ → F → T
         refl
 
     -- among its acts
-    pub gone_on : (ts : List Transition) (told : List (List ℕ))
+    pub gone_on : (ts : List ActTrace) (told : List (List ℕ))
         → CoursesSoFar answers (end_before until (later_than from left)) (now_of from left) ts drawn between
         → told ≡ flat_map (act_lines options names) ts → SomeGone (lines ++ told)
     gone_on ts told courses are = some_gone [] ts told courses are
 
     -- where it ends
-    pub gone_to_end : (p : Passage) (next : F) → IsPassage answers exact d until from left drawn next between p
+    pub gone_to_end : (p : StretchTrace) (next : F) → IsPassage answers exact d until from left drawn next between p
         → SomeGone (lines ++ passage_lines options names since p)
     gone_to_end p next passage =
         some_gone (p ∷ []) [] (passage_lines options names since p) (
@@ -248,7 +249,7 @@ module _ {F : Type 0} (answers : Bounds → ℕ → F → Option ℕ → F → T
 -- ---- what passed before an observer
 
 -- what passed of a stretch
-abbrev pub passage_of : Plan → List Timed → List Transition → WorldState → Passage
+abbrev pub passage_of : Plan → List Timed → List ActTrace → WorldState → StretchTrace
 passage_of plan now acts after = record {
   from = plan.from;
   to = plan.to;
@@ -262,7 +263,7 @@ passage_of plan now acts after = record {
 module _ {F : Type 0} (answers : Bounds → ℕ → F → Option ℕ → F → Type 0) (exact : Bool) (d : DocumentState)
     (until from to : ℕ) (left : List Timed) (to_is : to ≡ end_before until (later_than from left)) (plan : Plan)
     (known : IsTimelinePlan exact d from to (is_begun (now_of from left)) plan) where
-  pub is_passage : (fate fate_after : F) (w w' : WorldState) (acts : List Transition)
+  pub is_passage : (fate fate_after : F) (w w' : WorldState) (acts : List ActTrace)
       → Courses answers plan.to (now_of from left) acts fate fate_after w w'
       → IsPassage answers exact d until from left fate fate_after w (passage_of plan (now_of from left) acts w')
   is_passage fate fate_after w w' acts courses = record {
@@ -274,7 +275,7 @@ module _ {F : Type 0} (answers : Bounds → ℕ → F → Option ℕ → F → T
     errors_are = subst (λ t. AreErrorsIf exact d from t plan.errors) (sym known.to_is) known.errors_are;
   }
 
-  pub some_acts : (fate : F) (w : WorldState) (acts : List Transition)
+  pub some_acts : (fate : F) (w : WorldState) (acts : List ActTrace)
       → CoursesSoFar answers plan.to (now_of from left) acts fate w
       → CoursesSoFar answers (end_before until (later_than from left)) (now_of from left) acts fate w
   some_acts fate w acts courses =
@@ -283,7 +284,7 @@ module _ {F : Type 0} (answers : Bounds → ℕ → F → Option ℕ → F → T
 -- an observer sees them, for which the stretch began
 module _ {F : Type 0} (answers : Bounds → ℕ → F → Option ℕ → F → Type 0) (plan : Plan) (now : List Timed) (fate : F)
     (w : WorldState) (o mid : WatchState) (mid_is : mid ≡ watch_begun (exact_time plan.errors) o)
-    (due : events_by plan.to now ≡ now) (ts : List Transition) (o_after : WatchState) (So : List ℕ → Type 0)
+    (due : events_by plan.to now ≡ now) (ts : List ActTrace) (o_after : WatchState) (So : List ℕ → Type 0)
     (observed : Observed tells_changes ts mid o_after So) where
   tells : Tells tells_changes ts (watch_begun (exact_time plan.errors) o) o_after observed.lines
   tells = subst (λ b. Tells tells_changes ts b o_after observed.lines) mid_is observed.are
@@ -317,7 +318,7 @@ module _ {F : Type 0} (answers : Bounds → ℕ → F → Option ℕ → F → T
   module _ (fate_after : F) (w' : WorldState) (o_after : WatchState) (told : List (List ℕ))
       (seen : StretchIsSeen answers plan now fate fate_after w w' o o_after told)
       (is_begun_is : plan.begins_with_event ≡ is_begun now) where
-    abbrev seen_passage : Passage
+    abbrev seen_passage : StretchTrace
     seen_passage = passage_of plan now seen.acts w'
 
     of_plan : IsOfPlan plan seen_passage
@@ -355,7 +356,7 @@ module _ {F : Type 0} (answers : Bounds → ℕ → F → Option ℕ → F → T
 module _ {F : Type 0} (answers : Bounds → ℕ → F → Option ℕ → F → Type 0) (exact : Bool) (d : DocumentState) (until : ℕ)
     (options : TimelineOptions) (names : List ℕ) (events : List Timed) (fate : F) (w : WorldState) where
   -- Stretches passed; the observer is where the next can begin, and this is so of the text of them.
-  pub record GoneSeen (from : ℕ) (left : List Timed) (drawn : F) (between : WorldState) (kept : Kept)
+  pub record GoneSeen (from : ℕ) (left : List Timed) (drawn : F) (between : WorldState) (kept : StretchesSoFar)
       (o : WatchState) (So : List ℕ → Type 0) : Type 0 where
     pub since : ℕ → Option ℕ
     pub lines : List (List ℕ)
@@ -373,7 +374,7 @@ module _ {F : Type 0} (answers : Bounds → ℕ → F → Option ℕ → F → T
     so = so;
   }
 
-  module _ (from to : ℕ) (left : List Timed) (drawn : F) (between : WorldState) (kept : Kept) (o : WatchState)
+  module _ (from to : ℕ) (left : List Timed) (drawn : F) (between : WorldState) (kept : StretchesSoFar) (o : WatchState)
       (First Second Both : List ℕ → Type 0) (both : (one two : List ℕ) → First one → Second two → Both (one ++ two))
       (so_far : GoneSeen from left drawn between kept o First) where
     -- what is so of the lines so far and of those of the next is so of both
@@ -383,11 +384,11 @@ module _ {F : Type 0} (answers : Bounds → ℕ → F → Option ℕ → F → T
 
     -- it passed
     module _ (plan : Plan) (next : F) (after : WorldState) (o_after : WatchState) (told : List (List ℕ))
-        (verdict : Kept) (known : IsTimelinePlan exact d from to (is_begun (now_of from left)) plan)
+        (verdict : StretchesSoFar) (known : IsTimelinePlan exact d from to (is_begun (now_of from left)) plan)
         (seen : StretchIsSeen answers plan (now_of from left) drawn next between after o o_after told)
         (verdict_is : verdict ≡ kept_after options.limits (end_of plan o_after) kept)
         (so : Second (text_of (told ++ end_lines plan o_after))) where
-      abbrev passed : Passage
+      abbrev passed : StretchTrace
       passed = passage_of plan (now_of from left) seen.acts after
 
       lines_are : told ++ end_lines plan o_after ≡ passage_lines options names so_far.since passed
@@ -426,7 +427,7 @@ module _ {F : Type 0} (answers : Bounds → ℕ → F → Option ℕ → F → T
 
       -- and it is the last
       pub seen_all : later_than from left ≡ [] → to ≡ until
-          → (passages : List Passage) × AllPass answers exact d until 0 events fate next w after passages
+          → (passages : List StretchTrace) × AllPass answers exact d until 0 events fate next w after passages
           × (verdict ≡ all_kept options.limits names none_waits passages none_kept)
           × Both (text_of (all_lines options names none_waits passages))
       seen_all none last =
@@ -444,14 +445,14 @@ module _ {F : Type 0} (answers : Bounds → ℕ → F → Option ℕ → F → T
     -- it breaks off
     pub seen_some : (lines : List (List ℕ)) → to ≡ end_before until (later_than from left)
         → StopsSeen answers exact d from to (now_of from left) drawn between o lines → Second (text_of lines)
-        → (passages : List Passage) × (acts : List Transition)
+        → (passages : List StretchTrace) × (acts : List ActTrace)
         × SomePass answers exact d until 0 events fate w passages acts
         × Both (text_of (all_lines options names none_waits passages ++ flat_map (act_lines options names) acts))
     seen_some lines ends stops so = by stops
       where
         some_of : (more : List (List ℕ)) → lines ≡ more
             → SomeGone answers exact d until options names events fate w (so_far.lines ++ more)
-            → (passages : List Passage) × (acts : List Transition)
+            → (passages : List StretchTrace) × (acts : List ActTrace)
             × SomePass answers exact d until 0 events fate w passages acts
             × Both (text_of (all_lines options names none_waits passages ++ flat_map (act_lines options names) acts))
         some_of more are some = (
@@ -462,7 +463,7 @@ module _ {F : Type 0} (answers : Bounds → ℕ → F → Option ℕ → F → T
         )
 
         by : StopsSeen answers exact d from to (now_of from left) drawn between o lines
-            → (passages : List Passage) × (acts : List Transition)
+            → (passages : List StretchTrace) × (acts : List ActTrace)
             × SomePass answers exact d until 0 events fate w passages acts
             × Both (text_of (all_lines options names none_waits passages ++ flat_map (act_lines options names) acts))
         by (inl none) =

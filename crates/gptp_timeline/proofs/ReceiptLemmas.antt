@@ -2,7 +2,7 @@
 use Rattle.std.proofs.Common.{◌≡◌, ℕ, ℤ, Bool, true, false, List, [], ◌∷◌, ◌++◌, Option, Some, None, if◌then◌else◌, option_map, slice_get, slice_set, unsigned_abs, sym, ap, subst, ◌∙◌}
 use Rattle.std.proofs.lemmas.Option.{slice_get-map}
 use Rattle.gptp_graph.specs.Order.{IsRising}
-use Rattle.gptp_world.specs.Transitions.{Transition}
+use Rattle.gptp_world.specs.Transitions.{ActTrace}
 use Rattle.gptp_timeline.specs.Measures.{better_if, greatest, one_at}
 use Rattle.gptp_timeline.specs.Shown.{same_choice, same_roles}
 use Rattle.gptp_timeline.specs.Stretch.{at_of, ended, error_at, error_in, last_at, leaves_another, receives, same_known, waits, worst_error}
@@ -18,7 +18,7 @@ use Rattle.gptp_timeline.proofs.TrackLemmas.{made}
 module _ (summary offsets : Bool) (from : Option ℕ) (names : List ℕ) (rising : IsRising names) (begun : ℕ → Option ℕ)
   where
     -- nobody receives time, or nobody lives who does: what was taken is all
-    pub nothing_received : (errors : ℕ → Option ℕ) (ts : List Transition) (t : Transition) (o : WatchState)
+    pub nothing_received : (errors : ℕ → Option ℕ) (ts : List ActTrace) (t : ActTrace) (o : WatchState)
         → TakesOne summary offsets from names rising begun errors ts t o
         → ((name : ℕ) → errors_next from t errors name ≡ errors name) → error_in t ≡ None
         → Tracks summary offsets from names begun (errors_next from t errors) (ts ++ t ∷ []) t.after o
@@ -36,7 +36,7 @@ module _ (summary offsets : Bool) (from : Option ℕ) (names : List ℕ) (rising
     }
 
     -- one system receives time
-    pub received : (errors : ℕ → Option ℕ) (ts : List Transition) (t : Transition) (o : WatchState) (place clock : ℕ)
+    pub received : (errors : ℕ → Option ℕ) (ts : List ActTrace) (t : ActTrace) (o : WatchState) (place clock : ℕ)
         (error : Option ℤ) → TakesOne summary offsets from names rising begun errors ts t o
         → slice_get names place ≡ Some clock → receives clock t ≡ true
         → ((name : ℕ) → (name ≡ clock → ⊥) → receives name t ≡ false) → error_at clock t ≡ error

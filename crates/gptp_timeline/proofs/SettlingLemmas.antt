@@ -64,10 +64,10 @@ use Rattle.gptp_theorem.proofs.BeginLemmas.{begun_stands}
 use Rattle.gptp_theorem.proofs.CalmLemmas.{quiet_stands}
 use Rattle.gptp_theorem.proofs.ChangeLemmas.{changes_stand}
 use Rattle.gptp_theorem.proofs.SettlingInvariantLemmas.{each_there}
-use Rattle.gptp_theorem.proofs.KeptLemmas.{acts_stand, time_stands}
+use Rattle.gptp_theorem.proofs.StretchesSoFarLemmas.{acts_stand, time_stands}
 use Rattle.gptp_theorem.proofs.SnapshotLemmas.{snapshots_stand}
 use Rattle.gptp_theorem.proofs.SyncPathLemmas.{paths_stand}
-use Rattle.gptp_world.specs.Transitions.{Passes, PassesTo, Transition, transition}
+use Rattle.gptp_world.specs.Transitions.{Passes, PassesTo, ActTrace, transition}
 use Rattle.gptp_report.specs.Transitions.{Courses, Makes}
 use Rattle.gptp_setup.specs.Intervals.{interval_of}
 use Rattle.gptp_setup.specs.SettlingParams.{SettlingParams}
@@ -78,7 +78,7 @@ use Rattle.gptp_timeline.specs.Passing.{first_time}
 use Rattle.gptp_timeline.specs.Shown.{live_system, same_choice, same_roles, shown}
 use Rattle.gptp_timeline.specs.Stretch.{at_of}
 use Rattle.gptp_timeline.specs.StretchText.{behind}
-use Rattle.gptp_timeline.specs.Timeline.{AllPass, end_before, IsPassage, later_than, now_of, Passage, TimelineOf}
+use Rattle.gptp_timeline.specs.Timeline.{AllPass, end_before, IsPassage, later_than, now_of, StretchTrace, TimelineOf}
 use Rattle.gptp_timeline.specs.declared.timeline.TimelineOptions.{TimelineOptions}
 use Rattle.gptp_timeline.proofs.EventLemmas.{Each, ends_first, ends_later, filter_each, filter_in_order, filter_passes, first_due}
 use Rattle.gptp_timeline.proofs.UnfoldLemmas.{now_and_later}
@@ -164,7 +164,7 @@ module _ {F : Type 0} (answers : Bounds → ℕ → F → Option ℕ → F → T
     named = same_named names w (at time w) refl keeps.named;
   }
 
-  pub keeps_act : (events : List Timed) (until : ℕ) (t : Transition) (fate drawn : F) (w : WorldState)
+  pub keeps_act : (events : List Timed) (until : ℕ) (t : ActTrace) (fate drawn : F) (w : WorldState)
       → Happens answers until t.told fate drawn w t.after → Keeps events w → Keeps events t.after
   keeps_act events until t fate drawn w happens keeps =
       let timed = t.told.timed in let next = happens.next in let was = happens.was_done in
@@ -183,7 +183,7 @@ module _ {F : Type 0} (answers : Bounds → ℕ → F → Option ℕ → F → T
             (same_named names w (at timed.at w) refl keeps.named);
       }
 
-  keeps_passes : (events : List Timed) (until : ℕ) (ts : List Transition) (fate fate_after : F) (w w' : WorldState)
+  keeps_passes : (events : List Timed) (until : ℕ) (ts : List ActTrace) (fate fate_after : F) (w w' : WorldState)
       → Passes answers until ts fate fate_after w w' → Keeps events w → Keeps events w'
   keeps_passes events until [] fate fate_after w w' (same, is) keeps = subst (Keeps events) (sym is) keeps
   keeps_passes events until (t ∷ ts) fate fate_after w w' (drawn, before, happens, rest) keeps =
@@ -191,14 +191,14 @@ module _ {F : Type 0} (answers : Bounds → ℕ → F → Option ℕ → F → T
       (keeps_act events until t fate drawn w happens keeps)
 
   -- an act was done at its time
-  pub act_time : (until : ℕ) (t : Transition) (fate drawn : F) (w : WorldState) → IsSound w
+  pub act_time : (until : ℕ) (t : ActTrace) (fate drawn : F) (w : WorldState) → IsSound w
       → Happens answers until t.told fate drawn w t.after → t.after.time ≡ at_of t
   act_time until t fate drawn w sound happens =
       let timed = t.told.timed in let was = happens.was_done in
       (leaves_less happens.next.item timed.at timed.act w was.draws t.told.done t.after
       (later_sound w timed.at w.last_change sound was.ready.timely.first) happens.next.act was.acts).is_time
 
-  passes_in_time : (events : List Timed) (until : ℕ) (ts : List Transition) (fate fate_after : F) (w w' : WorldState)
+  passes_in_time : (events : List Timed) (until : ℕ) (ts : List ActTrace) (fate fate_after : F) (w w' : WorldState)
       → Passes answers until ts fate fate_after w w' → Keeps events w → w.time ≤ until → w'.time ≤ until
   passes_in_time events until [] fate fate_after w w' (same, is) keeps early =
       subst (λ (v : WorldState). v.time ≤ until) (sym is) early
@@ -208,7 +208,7 @@ module _ {F : Type 0} (answers : Bounds → ℕ → F → Option ℕ → F → T
       passes_in_time events until ts drawn fate_after t.after w' rest
       (keeps_act events until t fate drawn w happens keeps) (omega (arith, moment, in_time))
 
-  keeps_to : (events : List Timed) (until : ℕ) (ts : List Transition) (fate fate_after : F) (w w' : WorldState)
+  keeps_to : (events : List Timed) (until : ℕ) (ts : List ActTrace) (fate fate_after : F) (w w' : WorldState)
       → PassesTo answers until ts fate fate_after w w' → Keeps events w → Keeps events w'
   keeps_to events until ts fate fate_after w w' k keeps =
       let on = keeps_passes events until ts fate fate_after w k.between k.passes keeps in
@@ -217,7 +217,7 @@ module _ {F : Type 0} (answers : Bounds → ℕ → F → Option ℕ → F → T
       subst (Keeps events) (sym k.is) (keeps_later events k.between until early first on)
 
   -- an event is made
-  pub keeps_made : (before : List Timed) (event : Timed) (ts : List Transition) (fate fate_after : F)
+  pub keeps_made : (before : List Timed) (event : Timed) (ts : List ActTrace) (fate fate_after : F)
       (w w' : WorldState) → IsFitEvent event → Makes answers event ts fate fate_after w w' → Keeps before w
       → Keeps (before ++ event ∷ []) w'
   keeps_made before event ts fate fate_after w w' fit k keeps =
@@ -236,7 +236,7 @@ module _ {F : Type 0} (answers : Bounds → ℕ → F → Option ℕ → F → T
             (same_named names k.between (at event.at k.between) refl on.named);
       }
 
-  pub keeps_courses : (before events : List Timed) (until : ℕ) (ts : List Transition) (fate fate_after : F)
+  pub keeps_courses : (before events : List Timed) (until : ℕ) (ts : List ActTrace) (fate fate_after : F)
       (w w' : WorldState) → Each IsFitEvent events → Courses answers until events ts fate fate_after w w'
       → Keeps before w → Keeps (before ++ events) w'
   keeps_courses before [] until ts fate fate_after w w' fit k keeps =
@@ -309,7 +309,7 @@ module _ {F : Type 0} (answers : Bounds → ℕ → F → Option ℕ → F → T
     all_rest w keeps late near name s is = rests w keeps late name (near name (is_there w name s is)) s is
 
     -- an act after the span
-    still_act : (until : ℕ) (t : Transition) (fate drawn : F) (w : WorldState) → t.before ≡ w
+    still_act : (until : ℕ) (t : ActTrace) (fate drawn : F) (w : WorldState) → t.before ≡ w
         → Happens answers until t.told fate drawn w t.after → Keeps events w → AllNear (snapshot_of w)
         → from + span ≤ at_of t → ShowsTheSame t
     still_act until t fate drawn w before happens keeps near late =
@@ -335,7 +335,7 @@ module _ {F : Type 0} (answers : Bounds → ℕ → F → Option ℕ → F → T
           roles = λ name. ap (λ v. same_roles (shown name v) (shown name t.after)) before ∙ (shows name).1;
         }
 
-    still_passes : (until : ℕ) (ts : List Transition) (fate fate_after : F) (w w' : WorldState)
+    still_passes : (until : ℕ) (ts : List ActTrace) (fate fate_after : F) (w w' : WorldState)
         → Passes answers until ts fate fate_after w w' → Keeps events w → AllNear (snapshot_of w)
         → StillBehind (from + span) ts
     still_passes until [] fate fate_after w w' k keeps near = tt
@@ -357,7 +357,7 @@ module _ {F : Type 0} (answers : Bounds → ℕ → F → Option ℕ → F → T
             let late : from + span ≤ at_of t = grind (arith, nat_tests) in
             inr (still_act until t fate drawn w before happens keeps near late)
 
-  passes_snapshot : (until : ℕ) (ts : List Transition) (fate fate_after : F) (w w' : WorldState)
+  passes_snapshot : (until : ℕ) (ts : List ActTrace) (fate fate_after : F) (w w' : WorldState)
       → Passes answers until ts fate fate_after w w' → snapshot_of w' ≡ snapshot_of w
   passes_snapshot until [] fate fate_after w w' (same, is) = ap snapshot_of is
   passes_snapshot until (t ∷ ts) fate fate_after w w' (drawn, before, happens, rest) =
@@ -367,16 +367,16 @@ module _ {F : Type 0} (answers : Bounds → ℕ → F → Option ℕ → F → T
       (no_change happens.next.item t.told.timed.act w happens.next.act) happens.was_done.acts)
 
   -- what is so of each act up to a time is so of those that pass by then
-  pub early_passes : (P : Transition → Type 0) (until : ℕ) (ts : List Transition) (fate fate_after : F)
-      (w w' : WorldState) → ((t : Transition) → at_of t ≤ until → P t)
+  pub early_passes : (P : ActTrace → Type 0) (until : ℕ) (ts : List ActTrace) (fate fate_after : F)
+      (w w' : WorldState) → ((t : ActTrace) → at_of t ≤ until → P t)
       → Passes answers until ts fate fate_after w w' → AllByRecursion P ts
   early_passes P until [] fate fate_after w w' each k = tt
   early_passes P until (t ∷ ts) fate fate_after w w' each (drawn, before, happens, rest) =
       (each t happens.early, early_passes P until ts drawn fate_after t.after w' each rest)
 
   -- and of those by which an event is made then
-  pub early_makes : (P : Transition → Type 0) (event : Timed) (ts : List Transition) (fate fate_after : F)
-      (w w' : WorldState) → ((t : Transition) → at_of t ≤ event.at → P t) → Makes answers event ts fate fate_after w w'
+  pub early_makes : (P : ActTrace → Type 0) (event : Timed) (ts : List ActTrace) (fate fate_after : F)
+      (w w' : WorldState) → ((t : ActTrace) → at_of t ≤ event.at → P t) → Makes answers event ts fate fate_after w w'
       → AllByRecursion P ts
   early_makes P event ts fate fate_after w w' each k =
       subst (AllByRecursion P) (sym k.are)
@@ -385,7 +385,7 @@ module _ {F : Type 0} (answers : Bounds → ℕ → F → Option ℕ → F → T
       (each (transition event k.done k.between w') (omega arith), tt))
 
   -- a stretch with events up to the time at which it begins
-  pub still_courses : (before events : List Timed) (from span until : ℕ) (g : Snapshot) (ts : List Transition)
+  pub still_courses : (before events : List Timed) (from span until : ℕ) (g : Snapshot) (ts : List ActTrace)
       (fate fate_after : F) (w w' : WorldState) → Each IsFitEvent events → Each (λ (e : Timed). e.at ≤ from) events
       → IsCalm d.network (before ++ events) → StandsAfter d.network (before ++ events) g
       → last_change (before ++ events) ≤ from → span ≡ span_after (before ++ events) g
@@ -471,7 +471,8 @@ module _ {F : Type 0} (answers : Bounds → ℕ → F → Option ℕ → F → T
   -- ---- the stretches of a timeline
 
   module _ (exact : Bool) (until : ℕ) where
-    settles_one : (from : ℕ) (before left : List Timed) (fate fate_after : F) (w : WorldState) (p : Passage) (bound : ℕ)
+    settles_one : (from : ℕ) (before left : List Timed) (fate fate_after : F) (w : WorldState) (p : StretchTrace)
+        (bound : ℕ)
         → IsLeft until from before left → Keeps before w
         → IsPassage answers exact d until from left fate fate_after w p → p.bound ≡ Some bound
         → AllNear (snapshot_of p.after)
@@ -493,7 +494,7 @@ module _ {F : Type 0} (answers : Bounds → ℕ → F → Option ℕ → F → T
         keeps
         near)
 
-    pub keeps_one : (from : ℕ) (before left : List Timed) (fate fate_after : F) (w : WorldState) (p : Passage)
+    pub keeps_one : (from : ℕ) (before left : List Timed) (fate fate_after : F) (w : WorldState) (p : StretchTrace)
         → IsLeft until from before left → Keeps before w
         → IsPassage answers exact d until from left fate fate_after w p
         → Keeps (before ++ now_of from left) p.after
@@ -504,7 +505,7 @@ module _ {F : Type 0} (answers : Bounds → ℕ → F → Option ℕ → F → T
         keeps
 
     -- How a stretch that passes begins: after events that were made, in a world that keeps to them.
-    pub record Begins (p : Passage) : Type 0 where
+    pub record Begins (p : StretchTrace) : Type 0 where
       pub from : ℕ
       pub before : List Timed
       pub left : List Timed
@@ -515,8 +516,8 @@ module _ {F : Type 0} (answers : Bounds → ℕ → F → Option ℕ → F → T
       pub keeps : Keeps before w
       pub passage : IsPassage answers exact d until from left fate fate_after w p
 
-    pub begins : (passages : List Passage) (from : ℕ) (before left : List Timed) (fate fate_after : F)
-        (w w' : WorldState) (p : Passage) → IsLeft until from before left → Keeps before w
+    pub begins : (passages : List StretchTrace) (from : ℕ) (before left : List Timed) (fate fate_after : F)
+        (w w' : WorldState) (p : StretchTrace) → IsLeft until from before left → Keeps before w
         → AllPass answers exact d until from left fate fate_after w w' passages → In p passages → Begins p
     begins [] from before left fate fate_after w w' p is keeps pass member = absurd pass
     begins (q ∷ []) from before left fate fate_after w w' p is keeps (passage, none, ends) (inl same) = record {

@@ -4,7 +4,7 @@ use Rattle.std.specs.List.{flat_map}
 use Rattle.std.specs.Option.{option_map_or}
 use Rattle.gptp_model.specs.World.{WorldState}
 use Rattle.gptp_model.specs.declared.done.Done.TheVariants.{Quiet}
-use Rattle.gptp_world.specs.Transitions.{Transition}
+use Rattle.gptp_world.specs.Transitions.{ActTrace}
 use Rattle.gptp_timeline.specs.Changes.{change_lines}
 use Rattle.gptp_timeline.specs.Measures.{better_if, ended_by, greatest, greatest_from, one_at}
 use Rattle.gptp_timeline.specs.Receipts.{received_by}
@@ -22,7 +22,7 @@ use Rattle.gptp_timeline.proofs.TrackLemmas.{all_seen_lines, event_measured, kep
 -- ---- errors that are kept of each system
 
 -- after an act, where receipts count from a time on
-abbrev pub errors_next : Option ℕ → Transition → (ℕ → Option ℕ) → ℕ → Option ℕ
+abbrev pub errors_next : Option ℕ → ActTrace → (ℕ → Option ℕ) → ℕ → Option ℕ
 errors_next from t errors name =
     if receives name t then
     error_after (counts_from from (at_of t)) (errors name) (option_map unsigned_abs (error_at name t))
@@ -39,16 +39,16 @@ restand names since errors others w xs same stands = record {
 
 -- ---- an act by which nobody receives time
 
-quiet_receives : (name : ℕ) (t : Transition) → t.told.done ≡ Quiet → receives name t ≡ false
+quiet_receives : (name : ℕ) (t : ActTrace) → t.told.done ≡ Quiet → receives name t ≡ false
 quiet_receives name t quiet =
     ap (λ done. option_map_or (λ clock. clock == name) (received_by done) false) quiet
 
-quiet_error : (t : Transition) → t.told.done ≡ Quiet → error_in t ≡ None
+quiet_error : (t : ActTrace) → t.told.done ≡ Quiet → error_in t ≡ None
 quiet_error t quiet =
     ap (λ done. option_and_then (λ name. option_map (λ error. one_at name (unsigned_abs error)) (error_at name t))
     (received_by done)) quiet
 
-quiet_errors : (from : Option ℕ) (t : Transition) (errors : ℕ → Option ℕ) (name : ℕ) → t.told.done ≡ Quiet
+quiet_errors : (from : Option ℕ) (t : ActTrace) (errors : ℕ → Option ℕ) (name : ℕ) → t.told.done ≡ Quiet
     → errors_next from t errors name ≡ errors name
 quiet_errors from t errors name quiet =
     ap (λ received. if received then
@@ -59,12 +59,12 @@ quiet_errors from t errors name quiet =
 
 module _ (summary offsets : Bool) (from : Option ℕ) (names : List ℕ) (begun : ℕ → Option ℕ) where
   -- what is measured of acts so far; of waits those that ended
-  abbrev pub measured_by : List Transition → Measures
+  abbrev pub measured_by : List ActTrace → Measures
   measured_by ts = made (last_at (leaves_another same_choice names) ts) (last_at (leaves_another same_roles names) ts)
       (last_at (leaves_another same_known names) ts) (greatest (ended names begun ts)) (worst_error ts)
 
   -- An observer keeps what is defined over the acts of a stretch so far.
-  pub record Tracks (errors : ℕ → Option ℕ) (ts : List Transition) (w : WorldState) (o : WatchState) : Type 0 where
+  pub record Tracks (errors : ℕ → Option ℕ) (ts : List ActTrace) (w : WorldState) (o : WatchState) : Type 0 where
     pub summary_is : o.summary ≡ summary
     pub offsets_is : o.offsets ≡ offsets
     pub from_is : o.exact_from ≡ from
@@ -78,12 +78,12 @@ module _ (summary offsets : Bool) (from : Option ℕ) (names : List ℕ) (begun 
   no_wait_by at by_event received after None event = refl
   no_wait_by at by_event received after (Some since) event = rw event refl
 
-  no_waits : (t : Transition) (since : ℕ → Option ℕ) → is_event t ≡ true → ended_in names since t ≡ []
+  no_waits : (t : ActTrace) (since : ℕ → Option ℕ) → is_event t ≡ true → ended_in names since t ≡ []
   no_waits t since event = given_none _ names (λ i name there.
       ap (option_map (one_at name)) (no_wait_by (at_of t) (is_event t) (receives name t)
       (is_expecting (shown name t.after)) (since name) event))
 
-  pub event_step : (errors : ℕ → Option ℕ) (ts : List Transition) (t : Transition) (o : WatchState)
+  pub event_step : (errors : ℕ → Option ℕ) (ts : List ActTrace) (t : ActTrace) (o : WatchState)
       → Tracks errors ts t.before o → t.told.done ≡ Quiet → is_event t ≡ true
       → Tracks (errors_next from t errors) (ts ++ t ∷ []) t.after (see_all (event_look (at_of t)) t.after o)
   event_step errors ts t o tracks quiet event =
@@ -122,7 +122,7 @@ module _ (summary offsets : Bool) (from : Option ℕ) (names : List ℕ) (begun 
       })
 
   -- its lines
-  pub event_changes : (errors : ℕ → Option ℕ) (ts : List Transition) (t : Transition) (o : WatchState)
+  pub event_changes : (errors : ℕ → Option ℕ) (ts : List ActTrace) (t : ActTrace) (o : WatchState)
       → Tracks errors ts t.before o
       → lines_all (event_look (at_of t)) t.after o ≡ unless summary (all_changes names t)
   event_changes errors ts t o tracks =

@@ -9,7 +9,7 @@ use Rattle.gptp_links.specs.declared.bounds.Bounds.{Bounds}
 use Rattle.gptp_network.specs.Document.{DocumentState}
 use Rattle.gptp_network.specs.Events.{AreEvents}
 use Rattle.gptp_network.specs.Snapshot.{events_by}
-use Rattle.gptp_world.specs.Transitions.{Transition}
+use Rattle.gptp_world.specs.Transitions.{ActTrace}
 use Rattle.gptp_timeline.specs.Changes.{change_lines, is_same, port_lines, port_lines_if, same_line, system_lines_if}
 use Rattle.gptp_timeline.specs.Laws.{all_acts}
 use Rattle.gptp_timeline.specs.Ports.{same_bool, shows_same_port}
@@ -283,10 +283,10 @@ abbrev shown_in : ℕ → List Station → Option Shown
 shown_in name stations = option_map shown_of (live_among name stations)
 
 module _ (name : ℕ) where
-  abbrev tells : Transition → List Telling
+  abbrev tells : ActTrace → List Telling
   tells t = tellings (shown name t.before) (shown name t.after)
 
-  chain_tells : (ts : List Transition) (before after : List Station) (told : List Telling) → Chain ts before after
+  chain_tells : (ts : List ActTrace) (before after : List Station) (told : List Telling) → Chain ts before after
       → TellLast told (shown_in name before) → TellLast (told ++ flat_map tells ts) (shown_in name after)
   chain_tells [] before after told same k =
       subst (λ us. TellLast us (shown_in name after)) (sym (append-nil told))

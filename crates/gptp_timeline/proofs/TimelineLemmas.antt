@@ -9,12 +9,12 @@ use Rattle.gptp_links.specs.declared.bounds.Bounds.{Bounds}
 use Rattle.gptp_network.specs.Document.{DocumentState}
 use Rattle.gptp_network.specs.Snapshot.{events_by}
 use Rattle.gptp_sink.specs.Sink.{AppendsSome}
-use Rattle.gptp_world.specs.Transitions.{Transition}
+use Rattle.gptp_world.specs.Transitions.{ActTrace}
 use Rattle.gptp_world.proofs.FollowLemmas.{text_append}
 use Rattle.gptp_sink.proofs.SinkLemmas.{appends_both, none_of, some_behind}
 use Rattle.gptp_words.specs.Lines.{text_of}
 use Rattle.gptp_timeline.specs.Limits.{is_exceeded, verdict_lines}
-use Rattle.gptp_timeline.specs.Timeline.{act_lines, all_exceeded, all_lines, AllPass, BeginsTimeline, none_waits, Passage, SomePass, start_lines, TimelineOf}
+use Rattle.gptp_timeline.specs.Timeline.{act_lines, all_exceeded, all_lines, AllPass, BeginsTimeline, none_waits, StretchTrace, SomePass, start_lines, TimelineOf}
 use Rattle.gptp_timeline.specs.declared.limits.Limit.{Limit}
 use Rattle.gptp_timeline.specs.declared.timeline.TimelineOptions.{TimelineOptions}
 use Rattle.gptp_timeline.proofs.PassLemmas.{none_done}
@@ -78,7 +78,7 @@ module _ {F : Type 0} (answers : Bounds → ℕ → F → Option ℕ → F → T
 
   module _ (written : Appends old first (text_of (start_lines options (rising_clocks start) start))) where
     -- stretches pass, and then it breaks off
-    pub stretches_begun : (passages : List Passage) × (acts : List Transition)
+    pub stretches_begun : (passages : List StretchTrace) × (acts : List ActTrace)
         × SomePass answers true d until 0 (events_by until d.events) started start passages acts
         × AppendsSome first new (text_of (all_lines options (rising_clocks start) none_waits passages
         ++ flat_map (act_lines options (rising_clocks start)) acts))
@@ -102,7 +102,7 @@ module _ {F : Type 0} (answers : Bounds → ℕ → F → Option ℕ → F → T
         )
 
     -- all do
-    module _ (fate_after : F) (after : WorldState) (verdict : Option Limit) (passages : List Passage)
+    module _ (fate_after : F) (after : WorldState) (verdict : Option Limit) (passages : List StretchTrace)
         (pass : AllPass answers true d until 0 (events_by until d.events) started fate_after start after passages)
         (verdict_is : verdict ≡ all_exceeded options.limits (rising_clocks start) none_waits passages None)
         (passed : Appends first second (text_of (all_lines options (rising_clocks start) none_waits passages))) where

@@ -12,11 +12,11 @@ use Rattle.gptp_network.specs.Events.{AreEvents, AreInOrder}
 use Rattle.gptp_network.specs.Snapshot.{events_by}
 use Rattle.gptp_scenario.specs.declared.change.Timed.{Timed}
 use Rattle.gptp_report.specs.Run.{Goes, PlaysRun}
-use Rattle.gptp_world.specs.Transitions.{Passes, PassesTo, Transition, transition}
+use Rattle.gptp_world.specs.Transitions.{Passes, PassesTo, ActTrace, transition}
 use Rattle.gptp_report.specs.Transitions.{Courses, Makes, Unfolds}
 use Rattle.gptp_world.proofs.FollowLemmas.{passes_advances}
 use Rattle.gptp_timeline.specs.Laws.{all_acts}
-use Rattle.gptp_timeline.specs.Timeline.{AllPass, end_before, later_than, now_of, Passage, TimelineOf}
+use Rattle.gptp_timeline.specs.Timeline.{AllPass, end_before, later_than, now_of, StretchTrace, TimelineOf}
 use Rattle.gptp_timeline.specs.declared.timeline.TimelineOptions.{TimelineOptions}
 use Rattle.gptp_timeline.proofs.EventLemmas.{all_now, filter_in_order, not_before_first, NotBefore, rest_in_order}
 
@@ -50,12 +50,12 @@ module _ {F : Type 0} (answers : Bounds → ℕ → F → Option ℕ → F → T
   -- ---- one stretch after another
 
   -- where nothing is due by a time, nothing passes by then
-  record NonePass (ts : List Transition) (fate fate_after : F) (w w' : WorldState) : Type 0 where
+  record NonePass (ts : List ActTrace) (fate fate_after : F) (w w' : WorldState) : Type 0 where
     none : ts ≡ []
     fate_is : fate_after ≡ fate
     is : w' ≡ w
 
-  none_pass : (until : ℕ) (ts : List Transition) (fate fate_after : F) (w w' : WorldState)
+  none_pass : (until : ℕ) (ts : List ActTrace) (fate fate_after : F) (w w' : WorldState)
       → NothingBefore (until + 1) w.net.pending → Passes answers until ts fate fate_after w w'
       → NonePass ts fate fate_after w w'
   none_pass until [] fate fate_after w w' nothing (same, is) = record { none = refl; fate_is = same; is = is }
@@ -65,7 +65,7 @@ module _ {F : Type 0} (answers : Bounds → ℕ → F → Option ℕ → F → T
       absurd (omega (arith, early, late))
 
   -- after what is due by the time of an event that event is made, where it seemed that nothing was due
-  makes_behind : (event : Timed) (ts us : List Transition) (fate drawn fate_after : F) (w between w' : WorldState)
+  makes_behind : (event : Timed) (ts us : List ActTrace) (fate drawn fate_after : F) (w between w' : WorldState)
       → PassesTo answers event.at ts fate drawn w between → Makes answers event us drawn fate_after between w'
       → Makes answers event (ts ++ us) fate fate_after w w'
   makes_behind event ts us fate drawn fate_after w between w' passes makes =
@@ -88,7 +88,7 @@ module _ {F : Type 0} (answers : Bounds → ℕ → F → Option ℕ → F → T
       }
 
   -- a stretch that ends at the time of the next event, and what begins with that
-  pub courses_on : (until : ℕ) (events : List Timed) (event : Timed) (later : List Timed) (ts us : List Transition)
+  pub courses_on : (until : ℕ) (events : List Timed) (event : Timed) (later : List Timed) (ts us : List ActTrace)
       (fate drawn fate_after : F) (w between w' : WorldState)
       → Courses answers event.at events ts fate drawn w between
       → Courses answers until (event ∷ later) us drawn fate_after between w'
@@ -118,7 +118,7 @@ module _ {F : Type 0} (answers : Bounds → ℕ → F → Option ℕ → F → T
 
   module _ (d : DocumentState) (until : ℕ) where
     -- where others come after a stretch
-    on : (from : ℕ) (events later : List Timed) (acts us : List Transition) (to : ℕ) (fate drawn fate_after : F)
+    on : (from : ℕ) (events later : List Timed) (acts us : List ActTrace) (to : ℕ) (fate drawn fate_after : F)
         (w between w' : WorldState) → later ≢ [] → to ≡ end_before until later
         → Courses answers to events acts fate drawn w between
         → Courses answers until later us drawn fate_after between w'
@@ -128,7 +128,7 @@ module _ {F : Type 0} (answers : Bounds → ℕ → F → Option ℕ → F → T
         courses_on until events e es acts us fate drawn fate_after w between w'
         (subst (λ t. Courses answers t events acts fate drawn w between) is courses) more
 
-    pub all_course : (passages : List Passage) (from : ℕ) (events : List Timed) (fate fate_after : F)
+    pub all_course : (passages : List StretchTrace) (from : ℕ) (events : List Timed) (fate fate_after : F)
         (w w' : WorldState) → AreInOrder events
         → AllPass answers true d until from events fate fate_after w w' passages
         → Courses answers until events (all_acts passages) fate fate_after w w'
@@ -152,11 +152,11 @@ module _ {F : Type 0} (answers : Bounds → ℕ → F → Option ℕ → F → T
 
   -- ---- what is told meanwhile
 
-  pub courses_go : (until : ℕ) (events : List Timed) (ts : List Transition) (fate fate_after : F) (w w' : WorldState)
+  pub courses_go : (until : ℕ) (events : List Timed) (ts : List ActTrace) (fate fate_after : F) (w w' : WorldState)
       → Courses answers until events ts fate fate_after w w'
       → (told : List Told) × Goes answers until events told fate fate_after w w'
   courses_go until [] ts fate fate_after w w' k = (
-    map (λ (t : Transition). t.told) ts,
+    map (λ (t : ActTrace). t.told) ts,
     record {
       ahead = k.ahead;
       between = k.between;
@@ -167,7 +167,7 @@ module _ {F : Type 0} (answers : Bounds → ℕ → F → Option ℕ → F → T
   )
   courses_go until (event ∷ events) ts fate fate_after w w' (first, rest, drawn, between, makes, courses, is) =
       let more = courses_go until events rest drawn fate_after between w' courses in
-      let before = map (λ (t : Transition). t.told) makes.first in (
+      let before = map (λ (t : ActTrace). t.told) makes.first in (
         before ++ more.0,
         (
           before,

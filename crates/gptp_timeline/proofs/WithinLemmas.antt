@@ -65,7 +65,7 @@ use Rattle.gptp_timeline.proofs.PastLemmas.{all_past, PastBy}
 use Rattle.gptp_timeline.proofs.RestLemmas.{found_live, IsAtRest, lives_there, shows_live, stands_there}
 use Rattle.gptp_timeline.proofs.SettlingLemmas.{act_time, alike_after, begins, bounded, calm_since, early_makes, ends_by, events_fit, events_then, IsFitEvent, Keeps, keeps_act, keeps_first, keeps_later, keeps_made, left_first, no_change, rests, span_after}
 use Rattle.gptp_timeline.proofs.WayLemmas.{way_there}
-use Rattle.gptp_world.specs.Transitions.{Passes, Transition}
+use Rattle.gptp_world.specs.Transitions.{Passes, ActTrace}
 
 -- ---- an error
 
@@ -74,7 +74,7 @@ size_within : (bound : ℕ) (offset ahead : ℤ) → AreWithin bound offset ahea
 size_within bound offset ahead within = omega (arith, ints, within.low, within.high)
 
 -- It is that of the offset of a live system, by its clock and that of the live system whose clock its root names.
-record HasError (name : ℕ) (t : Transition) (error : ℤ) : Type 0 where
+record HasError (name : ℕ) (t : ActTrace) (error : ℤ) : Type 0 where
   own : SystemState
   lives : live_system name t.after ≡ Some own
   offset : ℤ
@@ -83,7 +83,7 @@ record HasError (name : ℕ) (t : Transition) (error : ℤ) : Type 0 where
   leads : live_system (clock_of own.root) t.after ≡ Some leader
   is : error ≡ offset -ℤ (local_time own (at_of t) -ℤ local_time leader (at_of t))
 
-has_error : (name : ℕ) (t : Transition) (error : ℤ) → error_at name t ≡ Some error → HasError name t error
+has_error : (name : ℕ) (t : ActTrace) (error : ℤ) → error_at name t ≡ Some error → HasError name t error
 has_error name t error is = by_own (live_system name t.after) refl is
   where
     off_by : SystemState → ℤ → SystemState → ℤ
@@ -156,8 +156,8 @@ module _ {F : Type 0} (answers : Bounds → ℕ → F → Option ℕ → F → T
   pace = pace_of n
 
   -- a world that keeps to these events
-  abbrev Kept : List Timed → WorldState → Type 0
-  Kept events w = Keeps answers d playable names events w
+  abbrev StretchesSoFar : List Timed → WorldState → Type 0
+  StretchesSoFar events w = Keeps answers d playable names events w
 
   -- what is said of a system that isn't its own root, by the network as it stands after these events
   record HasBound (events : List Timed) (g : Snapshot) (name from bound : ℕ) : Type 0 where
@@ -175,18 +175,19 @@ module _ {F : Type 0} (answers : Bounds → ℕ → F → Option ℕ → F → T
     abbrev span : ℕ
     span = span_after answers d playable names events g
 
-    module _ (until : ℕ) (t : Transition) (fate drawn : F) (w : WorldState)
-        (happens : Happens answers until t.told fate drawn w t.after) (keeps : Kept events w) (late : from ≤ at_of t)
+    module _ (until : ℕ) (t : ActTrace) (fate drawn : F) (w : WorldState)
+        (happens : Happens answers until t.told fate drawn w t.after) (keeps : StretchesSoFar events w)
+        (late : from ≤ at_of t)
       where
         abbrev then : WorldState
         then = at (at_of t) w
 
-        keeps_then : Kept events then
+        keeps_then : StretchesSoFar events then
         keeps_then =
             let timely = happens.was_done.ready.timely in
             keeps_later answers d playable names events w (at_of t) timely.now timely.first keeps
 
-        keeps_after : Kept events t.after
+        keeps_after : StretchesSoFar events t.after
         keeps_after = keeps_act answers d playable names events until t fate drawn w happens keeps
 
         network : KeepsNetwork then t.after
@@ -308,8 +309,8 @@ module _ {F : Type 0} (answers : Bounds → ℕ → F → Option ℕ → F → T
             let is_off : error ≡ e.offset -ℤ ahead = e.is ∙ (λ i. e.offset -ℤ (own_time i -ℤ root_time i)) in
             subst (λ z. unsigned_abs z ≤ bound) (sym is_off) (size_within bound e.offset ahead within)
 
-    passes_within : (until : ℕ) (ts : List Transition) (fate fate_after : F) (w w' : WorldState) → until ≤ 10 ^ 18
-        → Passes answers until ts fate fate_after w w' → Kept events w
+    passes_within : (until : ℕ) (ts : List ActTrace) (fate fate_after : F) (w w' : WorldState) → until ≤ 10 ^ 18
+        → Passes answers until ts fate fate_after w w' → StretchesSoFar events w
         → AllByRecursion (ErrorIsWithin name from bound) ts
     passes_within until [] fate fate_after w w' early k keeps = tt
     passes_within until (t ∷ ts) fate fate_after w w' early (drawn, before, happens, rest) keeps = (
@@ -322,13 +323,13 @@ module _ {F : Type 0} (answers : Bounds → ℕ → F → Option ℕ → F → T
 
   -- with events before the bounds hold
   courses_within : (before events : List Timed) (until last : ℕ) (g : Snapshot) (name from bound : ℕ)
-      (ts : List Transition) (fate fate_after : F) (w w' : WorldState) → until ≤ 10 ^ 18 → last < from
+      (ts : List ActTrace) (fate fate_after : F) (w w' : WorldState) → until ≤ 10 ^ 18 → last < from
       → Each (IsFitEvent answers d playable names) events → PastBy last events
       → HasBound (before ++ events) g name from bound → Courses answers until events ts fate fate_after w w'
-      → Kept before w → AllByRecursion (ErrorIsWithin name from bound) ts
+      → StretchesSoFar before w → AllByRecursion (ErrorIsWithin name from bound) ts
   courses_within before [] until last g name from bound ts fate fate_after w w' early soon fit past has k keeps =
       passes_within (before ++ []) g name from bound has until ts fate fate_after w k.between early k.passes
-      (subst (λ es. Kept es w) (sym (append-nil before)) keeps)
+      (subst (λ es. StretchesSoFar es w) (sym (append-nil before)) keeps)
   courses_within before (event ∷ events) until last g name from bound ts fate fate_after w w' early soon fit past has
       (first, rest, drawn, between, makes, k, is) keeps =
       let by_last = past.0 in
@@ -403,11 +404,11 @@ module _ {F : Type 0} (answers : Bounds → ℕ → F → Option ℕ → F → T
 
   -- with its events, of those of the document
   pub run_within : (until time : ℕ) (before now : List Timed) (errors : TimeErrors) (name from bound : ℕ)
-      (ts : List Transition) (fate fate_after : F) (w w' : WorldState) → until ≤ 10 ^ 18
+      (ts : List ActTrace) (fate fate_after : F) (w w' : WorldState) → until ≤ 10 ^ 18
       → events_by time d.events ≡ before ++ now → Each (IsFitEvent answers d playable names) now
       → AreTimeErrors d time errors → SayBound errors name from bound
-      → Courses answers until now ts fate fate_after w w' → Kept before w
-      → (t : Transition) → In t ts → ErrorIsWithin name from bound t
+      → Courses answers until now ts fate fate_after w w' → StretchesSoFar before w
+      → (t : ActTrace) → In t ts → ErrorIsWithin name from bound t
   run_within until time before now errors name from bound ts fate fate_after w w' early are fit hold says k keeps t
       member =
       let has = has_bound time errors name from bound hold says in
@@ -448,10 +449,10 @@ errors_are_within answers d until options fate lines exceeded t playable early p
     (each, errors_within name from bound p.acts each)
 
 pub runs_are_within : {F : Type 0} (answers : Bounds → ℕ → F → Option ℕ → F → Type 0) (d : DocumentState) (until : ℕ)
-    (fate : F) (start : WorldState) (ts : List Transition) (w : WorldState) (errors : TimeErrors)
+    (fate : F) (start : WorldState) (ts : List ActTrace) (w : WorldState) (errors : TimeErrors)
     (name from bound : ℕ) → IsPlayable d → until ≤ 10 ^ 18 → Unfolds answers d until fate start ts w
     → AreTimeErrors d until errors → SayBound errors name from bound
-    → (act : Transition) → In act ts → ErrorIsWithin name from bound act
+    → (act : ActTrace) → In act ts → ErrorIsWithin name from bound act
 runs_are_within answers d until fate start ts w errors name from bound playable early unfolds are says =
     let clocks = rising_clocks start in
     run_within answers d playable clocks until until [] (events_by until d.events) errors name from bound ts

@@ -10,21 +10,21 @@ use Rattle.gptp_timeline.specs.Ends.{EndState}
 use Rattle.gptp_timeline.specs.Limits.{exceeded_after}
 use Rattle.gptp_timeline.specs.Shown.{shown}
 use Rattle.gptp_timeline.specs.Stretch.{roots_of, shown_of_all, waits}
-use Rattle.gptp_timeline.specs.Timeline.{AllPass, ended_of, none_waits, Passage, stretch_of}
+use Rattle.gptp_timeline.specs.Timeline.{AllPass, ended_of, none_waits, StretchTrace, stretch_of}
 use Rattle.gptp_timeline.specs.Watch.{WatchState}
-use Rattle.gptp_timeline.specs.declared.ends.Kept.{Kept}
+use Rattle.gptp_timeline.specs.declared.ends.StretchesSoFar.{StretchesSoFar}
 use Rattle.gptp_timeline.specs.declared.limits.Limits.{Limits}
 use Rattle.gptp_timeline.specs.declared.timeline.Plan.{Plan}
 
 -- how a stretch ended that passed, where each system had been waiting since then
-abbrev pub end_in : List ℕ → (ℕ → Option ℕ) → Passage → EndState
+abbrev pub end_in : List ℕ → (ℕ → Option ℕ) → StretchTrace → EndState
 end_in names since p = record {
   stretch = stretch_of names since p;
   roots = roots_of (map (λ name. shown name p.after) names);
 }
 
 -- so did several, one after another
-abbrev pub ends_in : List ℕ → (ℕ → Option ℕ) → List Passage → List EndState
+abbrev pub ends_in : List ℕ → (ℕ → Option ℕ) → List StretchTrace → List EndState
 ends_in names since [] = []
 ends_in names since (p ∷ ps) = end_in names since p ∷ ends_in names (waits p.acts since) ps
 
@@ -42,7 +42,7 @@ pub record EndsOf {F : Type 0} (answers : Bounds → ℕ → F → Option ℕ �
   pub started : F
   pub start : WorldState
   pub begun : Begun answers d.network fate started start
-  pub passages : List Passage
+  pub passages : List StretchTrace
   pub fate_after : F
   pub after : WorldState
   pub pass : AllPass answers false d until 0 (events_by until d.events) started fate_after start after passages
@@ -54,11 +54,11 @@ abbrev pub end_of : Plan → WatchState → EndState
 end_of plan o = record { stretch = ended_of plan o; roots = roots_of (shown_of_all o.systems) }
 
 -- nothing is kept yet
-abbrev pub none_kept : Kept
+abbrev pub none_kept : StretchesSoFar
 none_kept = record { exceeded = None; before = None; last = None }
 
 -- what is kept with one stretch more
-abbrev pub kept_after : Limits → EndState → Kept → Kept
+abbrev pub kept_after : Limits → EndState → StretchesSoFar → StretchesSoFar
 kept_after limits e kept = record {
   exceeded = exceeded_after limits e.stretch kept.exceeded;
   before = kept.last;
@@ -66,7 +66,7 @@ kept_after limits e kept = record {
 }
 
 -- and with several
-abbrev pub all_kept : Limits → List ℕ → (ℕ → Option ℕ) → List Passage → Kept → Kept
+abbrev pub all_kept : Limits → List ℕ → (ℕ → Option ℕ) → List StretchTrace → StretchesSoFar → StretchesSoFar
 all_kept limits names since [] kept = kept
 all_kept limits names since (p ∷ ps) kept =
     all_kept limits names (waits p.acts since) ps (kept_after limits (end_in names since p) kept)

@@ -19,7 +19,7 @@ use Rattle.gptp_roles.specs.Selection.{clock_of}
 use Rattle.gptp_accuracy.specs.TimeErrors.{AreTimeErrors}
 use Rattle.gptp_accuracy.specs.declared.errors.SystemError.{SystemError}
 use Rattle.gptp_accuracy.specs.declared.errors.TimeErrors.{TimeErrors}
-use Rattle.gptp_world.specs.Transitions.{Transition}
+use Rattle.gptp_world.specs.Transitions.{ActTrace}
 use Rattle.gptp_report.specs.Transitions.{Unfolds}
 use Rattle.gptp_timeline.specs.Changes.{change_lines}
 use Rattle.gptp_timeline.specs.Each.{Each}
@@ -28,13 +28,13 @@ use Rattle.gptp_timeline.specs.Shown.{shown}
 use Rattle.gptp_timeline.specs.Stretch.{at_of, error_at, error_from, receives, roots_of}
 use Rattle.gptp_timeline.specs.StretchText.{behind}
 use Rattle.gptp_timeline.specs.Tellings.{all_tellings, telling_line, tellings, TellLast}
-use Rattle.gptp_timeline.specs.Timeline.{Passage, TimelineOf, stretch_of}
+use Rattle.gptp_timeline.specs.Timeline.{StretchTrace, TimelineOf, stretch_of}
 use Rattle.gptp_timeline.specs.declared.shown.Shown.{Shown}
 use Rattle.gptp_timeline.specs.declared.timeline.TimelineOptions.{TimelineOptions}
 
 -- the acts of all stretches
-abbrev pub all_acts : List Passage → List Transition
-all_acts passages = flat_map (λ (p : Passage). p.acts) passages
+abbrev pub all_acts : List StretchTrace → List ActTrace
+all_acts passages = flat_map (λ (p : StretchTrace). p.acts) passages
 
 -- The stretches of a timeline together are one run of its document: the document goes on by the acts of all of them to
 -- the world where the last ends.
@@ -66,8 +66,8 @@ AllNear g = (name : ℕ) → In name (clocks g) → IsNear g name
 
 -- Where a stretch has a bound, and every live system is near where it ends, no act later than the bound after its
 -- begin leaves a system another as to whether it lives, root, steps or Slave port, nor as to role or capable of a port.
-abbrev pub Settle : List Passage → Type 0
-Settle passages = (p : Passage) (bound : ℕ) (names : List ℕ) (since : ℕ → Option ℕ)
+abbrev pub Settle : List StretchTrace → Type 0
+Settle passages = (p : StretchTrace) (bound : ℕ) (names : List ℕ) (since : ℕ → Option ℕ)
     → In p passages → p.bound ≡ Some bound → AllNear (snapshot_of p.after)
     → IfSome (choice_after (stretch_of names since p)) (λ time. time ≤ bound)
     × IfSome (behind p.from (stretch_of names since p).measures.roles) (λ time. time ≤ bound)
@@ -87,8 +87,8 @@ AreRoots g roots = Each (IsShownRoot g) (clocks g) roots
 
 -- Where a stretch has a bound and lasts as long, the roots that live systems follow where it ends are those of the
 -- settled choice of the network as it stands then: of each near system the best of its component.
-abbrev pub Follow : DocumentState → WorldState → List Passage → Type 0
-Follow d start passages = (p : Passage) (bound : ℕ) (g : Snapshot)
+abbrev pub Follow : DocumentState → WorldState → List StretchTrace → Type 0
+Follow d start passages = (p : StretchTrace) (bound : ℕ) (g : Snapshot)
     → In p passages → p.bound ≡ Some bound → p.from + bound ≤ p.to → IsSnapshot d p.from g
     → AreRoots g (roots_of (map (λ name. shown name p.after) (rising_clocks start)))
 
@@ -107,16 +107,16 @@ pub record SayBound (errors : TimeErrors) (name from bound : ℕ) : Type 0 where
   pub bound_is : system.error ≡ Some bound
 
 -- the error of a receipt of a system from a time on is within a bound
-abbrev pub ErrorIsWithin : ℕ → ℕ → ℕ → Transition → Type 0
+abbrev pub ErrorIsWithin : ℕ → ℕ → ℕ → ActTrace → Type 0
 ErrorIsWithin name from bound t = (error : ℤ) → from ≤ at_of t → receives name t ≡ true → error_at name t ≡ Some error
     → unsigned_abs error ≤ bound
 
 -- Errors of receipts are within the bounds that the time errors of their stretch say, each from the time on from which
 -- these hold; and so is the greatest of them, which is what the `accuracy` line of a system says.
-abbrev pub AreErrorsWithin : List Passage → Type 0
-AreErrorsWithin passages = (p : Passage) (errors : TimeErrors) (name from bound : ℕ)
+abbrev pub AreErrorsWithin : List StretchTrace → Type 0
+AreErrorsWithin passages = (p : StretchTrace) (errors : TimeErrors) (name from bound : ℕ)
     → In p passages → p.errors ≡ Some errors → SayBound errors name from bound
-    → ((act : Transition) → In act p.acts → ErrorIsWithin name from bound act)
+    → ((act : ActTrace) → In act p.acts → ErrorIsWithin name from bound act)
     × IfSome (error_from name (Some from) p.acts) (λ amount. amount ≤ bound)
 
 -- The errors of a timeline are within its bounds as long as clocks can show the time.
@@ -127,11 +127,11 @@ ErrorsAreWithin {F} answers = (d : DocumentState) (until : ℕ) (options : Timel
 
 -- The errors in every run of a document are within the time errors of the document as it is at the end of the run.
 abbrev pub RunsAreWithin : {F : Type 0} → (Bounds → ℕ → F → Option ℕ → F → Type 0) → Type 0
-RunsAreWithin {F} answers = (d : DocumentState) (until : ℕ) (fate : F) (start : WorldState) (ts : List Transition)
+RunsAreWithin {F} answers = (d : DocumentState) (until : ℕ) (fate : F) (start : WorldState) (ts : List ActTrace)
     (w : WorldState) (errors : TimeErrors) (name from bound : ℕ)
     → IsPlayable d → until ≤ 10 ^ 18 → Unfolds answers d until fate start ts w → AreTimeErrors d until errors
     → SayBound errors name from bound
-    → (act : Transition) → In act ts → ErrorIsWithin name from bound act
+    → (act : ActTrace) → In act ts → ErrorIsWithin name from bound act
 
 -- ---- all of it at once
 

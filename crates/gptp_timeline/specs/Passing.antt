@@ -6,7 +6,7 @@ use Rattle.gptp_links.specs.declared.bounds.Bounds.{Bounds}
 use Rattle.gptp_network.specs.Document.{DocumentState}
 use Rattle.gptp_scenario.specs.declared.change.Timed.{Timed}
 use Rattle.gptp_world.specs.Observing.{Tells}
-use Rattle.gptp_world.specs.Transitions.{Transition}
+use Rattle.gptp_world.specs.Transitions.{ActTrace}
 use Rattle.gptp_report.specs.Transitions.{Courses, CoursesSoFar}
 use Rattle.gptp_timeline.specs.Timeline.{end_lines, exact_time, is_begun, IsTimelinePlan}
 use Rattle.gptp_timeline.specs.Watch.{watch_begun, event_look, nothing, see_all, tells_changes, unseen, WatchState}
@@ -35,14 +35,14 @@ watch_at_start options w = see_all (event_look 0) w (watch_before options w)
 pub record StretchIsSeen {F : Type 0} (answers : Bounds → ℕ → F → Option ℕ → F → Type 0) (plan : Plan)
     (events : List Timed)
     (fate fate_after : F) (w w' : WorldState) (o o_after : WatchState) (told : List (List ℕ)) : Type 0 where
-  pub acts : List Transition
+  pub acts : List ActTrace
   pub courses : Courses answers plan.to events acts fate fate_after w w'
   pub tells : Tells tells_changes acts (watch_begun (exact_time plan.errors) o) o_after told
 
 -- some of them were
 pub record IsSeenSoFar {F : Type 0} (answers : Bounds → ℕ → F → Option ℕ → F → Type 0) (plan : Plan)
     (events : List Timed) (fate : F) (w : WorldState) (o : WatchState) (told : List (List ℕ)) : Type 0 where
-  pub acts : List Transition
+  pub acts : List ActTrace
   pub o_after : WatchState
   pub courses : CoursesSoFar answers plan.to events acts fate w
   pub tells : Tells tells_changes acts (watch_begun (exact_time plan.errors) o) o_after told

@@ -5,7 +5,7 @@ use Rattle.std.specs.List.{count_by, filter, filter_map, list_any}
 use Rattle.std.specs.Option.{option_and_then, option_map, option_map_or, option_or}
 use Rattle.gptp_scenario.specs.declared.change.Act.{Act}
 use Rattle.gptp_scenario.specs.declared.change.Act.TheVariants.{Change as Changing, Deliver, Expire}
-use Rattle.gptp_world.specs.Transitions.{Transition}
+use Rattle.gptp_world.specs.Transitions.{ActTrace}
 use Rattle.gptp_timeline.specs.Measures.{ended_by, greatest, one_at, since_after}
 use Rattle.gptp_timeline.specs.Ports.{same_bool}
 use Rattle.gptp_timeline.specs.Receipts.{offset_error, received_by}
@@ -19,7 +19,7 @@ use Rattle.gptp_accuracy.specs.TimeErrors.{root_is_capable}
 
 -- ---- an act
 
-abbrev pub at_of : Transition → ℕ
+abbrev pub at_of : ActTrace → ℕ
 at_of t = t.told.timed.at
 
 abbrev pub is_change : Act → Bool
@@ -28,21 +28,21 @@ is_change (Expire clock timer) = false
 is_change (Changing change) = true
 
 -- it is an event
-abbrev pub is_event : Transition → Bool
+abbrev pub is_event : ActTrace → Bool
 is_event t = is_change t.told.timed.act
 
 -- a system receives time by it
-abbrev pub receives : ℕ → Transition → Bool
+abbrev pub receives : ℕ → ActTrace → Bool
 receives name t = option_map_or (λ clock. clock == name) (received_by t.told.done) false
 
 -- ---- the last act that left some system another
 
 -- something of a system isn't as before
-abbrev pub leaves_another : (Option Shown → Option Shown → Bool) → List ℕ → Transition → Bool
+abbrev pub leaves_another : (Option Shown → Option Shown → Bool) → List ℕ → ActTrace → Bool
 leaves_another same names t = list_any (λ name. not (same (shown name t.before) (shown name t.after))) names
 
 -- when the last of these acts was that passes a test
-abbrev pub last_at : (Transition → Bool) → List Transition → Option ℕ
+abbrev pub last_at : (ActTrace → Bool) → List ActTrace → Option ℕ
 last_at test [] = None
 last_at test (t ∷ ts) = option_or (last_at test ts) (if test t then Some (at_of t) else None)
 
@@ -52,22 +52,22 @@ same_known before after = same_bool (is_known before) (is_known after)
 -- ---- waits
 
 -- Since when each system has been waiting, after an act.
-abbrev pub waits_after : Transition → (ℕ → Option ℕ) → ℕ → Option ℕ
+abbrev pub waits_after : ActTrace → (ℕ → Option ℕ) → ℕ → Option ℕ
 waits_after t since name = since_after (at_of t) (receives name t) (is_expecting (shown name t.before))
     (is_expecting (shown name t.after)) (since name)
 
 -- after several acts, one after another
-abbrev pub waits : List Transition → (ℕ → Option ℕ) → ℕ → Option ℕ
+abbrev pub waits : List ActTrace → (ℕ → Option ℕ) → ℕ → Option ℕ
 waits [] since = since
 waits (t ∷ ts) since = waits ts (waits_after t since)
 
 -- the waits that an act ended, by rising clock
-abbrev pub ended_in : List ℕ → (ℕ → Option ℕ) → Transition → List Greatest
+abbrev pub ended_in : List ℕ → (ℕ → Option ℕ) → ActTrace → List Greatest
 ended_in names since t = filter_map (λ name. option_map (one_at name) (ended_by (at_of t) (is_event t)
     (receives name t) (is_expecting (shown name t.after)) (since name))) names
 
 -- those that several acts ended, in their order
-abbrev pub ended : List ℕ → (ℕ → Option ℕ) → List Transition → List Greatest
+abbrev pub ended : List ℕ → (ℕ → Option ℕ) → List ActTrace → List Greatest
 ended names since [] = []
 ended names since (t ∷ ts) = ended_in names since t ++ ended names (waits_after t since) ts
 
@@ -77,36 +77,36 @@ under_way names since time = filter_map (λ name. option_map (λ begun. one_at n
 
 -- The longest wait of a stretch that ends at a time: of those that its acts ended, and of those that are under way
 -- where it ends. Of equals it is that whose ending act came first.
-abbrev pub holdover : List ℕ → (ℕ → Option ℕ) → ℕ → List Transition → Option Greatest
+abbrev pub holdover : List ℕ → (ℕ → Option ℕ) → ℕ → List ActTrace → Option Greatest
 holdover names since time ts = greatest (ended names since ts ++ under_way names (waits ts since) time)
 
 -- ---- errors
 
 -- the error of the receipt of a system by an act
-abbrev pub error_at : ℕ → Transition → Option ℤ
+abbrev pub error_at : ℕ → ActTrace → Option ℤ
 error_at name t = option_and_then (λ s. offset_error (at_of t) s t.after) (live_system name t.after)
 
 -- without its sign, with the system that received
-abbrev pub error_in : Transition → Option Greatest
+abbrev pub error_in : ActTrace → Option Greatest
 error_in t = option_and_then (λ name.
     option_map (λ error. one_at name (unsigned_abs error)) (error_at name t)) (received_by t.told.done)
 
 -- the greatest of all receipts; of equals the first
-abbrev pub worst_error : List Transition → Option Greatest
+abbrev pub worst_error : List ActTrace → Option Greatest
 worst_error ts = greatest (filter_map error_in ts)
 
 -- a receipt of this system, at a time or later
-abbrev pub counts_for : ℕ → Option ℕ → Transition → Bool
+abbrev pub counts_for : ℕ → Option ℕ → ActTrace → Bool
 counts_for name from t = option_map_or (λ time. nat_le time (at_of t)) from false && receives name t
 
 -- the greatest of the receipts of one system from a time on
-abbrev pub error_from : ℕ → Option ℕ → List Transition → Option ℕ
+abbrev pub error_from : ℕ → Option ℕ → List ActTrace → Option ℕ
 error_from name from ts =
     option_map (λ (g : Greatest). g.amount) (greatest (filter_map error_in (filter (counts_for name from) ts)))
 
 -- ---- what is measured of a stretch that ends at a time: of its acts, and since when each system waited before
 
-abbrev pub measured : List ℕ → (ℕ → Option ℕ) → ℕ → List Transition → Measures
+abbrev pub measured : List ℕ → (ℕ → Option ℕ) → ℕ → List ActTrace → Measures
 measured names since time ts = record {
   choice = last_at (leaves_another same_choice names) ts;
   roles = last_at (leaves_another same_roles names) ts;

@@ -3,7 +3,7 @@ use Rattle.std.specs.Prelude.{◌≡◌, ◌≢◌, ◌==◌, ◌+◌, ℕ, if�
 use Rattle.std.specs.List.{flat_map}
 use Rattle.std.specs.Option.{option_or}
 use Rattle.gptp_model.specs.World.{WorldState}
-use Rattle.gptp_world.specs.Transitions.{Transition}
+use Rattle.gptp_world.specs.Transitions.{ActTrace}
 use Rattle.gptp_timeline.specs.Changes.{changed_failed_line, is_same, changed_port_line, same_line, changed_system_line}
 use Rattle.gptp_timeline.specs.Shown.{shown}
 use Rattle.gptp_timeline.specs.declared.ports.ShownPort.{ShownPort}
@@ -38,10 +38,10 @@ tellings (Some s) (Some t) =
     (if same_line (Some s) (Some t) then [] else OfSystem t ∷ []) ++ port_tellings 0 s.ports t.ports
 
 -- after all these acts, one after another, and after the start before them
-abbrev pub all_tellings : ℕ → WorldState → List Transition → List Telling
+abbrev pub all_tellings : ℕ → WorldState → List ActTrace → List Telling
 all_tellings name start ts =
     tellings None (shown name start)
-    ++ flat_map (λ (t : Transition). tellings (shown name t.before) (shown name t.after)) ts
+    ++ flat_map (λ (t : ActTrace). tellings (shown name t.before) (shown name t.after)) ts
 
 -- ---- what stands last
 

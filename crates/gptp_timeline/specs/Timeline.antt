@@ -11,7 +11,7 @@ use Rattle.gptp_network.specs.Span.{IsBound}
 use Rattle.gptp_scenario.specs.declared.change.Act.{Act}
 use Rattle.gptp_scenario.specs.declared.change.Act.TheVariants.{Change as Changing, Deliver, Expire}
 use Rattle.gptp_scenario.specs.declared.change.Timed.{Timed}
-use Rattle.gptp_world.specs.Transitions.{Transition}
+use Rattle.gptp_world.specs.Transitions.{ActTrace}
 use Rattle.gptp_report.specs.Transitions.{Courses, CoursesSoFar}
 use Rattle.gptp_model.specs.Course.{Begun}
 use Rattle.gptp_system.specs.State.{SystemState}
@@ -42,21 +42,21 @@ event_lines at (Expire clock timer) = []
 event_lines at (Changing change) = event_line at change ∷ []
 
 -- what it leaves another at each system, by rising clock
-abbrev pub all_changes : List ℕ → Transition → List (List ℕ)
+abbrev pub all_changes : List ℕ → ActTrace → List (List ℕ)
 all_changes names t =
     flat_map (λ name. change_lines (at_of t) name (shown name t.before) (shown name t.after)) names
 
 -- the line of the receipt of a live system
-abbrev pub stretch_receipt_lines : ℕ → Transition → Option SystemState → List (List ℕ)
+abbrev pub stretch_receipt_lines : ℕ → ActTrace → Option SystemState → List (List ℕ)
 stretch_receipt_lines name t None = []
 stretch_receipt_lines name t (Some s) = offset_line (at_of t) name s.offset (error_at name t) ∷ []
 
-abbrev pub offset_lines : Transition → Option ℕ → List (List ℕ)
+abbrev pub offset_lines : ActTrace → Option ℕ → List (List ℕ)
 offset_lines t None = []
 offset_lines t (Some name) = stretch_receipt_lines name t (live_system name t.after)
 
 -- The event first, then what is another at systems, then the receipt.
-abbrev pub act_lines : TimelineOptions → List ℕ → Transition → List (List ℕ)
+abbrev pub act_lines : TimelineOptions → List ℕ → ActTrace → List (List ℕ)
 act_lines options names t =
     unless options.summary (event_lines (at_of t) t.told.timed.act ++ all_changes names t)
     ++ unless (not options.offsets) (offset_lines t (received_by t.told.done))
@@ -68,12 +68,12 @@ start_lines options names w =
 
 -- ---- how exact systems were
 
-abbrev pub accuracy_at : Option ℕ → List Transition → List SystemError → List (List ℕ)
+abbrev pub accuracy_at : Option ℕ → List ActTrace → List SystemError → List (List ℕ)
 accuracy_at None ts systems = []
 accuracy_at (Some from) ts systems = flat_map (system_accuracy from (λ name. error_from name (Some from) ts)) systems
 
 -- all of them, by rising clock
-abbrev pub timeline_accuracy_lines : List Transition → Option TimeErrors → List (List ℕ)
+abbrev pub timeline_accuracy_lines : List ActTrace → Option TimeErrors → List (List ℕ)
 timeline_accuracy_lines ts None = []
 timeline_accuracy_lines ts (Some t) = accuracy_at t.from ts t.systems.items
 
@@ -114,11 +114,11 @@ AreErrorsIf false d at to errors = errors ≡ None
 -- ---- a stretch
 
 -- What passes in a stretch: it begins with these events, and these acts are done in it, which lead to this world.
-pub record Passage : Type 0 where
+pub record StretchTrace : Type 0 where
   pub from : ℕ
   pub to : ℕ
   pub events : List Timed
-  pub acts : List Transition
+  pub acts : List ActTrace
   pub after : WorldState
   pub bound : Option ℕ
   pub errors : Option TimeErrors
@@ -139,7 +139,7 @@ pub record IsTimelinePlan (exact : Bool) (d : DocumentState) (from to : ℕ) (be
     pub errors_are : AreErrorsIf exact d from to plan.errors
 
 -- what became of it, where each system had been waiting since then
-abbrev pub stretch_of : List ℕ → (ℕ → Option ℕ) → Passage → Stretch
+abbrev pub stretch_of : List ℕ → (ℕ → Option ℕ) → StretchTrace → Stretch
 stretch_of names since p = record {
   from = p.from;
   to = p.to;
@@ -150,20 +150,20 @@ stretch_of names since p = record {
 }
 
 -- the lines of its acts, the line where it ends, and how exact systems were
-abbrev pub passage_lines : TimelineOptions → List ℕ → (ℕ → Option ℕ) → Passage → List (List ℕ)
+abbrev pub passage_lines : TimelineOptions → List ℕ → (ℕ → Option ℕ) → StretchTrace → List (List ℕ)
 passage_lines options names since p =
     flat_map (act_lines options names) p.acts
     ++ after_line (stretch_of names since p) ∷ timeline_accuracy_lines p.acts p.errors
 
 -- ---- all stretches
 
-abbrev pub all_lines : TimelineOptions → List ℕ → (ℕ → Option ℕ) → List Passage → List (List ℕ)
+abbrev pub all_lines : TimelineOptions → List ℕ → (ℕ → Option ℕ) → List StretchTrace → List (List ℕ)
 all_lines options names since [] = []
 all_lines options names since (p ∷ ps) =
     passage_lines options names since p ++ all_lines options names (waits p.acts since) ps
 
 -- the first limit that some of them exceed, or others did before
-abbrev pub all_exceeded : Limits → List ℕ → (ℕ → Option ℕ) → List Passage → Option Limit → Option Limit
+abbrev pub all_exceeded : Limits → List ℕ → (ℕ → Option ℕ) → List StretchTrace → Option Limit → Option Limit
 all_exceeded limits names since [] before = before
 all_exceeded limits names since (p ∷ ps) before =
     all_exceeded limits names (waits p.acts since) ps (exceeded_after limits (stretch_of names since p) before)
@@ -183,7 +183,7 @@ end_before until (e ∷ es) = e.at
 -- A stretch begins at a time with its events, of those that are left, and ends where the next begins.
 pub record IsPassage {F : Type 0} (answers : Bounds → ℕ → F → Option ℕ → F → Type 0) (exact : Bool) (d : DocumentState)
     (until from : ℕ)
-    (events : List Timed) (fate fate_after : F) (w : WorldState) (p : Passage) : Type 0 where
+    (events : List Timed) (fate fate_after : F) (w : WorldState) (p : StretchTrace) : Type 0 where
   pub from_is : p.from ≡ from
   pub to_is : p.to ≡ end_before until (later_than from events)
   pub events_are : p.events ≡ now_of from events
@@ -193,7 +193,7 @@ pub record IsPassage {F : Type 0} (answers : Bounds → ℕ → F → Option ℕ
 
 -- Stretches pass, one after another: the first from a time on, the last to the end.
 abbrev pub AllPass : {F : Type 0} → (Bounds → ℕ → F → Option ℕ → F → Type 0) → Bool → DocumentState → ℕ → ℕ → List Timed
-    → F → F → WorldState → WorldState → List Passage → Type 0
+    → F → F → WorldState → WorldState → List StretchTrace → Type 0
 AllPass answers exact d until from events fate fate_after w w' [] = ⊥
 AllPass {F} answers exact d until from events fate fate_after w w' (p ∷ []) =
     IsPassage answers exact d until from events fate fate_after w p × (later_than from events ≡ []) × (w' ≡ p.after)
@@ -213,7 +213,7 @@ pub record TimelineOf {F : Type 0} (answers : Bounds → ℕ → F → Option �
   pub started : F
   pub start : WorldState
   pub begun : Begun answers d.network fate started start
-  pub passages : List Passage
+  pub passages : List StretchTrace
   pub fate_after : F
   pub after : WorldState
   pub pass : AllPass answers true d until 0 (events_by until d.events) started fate_after start after passages
@@ -227,7 +227,7 @@ pub record TimelineOf {F : Type 0} (answers : Bounds → ℕ → F → Option �
 
 -- Some stretches pass, and in the one after them some acts are done; these are the lines until then.
 abbrev pub SomePass : {F : Type 0} → (Bounds → ℕ → F → Option ℕ → F → Type 0) → Bool → DocumentState → ℕ → ℕ
-    → List Timed → F → WorldState → List Passage → List Transition → Type 0
+    → List Timed → F → WorldState → List StretchTrace → List ActTrace → Type 0
 SomePass answers exact d until from events fate w [] ts =
     CoursesSoFar answers (end_before until (later_than from events)) (now_of from events) ts fate w
 SomePass {F} answers exact d until from events fate w (p ∷ ps) ts =
@@ -239,8 +239,8 @@ pub record TimelineSoFar {F : Type 0} (answers : Bounds → ℕ → F → Option
   pub started : F
   pub start : WorldState
   pub begun : Begun answers d.network fate started start
-  pub passages : List Passage
-  pub acts : List Transition
+  pub passages : List StretchTrace
+  pub acts : List ActTrace
   pub pass : SomePass answers true d until 0 (events_by until d.events) started start passages acts
   pub are : lines ≡ start_lines options (rising_clocks start) start
       ++ all_lines options (rising_clocks start) none_waits passages

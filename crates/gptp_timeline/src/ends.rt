@@ -51,7 +51,7 @@ impl StretchEnd {
 
 /// What is kept of the stretches that ended so far.
 #[derive(Drop)]
-pub(crate) struct Kept {
+pub(crate) struct StretchesSoFar {
     /// The first limit that some of them exceeded.
     pub exceeded: Option<Limit>,
     /// How the last but one ended.
@@ -61,10 +61,10 @@ pub(crate) struct Kept {
 }
 
 /// Nothing is kept yet.
-pub(crate) fn none_kept() -> Kept
+pub(crate) fn none_kept() -> StretchesSoFar
     ensures { result ≡ none_kept }
 {
-    Kept {
+    StretchesSoFar {
         exceeded: None,
         before: None,
         last: None,
@@ -72,15 +72,15 @@ pub(crate) fn none_kept() -> Kept
 }
 
 /// What is kept with one stretch more.
-pub(crate) fn keep(limits: &Limits, end: StretchEnd, kept: Kept) -> Kept
+pub(crate) fn keep(limits: &Limits, end: StretchEnd, kept: StretchesSoFar) -> StretchesSoFar
     ensures { result ≡ kept_after limits.now end kept }
 {
-    let Kept {
+    let StretchesSoFar {
         exceeded,
         before: _before,
         last,
     } = kept;
-    Kept {
+    StretchesSoFar {
         exceeded: exceeded_after(limits, end.stretch(), exceeded),
         before: last,
         last: Some(end),
@@ -88,7 +88,7 @@ pub(crate) fn keep(limits: &Limits, end: StretchEnd, kept: Kept) -> Kept
 }
 
 /// The last two stretches of which something is kept.
-pub(crate) fn both_of(kept: Kept) -> Option<(StretchEnd, StretchEnd)>
+pub(crate) fn both_of(kept: StretchesSoFar) -> Option<(StretchEnd, StretchEnd)>
     ensures { result ≡ both_of kept.before kept.last }
 {
     match (kept.before, kept.last) {

@@ -17,12 +17,12 @@ mod event_line;
 mod laws;
 mod limits;
 mod measures;
+mod null_sink;
 mod ports;
 mod receipts;
 mod shown;
 mod stretch;
 mod timeline;
-mod unwritten;
 mod watch;
 mod watched;
 

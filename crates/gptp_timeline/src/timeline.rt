@@ -12,20 +12,20 @@ ghost use Rattle.gptp_network.specs.Span.{IsBound};
 ghost use Rattle.gptp_scenario.specs.Allowed.{AreAllowed};
 ghost use Rattle.gptp_scenario.specs.Calm.{last_change};
 ghost use Rattle.gptp_sink.specs.Sink.{AppendsSome};
-ghost use Rattle.gptp_world.specs.Transitions.{Transition};
+ghost use Rattle.gptp_world.specs.Transitions.{ActTrace};
 ghost use Rattle.gptp_words.specs.Lines.{text_of};
 ghost use Rattle.gptp_topology.specs.Times.{AreCalmTimes};
 ghost use Rattle.gptp_timeline.specs.LastTwo.{EndsOf, all_kept, end_of, kept_after, none_kept};
 ghost use Rattle.gptp_timeline.specs.Limits.{is_exceeded, verdict_lines};
 ghost use Rattle.gptp_timeline.specs.Passing.{StretchBreaksOff, StretchIsSeen, StopsSeen, first_time, watch_at_start};
-ghost use Rattle.gptp_timeline.specs.Timeline.{AllPass, AreErrorsBy, AreErrorsIf, BeginsTimeline, IsTimelinePlan, Passage, SomePass, TimelineOf, act_lines, all_lines, end_lines, exact_time, is_begun, kept_accuracy, later_than, none_waits, now_of};
+ghost use Rattle.gptp_timeline.specs.Timeline.{AllPass, AreErrorsBy, AreErrorsIf, BeginsTimeline, IsTimelinePlan, StretchTrace, SomePass, TimelineOf, act_lines, all_lines, end_lines, exact_time, is_begun, kept_accuracy, later_than, none_waits, now_of};
 ghost use Rattle.gptp_timeline.specs.Watch.{event_look, lines_all, see_all};
 
 use crate::counts::roots_of;
-use crate::ends::{Kept, StretchEnd, both_of, keep, none_kept};
+use crate::ends::{StretchEnd, StretchesSoFar, both_of, keep, none_kept};
 use crate::limits::{Limit, Limits, NO_LIMITS, write_verdict};
+use crate::null_sink::NullSink;
 use crate::stretch::{ended, write_accuracies, write_after};
-use crate::unwritten::Unwritten;
 use crate::watch::Watch;
 use gptp_accuracy::{TimeErrors, time_errors};
 use gptp_links::Fate;
@@ -289,10 +289,10 @@ fn next_stretch<F: Fate + Drop, K: Sink>(
     to: u64,
     events: &[Timed],
     limits: &Limits,
-    before: Kept,
+    before: StretchesSoFar,
     watch: &mut Watch,
     sink: &mut K,
-) -> Result<Kept, Cut>
+) -> Result<StretchesSoFar, Cut>
     requires allowed { AreAllowed events.now }
     requires prompt { AllDelaysFitIntervals world.old.world_core events.now }
     requires due { events_by to events.now ≡ events.now }
@@ -327,19 +327,19 @@ fn all_stretches<F: Fate + Drop, K: Sink>(
     options: &TimelineOptions,
     watch: &mut Watch,
     sink: &mut K,
-) -> Result<Kept, Cut>
+) -> Result<StretchesSoFar, Cut>
     requires moment { until ≤ 1000000000000000 }
     requires begun { (fate : F) × Begun F.answers document.now.network fate world.old.fate world.old.world_core }
     requires prompt { AllDelaysFitIntervals world.old.world_core document.now.events }
     requires starts { watch.old ≡ watch_at_start options.now world.old.world_core }
     requires times { AreCalmTimes document.now times.now }
-    ensures passed { IfOk result (λ kept. (passages : List Passage)
+    ensures passed { IfOk result (λ kept. (passages : List StretchTrace)
         × AllPass F.answers exact document.now until 0 (events_by until document.now.events) world.old.fate world.new.fate
         world.old.world_core world.new.world_core passages
         × (kept ≡ all_kept options.now.limits (rising_clocks world.old.world_core) none_waits passages none_kept)
         × Appends (K.written sink.old) (K.written sink.new)
         (text_of (all_lines options.now (rising_clocks world.old.world_core) none_waits passages))) }
-    ensures broken { OnErr result ((passages : List Passage) × (acts : List Transition)
+    ensures broken { OnErr result ((passages : List StretchTrace) × (acts : List ActTrace)
         × SomePass F.answers exact document.now until 0 (events_by until document.now.events) world.old.fate world.old.world_core
         passages acts
         × AppendsSome (K.written sink.old) (K.written sink.new)
@@ -463,7 +463,7 @@ pub fn last_stretches<F: Fate + Drop>(
     ensures ends { IfOk result (EndsOf F.answers document.now until fate) }
     ensures memory { IfErr result (λ e. e ≡ Cut.Memory) }
 {
-    let mut sink = Unwritten;
+    let mut sink = NullSink;
     let times = calm_times(alloc, document)?;
     let mut world = begin(alloc, document, fate)?;
     let mut watch = Watch::new(alloc, &world, true, false)?;

@@ -10,7 +10,7 @@ use Rattle.gptp_system.specs.Steps.{IsTimerOf}
 use Rattle.gptp_vector.specs.declared.port.PortId.{PortId}
 use Rattle.gptp_world.specs.declared.joined_link.Lane.{Lane}
 use Rattle.gptp_world.specs.declared.net.Net.{Net as Between}
-use Rattle.gptp_world.specs.declared.stage.Stage.{Stage}
+use Rattle.gptp_world.specs.declared.parts.WorldParts.{WorldParts}
 use Rattle.gptp_model.specs.declared.station.Station.{Station}
 use Rattle.gptp_scenario.specs.declared.change.Act.{Act}
 use Rattle.gptp_model.specs.declared.item.Item.{Item}
@@ -25,7 +25,7 @@ use Rattle.gptp_world.specs.JoinedLink.{channel_of}
 use Rattle.gptp_model.specs.Changing.{IsChannel}
 use Rattle.gptp_world.specs.Directory.{direction_start, BeginsAt, DirectoryState, IsDirectory, PortIsPlaced}
 use Rattle.gptp_world.specs.Net.{between, IsNet}
-use Rattle.gptp_world.specs.Stage.{clock_at_place, world_of, IsStage}
+use Rattle.gptp_world.specs.WorldParts.{clock_at_place, world_of, IsStage}
 use Rattle.gptp_model.specs.World.{Channel, WorldState, world_queue, sender}
 use Rattle.gptp_world.proofs.EndLemmas.{station_at}
 use Rattle.gptp_world.proofs.NetLemmas.{known_cable, known_lane}
@@ -45,14 +45,14 @@ pub lane_joins : (port : PortId) (w : WorldState) (lane : Lane) (at : IsLaneAt p
     → IsChannel port lane.link w.net at.channel
 lane_joins port w lane at = record { here = at.here; joined = at_end port lane.direction at.channel at.begins }
 
-pub lane_found : (stage : Stage) (port : PortId) (lane : Lane) → IsStage stage
-    → BeginsAt stage.net.directory.joins port lane
-    → IsLaneAt port (world_of stage) lane
-lane_found stage port lane is begins =
-    let known = known_cable stage.net port lane is.net begins in
+pub lane_found : (parts : WorldParts) (port : PortId) (lane : Lane) → IsStage parts
+    → BeginsAt parts.net.directory.joins port lane
+    → IsLaneAt port (world_of parts) lane
+lane_found parts port lane is begins =
+    let known = known_cable parts.net port lane is.net begins in
     record {
       channel = channel_of known.0;
-      here = mapped_there channel_of stage.net.cables.items lane.link known.0 known.1;
+      here = mapped_there channel_of parts.net.cables.items lane.link known.0 known.1;
       begins = known.2;
     }
 
@@ -66,10 +66,10 @@ link_lane net port place channel is at = by at.joined
     by (inl a) = (record { link = place; direction = FromA }, known_lane net port place FromA channel is at.here a)
     by (inr b) = (record { link = place; direction = FromB }, known_lane net port place FromB channel is at.here b)
 
-pub no_lane : (stage : Stage) (port : PortId) → IsStage stage
-    → ((lane : Lane) → BeginsAt stage.net.directory.joins port lane → ⊥) → AtLink port (world_of stage).net AnyLink → ⊥
-no_lane stage port is none at =
-    let found = link_lane stage.net port at.place at.channel is.net at.is in none found.0 found.1
+pub no_lane : (parts : WorldParts) (port : PortId) → IsStage parts
+    → ((lane : Lane) → BeginsAt parts.net.directory.joins port lane → ⊥) → AtLink port (world_of parts).net AnyLink → ⊥
+no_lane parts port is none at =
+    let found = link_lane parts.net port at.place at.channel is.net at.is in none found.0 found.1
 
 -- a port where a lane begins is that of a system
 pub begins_placed : (d : DirectoryState) (port : PortId) (lane : Lane) → IsDirectory d → BeginsAt d.joins port lane
@@ -83,48 +83,49 @@ begins_placed d port lane is begins =
 
 -- ---- systems
 
-pub system_found : (stage : Stage) (number place : ℕ) → IsStage stage
-    → slice_get stage.net.directory.clocks place ≡ Some number
-    → PlaceHasClock number (world_of stage) place
-system_found stage number place is there =
-    let stands = station_at stage place number is there in
+pub system_found : (parts : WorldParts) (number place : ℕ) → IsStage parts
+    → slice_get parts.net.directory.clocks place ≡ Some number
+    → PlaceHasClock number (world_of parts) place
+system_found parts number place is there =
+    let stands = station_at parts place number is there in
     record { station = stands.station; is = record { here = stands.here; named = stands.named } }
 
 -- the directory knows the clock of a system
-pub system_clock : (stage : Stage) (number : ℕ) → IsStage stage → (at : AtSystem number (world_of stage) AnySystem)
-    → slice_get stage.net.directory.clocks at.place ≡ Some number
-system_clock stage number is at =
+pub system_clock : (parts : WorldParts) (number : ℕ) → IsStage parts → (at : AtSystem number (world_of parts) AnySystem)
+    → slice_get parts.net.directory.clocks at.place ≡ Some number
+system_clock parts number is at =
     ap (λ cs. slice_get cs at.place) (sym is.clocks)
-    ∙ (mapped_there clock_at_place stage.stations.items at.place at.station at.is.here ∙ ap Some at.is.named)
+    ∙ (mapped_there clock_at_place parts.stations.items at.place at.station at.is.here ∙ ap Some at.is.named)
 
-pub no_system : (stage : Stage) (number : ℕ) → IsStage stage
-    → ((place : ℕ) → slice_get stage.net.directory.clocks place ≡ Some number → ⊥)
-    → AtSystem number (world_of stage) AnySystem → ⊥
-no_system stage number is none at = none at.place (system_clock stage number is at)
+pub no_system : (parts : WorldParts) (number : ℕ) → IsStage parts
+    → ((place : ℕ) → slice_get parts.net.directory.clocks place ≡ Some number → ⊥)
+    → AtSystem number (world_of parts) AnySystem → ⊥
+no_system parts number is none at = none at.place (system_clock parts number is at)
 
 -- ---- timers
 
 -- a clock and its timer are those of one system alone
-pub timer_found : (stage : Stage) (number place : ℕ) (timer : Timer) (is : IsStage stage)
-    → slice_get stage.net.directory.clocks place ≡ Some number
-    → ((station : Station) → slice_get stage.stations.items place ≡ Some station → IsTimerOf station.system timer)
-    → IsTimerAt number (world_of stage) place timer
-timer_found stage number place timer is there of =
-    let stands = station_at stage place number is there in
+pub timer_found : (parts : WorldParts) (number place : ℕ) (timer : Timer) (is : IsStage parts)
+    → slice_get parts.net.directory.clocks place ≡ Some number
+    → ((station : Station) → slice_get parts.stations.items place ≡ Some station → IsTimerOf station.system timer)
+    → IsTimerAt number (world_of parts) place timer
+timer_found parts number place timer is there of =
+    let stands = station_at parts place number is there in
     record {
       station = stands.station;
       is = record { here = stands.here; named = stands.named };
       timer_of = of stands.station stands.here;
     }
 
-pub no_timer_at : (stage : Stage) (number place : ℕ) (timer : Timer) → IsStage stage → IsDirectory stage.net.directory
-    → slice_get stage.net.directory.clocks place ≡ Some number
-    → ((station : Station) → slice_get stage.stations.items place ≡ Some station → IsTimerOf station.system timer → ⊥)
-    → AtSystem number (world_of stage) (λ at station. IsTimerOf station.system timer) → ⊥
-no_timer_at stage number place timer is directory there none at =
-    let other = system_clock stage number is (record { place = at.place; station = at.station; is = at.is; so = tt }) in
+pub no_timer_at : (parts : WorldParts) (number place : ℕ) (timer : Timer) → IsStage parts
+    → IsDirectory parts.net.directory
+    → slice_get parts.net.directory.clocks place ≡ Some number
+    → ((station : Station) → slice_get parts.stations.items place ≡ Some station → IsTimerOf station.system timer → ⊥)
+    → AtSystem number (world_of parts) (λ at station. IsTimerOf station.system timer) → ⊥
+no_timer_at parts number place timer is directory there none at =
+    let other = system_clock parts number is (record { place = at.place; station = at.station; is = at.is; so = tt }) in
     let same : at.place ≡ place = directory.plan.differ at.place place number other there in
-    none at.station (ap (slice_get stage.stations.items) (sym same) ∙ at.is.here) at.so
+    none at.station (ap (slice_get parts.stations.items) (sym same) ∙ at.is.here) at.so
 
 -- ---- what is due
 

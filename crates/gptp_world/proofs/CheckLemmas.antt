@@ -10,13 +10,13 @@ use Rattle.gptp_scenario.specs.declared.change.Act.TheVariants.{Deliver, Expire,
 use Rattle.gptp_scenario.specs.declared.change.Change.{Change}
 use Rattle.gptp_scenario.specs.declared.change.Change.TheVariants as changes
 use Rattle.gptp_model.specs.declared.item.Item.{Item}
-use Rattle.gptp_world.specs.declared.stage.Stage.{Stage}
+use Rattle.gptp_world.specs.declared.parts.WorldParts.{WorldParts}
 use Rattle.gptp_model.specs.declared.station.Station.{Station}
 use Rattle.gptp_model.specs.Acts.{IsDueThen, IsEarlier, IsOldestDue, IsThere}
 use Rattle.gptp_world.specs.ActTarget.{IsTargetOf, IsAimOfChange}
 use Rattle.gptp_world.specs.Directory.{IsDirectory}
 use Rattle.gptp_model.specs.Pending.{Entry, pending_entry, IsNext}
-use Rattle.gptp_world.specs.Stage.{world_of, IsStage}
+use Rattle.gptp_world.specs.WorldParts.{world_of, IsStage}
 use Rattle.gptp_model.specs.World.{Channel, WorldState, port_id, station_due}
 use Rattle.gptp_world.proofs.ActTargetLemmas.{lane_joins, system_clock}
 
@@ -171,13 +171,13 @@ arrival_due (Deliver link direction) time w lane test is told = (
 arrival_due (Expire number timer) time w lane test is told = absurd is
 arrival_due (Changing c) time w lane test is told = absurd (no_arrival_of c w lane is)
 
-pub timer_due : (act : Act) (time : ℕ) (stage : Stage) (place : ℕ) (timer : Timer) (test : Bool) → IsStage stage
-    → IsDirectory stage.net.directory → IsTargetOf act (world_of stage) (aims.Timer place timer)
-    → ((station : Station) → slice_get stage.stations.items place ≡ Some station → IsTrue test
+pub timer_due : (act : Act) (time : ℕ) (parts : WorldParts) (place : ℕ) (timer : Timer) (test : Bool) → IsStage parts
+    → IsDirectory parts.net.directory → IsTargetOf act (world_of parts) (aims.Timer place timer)
+    → ((station : Station) → slice_get parts.stations.items place ≡ Some station → IsTrue test
     ↔ (station_due timer station ≡ Some time))
-    → IsTrue test ↔ IsDueThen act time (world_of stage)
-timer_due (Deliver link direction) time stage place timer test on directory is told = absurd is
-timer_due (Expire number own) time stage place timer test on directory is told = (
+    → IsTrue test ↔ IsDueThen act time (world_of parts)
+timer_due (Deliver link direction) time parts place timer test on directory is told = absurd is
+timer_due (Expire number own) time parts place timer test on directory is told = (
   λ yes. record {
     place = place;
     station = is.0.station;
@@ -185,14 +185,14 @@ timer_due (Expire number own) time stage place timer test on directory is told =
     so = subst (λ t. station_due t is.0.station ≡ Some time) is.1 ((told is.0.station is.0.is.here).0 yes);
   },
   λ due.
-      let one = system_clock stage number on
+      let one = system_clock parts number on
       (record { place = place; station = is.0.station; is = is.0.is; so = tt }) in
-      let other = system_clock stage number on
+      let other = system_clock parts number on
       (record { place = due.place; station = due.station; is = due.is; so = tt }) in
       let same : due.place ≡ place = directory.plan.differ due.place place number other one in
-      let here : slice_get stage.stations.items place
-      ≡ Some due.station = ap (slice_get stage.stations.items) (sym same) ∙ due.is.here in
+      let here : slice_get parts.stations.items place
+      ≡ Some due.station = ap (slice_get parts.stations.items) (sym same) ∙ due.is.here in
       (told due.station here).1 (subst (λ t. station_due t due.station ≡ Some time) (sym is.1) due.so),
 )
-timer_due (Changing c) time stage place timer test on directory is told =
-    absurd (no_timer_of c (world_of stage) place timer is)
+timer_due (Changing c) time parts place timer test on directory is told =
+    absurd (no_timer_of c (world_of parts) place timer is)

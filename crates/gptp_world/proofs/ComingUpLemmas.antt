@@ -12,7 +12,7 @@ use Rattle.gptp_system.specs.Input.{Input, PortUp}
 use Rattle.gptp_system.specs.State.{SystemState, clock}
 use Rattle.gptp_world.specs.declared.joined_link.Lane.{Lane}
 use Rattle.gptp_world.specs.declared.net.Net.{Net as Between}
-use Rattle.gptp_world.specs.declared.stage.Stage.{Stage}
+use Rattle.gptp_world.specs.declared.parts.WorldParts.{WorldParts}
 use Rattle.gptp_model.specs.declared.station.Station.{Station}
 use Rattle.gptp_model.specs.Act.{in_state, Calls}
 use Rattle.gptp_model.specs.Changing.{is_up_at, CallsAll}
@@ -20,7 +20,7 @@ use Rattle.gptp_world.specs.Net.{between, IsUpLane}
 use Rattle.gptp_model.specs.World.{port_id}
 use Rattle.gptp_model.specs.Sends.{IsUnlinkedPort}
 use Rattle.gptp_world.specs.Room.{both, for_call, no_room, repeated, WorldHasRoom, Need, Uses}
-use Rattle.gptp_world.specs.Stage.{clock_at_place, world_of, Called, CallUses, HasRoomToCall, IsStage}
+use Rattle.gptp_world.specs.WorldParts.{clock_at_place, world_of, Called, CallUses, HasRoomToCall, IsStage}
 use Rattle.gptp_world.specs.Starting.{CameUp, HasRoomForPorts}
 use Rattle.gptp_model.specs.World.{WorldState}
 use Rattle.gptp_world.proofs.NeedLemmas.{covered, left_of, unsent, uses_both, uses_less, Covers}
@@ -92,36 +92,37 @@ filter-equal p q (x ∷ xs) same = by (q x) refl (filter-equal p q xs same)
     by true test ih = let first = same x ∙ test in rw (first, test, ih) refl
     by false test ih = let first = same x ∙ test in rw (first, test, ih) refl
 
-pub none_came : {F : Type 0} (answers : Bounds → ℕ → F → Option ℕ → F → Type 0) (place : ℕ) (fate : F) (stage : Stage)
+pub none_came : {F : Type 0} (answers : Bounds → ℕ → F → Option ℕ → F → Type 0) (place : ℕ) (fate : F)
+    (parts : WorldParts)
     (station : Station)
-    → slice_get stage.stations.items place ≡ Some station → CameUp answers place [] fate fate stage stage
-none_came answers place fate stage station here =
+    → slice_get parts.stations.items place ≡ Some station → CameUp answers place [] fate fate parts parts
+none_came answers place fate parts station here =
     record { station = station; here = here; draws = []; drawn = refl; calls = (refl, refl) }
 
 -- what stands there afterwards
 pub came_remains : {F : Type 0} (answers : Bounds → ℕ → F → Option ℕ → F → Type 0) (place : ℕ) (ports : List ℕ)
     (fate fate_after : F)
-    (stage stage' : Stage) (station : Station) → slice_get stage.stations.items place ≡ Some station
-    → CameUp answers place ports fate fate_after stage stage' → Remains place station (world_of stage')
-came_remains answers place ports fate fate_after stage stage' station here came =
-    calls_all_remain place station _ (world_of stage) came.draws (world_of stage')
-    (remains place station (world_of stage) here) came.calls
+    (parts stage' : WorldParts) (station : Station) → slice_get parts.stations.items place ≡ Some station
+    → CameUp answers place ports fate fate_after parts stage' → Remains place station (world_of stage')
+came_remains answers place ports fate fate_after parts stage' station here came =
+    calls_all_remain place station _ (world_of parts) came.draws (world_of stage')
+    (remains place station (world_of parts) here) came.calls
 
 pub came_more : {F : Type 0} (answers : Bounds → ℕ → F → Option ℕ → F → Type 0) (place : ℕ) (xs ys : List ℕ)
     (first second third : F)
-    (stage middle stage' : Stage) → CameUp answers place xs first second stage middle
+    (parts middle stage' : WorldParts) → CameUp answers place xs first second parts middle
     → CameUp answers place ys second third middle stage'
-    → CameUp answers place (xs ++ ys) first third stage stage'
-came_more answers place xs ys first second third stage middle stage' a b =
-    let up : ℕ → Bool = λ p. is_up_at (world_of stage).net.channels (clock a.station.system) p in
+    → CameUp answers place (xs ++ ys) first third parts stage'
+came_more answers place xs ys first second third parts middle stage' a b =
+    let up : ℕ → Bool = λ p. is_up_at (world_of parts).net.channels (clock a.station.system) p in
     let up' : ℕ → Bool = λ p. is_up_at (world_of middle).net.channels (clock b.station.system) p in
-    let still = came_remains answers place xs first second stage middle a.station a.here a in
+    let still = came_remains answers place xs first second parts middle a.station a.here a in
     let one : b.station ≡ still.station = same_Some b.station still.station (sym b.here ∙ still.here) in
     let clocks : clock b.station.system ≡ clock a.station.system = ap (λ (s : Station). clock s.system) one
     ∙ still.clocks in
     let same : (p : ℕ) → up' p ≡ up p =
     λ p. ap (λ number. is_up_at (world_of middle).net.channels number p) clocks
-    ∙ calls_all_up place (map PortUp (filter up xs)) (world_of stage) a.draws (world_of middle)
+    ∙ calls_all_up place (map PortUp (filter up xs)) (world_of parts) a.draws (world_of middle)
     (clock a.station.system) p a.calls in
     let inputs : map PortUp (filter up xs) ++ map PortUp (filter up' ys) ≡ map PortUp (filter up (xs ++ ys)) =
     ap (λ zs. map PortUp (filter up xs) ++ map PortUp zs) (filter-equal up' up ys same)
@@ -131,8 +132,8 @@ came_more answers place xs ys first second third stage middle stage' a b =
       here = a.here;
       draws = a.draws ++ b.draws;
       drawn = draws-append answers first second third a.draws b.draws a.drawn b.drawn;
-      calls = subst (λ zs. CallsAll place zs (world_of stage) (a.draws ++ b.draws) (world_of stage')) inputs
-          (calls_all-append place (map PortUp (filter up xs)) (map PortUp (filter up' ys)) (world_of stage)
+      calls = subst (λ zs. CallsAll place zs (world_of parts) (a.draws ++ b.draws) (world_of stage')) inputs
+          (calls_all-append place (map PortUp (filter up xs)) (map PortUp (filter up' ys)) (world_of parts)
           (world_of middle)
           (world_of stage') a.draws b.draws a.calls b.calls);
     }
@@ -140,36 +141,36 @@ came_more answers place xs ys first second third stage middle stage' a b =
 -- ---- one port
 
 -- whether a link that is up is at a port of a system of the stage
-pub linked : (stage : Stage) (place port : ℕ) (one : Station) (lane : Option Lane) → IsStage stage
-    → slice_get stage.stations.items place ≡ Some one
-    → ((number : ℕ) → slice_get stage.net.directory.clocks place ≡ Some number
-    → IfSome lane (IsUpLane stage.net (port_id number port)))
-    → ((number : ℕ) → slice_get stage.net.directory.clocks place ≡ Some number
-    → IfNone lane (IsUnlinkedPort (between stage.net) (port_id number port)))
-    → is_up_at (world_of stage).net.channels (clock one.system) port ≡ is_some lane
-linked stage place port one lane is here some none =
+pub linked : (parts : WorldParts) (place port : ℕ) (one : Station) (lane : Option Lane) → IsStage parts
+    → slice_get parts.stations.items place ≡ Some one
+    → ((number : ℕ) → slice_get parts.net.directory.clocks place ≡ Some number
+    → IfSome lane (IsUpLane parts.net (port_id number port)))
+    → ((number : ℕ) → slice_get parts.net.directory.clocks place ≡ Some number
+    → IfNone lane (IsUnlinkedPort (between parts.net) (port_id number port)))
+    → is_up_at (world_of parts).net.channels (clock one.system) port ≡ is_some lane
+linked parts place port one lane is here some none =
     let number = clock one.system in
-    let known : slice_get stage.net.directory.clocks place ≡ Some number =
-    ap (λ cs. slice_get cs place) (sym is.clocks) ∙ mapped_there clock_at_place stage.stations.items place one here in
-    up_tells stage.net number port lane is.net (some number known) (none number known)
+    let known : slice_get parts.net.directory.clocks place ≡ Some number =
+    ap (λ cs. slice_get cs place) (sym is.clocks) ∙ mapped_there clock_at_place parts.stations.items place one here in
+    up_tells parts.net number port lane is.net (some number known) (none number known)
 
 pub one_came : {F : Type 0} (answers : Bounds → ℕ → F → Option ℕ → F → Type 0) (place port : ℕ) (fate fate_after : F)
-    (stage stage' : Stage)
-    (station : Station) → slice_get stage.stations.items place ≡ Some station
-    → is_up_at (world_of stage).net.channels (clock station.system) port ≡ true
-    → (answer : Answer) → Called answers place (PortUp port) answer fate fate_after stage stage'
-    → CameUp answers place (port ∷ []) fate fate_after stage stage'
-one_came answers place port fate fate_after stage stage' station here up answer one =
-    let calls : CallsAll place (PortUp port ∷ []) (world_of stage) one.draws (world_of stage') =
+    (parts stage' : WorldParts)
+    (station : Station) → slice_get parts.stations.items place ≡ Some station
+    → is_up_at (world_of parts).net.channels (clock station.system) port ≡ true
+    → (answer : Answer) → Called answers place (PortUp port) answer fate fate_after parts stage'
+    → CameUp answers place (port ∷ []) fate fate_after parts stage'
+one_came answers place port fate fate_after parts stage' station here up answer one =
+    let calls : CallsAll place (PortUp port ∷ []) (world_of parts) one.draws (world_of stage') =
     (one.draws, [], world_of stage', answer, sym (append-nil one.draws), one.calls, (refl, refl)) in
     record { station = station; here = here; draws = one.draws; drawn = one.drawn; calls = rw up calls }
 
 pub none_up : {F : Type 0} (answers : Bounds → ℕ → F → Option ℕ → F → Type 0) (place port : ℕ) (fate : F)
-    (stage : Stage)
-    (station : Station) → slice_get stage.stations.items place ≡ Some station
-    → is_up_at (world_of stage).net.channels (clock station.system) port ≡ false
-    → CameUp answers place (port ∷ []) fate fate stage stage
-none_up answers place port fate stage station here down =
+    (parts : WorldParts)
+    (station : Station) → slice_get parts.stations.items place ≡ Some station
+    → is_up_at (world_of parts).net.channels (clock station.system) port ≡ false
+    → CameUp answers place (port ∷ []) fate fate parts parts
+none_up answers place port fate parts station here down =
     record { station = station; here = here; draws = []; drawn = refl; calls = rw down (refl, refl) }
 
 -- ---- the numbers of ports
@@ -208,38 +209,38 @@ repeated-more (suc few) (suc many) need less =
     }
 
 -- so many of the calls used no more room than they needed
-abbrev pub CallsUse : ℕ → ℕ → Stage → Between → Type 0
-CallsUse calls place stage net = (station : Station) → slice_get stage.stations.items place ≡ Some station
-    → Uses (repeated calls (for_call station.system)) stage.net net
+abbrev pub CallsUse : ℕ → ℕ → WorldParts → Between → Type 0
+CallsUse calls place parts net = (station : Station) → slice_get parts.stations.items place ≡ Some station
+    → Uses (repeated calls (for_call station.system)) parts.net net
 
-pub none_use : (place : ℕ) (stage : Stage) → CallsUse 0 place stage stage.net
-none_use place stage = λ station here. unsent no_room stage.net
+pub none_use : (place : ℕ) (parts : WorldParts) → CallsUse 0 place parts parts.net
+none_use place parts = λ station here. unsent no_room parts.net
 
 -- one call more
-pub more_use : (calls place : ℕ) (stage middle : Stage) (net : Between)
-    → ((station : Station) → slice_get stage.stations.items place ≡ Some station
+pub more_use : (calls place : ℕ) (parts middle : WorldParts) (net : Between)
+    → ((station : Station) → slice_get parts.stations.items place ≡ Some station
     → Remains place station (world_of middle))
-    → CallsUse calls place stage middle.net → CallUses place middle net → CallsUse (calls + 1) place stage net
-more_use calls place stage middle net remain so_far one = λ station here.
+    → CallsUse calls place parts middle.net → CallUses place middle net → CallsUse (calls + 1) place parts net
+more_use calls place parts middle net remain so_far one = λ station here.
     let still = remain station here in
     let need = for_call station.system in
     let used : Uses need middle.net net =
     subst (λ (n : Need). Uses n middle.net net) (same_call station.system still.station.system still.ports still.clocks)
     (one still.station still.here) in
-    uses_less (repeated (calls + 1) need) (both (repeated calls need) need) stage.net net
+    uses_less (repeated (calls + 1) need) (both (repeated calls need) need) parts.net net
     (repeated-more calls (calls + 1) need (omega arith))
-    (uses_both (repeated calls need) need stage.net middle.net net (so_far station here) used)
+    (uses_both (repeated calls need) need parts.net middle.net net (so_far station here) used)
 
 -- there is room for the call of one port more
-pub room_for_next : (calls place : ℕ) (stage middle : Stage) (has : HasRoomForPorts place stage)
-    → Remains place has.station (world_of middle) → CallsUse calls place stage middle.net
+pub room_for_next : (calls place : ℕ) (parts middle : WorldParts) (has : HasRoomForPorts place parts)
+    → Remains place has.station (world_of middle) → CallsUse calls place parts middle.net
     → calls < length has.station.system.ports
     → HasRoomToCall place middle
-room_for_next calls place stage middle has still so_far less =
+room_for_next calls place parts middle has still so_far less =
     let need = for_call has.station.system in
     let left : WorldHasRoom need middle.net =
-    left_of (repeated calls need) need stage.net middle.net (so_far has.station has.here)
-    (covered (repeated (length has.station.system.ports) need) (both (repeated calls need) need) stage.net
+    left_of (repeated calls need) need parts.net middle.net (so_far has.station has.here)
+    (covered (repeated (length has.station.system.ports) need) (both (repeated calls need) need) parts.net
     (repeated-more calls (length has.station.system.ports) need less) has.room) in
     let same = same_call has.station.system still.station.system still.ports still.clocks in
     record {

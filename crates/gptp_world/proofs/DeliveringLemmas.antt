@@ -5,13 +5,13 @@ use Rattle.gptp_system.specs.Reach.{frame_reach}
 use Rattle.gptp_links.specs.Queue.{frame}
 use Rattle.gptp_world.specs.declared.joined_link.Lane.{Lane}
 use Rattle.gptp_world.specs.declared.net.Net.{Net as Between}
-use Rattle.gptp_world.specs.declared.stage.Stage.{Stage}
+use Rattle.gptp_world.specs.declared.parts.WorldParts.{WorldParts}
 use Rattle.gptp_model.specs.Act.{TakesFrame}
 use Rattle.gptp_model.specs.World.{WorldState, world_queue}
 use Rattle.gptp_world.specs.JoinedLink.{channel_of, join_of}
 use Rattle.gptp_world.specs.Directory.{direction_end, DirectoryState, IsDirectory, Join}
 use Rattle.gptp_world.specs.Net.{between, IsFrameDue, IsOldest}
-use Rattle.gptp_world.specs.Stage.{world_of, IsStage}
+use Rattle.gptp_world.specs.WorldParts.{world_of, IsStage}
 use Rattle.gptp_lists.proofs.MappedLemmas.{mapped_there}
 use Rattle.gptp_lists.proofs.PlaceLemmas.{member_there}
 use Rattle.gptp_world.proofs.EndLemmas.{known_join, place_within}
@@ -24,13 +24,13 @@ abbrev pub IsReceiver : Lane → ℕ → DirectoryState → Type 0
 IsReceiver lane place d = (join : Join) → slice_get d.joins lane.link ≡ Some join
     → slice_get d.clocks place ≡ Some (direction_end lane.direction join).clock
 
-pub receiver_within : (stage : Stage) (lane : Lane) (place : ℕ) → IsStage stage
-    → lane.link < length stage.net.cables.items
-    → IsReceiver lane place stage.net.directory → place < length stage.stations.items
-receiver_within stage lane place is known hears =
-    let joined_link = member_there stage.net.cables.items lane.link known in let join = join_of joined_link.0 in
-    place_within stage place (direction_end lane.direction join).clock is
-    (hears join (known_join stage.net lane.link joined_link.0 is.net joined_link.1))
+pub receiver_within : (parts : WorldParts) (lane : Lane) (place : ℕ) → IsStage parts
+    → lane.link < length parts.net.cables.items
+    → IsReceiver lane place parts.net.directory → place < length parts.stations.items
+receiver_within parts lane place is known hears =
+    let joined_link = member_there parts.net.cables.items lane.link known in let join = join_of joined_link.0 in
+    place_within parts place (direction_end lane.direction join).clock is
+    (hears join (known_join parts.net lane.link joined_link.0 is.net joined_link.1))
 
 -- the oldest frame of a lane is the one that is taken
 pub oldest_taken : (net net' : Between) (lane : Lane) (now : ℕ) (octets : List ℕ) (due : IsFrameDue lane now net)
@@ -46,15 +46,15 @@ oldest_taken net net' lane now octets due takes = record {
 }
 
 -- the oldest frame of a lane is the one that it was where the world is the same
-oldest_before : (stage stage' : Stage) (lane : Lane) (octets : List ℕ) → world_of stage' ≡ world_of stage
-    → IsOldest lane octets stage'.net → IsOldest lane octets stage.net
-oldest_before stage stage' lane octets world oldest =
-    let channels : map channel_of stage'.net.cables.items ≡ map channel_of stage.net.cables.items =
+oldest_before : (parts stage' : WorldParts) (lane : Lane) (octets : List ℕ) → world_of stage' ≡ world_of parts
+    → IsOldest lane octets stage'.net → IsOldest lane octets parts.net
+oldest_before parts stage' lane octets world oldest =
+    let channels : map channel_of stage'.net.cables.items ≡ map channel_of parts.net.cables.items =
     ap (λ (w : WorldState). w.net.channels) world in
-    let there : slice_get (map channel_of stage.net.cables.items) lane.link ≡ Some (channel_of oldest.joined_link) =
+    let there : slice_get (map channel_of parts.net.cables.items) lane.link ≡ Some (channel_of oldest.joined_link) =
     ap (λ cs. slice_get cs lane.link) (sym channels)
     ∙ mapped_there channel_of stage'.net.cables.items lane.link oldest.joined_link oldest.here in
-    let made = from_map channel_of stage.net.cables.items lane.link (channel_of oldest.joined_link) there in
+    let made = from_map channel_of parts.net.cables.items lane.link (channel_of oldest.joined_link) there in
     record {
       joined_link = made.one;
       here = made.there;
@@ -67,21 +67,21 @@ oldest_before stage stage' lane octets world oldest =
     }
 
 -- what is so of how far the oldest frame of a lane reaches, and where it does
-pub so_heard : (stage stage' : Stage) (lane : Lane) (receiver : ℕ) (r : Reach) (So : Reach → ℕ → Type 0)
-    → IsStage stage → IsStage stage'
-    → world_of stage' ≡ world_of stage → IsDirectory stage.net.directory → IsReceiver lane receiver stage.net.directory
-    → ((octets : List ℕ) → IsOldest lane octets stage.net → r ≡ frame_reach octets)
+pub so_heard : (parts stage' : WorldParts) (lane : Lane) (receiver : ℕ) (r : Reach) (So : Reach → ℕ → Type 0)
+    → IsStage parts → IsStage stage'
+    → world_of stage' ≡ world_of parts → IsDirectory parts.net.directory → IsReceiver lane receiver parts.net.directory
+    → ((octets : List ℕ) → IsOldest lane octets parts.net → r ≡ frame_reach octets)
     → So r receiver → (join : Join) (place : ℕ) (octets : List ℕ)
     → slice_get stage'.net.directory.joins lane.link ≡ Some join
     → slice_get stage'.net.directory.clocks place ≡ Some (direction_end lane.direction join).clock
     → IsOldest lane octets stage'.net → So (frame_reach octets) place
-so_heard stage stage' lane receiver r So is is' world directory hears tells has join place octets there placed oldest =
-    let d = stage.net.directory in
+so_heard parts stage' lane receiver r So is is' world directory hears tells has join place octets there placed oldest =
+    let d = parts.net.directory in
     let known : slice_get d.joins lane.link ≡ Some join =
-    ap (λ js. slice_get js lane.link) (sym (same_joins stage stage' is is' world)) ∙ there in
+    ap (λ js. slice_get js lane.link) (sym (same_joins parts stage' is is' world)) ∙ there in
     let stands : slice_get d.clocks place ≡ Some (direction_end lane.direction join).clock =
-    ap (λ cs. slice_get cs place) (sym (same_clocks stage stage' is is' world)) ∙ placed in
+    ap (λ cs. slice_get cs place) (sym (same_clocks parts stage' is is' world)) ∙ placed in
     let here : So r place = subst (λ p. So r p)
     (directory.plan.differ receiver place (direction_end lane.direction join).clock (hears join known) stands) has in
     subst (λ (reach : Reach). So reach place)
-    (tells octets (oldest_before stage stage' lane octets world oldest)) here
+    (tells octets (oldest_before parts stage' lane octets world oldest)) here

@@ -5,12 +5,12 @@ use Rattle.gptp_links.specs.declared.link.Direction.{Direction}
 use Rattle.gptp_links.specs.declared.link.Direction.TheVariants.{FromA, FromB}
 use Rattle.gptp_world.specs.declared.joined_link.JoinedLink.{JoinedLink}
 use Rattle.gptp_world.specs.declared.net.Net.{Net as Between}
-use Rattle.gptp_world.specs.declared.stage.Stage.{Stage}
+use Rattle.gptp_world.specs.declared.parts.WorldParts.{WorldParts}
 use Rattle.gptp_model.specs.declared.station.Station.{Station}
 use Rattle.gptp_world.specs.JoinedLink.{channel_of, join_of}
 use Rattle.gptp_world.specs.Directory.{direction_end, DirectoryState, IsDirectory, PortIsPlaced, Join}
 use Rattle.gptp_world.specs.Net.{IsNet}
-use Rattle.gptp_world.specs.Stage.{clock_at_place, IsStage}
+use Rattle.gptp_world.specs.WorldParts.{clock_at_place, IsStage}
 use Rattle.gptp_model.specs.World.{receiver}
 use Rattle.gptp_world.proofs.NetLemmas.{from_map}
 use Rattle.gptp_lists.proofs.MappedLemmas.{mapped_there}
@@ -33,21 +33,21 @@ end_placed d FromA link join is there = is.plan.placed_b link join there
 end_placed d FromB link join is there = is.plan.placed_a link join there
 
 -- the system with a clock that the directory knows
-pub record StandsAt (stage : Stage) (place number : ℕ) : Type 0 where
+pub record StandsAt (parts : WorldParts) (place number : ℕ) : Type 0 where
   pub station : Station
-  pub here : slice_get stage.stations.items place ≡ Some station
+  pub here : slice_get parts.stations.items place ≡ Some station
   pub named : clock_at_place station ≡ number
 
-pub station_at : (stage : Stage) (place number : ℕ) → IsStage stage
-    → slice_get stage.net.directory.clocks place ≡ Some number
-    → StandsAt stage place number
-station_at stage place number is there =
-    let made = from_map clock_at_place stage.stations.items place number
+pub station_at : (parts : WorldParts) (place number : ℕ) → IsStage parts
+    → slice_get parts.net.directory.clocks place ≡ Some number
+    → StandsAt parts place number
+station_at parts place number is there =
+    let made = from_map clock_at_place parts.stations.items place number
     (ap (λ cs. slice_get cs place) is.clocks ∙ there) in
     record { station = made.one; here = made.there; named = sym made.is }
 
-pub place_within : (stage : Stage) (place number : ℕ) → IsStage stage
-    → slice_get stage.net.directory.clocks place ≡ Some number
-    → place < length stage.stations.items
-place_within stage place number is there =
-    let at = station_at stage place number is there in slice_get_within stage.stations.items place at.station at.here
+pub place_within : (parts : WorldParts) (place number : ℕ) → IsStage parts
+    → slice_get parts.net.directory.clocks place ≡ Some number
+    → place < length parts.stations.items
+place_within parts place number is there =
+    let at = station_at parts place number is there in slice_get_within parts.stations.items place at.station at.here

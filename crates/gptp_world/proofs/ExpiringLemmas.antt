@@ -10,14 +10,14 @@ use Rattle.gptp_system.specs.State.{SystemState}
 use Rattle.gptp_system.specs.Steps.{IsTimerOf}
 use Rattle.gptp_model.specs.declared.item.Item.TheVariants.{Expiry}
 use Rattle.gptp_world.specs.declared.net.Net.{Net as Between}
-use Rattle.gptp_world.specs.declared.stage.Stage.{Stage}
+use Rattle.gptp_world.specs.declared.parts.WorldParts.{WorldParts}
 use Rattle.gptp_model.specs.Act.{Calls}
 use Rattle.gptp_world.specs.ActTarget.{IsTimerDue}
 use Rattle.gptp_model.specs.Item.{timer_port}
 use Rattle.gptp_world.specs.Net.{between}
 use Rattle.gptp_model.specs.Pending.{without_first_entry, IsKnownItem}
 use Rattle.gptp_world.specs.Performing.{Expired}
-use Rattle.gptp_world.specs.Stage.{world_of, Called, IsStage}
+use Rattle.gptp_world.specs.WorldParts.{world_of, Called, IsStage}
 use Rattle.gptp_model.proofs.NextDueLemmas.{runs_out}
 
 -- the ports of timers are numbered as those of their system
@@ -31,12 +31,12 @@ timer_few s timers.Relay few of = omega arith
 timer_few s timers.Lapse few of = omega arith
 
 -- a timer that is due is one that can be pending
-pub known_timer : (stage : Stage) (place : ℕ) (timer : Timer) → IsStage stage
-    → IsTimerDue place timer stage.now (world_of stage)
-    → IsKnownItem stage.net.pending.systems stage.net.pending.links (Expiry place timer)
-known_timer stage place timer is due =
-    let runs = runs_out place timer stage.now (world_of stage) due.station due.here due.due in
-    let within = slice_get_within stage.stations.items place due.station due.here in let places = is.systems in (
+pub known_timer : (parts : WorldParts) (place : ℕ) (timer : Timer) → IsStage parts
+    → IsTimerDue place timer parts.now (world_of parts)
+    → IsKnownItem parts.net.pending.systems parts.net.pending.links (Expiry place timer)
+known_timer parts place timer is due =
+    let runs = runs_out place timer parts.now (world_of parts) due.station due.here due.due in
+    let within = slice_get_within parts.stations.items place due.station due.here in let places = is.systems in (
       omega (arith, within, places),
       timer_few runs.station.system timer (is.few place runs.station runs.here) runs.timer_of,
     )
@@ -44,13 +44,13 @@ known_timer stage place timer is due =
 -- its entry is taken, and then its system is told
 pub expired : {F : Type 0} (answers : Bounds → ℕ → F → Option ℕ → F → Type 0)
     (place : ℕ) (timer : Timer) (fate fate_after : F)
-    (stage : Stage) (net : Between) (stage' : Stage) → IsTimerDue place timer stage.now (world_of stage)
+    (parts : WorldParts) (net : Between) (stage' : WorldParts) → IsTimerDue place timer parts.now (world_of parts)
     → between net
-    ≡ record (between stage.net) { pending = without_first_entry (Expiry place timer) (between stage.net).pending }
+    ≡ record (between parts.net) { pending = without_first_entry (Expiry place timer) (between parts.net).pending }
     → (answer : Answer)
-    → Called answers place (TimerExpires timer) answer fate fate_after (record stage { net = net }) stage'
-    → Expired answers place timer fate fate_after stage stage'
-expired answers place timer fate fate_after stage net stage' due taken answer called =
+    → Called answers place (TimerExpires timer) answer fate fate_after (record parts { net = net }) stage'
+    → Expired answers place timer fate fate_after parts stage'
+expired answers place timer fate fate_after parts net stage' due taken answer called =
     record {
       draws = called.draws;
       drawn = called.drawn;
@@ -60,7 +60,7 @@ expired answers place timer fate fate_after stage net stage' due taken answer ca
         here = due.here;
         now_due = due.due;
         calls = subst
-            (λ n. Calls place (TimerExpires timer) (record (world_of stage) { net = n }) called.draws answer
+            (λ n. Calls place (TimerExpires timer) (record (world_of parts) { net = n }) called.draws answer
             (world_of stage'))
             taken called.calls;
       };

@@ -13,7 +13,7 @@ use Rattle.gptp_model.proofs.MomentLemmas.{nothing_before-next}
 use Rattle.gptp_model.specs.World.{WorldState}
 use Rattle.gptp_world.specs.Following.{Follows, IsUpcoming, PassesSeen}
 use Rattle.gptp_world.specs.Observing.{Observed, Tells, TellsAct}
-use Rattle.gptp_world.specs.Transitions.{Passes, Transition, transition}
+use Rattle.gptp_world.specs.Transitions.{Passes, ActTrace, transition}
 use Rattle.gptp_words.specs.Lines.{text_of}
 
 -- ---- texts
@@ -26,7 +26,7 @@ text_append xs ys = flat_map-append (λ line. line ++ 10 ∷ []) xs ys
 
 module _ {O : Type 0} (tells : Told → WorldState → O → O → List (List ℕ) → Type 0) where
   -- of some acts and of more after them
-  pub tells-append : (ts more : List Transition) (o between o_after : O) (xs ys : List (List ℕ))
+  pub tells-append : (ts more : List ActTrace) (o between o_after : O) (xs ys : List (List ℕ))
       → Tells tells ts o between xs → Tells tells more between o_after ys
       → Tells tells (ts ++ more) o o_after (xs ++ ys)
   tells-append [] more o between o_after xs ys (same, none) rest =
@@ -44,19 +44,19 @@ module _ {O : Type 0} (tells : Told → WorldState → O → O → List (List �
   pub observed_none : (o : O) (So : List ℕ → Type 0) → So [] → Observed tells [] o o So
   observed_none o So so = record { lines = []; are = (refl, refl); so = so }
 
-  pub observed_one : (t : Transition) (o o_after : O) (So : List ℕ → Type 0)
+  pub observed_one : (t : ActTrace) (o o_after : O) (So : List ℕ → Type 0)
       → TellsAct tells t.told t.after o o_after So
       → Observed tells (t ∷ []) o o_after So
   observed_one t o o_after So (lines, one, so) =
       record { lines = lines; are = (o_after, lines, [], one, (refl, refl), sym (append-nil lines)); so = so }
 
   -- what follows from what is so of a text
-  pub observed_so : (ts : List Transition) (o o_after : O) (So More : List ℕ → Type 0)
+  pub observed_so : (ts : List ActTrace) (o o_after : O) (So More : List ℕ → Type 0)
       → ((text : List ℕ) → So text → More text) → Observed tells ts o o_after So → Observed tells ts o o_after More
   observed_so ts o o_after So More more observed =
       record { lines = observed.lines; are = observed.are; so = more (text_of observed.lines) observed.so }
 
-  pub observed_more : (ts more : List Transition) (o between o_after : O) (First Second Both : List ℕ → Type 0)
+  pub observed_more : (ts more : List ActTrace) (o between o_after : O) (First Second Both : List ℕ → Type 0)
       → ((first second : List ℕ) → First first → Second second → Both (first ++ second))
       → Observed tells ts o between First → Observed tells more between o_after Second
       → Observed tells (ts ++ more) o o_after Both
@@ -69,11 +69,11 @@ module _ {O : Type 0} (tells : Told → WorldState → O → O → List (List �
 
 -- ---- acts
 
-abbrev pub all_told : List Transition → List Told
-all_told ts = map (λ (t : Transition). t.told) ts
+abbrev pub all_told : List ActTrace → List Told
+all_told ts = map (λ (t : ActTrace). t.told) ts
 
 module _ {F : Type 0} (answers : Bounds → ℕ → F → Option ℕ → F → Type 0) where
-  pub passes-append : (until : ℕ) (ts more : List Transition) (fate drawn fate_after : F) (w between w' : WorldState)
+  pub passes-append : (until : ℕ) (ts more : List ActTrace) (fate drawn fate_after : F) (w between w' : WorldState)
       → Passes answers until ts fate drawn w between → Passes answers until more drawn fate_after between w'
       → Passes answers until (ts ++ more) fate fate_after w w'
   passes-append until [] more fate drawn fate_after w between w' (same, is) rest =
@@ -82,7 +82,7 @@ module _ {F : Type 0} (answers : Bounds → ℕ → F → Option ℕ → F → T
   passes-append until (t ∷ ts) more fate drawn fate_after w between w' (f, is, happens, front) rest =
       (f, is, happens, passes-append until ts more f drawn fate_after t.after between w' front rest)
 
-  pub passes-later : (until later : ℕ) (ts : List Transition) (fate fate_after : F) (w w' : WorldState) → until ≤ later
+  pub passes-later : (until later : ℕ) (ts : List ActTrace) (fate fate_after : F) (w w' : WorldState) → until ≤ later
       → Passes answers until ts fate fate_after w w' → Passes answers later ts fate fate_after w w'
   passes-later until later [] fate fate_after w w' less none = none
   passes-later until later (t ∷ ts) fate fate_after w w' less (f, is, happens, rest) =
@@ -94,7 +94,7 @@ module _ {F : Type 0} (answers : Bounds → ℕ → F → Option ℕ → F → T
       )
 
   -- what was told of them, one after another
-  pub passes_advances : (until : ℕ) (ts : List Transition) (fate fate_after : F) (w w' : WorldState)
+  pub passes_advances : (until : ℕ) (ts : List ActTrace) (fate fate_after : F) (w w' : WorldState)
       → Passes answers until ts fate fate_after w w' → Advances answers until (all_told ts) fate fate_after w w'
   passes_advances until [] fate fate_after w w' none = none
   passes_advances until (t ∷ ts) fate fate_after w w' (drawn, is, happens, rest) =

@@ -15,14 +15,14 @@ use Rattle.gptp_world.specs.declared.target.ActTarget.{ActTarget}
 use Rattle.gptp_world.specs.declared.target.ActTarget.TheVariants as aims
 use Rattle.gptp_world.specs.declared.joined_link.Lane.{Lane}
 use Rattle.gptp_world.specs.declared.net.Net.{Net as Between}
-use Rattle.gptp_world.specs.declared.stage.Stage.{Stage}
+use Rattle.gptp_world.specs.declared.parts.WorldParts.{WorldParts}
 use Rattle.gptp_world.specs.JoinedLink.{HasRoomOn}
 use Rattle.gptp_world.specs.FrameBudget.{credit_of, for_credit, AreItsPorts, DrawsTwo, ExpiresBeyond, HasNoCredit, HasReachBeyond, HasRoomBeyond, HearsBeyond, IsChange, IsCovered, LeavesCredit, UsesForAim}
 use Rattle.gptp_world.specs.Delivering.{HasRoomToHear}
 use Rattle.gptp_world.specs.Directory.{BeginsAt, IsDirectory}
 use Rattle.gptp_world.specs.Net.{IsNet}
 use Rattle.gptp_world.specs.Room.{both, for_reach, is_reached, no_room, WorldHasRoom, HasRoomAtPorts, Need, OnlyRoom, Uses}
-use Rattle.gptp_world.specs.Stage.{clock_at_place, HasRoomToGive, HasRoomWithin, IsStage}
+use Rattle.gptp_world.specs.WorldParts.{clock_at_place, HasRoomToGive, HasRoomWithin, IsStage}
 use Rattle.gptp_system.specs.Input.{Expires as TimerExpires}
 use Rattle.gptp_world.proofs.LaterLemmas.{at_time}
 use Rattle.gptp_world.proofs.NeedLemmas.{covered, fewer, nothing_with, uses_both, uses_less}
@@ -163,16 +163,16 @@ covered_kept frame_budget net net' only has port lane begins =
     (only.lanes (credit_of net.directory.clocks frame_budget port.clock) lane (has port lane (rw (← directory) begins)))
 
 -- all lanes of a system of the stage begin at its ports
-pub its_ports : (stage : Stage) (place : ℕ) (station : Station) → IsStage stage
-    → slice_get stage.stations.items place ≡ Some station → AreItsPorts place (length station.system.ports) stage.net
-its_ports stage place station is here number port lane known same begins =
-    let stands : slice_get stage.net.directory.clocks place ≡ Some (clock station.system) =
+pub its_ports : (parts : WorldParts) (place : ℕ) (station : Station) → IsStage parts
+    → slice_get parts.stations.items place ≡ Some station → AreItsPorts place (length station.system.ports) parts.net
+its_ports parts place station is here number port lane known same begins =
+    let stands : slice_get parts.net.directory.clocks place ≡ Some (clock station.system) =
     ap (λ cs. slice_get cs place) (sym is.clocks)
-    ∙ mapped_there clock_at_place stage.stations.items place station here in
+    ∙ mapped_there clock_at_place parts.stations.items place station here in
     let named : port.clock ≡ clock station.system =
     same ∙ same_Some number (clock station.system) (sym known ∙ stands) in
     is.ports place station port.port lane here
-    (subst (λ n. BeginsAt stage.net.directory.joins (port_id n port.port) lane) named begins)
+    (subst (λ n. BeginsAt parts.net.directory.joins (port_id n port.port) lane) named begins)
 
 pub ports_stay : (place ports : ℕ) (net net' : Between) → OnlyRoom net net' → AreItsPorts place ports net
     → AreItsPorts place ports net'
@@ -259,15 +259,16 @@ ahead place ports frame_budget net net' directory its has only made number port 
 
 -- ---- room for a call
 
-pub room_beyond : (stage : Stage) (r : Reach) (place : ℕ) (station : Station) (frame_budget : List ℕ) → IsStage stage
-    → slice_get stage.stations.items place ≡ Some station
-    → 6 * length station.system.ports + 3 ≤ stage.net.pending.room
-    → 2 * length station.system.ports ≤ stage.net.buffers.ready
-    → HasReachBeyond r place frame_budget stage.net → HasRoomBeyond r place frame_budget stage
-room_beyond stage r place station frame_budget is here entries buffers has =
-    let known : slice_get stage.net.directory.clocks place ≡ Some (clock station.system) =
+pub room_beyond : (parts : WorldParts) (r : Reach) (place : ℕ) (station : Station) (frame_budget : List ℕ)
+    → IsStage parts
+    → slice_get parts.stations.items place ≡ Some station
+    → 6 * length station.system.ports + 3 ≤ parts.net.pending.room
+    → 2 * length station.system.ports ≤ parts.net.buffers.ready
+    → HasReachBeyond r place frame_budget parts.net → HasRoomBeyond r place frame_budget parts
+room_beyond parts r place station frame_budget is here entries buffers has =
+    let known : slice_get parts.net.directory.clocks place ≡ Some (clock station.system) =
     ap (λ cs. slice_get cs place) (sym is.clocks)
-    ∙ mapped_there clock_at_place stage.stations.items place station here in
+    ∙ mapped_there clock_at_place parts.stations.items place station here in
     record {
       station = station;
       here = here;
@@ -278,77 +279,78 @@ room_beyond stage r place station frame_budget is here entries buffers has =
       };
     }
 
-room_of : (r : Reach) (place : ℕ) (frame_budget : List ℕ) (stage : Stage) → HasRoomBeyond r place frame_budget stage
-    → HasRoomWithin r place stage
-room_of r place frame_budget stage has =
+room_of : (r : Reach) (place : ℕ) (frame_budget : List ℕ) (parts : WorldParts)
+    → HasRoomBeyond r place frame_budget parts
+    → HasRoomWithin r place parts
+room_of r place frame_budget parts has =
     let need = for_reach r has.station.system in
     record {
       station = has.station;
       here = has.here;
-      room = covered (both need (for_credit stage.net.directory.clocks frame_budget)) need stage.net
+      room = covered (both need (for_credit parts.net.directory.clocks frame_budget)) need parts.net
           (record { entries = omega arith; buffers = omega arith; frames = λ port. omega arith }) has.room;
     }
 
-pub hears_room : (lane : Lane) (frame_budget : List ℕ) (stage : Stage) → HearsBeyond lane frame_budget stage
-    → HasRoomToHear lane stage
-hears_room lane frame_budget stage has join place octets there placed oldest =
-    room_of (frame_reach octets) place frame_budget stage (has join place octets there placed oldest)
+pub hears_room : (lane : Lane) (frame_budget : List ℕ) (parts : WorldParts) → HearsBeyond lane frame_budget parts
+    → HasRoomToHear lane parts
+hears_room lane frame_budget parts has join place octets there placed oldest =
+    room_of (frame_reach octets) place frame_budget parts (has join place octets there placed oldest)
 
-pub expires_room : (place : ℕ) (timer : Timer) (frame_budget : List ℕ) (stage : Stage)
-    → ExpiresBeyond place timer frame_budget stage → HasRoomToGive (TimerExpires timer) place stage
-expires_room place timer frame_budget stage has station here =
-    room_of (timer_reach timer station.system) place frame_budget stage (has station here)
+pub expires_room : (place : ℕ) (timer : Timer) (frame_budget : List ℕ) (parts : WorldParts)
+    → ExpiresBeyond place timer frame_budget parts → HasRoomToGive (TimerExpires timer) place parts
+expires_room place timer frame_budget parts has station here =
+    room_of (timer_reach timer station.system) place frame_budget parts (has station here)
 
 -- ---- an act
 
 -- time that passes leaves it
-beyond_later : (r : Reach) (place : ℕ) (frame_budget : List ℕ) (stage : Stage) (time : ℕ)
-    → HasRoomBeyond r place frame_budget stage → HasRoomBeyond r place frame_budget (at_time time stage)
-beyond_later r place frame_budget stage time has = record { station = has.station; here = has.here; room = has.room }
+beyond_later : (r : Reach) (place : ℕ) (frame_budget : List ℕ) (parts : WorldParts) (time : ℕ)
+    → HasRoomBeyond r place frame_budget parts → HasRoomBeyond r place frame_budget (at_time time parts)
+beyond_later r place frame_budget parts time has = record { station = has.station; here = has.here; room = has.room }
 
-pub leaves_later : (target : ActTarget) (frame_budget : List ℕ) (stage : Stage) (time : ℕ)
-    → LeavesCredit target frame_budget stage
-    → LeavesCredit target frame_budget (at_time time stage)
-leaves_later (aims.Arrival lane) frame_budget stage time has = λ join place octets there placed oldest.
-    beyond_later (frame_reach octets) place frame_budget stage time (has join place octets there placed oldest)
-leaves_later (aims.Timer place timer) frame_budget stage time has = λ station here.
-    beyond_later (timer_reach timer station.system) place frame_budget stage time (has station here)
-leaves_later (aims.LinkDown link) frame_budget stage time has = has
-leaves_later (aims.LinkUp link) frame_budget stage time has = has
-leaves_later (aims.LinkSet link bounds) frame_budget stage time has = has
-leaves_later (aims.Fail place) frame_budget stage time has = has
-leaves_later (aims.Recover place) frame_budget stage time has = has
-leaves_later (aims.Priority1 place value) frame_budget stage time has = has
-leaves_later (aims.Inject lane) frame_budget stage time has = has
+pub leaves_later : (target : ActTarget) (frame_budget : List ℕ) (parts : WorldParts) (time : ℕ)
+    → LeavesCredit target frame_budget parts
+    → LeavesCredit target frame_budget (at_time time parts)
+leaves_later (aims.Arrival lane) frame_budget parts time has = λ join place octets there placed oldest.
+    beyond_later (frame_reach octets) place frame_budget parts time (has join place octets there placed oldest)
+leaves_later (aims.Timer place timer) frame_budget parts time has = λ station here.
+    beyond_later (timer_reach timer station.system) place frame_budget parts time (has station here)
+leaves_later (aims.LinkDown link) frame_budget parts time has = has
+leaves_later (aims.LinkUp link) frame_budget parts time has = has
+leaves_later (aims.LinkSet link bounds) frame_budget parts time has = has
+leaves_later (aims.Fail place) frame_budget parts time has = has
+leaves_later (aims.Recover place) frame_budget parts time has = has
+leaves_later (aims.Priority1 place value) frame_budget parts time has = has
+leaves_later (aims.Inject lane) frame_budget parts time has = has
 
 -- what is left of room beyond the credit is the credit
-left_covered : (frame_budget : List ℕ) (r : Reach) (place : ℕ) (station : Station) (stage : Stage) (net : Between)
-    → slice_get stage.stations.items place ≡ Some station → HasRoomBeyond r place frame_budget stage
-    → Uses (for_reach r station.system) stage.net net → IsCovered frame_budget net
-left_covered frame_budget r place station stage net here has uses port lane begins =
-    let ahead_of = for_credit stage.net.directory.clocks frame_budget in
+left_covered : (frame_budget : List ℕ) (r : Reach) (place : ℕ) (station : Station) (parts : WorldParts) (net : Between)
+    → slice_get parts.stations.items place ≡ Some station → HasRoomBeyond r place frame_budget parts
+    → Uses (for_reach r station.system) parts.net net → IsCovered frame_budget net
+left_covered frame_budget r place station parts net here has uses port lane begins =
+    let ahead_of = for_credit parts.net.directory.clocks frame_budget in
     let one : has.station ≡ station = same_Some has.station station (sym has.here ∙ here) in
-    let room : WorldHasRoom (both (for_reach r station.system) ahead_of) stage.net =
-    subst (λ (s : Station). WorldHasRoom (both (for_reach r s.system) ahead_of) stage.net) one has.room in
+    let room : WorldHasRoom (both (for_reach r station.system) ahead_of) parts.net =
+    subst (λ (s : Station). WorldHasRoom (both (for_reach r s.system) ahead_of) parts.net) one has.room in
     let left : WorldHasRoom ahead_of net = uses.left ahead_of room in
     let directory = uses.directory in rw directory (left.lanes port lane begins)
 
-pub covered_after : (target : ActTarget) (frame_budget : List ℕ) (stage : Stage) (net : Between) → IsNet net
-    → LeavesCredit target frame_budget stage → UsesForAim target stage net → IsCovered frame_budget net
-covered_after (aims.Arrival lane) frame_budget stage net is leaves used =
-    left_covered frame_budget (frame_reach used.octets) used.place used.station stage net used.here
+pub covered_after : (target : ActTarget) (frame_budget : List ℕ) (parts : WorldParts) (net : Between) → IsNet net
+    → LeavesCredit target frame_budget parts → UsesForAim target parts net → IsCovered frame_budget net
+covered_after (aims.Arrival lane) frame_budget parts net is leaves used =
+    left_covered frame_budget (frame_reach used.octets) used.place used.station parts net used.here
     (leaves used.join used.place used.octets used.there used.placed used.oldest) used.uses
-covered_after (aims.Timer place timer) frame_budget stage net is leaves used =
-    left_covered frame_budget (timer_reach timer used.station.system) place used.station stage net used.here
+covered_after (aims.Timer place timer) frame_budget parts net is leaves used =
+    left_covered frame_budget (timer_reach timer used.station.system) place used.station parts net used.here
     (leaves used.station used.here) used.uses
-covered_after (aims.LinkDown link) frame_budget stage net is leaves used = none_covered frame_budget net is leaves
-covered_after (aims.LinkUp link) frame_budget stage net is leaves used = none_covered frame_budget net is leaves
-covered_after (aims.LinkSet link bounds) frame_budget stage net is leaves used = none_covered frame_budget net is leaves
-covered_after (aims.Fail place) frame_budget stage net is leaves used = none_covered frame_budget net is leaves
-covered_after (aims.Recover place) frame_budget stage net is leaves used = none_covered frame_budget net is leaves
-covered_after (aims.Priority1 place value) frame_budget stage net is leaves used = none_covered frame_budget
+covered_after (aims.LinkDown link) frame_budget parts net is leaves used = none_covered frame_budget net is leaves
+covered_after (aims.LinkUp link) frame_budget parts net is leaves used = none_covered frame_budget net is leaves
+covered_after (aims.LinkSet link bounds) frame_budget parts net is leaves used = none_covered frame_budget net is leaves
+covered_after (aims.Fail place) frame_budget parts net is leaves used = none_covered frame_budget net is leaves
+covered_after (aims.Recover place) frame_budget parts net is leaves used = none_covered frame_budget net is leaves
+covered_after (aims.Priority1 place value) frame_budget parts net is leaves used = none_covered frame_budget
     net is leaves
-covered_after (aims.Inject lane) frame_budget stage net is leaves used = none_covered frame_budget net is leaves
+covered_after (aims.Inject lane) frame_budget parts net is leaves used = none_covered frame_budget net is leaves
 
 -- an act that is neither a delivery nor an expiry is a change
 pub is_changing : (target : ActTarget) → ((lane : Lane) → target ≢ aims.Arrival lane)
@@ -364,29 +366,30 @@ is_changing (aims.Priority1 place value) no_arrival no_timer = tt
 is_changing (aims.Inject lane) no_arrival no_timer = tt
 
 -- it leaves no credit, and uses what it likes
-pub change_leaves : (target : ActTarget) (frame_budget : List ℕ) (stage : Stage) → IsChange target
+pub change_leaves : (target : ActTarget) (frame_budget : List ℕ) (parts : WorldParts) → IsChange target
     → HasNoCredit frame_budget
-    → LeavesCredit target frame_budget stage
-change_leaves (aims.Arrival lane) frame_budget stage change none = absurd change
-change_leaves (aims.Timer place timer) frame_budget stage change none = absurd change
-change_leaves (aims.LinkDown link) frame_budget stage change none = none
-change_leaves (aims.LinkUp link) frame_budget stage change none = none
-change_leaves (aims.LinkSet link bounds) frame_budget stage change none = none
-change_leaves (aims.Fail place) frame_budget stage change none = none
-change_leaves (aims.Recover place) frame_budget stage change none = none
-change_leaves (aims.Priority1 place value) frame_budget stage change none = none
-change_leaves (aims.Inject lane) frame_budget stage change none = none
+    → LeavesCredit target frame_budget parts
+change_leaves (aims.Arrival lane) frame_budget parts change none = absurd change
+change_leaves (aims.Timer place timer) frame_budget parts change none = absurd change
+change_leaves (aims.LinkDown link) frame_budget parts change none = none
+change_leaves (aims.LinkUp link) frame_budget parts change none = none
+change_leaves (aims.LinkSet link bounds) frame_budget parts change none = none
+change_leaves (aims.Fail place) frame_budget parts change none = none
+change_leaves (aims.Recover place) frame_budget parts change none = none
+change_leaves (aims.Priority1 place value) frame_budget parts change none = none
+change_leaves (aims.Inject lane) frame_budget parts change none = none
 
-pub change_uses : (target : ActTarget) (stage : Stage) (net : Between) → IsChange target → UsesForAim target stage net
-change_uses (aims.Arrival lane) stage net change = absurd change
-change_uses (aims.Timer place timer) stage net change = absurd change
-change_uses (aims.LinkDown link) stage net change = tt
-change_uses (aims.LinkUp link) stage net change = tt
-change_uses (aims.LinkSet link bounds) stage net change = tt
-change_uses (aims.Fail place) stage net change = tt
-change_uses (aims.Recover place) stage net change = tt
-change_uses (aims.Priority1 place value) stage net change = tt
-change_uses (aims.Inject lane) stage net change = tt
+pub change_uses : (target : ActTarget) (parts : WorldParts) (net : Between) → IsChange target
+    → UsesForAim target parts net
+change_uses (aims.Arrival lane) parts net change = absurd change
+change_uses (aims.Timer place timer) parts net change = absurd change
+change_uses (aims.LinkDown link) parts net change = tt
+change_uses (aims.LinkUp link) parts net change = tt
+change_uses (aims.LinkSet link bounds) parts net change = tt
+change_uses (aims.Fail place) parts net change = tt
+change_uses (aims.Recover place) parts net change = tt
+change_uses (aims.Priority1 place value) parts net change = tt
+change_uses (aims.Inject lane) parts net change = tt
 
 -- what is taken away before a call takes no room
 pub after_nothing : (need : Need) (net between net' : Between) → Uses no_room net between → Uses need between net'

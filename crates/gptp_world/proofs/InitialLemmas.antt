@@ -21,7 +21,7 @@ use Rattle.gptp_world.specs.declared.joined_link.Lane.{Lane}
 use Rattle.gptp_world.specs.declared.net.Net.{Net as Between}
 use Rattle.gptp_scenario.specs.declared.network.SystemSpec.{SystemSpec}
 use Rattle.gptp_scenario.specs.declared.network.LinkSpec.{LinkSpec}
-use Rattle.gptp_world.specs.declared.stage.Stage.{Stage}
+use Rattle.gptp_world.specs.declared.parts.WorldParts.{WorldParts}
 use Rattle.gptp_model.specs.declared.station.Station.{Station}
 use Rattle.gptp_model.specs.Agrees.{Agrees}
 use Rattle.gptp_model.specs.Ahead.{IsOnTime, IsWorldOnTime}
@@ -33,7 +33,7 @@ use Rattle.gptp_model.specs.World.{port_id}
 use Rattle.gptp_scenario.specs.Network.{largest_of, member, pace_of, NetworkState, IsEnd, IsNetwork, IsPort, IsWire}
 use Rattle.gptp_scenario.proofs.LogLemmas.{largest_log, logs_up_to}
 use Rattle.gptp_model.specs.Sound.{AllFlow, AreApart, AreLinked, Flows, HaveOwnClocks, HaveTheirSetups, IsItsSetup, IsSound, JoinPorts}
-use Rattle.gptp_world.specs.Stage.{clock_at_place, IsStage}
+use Rattle.gptp_world.specs.WorldParts.{clock_at_place, IsStage}
 use Rattle.gptp_model.specs.World.{Channel, world_queue, sender}
 use Rattle.gptp_model.proofs.ChangeAgreeLemmas.{silent_agrees}
 use Rattle.gptp_lists.proofs.MappedLemmas.{mapped, same_there}
@@ -307,12 +307,12 @@ have_few : (n : NetworkState) → IsNetwork n → (place : ℕ) (station : Stati
 have_few n is = each_station n (λ (station : Station). length station.system.ports ≤ 16) (λ place m there.
     let count = ports_counted n is place m there in rw count (is.systems place m there).ports)
 
-pub initial_stage : (n : NetworkState) (stage : Stage) → IsNetwork n → IsNet stage.net
-    → stage.stations.items ≡ stations_of n → stage.net.directory.clocks ≡ directory_clocks n.systems
-    → stage.net.directory.joins ≡ joins_of n.links → stage.net.pending.systems ≡ length n.systems
-    → stage.outbox.items ≡ [] → stage.now ≡ 0 → IsStage stage
-initial_stage n stage is net stations clocks joins systems empty now =
-    let there : (place : ℕ) (station : Station) → slice_get stage.stations.items place ≡ Some station
+pub initial_stage : (n : NetworkState) (parts : WorldParts) → IsNetwork n → IsNet parts.net
+    → parts.stations.items ≡ stations_of n → parts.net.directory.clocks ≡ directory_clocks n.systems
+    → parts.net.directory.joins ≡ joins_of n.links → parts.net.pending.systems ≡ length n.systems
+    → parts.outbox.items ≡ [] → parts.now ≡ 0 → IsStage parts
+initial_stage n parts is net stations clocks joins systems empty now =
+    let there : (place : ℕ) (station : Station) → slice_get parts.stations.items place ≡ Some station
     → slice_get (stations_of n) place ≡ Some station =
     λ place station e. ap (λ (all : List Station). slice_get all place) (sym stations) ∙ e in
     record {

@@ -6,14 +6,14 @@ use Rattle.gptp_scenario.specs.declared.change.Act.{Act}
 use Rattle.gptp_scenario.specs.declared.change.Act.TheVariants.{Deliver, Expire, Change as Changing}
 use Rattle.gptp_scenario.specs.declared.change.Change.{Change}
 use Rattle.gptp_scenario.specs.declared.change.Change.TheVariants as changes
-use Rattle.gptp_world.specs.declared.stage.Stage.{Stage}
+use Rattle.gptp_world.specs.declared.parts.WorldParts.{WorldParts}
 use Rattle.gptp_model.specs.Acts.{at}
 use Rattle.gptp_world.specs.ActTarget.{IsTargetOf, IsAimOfChange}
 use Rattle.gptp_system.specs.declared.reach.Reach.{Reach}
 use Rattle.gptp_system.specs.declared.reach.Reach.TheVariants as reaches
 use Rattle.gptp_system.specs.Reach.{frame_reach, timer_reach}
 use Rattle.gptp_world.specs.Performing.{HasRoomForAim}
-use Rattle.gptp_world.specs.Stage.{HasRoomWithin, IsStage}
+use Rattle.gptp_world.specs.WorldParts.{HasRoomWithin, IsStage}
 use Rattle.gptp_world.specs.Starting.{HasRoomToStart}
 use Rattle.gptp_world.specs.Telling.{HasRoomAtEnds}
 use Rattle.gptp_model.specs.World.{WorldState}
@@ -121,15 +121,16 @@ aim_later (Expire number timer) w time (aims.Inject lane) is = is
 aim_later (Changing c) w time target is = change_later c w time target is
 
 -- time that passes takes no room
-abbrev pub at_time : ℕ → Stage → Stage
-at_time time stage = record stage { now = time }
+abbrev pub at_time : ℕ → WorldParts → WorldParts
+at_time time parts = record parts { now = time }
 
-room_at : (r : Reach) (place : ℕ) (stage : Stage) (time : ℕ) → HasRoomWithin r place stage
-    → HasRoomWithin r place (at_time time stage)
-room_at r place stage time has = record { station = has.station; here = has.here; room = has.room }
+room_at : (r : Reach) (place : ℕ) (parts : WorldParts) (time : ℕ) → HasRoomWithin r place parts
+    → HasRoomWithin r place (at_time time parts)
+room_at r place parts time has = record { station = has.station; here = has.here; room = has.room }
 
-ends_at : (link : ℕ) (stage : Stage) (time : ℕ) → HasRoomAtEnds link stage → HasRoomAtEnds link (at_time time stage)
-ends_at link stage time has = record {
+ends_at : (link : ℕ) (parts : WorldParts) (time : ℕ) → HasRoomAtEnds link parts
+    → HasRoomAtEnds link (at_time time parts)
+ends_at link parts time has = record {
   a = has.a;
   b = has.b;
   ends = has.ends;
@@ -142,27 +143,28 @@ ends_at link stage time has = record {
   };
 }
 
-start_at : (place : ℕ) (stage : Stage) (time : ℕ) → HasRoomToStart place stage
-    → HasRoomToStart place (at_time time stage)
-start_at place stage time has = record { station = has.station; here = has.here; room = has.room }
+start_at : (place : ℕ) (parts : WorldParts) (time : ℕ) → HasRoomToStart place parts
+    → HasRoomToStart place (at_time time parts)
+start_at place parts time has = record { station = has.station; here = has.here; room = has.room }
 
-pub room_later : (target : ActTarget) (stage : Stage) (time : ℕ) → HasRoomForAim target stage
-    → HasRoomForAim target (at_time time stage)
-room_later (aims.Arrival lane) stage time has =
-    λ join place octets there named oldest. room_at (frame_reach octets) place stage time
+pub room_later : (target : ActTarget) (parts : WorldParts) (time : ℕ) → HasRoomForAim target parts
+    → HasRoomForAim target (at_time time parts)
+room_later (aims.Arrival lane) parts time has =
+    λ join place octets there named oldest. room_at (frame_reach octets) place parts time
     (has join place octets there named oldest)
-room_later (aims.Timer place set) stage time has =
-    λ station here. room_at (timer_reach set station.system) place stage time (has station here)
-room_later (aims.LinkDown link) stage time has = λ up. ends_at link stage time (has up)
-room_later (aims.LinkUp link) stage time has = λ down. ends_at link stage time (has down)
-room_later (aims.LinkSet link bounds) stage time has = has
-room_later (aims.Fail place) stage time has = has
-room_later (aims.Recover place) stage time has = λ failed. start_at place stage time (has failed)
-room_later (aims.Priority1 place set) stage time has = room_at reaches.All place stage time has
-room_later (aims.Inject lane) stage time has = has
+room_later (aims.Timer place set) parts time has =
+    λ station here. room_at (timer_reach set station.system) place parts time (has station here)
+room_later (aims.LinkDown link) parts time has = λ up. ends_at link parts time (has up)
+room_later (aims.LinkUp link) parts time has = λ down. ends_at link parts time (has down)
+room_later (aims.LinkSet link bounds) parts time has = has
+room_later (aims.Fail place) parts time has = has
+room_later (aims.Recover place) parts time has = λ failed. start_at place parts time (has failed)
+room_later (aims.Priority1 place set) parts time has = room_at reaches.All place parts time has
+room_later (aims.Inject lane) parts time has = has
 
-pub stage_later : (stage : Stage) (time : ℕ) → time ≤ 1000000000000000 → IsStage stage → IsStage (at_time time stage)
-stage_later stage time early is = record {
+pub stage_later : (parts : WorldParts) (time : ℕ) → time ≤ 1000000000000000 → IsStage parts
+    → IsStage (at_time time parts)
+stage_later parts time early is = record {
   net = is.net;
   clocks = is.clocks;
   systems = is.systems;

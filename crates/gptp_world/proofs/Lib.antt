@@ -10,7 +10,7 @@ pub mod InitialLemmas
 pub mod SendsLemmas
 pub mod RoomLemmas
 pub mod FrameBudgetLemmas
-pub mod StageLemmas
+pub mod WorldPartsLemmas
 pub mod TellingLemmas
 pub mod StartingLemmas
 pub mod ExpiringLemmas

@@ -27,7 +27,7 @@ use Rattle.gptp_scenario.specs.declared.change.Change.TheVariants as changes
 use Rattle.gptp_model.specs.declared.done.Done.{Done}
 use Rattle.gptp_model.specs.declared.done.Done.TheVariants.{Quiet}
 use Rattle.gptp_world.specs.declared.net.Net.{Net as Between}
-use Rattle.gptp_world.specs.declared.stage.Stage.{Stage}
+use Rattle.gptp_world.specs.declared.parts.WorldParts.{WorldParts}
 use Rattle.gptp_model.specs.declared.station.Station.{Station}
 use Rattle.gptp_model.specs.Acts.{Acts, AtPlace, Changes, IsOldestDue, TellsHearing}
 use Rattle.gptp_scenario.specs.Allowed.{IsFitAct}
@@ -40,7 +40,7 @@ use Rattle.gptp_world.specs.Memory.{AsksForNoMemory, ChangesWithoutMemory}
 use Rattle.gptp_world.specs.Net.{between, IsFrameDue, LinkIs}
 use Rattle.gptp_world.specs.Performing.{octets_of, ActIsDone, CanChange, HasRoomForAim, Injected, OfLink, OfSystem, Turned, TurnsOver}
 use Rattle.gptp_model.specs.Sound.{AreLinked, Flows, IsSound, IsWired}
-use Rattle.gptp_world.specs.Stage.{clock_at_place, world_of, HasRoomWithin, HasTimerAt, IsStage, SystemIs}
+use Rattle.gptp_world.specs.WorldParts.{clock_at_place, world_of, HasRoomWithin, HasTimerAt, IsStage, SystemIs}
 use Rattle.gptp_world.specs.Telling.{HasRoomAtEnds}
 use Rattle.gptp_model.specs.World.{Channel, WorldState, port_id, world_queue, receiver, sender}
 use Rattle.gptp_world.proofs.ActTargetLemmas.{lane_joins}
@@ -53,49 +53,50 @@ use Rattle.gptp_world.proofs.SendingLemmas.{queue_same}
 -- ---- where it is
 
 -- what an act is about is among the links, or the systems
-abbrev pub IsWithin : ActTarget → Stage → Type 0
-IsWithin (aims.Arrival lane) stage = lane.link < length stage.net.cables.items
-IsWithin (aims.Timer place timer) stage = place < length stage.stations.items
-IsWithin (aims.LinkDown link) stage = link < length stage.net.cables.items
-IsWithin (aims.LinkUp link) stage = link < length stage.net.cables.items
-IsWithin (aims.LinkSet link bounds) stage = link < length stage.net.cables.items
-IsWithin (aims.Fail place) stage = place < length stage.stations.items
-IsWithin (aims.Recover place) stage = place < length stage.stations.items
-IsWithin (aims.Priority1 place value) stage = place < length stage.stations.items
-IsWithin (aims.Inject lane) stage = lane.link < length stage.net.cables.items
+abbrev pub IsWithin : ActTarget → WorldParts → Type 0
+IsWithin (aims.Arrival lane) parts = lane.link < length parts.net.cables.items
+IsWithin (aims.Timer place timer) parts = place < length parts.stations.items
+IsWithin (aims.LinkDown link) parts = link < length parts.net.cables.items
+IsWithin (aims.LinkUp link) parts = link < length parts.net.cables.items
+IsWithin (aims.LinkSet link bounds) parts = link < length parts.net.cables.items
+IsWithin (aims.Fail place) parts = place < length parts.stations.items
+IsWithin (aims.Recover place) parts = place < length parts.stations.items
+IsWithin (aims.Priority1 place value) parts = place < length parts.stations.items
+IsWithin (aims.Inject lane) parts = lane.link < length parts.net.cables.items
 
-link_within : (stage : Stage) (link : ℕ) (channel : Channel)
-    → slice_get (world_of stage).net.channels link ≡ Some channel
-    → link < length stage.net.cables.items
-link_within stage link channel here =
-    subst (λ n. link < n) (length-map stage.net.cables.items channel_of)
-    (slice_get_within (map channel_of stage.net.cables.items) link channel here)
+link_within : (parts : WorldParts) (link : ℕ) (channel : Channel)
+    → slice_get (world_of parts).net.channels link ≡ Some channel
+    → link < length parts.net.cables.items
+link_within parts link channel here =
+    subst (λ n. link < n) (length-map parts.net.cables.items channel_of)
+    (slice_get_within (map channel_of parts.net.cables.items) link channel here)
 
-change_within : (change : Change) (target : ActTarget) (stage : Stage) → IsAimOfChange change (world_of stage) target
-    → IsWithin target stage
-change_within (changes.LinkDown number port) (aims.LinkDown link) stage at =
-    link_within stage link at.channel at.is.here
-change_within (changes.LinkUp number port) (aims.LinkUp link) stage at = link_within stage link at.channel at.is.here
-change_within (changes.LinkSet number port min max loss) (aims.LinkSet link bounds) stage (at, is) =
-    link_within stage link at.channel at.is.here
-change_within (changes.Fail number) (aims.Fail place) stage at =
-    slice_get_within stage.stations.items place at.station at.is.here
-change_within (changes.Recover number) (aims.Recover place) stage at =
-    slice_get_within stage.stations.items place at.station at.is.here
-change_within (changes.Priority1 number value) (aims.Priority1 place set) stage (at, is) =
-    slice_get_within stage.stations.items place at.station at.is.here
-change_within (changes.Inject number port octets) (aims.Inject lane) stage at =
-    link_within stage lane.link at.channel at.here
-change_within change target stage at = absurd at
+change_within : (change : Change) (target : ActTarget) (parts : WorldParts)
+    → IsAimOfChange change (world_of parts) target
+    → IsWithin target parts
+change_within (changes.LinkDown number port) (aims.LinkDown link) parts at =
+    link_within parts link at.channel at.is.here
+change_within (changes.LinkUp number port) (aims.LinkUp link) parts at = link_within parts link at.channel at.is.here
+change_within (changes.LinkSet number port min max loss) (aims.LinkSet link bounds) parts (at, is) =
+    link_within parts link at.channel at.is.here
+change_within (changes.Fail number) (aims.Fail place) parts at =
+    slice_get_within parts.stations.items place at.station at.is.here
+change_within (changes.Recover number) (aims.Recover place) parts at =
+    slice_get_within parts.stations.items place at.station at.is.here
+change_within (changes.Priority1 number value) (aims.Priority1 place set) parts (at, is) =
+    slice_get_within parts.stations.items place at.station at.is.here
+change_within (changes.Inject number port octets) (aims.Inject lane) parts at =
+    link_within parts lane.link at.channel at.here
+change_within change target parts at = absurd at
 
-pub aim_within : (act : Act) (target : ActTarget) (stage : Stage) → IsTargetOf act (world_of stage) target
-    → IsWithin target stage
-aim_within (Deliver link direction) (aims.Arrival lane) stage (same, (way, at)) =
-    subst (λ i. i < length stage.net.cables.items) (sym same) (link_within stage link at.channel at.here)
-aim_within (Expire number timer) (aims.Timer place set) stage (at, same) =
-    slice_get_within stage.stations.items place at.station at.is.here
-aim_within (Changing change) target stage at = change_within change target stage at
-aim_within act target stage at = absurd at
+pub aim_within : (act : Act) (target : ActTarget) (parts : WorldParts) → IsTargetOf act (world_of parts) target
+    → IsWithin target parts
+aim_within (Deliver link direction) (aims.Arrival lane) parts (same, (way, at)) =
+    subst (λ i. i < length parts.net.cables.items) (sym same) (link_within parts link at.channel at.here)
+aim_within (Expire number timer) (aims.Timer place set) parts (at, same) =
+    slice_get_within parts.stations.items place at.station at.is.here
+aim_within (Changing change) target parts at = change_within change target parts at
+aim_within act target parts at = absurd at
 
 -- ---- what asks for no room
 
@@ -112,64 +113,64 @@ never_both net link up within found is =
     by false same = absurd cc
 
 -- an act about this asks for none
-abbrev pub AsksForNone : ActTarget → Stage → Type 0
-AsksForNone (aims.LinkDown link) stage = LinkIs false link stage.net
-AsksForNone (aims.LinkUp link) stage = LinkIs true link stage.net
-AsksForNone (aims.LinkSet link bounds) stage = ⊤
-AsksForNone (aims.Fail place) stage = ⊤
-AsksForNone (aims.Recover place) stage = SystemIs true place stage
-AsksForNone (aims.Inject lane) stage = LinkIs false lane.link stage.net
-AsksForNone target stage = ⊥
+abbrev pub AsksForNone : ActTarget → WorldParts → Type 0
+AsksForNone (aims.LinkDown link) parts = LinkIs false link parts.net
+AsksForNone (aims.LinkUp link) parts = LinkIs true link parts.net
+AsksForNone (aims.LinkSet link bounds) parts = ⊤
+AsksForNone (aims.Fail place) parts = ⊤
+AsksForNone (aims.Recover place) parts = SystemIs true place parts
+AsksForNone (aims.Inject lane) parts = LinkIs false lane.link parts.net
+AsksForNone target parts = ⊥
 
-link_is : (stage : Stage) (link : ℕ) (up : Bool) (channel : Channel)
-    → slice_get (world_of stage).net.channels link ≡ Some channel → channel.up ≡ up → LinkIs up link stage.net
-link_is stage link up channel here is = λ joined_link there.
+link_is : (parts : WorldParts) (link : ℕ) (up : Bool) (channel : Channel)
+    → slice_get (world_of parts).net.channels link ≡ Some channel → channel.up ≡ up → LinkIs up link parts.net
+link_is parts link up channel here is = λ joined_link there.
     let same : channel_of joined_link ≡ channel =
     same_Some (channel_of joined_link) channel
-    (sym (mapped_there channel_of stage.net.cables.items link joined_link there) ∙ here) in
+    (sym (mapped_there channel_of parts.net.cables.items link joined_link there) ∙ here) in
     ap (λ (x : Channel). x.up) same ∙ is
 
-system_is : (stage : Stage) (place : ℕ) (live : Bool) (station : Station)
-    → slice_get stage.stations.items place ≡ Some station → station.live ≡ live → SystemIs live place stage
-system_is stage place live station here is = λ other there.
+system_is : (parts : WorldParts) (place : ℕ) (live : Bool) (station : Station)
+    → slice_get parts.stations.items place ≡ Some station → station.live ≡ live → SystemIs live place parts
+system_is parts place live station here is = λ other there.
     let same : other ≡ station = same_Some other station (sym there ∙ here) in ap (λ (x : Station). x.live) same ∙ is
 
-free_change : (change : Change) (target : ActTarget) (stage : Stage) → IsAimOfChange change (world_of stage) target
-    → ChangesWithoutMemory change (world_of stage) → AsksForNone target stage
-free_change (changes.LinkDown number port) (aims.LinkDown link) stage at asks =
-    link_is stage link false at.channel at.is.here (asks link at.channel at.is)
-free_change (changes.LinkUp number port) (aims.LinkUp link) stage at asks =
-    link_is stage link true at.channel at.is.here (asks link at.channel at.is)
-free_change (changes.LinkSet number port min max loss) (aims.LinkSet link bounds) stage at asks = tt
-free_change (changes.Fail number) (aims.Fail place) stage at asks = tt
-free_change (changes.Recover number) (aims.Recover place) stage at asks =
-    system_is stage place true at.station at.is.here (asks place at.station at.is)
-free_change (changes.Priority1 number value) (aims.Priority1 place set) stage at asks = asks
-free_change (changes.Inject number port octets) (aims.Inject lane) stage at asks =
-    link_is stage lane.link false at.channel at.here
-    (asks lane.link at.channel (lane_joins (port_id number port) (world_of stage) lane at))
-free_change change target stage at asks = absurd at
+free_change : (change : Change) (target : ActTarget) (parts : WorldParts) → IsAimOfChange change (world_of parts) target
+    → ChangesWithoutMemory change (world_of parts) → AsksForNone target parts
+free_change (changes.LinkDown number port) (aims.LinkDown link) parts at asks =
+    link_is parts link false at.channel at.is.here (asks link at.channel at.is)
+free_change (changes.LinkUp number port) (aims.LinkUp link) parts at asks =
+    link_is parts link true at.channel at.is.here (asks link at.channel at.is)
+free_change (changes.LinkSet number port min max loss) (aims.LinkSet link bounds) parts at asks = tt
+free_change (changes.Fail number) (aims.Fail place) parts at asks = tt
+free_change (changes.Recover number) (aims.Recover place) parts at asks =
+    system_is parts place true at.station at.is.here (asks place at.station at.is)
+free_change (changes.Priority1 number value) (aims.Priority1 place set) parts at asks = asks
+free_change (changes.Inject number port octets) (aims.Inject lane) parts at asks =
+    link_is parts lane.link false at.channel at.here
+    (asks lane.link at.channel (lane_joins (port_id number port) (world_of parts) lane at))
+free_change change target parts at asks = absurd at
 
 -- what an act that asks for no memory is about asks for none
-pub free_aim : (act : Act) (target : ActTarget) (stage : Stage) → IsTargetOf act (world_of stage) target
-    → AsksForNoMemory act (world_of stage) → AsksForNone target stage
-free_aim (Changing change) target stage at asks = free_change change target stage at asks
-free_aim act target stage at asks = absurd asks
+pub free_aim : (act : Act) (target : ActTarget) (parts : WorldParts) → IsTargetOf act (world_of parts) target
+    → AsksForNoMemory act (world_of parts) → AsksForNone target parts
+free_aim (Changing change) target parts at asks = free_change change target parts at asks
+free_aim act target parts at asks = absurd asks
 
 -- a timer that an act is about is one of the system
-pub timer_there : (act : Act) (place : ℕ) (timer : Timer) (stage : Stage)
-    → IsTargetOf act (world_of stage) (aims.Timer place timer) → HasTimerAt place timer stage
-timer_there (Expire number own) place timer stage (at, same) =
+pub timer_there : (act : Act) (place : ℕ) (timer : Timer) (parts : WorldParts)
+    → IsTargetOf act (world_of parts) (aims.Timer place timer) → HasTimerAt place timer parts
+timer_there (Expire number own) place timer parts (at, same) =
     record { station = at.station; here = at.is.here; timer_of = rw same at.timer_of }
-timer_there (Changing (changes.LinkDown number port)) place timer stage at = absurd at
-timer_there act place timer stage at = absurd at
+timer_there (Changing (changes.LinkDown number port)) place timer parts at = absurd at
+timer_there act place timer parts at = absurd at
 
 -- ---- a frame that arrives
 
-pub frame_due : (stage : Stage) (lane : Lane) (time : ℕ)
-    → AtPlace lane.link (world_of stage).net (IsOldestDue lane.direction time) → IsFrameDue lane time stage.net
-frame_due stage lane time at =
-    let made = from_map channel_of stage.net.cables.items lane.link at.channel at.here in
+pub frame_due : (parts : WorldParts) (lane : Lane) (time : ℕ)
+    → AtPlace lane.link (world_of parts).net (IsOldestDue lane.direction time) → IsFrameDue lane time parts.net
+frame_due parts lane time at =
+    let made = from_map channel_of parts.net.cables.items lane.link at.channel at.here in
     record {
       joined_link = made.one;
       here = made.there;
@@ -201,41 +202,41 @@ end_up w link place FromB channel station linked there up here live named =
     linked link place FromA channel station there up here live named
 
 -- the directory knows where a lane ends
-end_is : (stage : Stage) (link : ℕ) (direction : Direction) (join : Join) (channel : Channel) → IsStage stage
-    → slice_get stage.net.directory.joins link ≡ Some join → slice_get (world_of stage).net.channels link ≡ Some channel
+end_is : (parts : WorldParts) (link : ℕ) (direction : Direction) (join : Join) (channel : Channel) → IsStage parts
+    → slice_get parts.net.directory.joins link ≡ Some join → slice_get (world_of parts).net.channels link ≡ Some channel
     → direction_end direction join ≡ receiver direction channel
-end_is stage link direction join channel is there here =
-    let made = from_map channel_of stage.net.cables.items link channel here in
+end_is parts link direction join channel is there here =
+    let made = from_map channel_of parts.net.cables.items link channel here in
     let one : join ≡ join_of made.one =
-    same_Some join (join_of made.one) (sym there ∙ known_join stage.net link made.one is.net made.there) in
+    same_Some join (join_of made.one) (sym there ∙ known_join parts.net link made.one is.net made.there) in
     ap (direction_end direction) one ∙ (end_same direction made.one ∙ ap (receiver direction) (sym made.is))
 
 -- the port that a frame reaches is one whose link is up
-pub may_hear : (stage : Stage) (lane : Lane) (time : ℕ) → IsStage stage → IsWired (world_of stage)
-    → AtPlace lane.link (world_of stage).net (IsOldestDue lane.direction time) → MayHear lane stage
-may_hear stage lane time is wired at = λ join place there placed station here live.
-    let ends = end_is stage lane.link lane.direction join at.channel is there at.here in
-    let known : slice_get stage.net.directory.clocks place ≡ Some (clock station.system) =
+pub may_hear : (parts : WorldParts) (lane : Lane) (time : ℕ) → IsStage parts → IsWired (world_of parts)
+    → AtPlace lane.link (world_of parts).net (IsOldestDue lane.direction time) → MayHear lane parts
+may_hear parts lane time is wired at = λ join place there placed station here live.
+    let ends = end_is parts lane.link lane.direction join at.channel is there at.here in
+    let known : slice_get parts.net.directory.clocks place ≡ Some (clock station.system) =
     ap (λ cs. slice_get cs place) (sym is.clocks)
-    ∙ mapped_there clock_at_place stage.stations.items place station here in
+    ∙ mapped_there clock_at_place parts.stations.items place station here in
     let named : clock station.system ≡ (direction_end lane.direction join).clock =
     same_Some (clock station.system) (direction_end lane.direction join).clock (sym known ∙ placed) in
     let up = carries_up lane.direction at.channel time (wired.flow lane.link lane.direction at.channel at.here) at.so in
     subst (λ (port : PortId). IsUp station.system port.port) (sym ends)
-    (end_up (world_of stage) lane.link place lane.direction at.channel station wired.linked at.here up here live
+    (end_up (world_of parts) lane.link place lane.direction at.channel station wired.linked at.here up here live
     (named ∙ ap (λ (port : PortId). port.clock) ends))
 
 -- it is told where the frame went
 pub arrived : {F : Type 0} (answers : Bounds → ℕ → F → Option ℕ → F → Type 0) (lane : Lane) (reached : PortId)
-    (answer : Option Answer) (octets : List ℕ) (done : Done) (fate fate_after : F) (stage stage' : Stage)
-    → IsStage stage
+    (answer : Option Answer) (octets : List ℕ) (done : Done) (fate fate_after : F) (parts stage' : WorldParts)
+    → IsStage parts
     → TellsHearing reached answer octets done
-    → Delivered answers lane reached answer octets fate fate_after stage stage'
-    → ActIsDone answers (Deliver lane.link lane.direction) done fate fate_after stage stage'
-arrived answers lane reached answer octets done fate fate_after stage stage' is told delivered =
+    → Delivered answers lane reached answer octets fate fate_after parts stage'
+    → ActIsDone answers (Deliver lane.link lane.direction) done fate fate_after parts stage'
+arrived answers lane reached answer octets done fate fate_after parts stage' is told delivered =
     let delivers = delivered.delivers in let channel = delivers.channel in
     let ends : reached ≡ receiver lane.direction channel =
-    delivered.is_end ∙ end_is stage lane.link lane.direction delivered.join channel is delivered.there
+    delivered.is_end ∙ end_is parts lane.link lane.direction delivered.join channel is delivered.there
     delivers.takes.here in
     record {
       draws = delivered.draws;
@@ -253,11 +254,11 @@ arrived answers lane reached answer octets done fate fate_after stage stage' is 
 -- ---- a change, by place
 
 -- what is so of a link with the state in which it was found
-pub of_link : (stage : Stage) (link : ℕ) (up : Bool) (So : Bool → Channel → Type 0)
-    → ((joined_link : JoinedLink) → slice_get stage.net.cables.items link ≡ Some joined_link → up ≡ joined_link.link.up)
-    → OfLink link (world_of stage) (So up) → OfLink link (world_of stage) (λ channel. So channel.up channel)
-of_link stage link up So found so = λ channel here.
-    let made = from_map channel_of stage.net.cables.items link channel here in
+pub of_link : (parts : WorldParts) (link : ℕ) (up : Bool) (So : Bool → Channel → Type 0)
+    → ((joined_link : JoinedLink) → slice_get parts.net.cables.items link ≡ Some joined_link → up ≡ joined_link.link.up)
+    → OfLink link (world_of parts) (So up) → OfLink link (world_of parts) (λ channel. So channel.up channel)
+of_link parts link up So found so = λ channel here.
+    let made = from_map channel_of parts.net.cables.items link channel here in
     let is : up ≡ channel.up = found made.one made.there ∙ ap (λ (x : Channel). x.up) (sym made.is) in
     subst (λ b. So b channel) is (so channel here)
 
@@ -268,11 +269,11 @@ pub of_this : (w : WorldState) (link : ℕ) (one : Channel) (So : Channel → Ty
 of_this w link one So there so = λ channel here. subst So (same_Some one channel (sym there ∙ here)) so
 
 -- the same of a system
-pub of_system : (stage : Stage) (place : ℕ) (one : Station) (live : Bool) (So : Bool → Station → Type 0)
-    → one ≡ slice_index_or stage.stations.items place one → one.live ≡ live
-    → OfSystem place (world_of stage) (So live) → OfSystem place (world_of stage) (λ station. So station.live station)
-of_system stage place one live So value is so = λ station here.
-    let same : one ≡ station = value ∙ read stage.stations.items place station one here in
+pub of_system : (parts : WorldParts) (place : ℕ) (one : Station) (live : Bool) (So : Bool → Station → Type 0)
+    → one ≡ slice_index_or parts.stations.items place one → one.live ≡ live
+    → OfSystem place (world_of parts) (So live) → OfSystem place (world_of parts) (λ station. So station.live station)
+of_system parts place one live So value is so = λ station here.
+    let same : one ≡ station = value ∙ read parts.stations.items place station one here in
     subst (λ b. So b station) (sym is ∙ ap (λ (x : Station). x.live) same) (so station here)
 
 pub of_that : (w : WorldState) (place : ℕ) (one : Station) (So : Station → Type 0)
@@ -284,54 +285,54 @@ of_that w place one So there so = λ station here. subst So (same_Some one stati
 
 -- a frame went onto a lane whose link is up
 pub injected : {F : Type 0} (answers : Bounds → ℕ → F → Option ℕ → F → Type 0) (lane : Lane) (octets : List ℕ)
-    (fate fate_after : F) (stage : Stage) (net : Between) (joined_link : JoinedLink)
-    → slice_get stage.net.cables.items lane.link ≡ Some joined_link → joined_link.link.up ≡ true
-    → SentOne answers stage.now (sender lane.direction (channel_of joined_link)) octets fate fate_after
-    (between stage.net)
+    (fate fate_after : F) (parts : WorldParts) (net : Between) (joined_link : JoinedLink)
+    → slice_get parts.net.cables.items lane.link ≡ Some joined_link → joined_link.link.up ≡ true
+    → SentOne answers parts.now (sender lane.direction (channel_of joined_link)) octets fate fate_after
+    (between parts.net)
     (between net)
-    → Injected answers lane octets fate fate_after stage (record stage { net = net })
-injected answers lane octets fate fate_after stage net joined_link here up sent =
-    let w = world_of stage in let w' = world_of (record stage { net = net }) in let draws = sent.draw ∷ [] in
+    → Injected answers lane octets fate fate_after parts (record parts { net = net })
+injected answers lane octets fate fate_after parts net joined_link here up sent =
+    let w = world_of parts in let w' = world_of (record parts { net = net }) in let draws = sent.draw ∷ [] in
     record {
       draws = draws;
       drawn = (fate_after, sent.drawn, refl);
       injects = of_this w lane.link (channel_of joined_link)
           (λ channel. InjectsIf channel.up (sender lane.direction channel) octets w draws w')
-          (mapped_there channel_of stage.net.cables.items lane.link joined_link here)
+          (mapped_there channel_of parts.net.cables.items lane.link joined_link here)
           (subst (λ b. InjectsIf b (sender lane.direction (channel_of joined_link)) octets w draws w') (sym up)
           (record { draw = sent.draw; net = between net; drawn_once = refl; sent = sent.sends; is = refl }));
     }
 
 -- none went onto one whose link is down
 pub not_injected : {F : Type 0} (answers : Bounds → ℕ → F → Option ℕ → F → Type 0) (lane : Lane) (octets : List ℕ)
-    (fate : F) (stage : Stage)
-    → ((joined_link : JoinedLink) → slice_get stage.net.cables.items lane.link ≡ Some joined_link
+    (fate : F) (parts : WorldParts)
+    → ((joined_link : JoinedLink) → slice_get parts.net.cables.items lane.link ≡ Some joined_link
     → false ≡ joined_link.link.up)
-    → Injected answers lane octets fate fate stage stage
-not_injected answers lane octets fate stage down =
-    let w = world_of stage in
+    → Injected answers lane octets fate fate parts parts
+not_injected answers lane octets fate parts down =
+    let w = world_of parts in
     record {
       draws = [];
       drawn = refl;
-      injects = of_link stage lane.link false (λ up channel. InjectsIf up (sender lane.direction channel) octets w [] w)
+      injects = of_link parts lane.link false (λ up channel. InjectsIf up (sender lane.direction channel) octets w [] w)
           down (λ channel here. (refl, refl));
     }
 
 -- ---- a change, by name
 
 -- the world in which now is the time of the last change
-abbrev pub changed_now : Stage → Stage
-changed_now stage = record stage { last_change = stage.now }
+abbrev pub changed_now : WorldParts → WorldParts
+changed_now parts = record parts { last_change = parts.now }
 
-pub changes_so : (change : Change) (target : ActTarget) (stage : Stage) (draws : List Draw) (w' : WorldState)
-    → IsAimOfChange change (world_of stage) target → TurnsOver target (world_of (changed_now stage)) draws w'
-    → Changes change (world_of (changed_now stage)) draws w'
-changes_so (changes.LinkDown number port) (aims.LinkDown link) stage draws w' at turns =
+pub changes_so : (change : Change) (target : ActTarget) (parts : WorldParts) (draws : List Draw) (w' : WorldState)
+    → IsAimOfChange change (world_of parts) target → TurnsOver target (world_of (changed_now parts)) draws w'
+    → Changes change (world_of (changed_now parts)) draws w'
+changes_so (changes.LinkDown number port) (aims.LinkDown link) parts draws w' at turns =
     record { place = link; channel = at.channel; is = at.is; so = turns at.channel at.is.here }
-changes_so (changes.LinkUp number port) (aims.LinkUp link) stage draws w' at turns =
+changes_so (changes.LinkUp number port) (aims.LinkUp link) parts draws w' at turns =
     record { place = link; channel = at.channel; is = at.is; so = turns at.channel at.is.here }
-changes_so (changes.LinkSet number port min max loss) (aims.LinkSet link bounds) stage draws w' (at, is) turns =
-    let w = world_of (changed_now stage) in
+changes_so (changes.LinkSet number port min max loss) (aims.LinkSet link bounds) parts draws w' (at, is) turns =
+    let w = world_of (changed_now parts) in
     record {
       place = link;
       channel = at.channel;
@@ -339,20 +340,20 @@ changes_so (changes.LinkSet number port min max loss) (aims.LinkSet link bounds)
       so = subst (λ b. (draws ≡ []) × (w' ≡ record w { net = with_bounds b link at.channel w.net })) is
           (turns at.channel at.is.here);
     }
-changes_so (changes.Fail number) (aims.Fail place) stage draws w' at turns = record {
+changes_so (changes.Fail number) (aims.Fail place) parts draws w' at turns = record {
   place = place;
   station = at.station;
   is = record { here = at.is.here; named = at.is.named };
   so = turns at.station at.is.here;
 }
-changes_so (changes.Recover number) (aims.Recover place) stage draws w' at turns = record {
+changes_so (changes.Recover number) (aims.Recover place) parts draws w' at turns = record {
   place = place;
   station = at.station;
   is = record { here = at.is.here; named = at.is.named };
   so = turns at.station at.is.here;
 }
-changes_so (changes.Priority1 number value) (aims.Priority1 place set) stage draws w' (at, is) turns =
-    let w = world_of (changed_now stage) in
+changes_so (changes.Priority1 number value) (aims.Priority1 place set) parts draws w' (at, is) turns =
+    let w = world_of (changed_now parts) in
     record {
       place = place;
       station = at.station;
@@ -360,39 +361,39 @@ changes_so (changes.Priority1 number value) (aims.Priority1 place set) stage dra
       so = subst (λ v. CallsIfLive place (Priority v) (with_station place (with_setup v at.station) w) draws w') is
           (turns at.station at.is.here);
     }
-changes_so (changes.Inject number port octets) (aims.Inject lane) stage draws w' at turns = absurd turns
-changes_so change target stage draws w' at turns = absurd at
+changes_so (changes.Inject number port octets) (aims.Inject lane) parts draws w' at turns = absurd turns
+changes_so change target parts draws w' at turns = absurd at
 
 -- what is changed can be changed
-pub can_change : (change : Change) (target : ActTarget) (stage : Stage) → IsSound (world_of stage)
+pub can_change : (change : Change) (target : ActTarget) (parts : WorldParts) → IsSound (world_of parts)
     → IsFitAct (Changing change)
-    → ((lane : Lane) → target ≢ aims.Inject lane) → IsAimOfChange change (world_of stage) target
-    → CanChange target (changed_now stage)
-can_change (changes.LinkDown number port) (aims.LinkDown link) stage sound fit other at =
-    link_within stage link at.channel at.is.here
-can_change (changes.LinkUp number port) (aims.LinkUp link) stage sound fit other at =
-    link_within stage link at.channel at.is.here
-can_change (changes.LinkSet number port min max loss) (aims.LinkSet link bounds) stage sound fit other (at, is) = (
-  link_within stage link at.channel at.is.here,
+    → ((lane : Lane) → target ≢ aims.Inject lane) → IsAimOfChange change (world_of parts) target
+    → CanChange target (changed_now parts)
+can_change (changes.LinkDown number port) (aims.LinkDown link) parts sound fit other at =
+    link_within parts link at.channel at.is.here
+can_change (changes.LinkUp number port) (aims.LinkUp link) parts sound fit other at =
+    link_within parts link at.channel at.is.here
+can_change (changes.LinkSet number port min max loss) (aims.LinkSet link bounds) parts sound fit other (at, is) = (
+  link_within parts link at.channel at.is.here,
   rw is (record { positive = fit.positive; ordered = fit.ordered; short = fit.short; share = fit.share }),
 )
-can_change (changes.Fail number) (aims.Fail place) stage sound fit other at =
-    slice_get_within stage.stations.items place at.station at.is.here
-can_change (changes.Recover number) (aims.Recover place) stage sound fit other at = record {
+can_change (changes.Fail number) (aims.Fail place) parts sound fit other at =
+    slice_get_within parts.stations.items place at.station at.is.here
+can_change (changes.Recover number) (aims.Recover place) parts sound fit other at = record {
   station = at.station;
   here = at.is.here;
   setup = sound.wired.setups place at.station at.is.here;
   params = (sound.on_time.stations place at.station at.is.here).setup;
 }
-can_change (changes.Priority1 number value) (aims.Priority1 place set) stage sound fit other (at, is) =
-    slice_get_within stage.stations.items place at.station at.is.here
-can_change (changes.Inject number port octets) (aims.Inject lane) stage sound fit other at =
+can_change (changes.Priority1 number value) (aims.Priority1 place set) parts sound fit other (at, is) =
+    slice_get_within parts.stations.items place at.station at.is.here
+can_change (changes.Inject number port octets) (aims.Inject lane) parts sound fit other at =
     absurd (other lane refl)
-can_change change target stage sound fit other at = absurd at
+can_change change target parts sound fit other at = absurd at
 
 -- the time of the last change takes no room
-pub same_stage : (stage : Stage) → IsStage stage → IsStage (changed_now stage)
-same_stage stage is = record {
+pub same_stage : (parts : WorldParts) → IsStage parts → IsStage (changed_now parts)
+same_stage parts is = record {
   net = is.net;
   clocks = is.clocks;
   systems = is.systems;
@@ -402,8 +403,8 @@ same_stage stage is = record {
   moment = is.moment;
 }
 
-same_room_at_ends : (link : ℕ) (stage : Stage) → HasRoomAtEnds link stage → HasRoomAtEnds link (changed_now stage)
-same_room_at_ends link stage has =
+same_room_at_ends : (link : ℕ) (parts : WorldParts) → HasRoomAtEnds link parts → HasRoomAtEnds link (changed_now parts)
+same_room_at_ends link parts has =
     let both = has.room in
     record {
       a = has.a;
@@ -418,24 +419,24 @@ same_room_at_ends link stage has =
       };
     }
 
-same_room_within : (r : Reach) (place : ℕ) (stage : Stage) → HasRoomWithin r place stage
-    → HasRoomWithin r place (changed_now stage)
-same_room_within r place stage has = record { station = has.station; here = has.here; room = has.room }
+same_room_within : (r : Reach) (place : ℕ) (parts : WorldParts) → HasRoomWithin r place parts
+    → HasRoomWithin r place (changed_now parts)
+same_room_within r place parts has = record { station = has.station; here = has.here; room = has.room }
 
-pub same_room : (target : ActTarget) (stage : Stage) → HasRoomForAim target stage
-    → HasRoomForAim target (changed_now stage)
-same_room (aims.Arrival lane) stage has = λ join place octets there placed oldest.
-    same_room_within (frame_reach octets) place stage (has join place octets there placed oldest)
-same_room (aims.Timer place timer) stage has = λ station here.
-    same_room_within (timer_reach timer station.system) place stage (has station here)
-same_room (aims.LinkDown link) stage has = λ up. same_room_at_ends link stage (has up)
-same_room (aims.LinkUp link) stage has = λ down. same_room_at_ends link stage (has down)
-same_room (aims.LinkSet link bounds) stage has = has
-same_room (aims.Fail place) stage has = has
-same_room (aims.Recover place) stage has = λ failed.
+pub same_room : (target : ActTarget) (parts : WorldParts) → HasRoomForAim target parts
+    → HasRoomForAim target (changed_now parts)
+same_room (aims.Arrival lane) parts has = λ join place octets there placed oldest.
+    same_room_within (frame_reach octets) place parts (has join place octets there placed oldest)
+same_room (aims.Timer place timer) parts has = λ station here.
+    same_room_within (timer_reach timer station.system) place parts (has station here)
+same_room (aims.LinkDown link) parts has = λ up. same_room_at_ends link parts (has up)
+same_room (aims.LinkUp link) parts has = λ down. same_room_at_ends link parts (has down)
+same_room (aims.LinkSet link bounds) parts has = has
+same_room (aims.Fail place) parts has = has
+same_room (aims.Recover place) parts has = λ failed.
     let room = has failed in record { station = room.station; here = room.here; room = room.room }
-same_room (aims.Priority1 place value) stage has = same_room_within reaches.All place stage has
-same_room (aims.Inject lane) stage has = has
+same_room (aims.Priority1 place value) parts has = same_room_within reaches.All place parts has
+same_room (aims.Inject lane) parts has = has
 
 -- an act that is neither a delivery nor an expiry is a change
 pub record IsSomeChange (act : Act) (target : ActTarget) (w : WorldState) : Type 0 where
@@ -453,22 +454,22 @@ is_change act target w no_arrival no_timer at = absurd at
 
 pub change_told : {F : Type 0} (answers : Bounds → ℕ → F → Option ℕ → F → Type 0)
     (act : Act) (target : ActTarget) (fate fate_after : F)
-    (stage stage' : Stage) → IsSomeChange act target (world_of stage)
-    → Turned answers target fate fate_after (changed_now stage) stage'
-    → ActIsDone answers act Quiet fate fate_after stage stage'
-change_told answers act target fate fate_after stage stage' is turned = record {
+    (parts stage' : WorldParts) → IsSomeChange act target (world_of parts)
+    → Turned answers target fate fate_after (changed_now parts) stage'
+    → ActIsDone answers act Quiet fate fate_after parts stage'
+change_told answers act target fate fate_after parts stage' is turned = record {
   draws = turned.draws;
   drawn = turned.drawn;
-  acts = subst (λ x. Acts x (world_of stage) turned.draws Quiet (world_of stage')) (sym is.act_is)
-      (refl, changes_so is.change target stage turned.draws (world_of stage') is.at turned.turns);
+  acts = subst (λ x. Acts x (world_of parts) turned.draws Quiet (world_of stage')) (sym is.act_is)
+      (refl, changes_so is.change target parts turned.draws (world_of stage') is.at turned.turns);
 }
 
 -- an injection on a lane is that of a change
 pub injection_told : {F : Type 0} (answers : Bounds → ℕ → F → Option ℕ → F → Type 0) (act : Act) (lane : Lane)
-    (fate fate_after : F) (stage stage' : Stage) → IsTargetOf act (world_of stage) (aims.Inject lane)
-    → Injected answers lane (octets_of act) fate fate_after (changed_now stage) stage'
-    → ActIsDone answers act Quiet fate fate_after stage stage'
-injection_told answers (Changing (changes.Inject number port octets)) lane fate fate_after stage stage' at was =
+    (fate fate_after : F) (parts stage' : WorldParts) → IsTargetOf act (world_of parts) (aims.Inject lane)
+    → Injected answers lane (octets_of act) fate fate_after (changed_now parts) stage'
+    → ActIsDone answers act Quiet fate fate_after parts stage'
+injection_told answers (Changing (changes.Inject number port octets)) lane fate fate_after parts stage' at was =
     record {
       draws = was.draws;
       drawn = was.drawn;
@@ -477,12 +478,12 @@ injection_told answers (Changing (changes.Inject number port octets)) lane fate 
         record {
           place = lane.link;
           channel = at.channel;
-          is = lane_joins (port_id number port) (world_of stage) lane at;
+          is = lane_joins (port_id number port) (world_of parts) lane at;
           so = subst
-              (λ from. InjectsIf at.channel.up from octets (world_of (changed_now stage)) was.draws (world_of stage'))
+              (λ from. InjectsIf at.channel.up from octets (world_of (changed_now parts)) was.draws (world_of stage'))
               at.begins (was.injects at.channel at.here);
         },
       );
     }
-injection_told answers (Changing (changes.LinkDown number port)) lane fate fate_after stage stage' at was = absurd at
-injection_told answers act lane fate fate_after stage stage' at was = absurd at
+injection_told answers (Changing (changes.LinkDown number port)) lane fate fate_after parts stage' at was = absurd at
+injection_told answers act lane fate fate_after parts stage' at was = absurd at

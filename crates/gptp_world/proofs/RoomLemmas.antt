@@ -12,14 +12,14 @@ use Rattle.gptp_vector.specs.declared.port.PortId.{PortId}
 use Rattle.gptp_world.specs.declared.joined_link.JoinedLink.{JoinedLink}
 use Rattle.gptp_world.specs.declared.joined_link.Lane.{Lane}
 use Rattle.gptp_world.specs.declared.net.Net.{Net as Between}
-use Rattle.gptp_world.specs.declared.stage.Stage.{Stage}
+use Rattle.gptp_world.specs.declared.parts.WorldParts.{WorldParts}
 use Rattle.gptp_model.specs.declared.station.Station.{Station}
 use Rattle.gptp_world.specs.JoinedLink.{channel_of, join_of, HasRoomOn}
 use Rattle.gptp_world.specs.Directory.{BeginsAt, IsDirectory, Join}
 use Rattle.gptp_world.specs.Net.{IsNet}
 use Rattle.gptp_model.specs.World.{port_id}
 use Rattle.gptp_world.specs.Room.{both, for_call, for_timers, repeated, HasRoomAtPorts, HasRoomBothWays, HasRoomFrom, KeepsRoomOn, Need, OnlyRoom}
-use Rattle.gptp_world.specs.Stage.{clock_at_place, HasRoomToCall, HasRoomToCallBoth, IsStage}
+use Rattle.gptp_world.specs.WorldParts.{clock_at_place, HasRoomToCall, HasRoomToCallBoth, IsStage}
 use Rattle.gptp_world.specs.Starting.{for_start, HasRoomToStart}
 use Rattle.gptp_model.specs.World.{Channel, Net}
 use Rattle.gptp_world.proofs.NeedLemmas.{covered, repeated-covered, Covers}
@@ -143,13 +143,13 @@ one_more_port more place ports net net' only has last =
 
 -- ---- the stage
 
-pub stage_stays : (stage stage' : Stage) → stage'.stations ≡ stage.stations → stage'.now ≡ stage.now
-    → stage'.outbox.items ≡ stage.outbox.items
-    → OnlyRoom stage.net stage'.net → IsStage stage → IsStage stage'
-stage_stays stage stage' stations now outbox only is =
+pub stage_stays : (parts stage' : WorldParts) → stage'.stations ≡ parts.stations → stage'.now ≡ parts.now
+    → stage'.outbox.items ≡ parts.outbox.items
+    → OnlyRoom parts.net stage'.net → IsStage parts → IsStage stage'
+stage_stays parts stage' stations now outbox only is =
     let directory = only.directory in let systems = only.systems in
     record {
-      net = net_stays stage.net stage'.net only is.net;
+      net = net_stays parts.net stage'.net only is.net;
       clocks = rw (stations, directory) is.clocks;
       systems = rw (stations, systems) is.systems;
       few = rw stations is.few;
@@ -176,26 +176,26 @@ abbrev most_from : ℕ → ℕ → PortId → ℕ
 most_from more number port = if port.clock == number then more else 0
 
 -- so many frames from each port of the system at a place, and none from others
-pub frames_from : (stage : Stage) (more place : ℕ) (station : Station) → IsStage stage
-    → slice_get stage.stations.items place ≡ Some station
-    → HasRoomAtPorts more place (length station.system.ports) stage.net → (port : PortId) (lane : Lane)
-    → BeginsAt stage.net.directory.joins port lane
-    → HasRoomOn (most_from more (clock station.system) port) lane stage.net.cables.items
-frames_from stage more place station is here has port lane begins =
+pub frames_from : (parts : WorldParts) (more place : ℕ) (station : Station) → IsStage parts
+    → slice_get parts.stations.items place ≡ Some station
+    → HasRoomAtPorts more place (length station.system.ports) parts.net → (port : PortId) (lane : Lane)
+    → BeginsAt parts.net.directory.joins port lane
+    → HasRoomOn (most_from more (clock station.system) port) lane parts.net.cables.items
+frames_from parts more place station is here has port lane begins =
     by (eqb_tells port.clock (clock station.system))
   where
     by : ((eqb port.clock (clock station.system) ≡ true) × (port.clock ≡ clock station.system))
         ⊎ ((eqb port.clock (clock station.system) ≡ false) × (port.clock ≢ clock station.system))
-        → HasRoomOn (most_from more (clock station.system) port) lane stage.net.cables.items
+        → HasRoomOn (most_from more (clock station.system) port) lane parts.net.cables.items
     by (inl (test, same)) =
-        let known : slice_get stage.net.directory.clocks place ≡ Some (clock station.system) =
+        let known : slice_get parts.net.directory.clocks place ≡ Some (clock station.system) =
         ap (λ cs. slice_get cs place) (sym is.clocks)
-        ∙ mapped_there clock_at_place stage.stations.items place station here in
-        let starts : BeginsAt stage.net.directory.joins (port_id (clock station.system) port.port) lane =
-        subst (λ number. BeginsAt stage.net.directory.joins (port_id number port.port) lane) same begins in
+        ∙ mapped_there clock_at_place parts.stations.items place station here in
+        let starts : BeginsAt parts.net.directory.joins (port_id (clock station.system) port.port) lane =
+        subst (λ number. BeginsAt parts.net.directory.joins (port_id number port.port) lane) same begins in
         let range = is.ports place station port.port lane here starts in
         rw test (has (clock station.system) port.port known range.0 range.1 lane starts)
-    by (inr (test, apart)) = rw test (no_frames stage.net port lane is.net begins)
+    by (inr (test, apart)) = rw test (no_frames parts.net port lane is.net begins)
 
 times : (calls number : ℕ) (port : PortId)
     → calls * (if port.clock == number then 2 else 0) ≤ most_from (2 * calls) number port
@@ -230,54 +230,54 @@ with_timers timers large small covers = record {
 }
 
 -- there is room for a call of a system where each of its ports has it
-pub room_to_call : (stage : Stage) (place : ℕ) (station : Station) → IsStage stage
-    → slice_get stage.stations.items place ≡ Some station
-    → 6 * length station.system.ports + 3 ≤ stage.net.pending.room
-    → 2 * length station.system.ports ≤ stage.net.buffers.ready
-    → HasRoomAtPorts 2 place (length station.system.ports) stage.net → HasRoomToCall place stage
-room_to_call stage place station is here entries buffers has = record {
+pub room_to_call : (parts : WorldParts) (place : ℕ) (station : Station) → IsStage parts
+    → slice_get parts.stations.items place ≡ Some station
+    → 6 * length station.system.ports + 3 ≤ parts.net.pending.room
+    → 2 * length station.system.ports ≤ parts.net.buffers.ready
+    → HasRoomAtPorts 2 place (length station.system.ports) parts.net → HasRoomToCall place parts
+room_to_call parts place station is here entries buffers has = record {
   station = station;
   here = here;
   room = record {
     entries = entries;
     buffers = buffers;
-    lanes = frames_from stage 2 place station is here has;
+    lanes = frames_from parts 2 place station is here has;
   };
 }
 
 -- and for a start
-pub room_to_start : (stage : Stage) (place : ℕ) (station : Station) → IsStage stage
-    → slice_get stage.stations.items place ≡ Some station
+pub room_to_start : (parts : WorldParts) (place : ℕ) (station : Station) → IsStage parts
+    → slice_get parts.stations.items place ≡ Some station
     → 4 * length station.system.ports + 3 + length station.system.ports * (6 * length station.system.ports + 3)
-    ≤ stage.net.pending.room
-    → length station.system.ports * (2 * length station.system.ports) ≤ stage.net.buffers.ready
-    → HasRoomAtPorts (2 * length station.system.ports) place (length station.system.ports) stage.net
-    → HasRoomToStart place stage
-room_to_start stage place station is here entries buffers has =
+    ≤ parts.net.pending.room
+    → length station.system.ports * (2 * length station.system.ports) ≤ parts.net.buffers.ready
+    → HasRoomAtPorts (2 * length station.system.ports) place (length station.system.ports) parts.net
+    → HasRoomToStart place parts
+room_to_start parts place station is here entries buffers has =
     let count = length station.system.ports in let timers = 4 * count + 3 in let calls = for_calls count station in
     record {
       station = station;
       here = here;
-      room = covered (record calls { entries = timers + calls.entries }) (for_start station.system) stage.net
+      room = covered (record calls { entries = timers + calls.entries }) (for_start station.system) parts.net
           (with_timers timers calls (repeated count (for_call station.system)) (calls_covered count station))
           (record {
             entries = entries;
             buffers = buffers;
-            lanes = frames_from stage (2 * count) place station is here has;
+            lanes = frames_from parts (2 * count) place station is here has;
           });
     }
 
 -- systems at two places have two clocks
-pub clocks_apart : (stage : Stage) (first second : ℕ) (near far : Station) → IsStage stage
-    → IsDirectory stage.net.directory
-    → slice_get stage.stations.items first ≡ Some near → slice_get stage.stations.items second ≡ Some far
+pub clocks_apart : (parts : WorldParts) (first second : ℕ) (near far : Station) → IsStage parts
+    → IsDirectory parts.net.directory
+    → slice_get parts.stations.items first ≡ Some near → slice_get parts.stations.items second ≡ Some far
     → first ≢ second
     → clock near.system ≢ clock far.system
-clocks_apart stage first second near far is directory here there apart = λ same.
-    let known : (place : ℕ) (station : Station) → slice_get stage.stations.items place ≡ Some station
-    → slice_get stage.net.directory.clocks place ≡ Some (clock station.system) =
+clocks_apart parts first second near far is directory here there apart = λ same.
+    let known : (place : ℕ) (station : Station) → slice_get parts.stations.items place ≡ Some station
+    → slice_get parts.net.directory.clocks place ≡ Some (clock station.system) =
     λ place station at. ap (λ cs. slice_get cs place) (sym is.clocks)
-    ∙ mapped_there clock_at_place stage.stations.items place station at in
+    ∙ mapped_there clock_at_place parts.stations.items place station at in
     apart (directory.plan.differ first second (clock near.system) (known first near here)
     (known second far there ∙ ap Some (sym same)))
 
@@ -289,15 +289,15 @@ not_same m n apart = by (eqb_tells m n)
     by (inr (test, differ)) = test
 
 -- and for one call of each of two
-pub room_to_call_both : (stage : Stage) (first second : ℕ) (near far : Station) → IsStage stage
-    → slice_get stage.stations.items first ≡ Some near → slice_get stage.stations.items second ≡ Some far
+pub room_to_call_both : (parts : WorldParts) (first second : ℕ) (near far : Station) → IsStage parts
+    → slice_get parts.stations.items first ≡ Some near → slice_get parts.stations.items second ≡ Some far
     → clock near.system ≢ clock far.system
-    → 6 * (length near.system.ports + length far.system.ports) + 6 ≤ stage.net.pending.room
-    → 2 * (length near.system.ports + length far.system.ports) ≤ stage.net.buffers.ready
-    → HasRoomAtPorts 2 first (length near.system.ports) stage.net
-    → HasRoomAtPorts 2 second (length far.system.ports) stage.net
-    → HasRoomToCallBoth first second stage
-room_to_call_both stage first second near far is here there apart entries buffers has-near has-far = record {
+    → 6 * (length near.system.ports + length far.system.ports) + 6 ≤ parts.net.pending.room
+    → 2 * (length near.system.ports + length far.system.ports) ≤ parts.net.buffers.ready
+    → HasRoomAtPorts 2 first (length near.system.ports) parts.net
+    → HasRoomAtPorts 2 second (length far.system.ports) parts.net
+    → HasRoomToCallBoth first second parts
+room_to_call_both parts first second near far is here there apart entries buffers has-near has-far = record {
   station_a = near;
   station_b = far;
   here_a = here;
@@ -307,26 +307,26 @@ room_to_call_both stage first second near far is here there apart entries buffer
     buffers = omega arith;
     lanes = λ port lane begins. by port lane
         (eqb_tells port.clock (clock near.system))
-        (frames_from stage 2 first near is here has-near port lane begins)
-        (frames_from stage 2 second far is there has-far port lane begins);
+        (frames_from parts 2 first near is here has-near port lane begins)
+        (frames_from parts 2 second far is there has-far port lane begins);
   };
 }
   where
     by : (port : PortId) (lane : Lane)
         → ((eqb port.clock (clock near.system) ≡ true) × (port.clock ≡ clock near.system))
         ⊎ ((eqb port.clock (clock near.system) ≡ false) × (port.clock ≢ clock near.system))
-        → HasRoomOn (most_from 2 (clock near.system) port) lane stage.net.cables.items
-        → HasRoomOn (most_from 2 (clock far.system) port) lane stage.net.cables.items
+        → HasRoomOn (most_from 2 (clock near.system) port) lane parts.net.cables.items
+        → HasRoomOn (most_from 2 (clock far.system) port) lane parts.net.cables.items
         → HasRoomOn (most_from 2 (clock near.system) port + most_from 2 (clock far.system) port) lane
-        stage.net.cables.items
+        parts.net.cables.items
     by port lane (inl (test, same)) from-near from-far =
         let other = not_same port.clock (clock far.system) (λ e. apart (sym same ∙ e)) in
         let only : most_from 2 (clock near.system) port + most_from 2 (clock far.system) port
         ≡ most_from 2 (clock near.system) port =
         rw (test, other) (omega arith) in
-        subst (λ n. HasRoomOn n lane stage.net.cables.items) (sym only) from-near
+        subst (λ n. HasRoomOn n lane parts.net.cables.items) (sym only) from-near
     by port lane (inr (test, differ)) from-near from-far =
         let only : most_from 2 (clock near.system) port + most_from 2 (clock far.system) port
         ≡ most_from 2 (clock far.system) port =
         rw test (omega arith) in
-        subst (λ n. HasRoomOn n lane stage.net.cables.items) (sym only) from-far
+        subst (λ n. HasRoomOn n lane parts.net.cables.items) (sym only) from-far

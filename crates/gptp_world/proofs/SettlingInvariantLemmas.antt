@@ -23,19 +23,19 @@ use Rattle.gptp_model.proofs.SoundLemmas.{acts_sound, later_sound}
 use Rattle.gptp_invariants.specs.WorldEncodableLaws.{SetsAnOctet}
 use Rattle.gptp_invariants.specs.SyncTimedClaim.{WorldInvariant}
 use Rattle.gptp_invariants.proofs.SyncExactLemmas.{all_begins, all_kept}
-use Rattle.gptp_world.specs.declared.stage.Stage.{Stage}
+use Rattle.gptp_world.specs.declared.parts.WorldParts.{WorldParts}
 use Rattle.gptp_world.specs.WorldCore.{SystemsStarted}
-use Rattle.gptp_world.specs.Stage.{world_of}
+use Rattle.gptp_world.specs.WorldParts.{world_of}
 use Rattle.gptp_world.proofs.InitialLemmas.{initial_sound}
 
 -- ---- it begins
 
 pub begun_from : {F : Type 0} (answers : Bounds → ℕ → F → Option ℕ → F → Type 0) (n : NetworkState)
-    (fate fate_after : F) (stage after : Stage) → world_of stage ≡ initial n
-    → SystemsStarted answers (length stage.stations.items) fate fate_after stage after
+    (fate fate_after : F) (parts after : WorldParts) → world_of parts ≡ initial n
+    → SystemsStarted answers (length parts.stations.items) fate fate_after parts after
     → Begun answers n fate fate_after (world_of after)
-begun_from answers n fate fate_after stage after same started =
-    let count : length stage.stations.items ≡ length n.systems =
+begun_from answers n fate fate_after parts after same started =
+    let count : length parts.stations.items ≡ length n.systems =
     ap (λ (w : WorldState). length w.stations) same ∙ length-map n.systems (station_of (pace_of n)) in
     record {
       draws = started.draws;

@@ -13,7 +13,7 @@ use Rattle.gptp_system.specs.State.{clock}
 use Rattle.gptp_vector.specs.declared.port.PortId.{PortId}
 use Rattle.gptp_world.specs.declared.joined_link.JoinedLink.{JoinedLink}
 use Rattle.gptp_world.specs.declared.net.Net.{Net as Between}
-use Rattle.gptp_world.specs.declared.stage.Stage.{Stage}
+use Rattle.gptp_world.specs.declared.parts.WorldParts.{WorldParts}
 use Rattle.gptp_model.specs.declared.station.Station.{Station}
 use Rattle.gptp_world.specs.declared.telling.End.{End}
 use Rattle.gptp_model.specs.Act.{in_state}
@@ -23,7 +23,7 @@ use Rattle.gptp_world.specs.Directory.{direction_end, direction_start, Directory
 use Rattle.gptp_world.specs.Net.{IsNet}
 use Rattle.gptp_model.specs.World.{port_id}
 use Rattle.gptp_world.specs.Room.{both, for_call, no_room, WorldHasRoom, Need, Uses}
-use Rattle.gptp_world.specs.Stage.{clock_at_place, world_of, Called, CallUses, HasRoomToCall, HasRoomToCallBoth, IsPortAt, IsStage, IsTimelyAt}
+use Rattle.gptp_world.specs.WorldParts.{clock_at_place, world_of, Called, CallUses, HasRoomToCall, HasRoomToCallBoth, IsPortAt, IsStage, IsTimelyAt}
 use Rattle.gptp_world.specs.Telling.{link_input, AreEndsOf, HasRoomAtEnds, IsEndAt, WasTold}
 use Rattle.gptp_world.specs.Timing.{AreSetFor}
 use Rattle.gptp_model.specs.World.{Channel, Net, WorldState}
@@ -55,33 +55,33 @@ one_place d port one other is at_one at_other =
     is.plan.differ one.place other.place port.clock at_one.clock at_other.clock
 
 -- the room that was made is for these ends
-room_for : (link : ℕ) (a b : End) (stage : Stage) → IsDirectory stage.net.directory
-    → AreEndsOf link a b stage.net.directory → HasRoomAtEnds link stage
-    → HasRoomToCallBoth a.place b.place stage
-room_for link a b stage is ends has =
-    let d = stage.net.directory in
+room_for : (link : ℕ) (a b : End) (parts : WorldParts) → IsDirectory parts.net.directory
+    → AreEndsOf link a b parts.net.directory → HasRoomAtEnds link parts
+    → HasRoomToCallBoth a.place b.place parts
+room_for link a b parts is ends has =
+    let d = parts.net.directory in
     let join : has.ends.join ≡ ends.join = same_Some has.ends.join ends.join (sym has.ends.here ∙ ends.here) in
     let had_a : IsEndAt ends.join.a has.a d = subst (λ (j : Join). IsEndAt j.a has.a d) join has.ends.at_a in
     let had_b : IsEndAt ends.join.b has.b d = subst (λ (j : Join). IsEndAt j.b has.b d) join has.ends.at_b in
-    subst (λ p. HasRoomToCallBoth p b.place stage) (one_place d ends.join.a has.a a is had_a ends.at_a)
-    (subst (λ p. HasRoomToCallBoth has.a.place p stage) (one_place d ends.join.b has.b b is had_b ends.at_b) has.room)
+    subst (λ p. HasRoomToCallBoth p b.place parts) (one_place d ends.join.a has.a a is had_a ends.at_a)
+    (subst (λ p. HasRoomToCallBoth has.a.place p parts) (one_place d ends.join.b has.b b is had_b ends.at_b) has.room)
 
 -- a system at the place of an end is the one that its port names
-named : (stage : Stage) (port : PortId) (end : End) (station : Station) → IsStage stage
-    → IsEndAt port end stage.net.directory → slice_get stage.stations.items end.place ≡ Some station
+named : (parts : WorldParts) (port : PortId) (end : End) (station : Station) → IsStage parts
+    → IsEndAt port end parts.net.directory → slice_get parts.stations.items end.place ≡ Some station
     → clock station.system ≡ port.clock
-named stage port end station is at there =
-    let known : slice_get stage.net.directory.clocks end.place ≡ Some (clock station.system) =
+named parts port end station is at there =
+    let known : slice_get parts.net.directory.clocks end.place ≡ Some (clock station.system) =
     ap (λ cs. slice_get cs end.place) (sym is.clocks)
-    ∙ mapped_there clock_at_place stage.stations.items end.place station there in
+    ∙ mapped_there clock_at_place parts.stations.items end.place station there in
     same_Some (clock station.system) port.clock (sym known ∙ at.clock)
 
 -- the port of an end is one of its system
-end_port : (stage : Stage) (link : ℕ) (d : Direction) (join : Join) (end : End) (station : Station) → IsStage stage
-    → slice_get stage.net.directory.joins link ≡ Some join → IsEndAt (direction_start d join) end stage.net.directory
-    → slice_get stage.stations.items end.place ≡ Some station → IsPortAt end.place end.port stage
-end_port stage link d join end station is here at there =
-    let own = named stage (direction_start d join) end station is at there in
+end_port : (parts : WorldParts) (link : ℕ) (d : Direction) (join : Join) (end : End) (station : Station) → IsStage parts
+    → slice_get parts.net.directory.joins link ≡ Some join → IsEndAt (direction_start d join) end parts.net.directory
+    → slice_get parts.stations.items end.place ≡ Some station → IsPortAt end.place end.port parts
+end_port parts link d join end station is here at there =
+    let own = named parts (direction_start d join) end station is at there in
     let begins : direction_start d join ≡ port_id (clock station.system) end.port =
     ap (λ c. port_id c (direction_start d join).port) (sym own) ∙ ap (port_id (clock station.system)) (sym at.number) in
     let range = is.ports end.place station end.port (lane_of link d) there
@@ -89,25 +89,25 @@ end_port stage link d join end station is here at there =
     record { station = station; here = there; port_of = record { least = range.0; most = range.1 } }
 
 -- while the state of the world is the same, the directory knows the same systems and links
-pub same_clocks : (stage stage' : Stage) → IsStage stage → IsStage stage' → world_of stage' ≡ world_of stage
-    → stage'.net.directory.clocks ≡ stage.net.directory.clocks
-same_clocks stage stage' is is' world =
+pub same_clocks : (parts stage' : WorldParts) → IsStage parts → IsStage stage' → world_of stage' ≡ world_of parts
+    → stage'.net.directory.clocks ≡ parts.net.directory.clocks
+same_clocks parts stage' is is' world =
     sym is'.clocks ∙ (ap (λ (w : WorldState). map clock_at_place w.stations) world ∙ is.clocks)
 
-pub same_joins : (stage stage' : Stage) → IsStage stage → IsStage stage' → world_of stage' ≡ world_of stage
-    → stage'.net.directory.joins ≡ stage.net.directory.joins
-same_joins stage stage' is is' world =
+pub same_joins : (parts stage' : WorldParts) → IsStage parts → IsStage stage' → world_of stage' ≡ world_of parts
+    → stage'.net.directory.joins ≡ parts.net.directory.joins
+same_joins parts stage' is is' world =
     sym is'.net.joins
-    ∙ (joins_kept stage.net.cables.items stage'.net.cables.items (ap (λ (w : WorldState). w.net.channels) world)
+    ∙ (joins_kept parts.net.cables.items stage'.net.cables.items (ap (λ (w : WorldState). w.net.channels) world)
     ∙ is.net.joins)
 
 -- room was made for the ends of a link
-pub room_at_ends : (stage stage' : Stage) (link : ℕ) (a b : End) → IsStage stage → IsStage stage'
-    → world_of stage' ≡ world_of stage
-    → AreEndsOf link a b stage.net.directory → HasRoomToCallBoth a.place b.place stage' → HasRoomAtEnds link stage'
-room_at_ends stage stage' link a b is is' world ends room =
-    let clocks = same_clocks stage stage' is is' world in
-    let joins = same_joins stage stage' is is' world in
+pub room_at_ends : (parts stage' : WorldParts) (link : ℕ) (a b : End) → IsStage parts → IsStage stage'
+    → world_of stage' ≡ world_of parts
+    → AreEndsOf link a b parts.net.directory → HasRoomToCallBoth a.place b.place stage' → HasRoomAtEnds link stage'
+room_at_ends parts stage' link a b is is' world ends room =
+    let clocks = same_clocks parts stage' is is' world in
+    let joins = same_joins parts stage' is is' world in
     let at_a = ends.at_a in let at_b = ends.at_b in
     record {
       a = a;
@@ -125,9 +125,9 @@ room_at_ends stage stage' link a b is is' world ends room =
 -- ---- the link changes
 
 -- what is between the systems becomes another of the same systems and links
-pub net_becomes : (stage : Stage) (net : Between) → IsStage stage → IsNet net → net.directory ≡ stage.net.directory
-    → net.pending.systems ≡ stage.net.pending.systems → IsStage (record stage { net = net })
-net_becomes stage net is after directory systems = record {
+pub net_becomes : (parts : WorldParts) (net : Between) → IsStage parts → IsNet net → net.directory ≡ parts.net.directory
+    → net.pending.systems ≡ parts.net.pending.systems → IsStage (record parts { net = net })
+net_becomes parts net is after directory systems = record {
   net = after;
   clocks = rw directory is.clocks;
   systems = rw systems is.systems;
@@ -138,9 +138,9 @@ net_becomes stage net is after directory systems = record {
 }
 
 -- so it is where it has no less room
-pub net_changes : (stage : Stage) (net : Between) → IsStage stage → IsNet net → Uses no_room stage.net net
-    → IsStage (record stage { net = net })
-net_changes stage net is after uses = net_becomes stage net is after uses.directory uses.systems
+pub net_changes : (parts : WorldParts) (net : Between) → IsStage parts → IsNet net → Uses no_room parts.net net
+    → IsStage (record parts { net = net })
+net_changes parts net is after uses = net_becomes parts net is after uses.directory uses.systems
 
 -- where a link only changes, there is as much room
 room_stays : (need : Need) (net net' : Between) → Uses no_room net net' → WorldHasRoom need net → WorldHasRoom need net'
@@ -150,19 +150,20 @@ room_stays need net net' uses has =
     (record { entries = omega arith; buffers = omega arith; frames = λ port. omega arith }) has)
 
 -- both ends can be told: so it is once the link has changed
-pub record CanTell (a b : End) (stage : Stage) : Type 0 where
-  pub port_a : IsPortAt a.place a.port stage
-  pub port_b : IsPortAt b.place b.port stage
-  pub room : HasRoomToCallBoth a.place b.place stage
+pub record CanTell (a b : End) (parts : WorldParts) : Type 0 where
+  pub port_a : IsPortAt a.place a.port parts
+  pub port_b : IsPortAt b.place b.port parts
+  pub room : HasRoomToCallBoth a.place b.place parts
   pub apart : a.place ≢ b.place
 
-pub can_tell : (stage : Stage) (net : Between) (link : ℕ) (a b : End) → IsStage stage → IsDirectory stage.net.directory
-    → AreEndsOf link a b stage.net.directory → HasRoomAtEnds link stage → Uses no_room stage.net net
-    → CanTell a b (record stage { net = net })
-can_tell stage net link a b is directory ends has uses =
-    let room = room_for link a b stage directory ends has in
-    let one = end_port stage link FromA ends.join a room.station_a is ends.here ends.at_a room.here_a in
-    let other = end_port stage link FromB ends.join b room.station_b is ends.here ends.at_b room.here_b in
+pub can_tell : (parts : WorldParts) (net : Between) (link : ℕ) (a b : End) → IsStage parts
+    → IsDirectory parts.net.directory
+    → AreEndsOf link a b parts.net.directory → HasRoomAtEnds link parts → Uses no_room parts.net net
+    → CanTell a b (record parts { net = net })
+can_tell parts net link a b is directory ends has uses =
+    let room = room_for link a b parts directory ends has in
+    let one = end_port parts link FromA ends.join a room.station_a is ends.here ends.at_a room.here_a in
+    let other = end_port parts link FromB ends.join b room.station_b is ends.here ends.at_b room.here_b in
     record {
       port_a = record { station = one.station; here = one.here; port_of = one.port_of };
       port_b = record { station = other.station; here = other.here; port_of = other.port_of };
@@ -171,7 +172,7 @@ can_tell stage net link a b is directory ends has uses =
         station_b = room.station_b;
         here_a = room.here_a;
         here_b = room.here_b;
-        room = room_stays (both (for_call room.station_a.system) (for_call room.station_b.system)) stage.net net uses
+        room = room_stays (both (for_call room.station_a.system) (for_call room.station_b.system)) parts.net net uses
             room.room;
       };
       apart = ends.apart;
@@ -180,37 +181,37 @@ can_tell stage net link a b is directory ends has uses =
 -- ---- one end
 
 -- it can be told that its link comes up, or goes down
-pub link_timely : (up : Bool) (place port : ℕ) (stage : Stage) → IsPortAt place port stage
-    → IsTimelyAt (link_input up port) place stage
-link_timely up place port stage own station here = by up
+pub link_timely : (up : Bool) (place port : ℕ) (parts : WorldParts) → IsPortAt place port parts
+    → IsTimelyAt (link_input up port) place parts
+link_timely up place port parts own station here = by up
   where
     port_of : HasPortNumber station.system port
     port_of =
         subst (λ (x : Station). HasPortNumber x.system port) (same_Some own.station station (sym own.here ∙ here))
         own.port_of
 
-    by : (up : Bool) → IsTimely station.system stage.now (link_input up port)
+    by : (up : Bool) → IsTimely station.system parts.now (link_input up port)
     by true = port_of
     by false = port_of
 
-pub link_set : (up : Bool) (place port : ℕ) (stage : Stage) → AreSetFor (link_input up port) place stage
-link_set true place port stage station here timer off = absurd cc
-link_set false place port stage station here timer off = absurd cc
+pub link_set : (up : Bool) (place port : ℕ) (parts : WorldParts) → AreSetFor (link_input up port) place parts
+link_set true place port parts station here timer off = absurd cc
+link_set false place port parts station here timer off = absurd cc
 
 pub one_told : {F : Type 0} (answers : Bounds → ℕ → F → Option ℕ → F → Type 0) (place : ℕ) (input : Input)
-    (answer : Answer) (fate fate_after : F) (stage stage' : Stage)
-    → Called answers place input answer fate fate_after stage stage'
-    → WasTold answers place input fate fate_after stage stage'
-one_told answers place input answer fate fate_after stage stage' called =
+    (answer : Answer) (fate fate_after : F) (parts stage' : WorldParts)
+    → Called answers place input answer fate fate_after parts stage'
+    → WasTold answers place input fate fate_after parts stage'
+one_told answers place input answer fate fate_after parts stage' called =
     record { draws = called.draws; drawn = called.drawn; calls = inl (answer, called.calls) }
 
 -- a system that has failed isn't told
 pub not_told : {F : Type 0} (answers : Bounds → ℕ → F → Option ℕ → F → Type 0) (place : ℕ) (input : Input) (fate : F)
-    (stage : Stage) (one station : Station) → slice_get stage.stations.items place ≡ Some station
-    → one ≡ slice_index_or stage.stations.items place one → one.live ≡ false
-    → WasTold answers place input fate fate stage stage
-not_told answers place input fate stage one station here value failed =
-    let is : one ≡ station = value ∙ read stage.stations.items place station one here in
+    (parts : WorldParts) (one station : Station) → slice_get parts.stations.items place ≡ Some station
+    → one ≡ slice_index_or parts.stations.items place one → one.live ≡ false
+    → WasTold answers place input fate fate parts parts
+not_told answers place input fate parts one station here value failed =
+    let is : one ≡ station = value ∙ read parts.stations.items place station one here in
     record {
       draws = [];
       drawn = refl;
@@ -220,55 +221,56 @@ not_told answers place input fate stage one station here value failed =
 -- ---- the first end is told, and then the second
 
 -- there is room for the call at the first, and then for that at the second
-pub room_first : (first second : ℕ) (stage : Stage) → HasRoomToCallBoth first second stage → HasRoomToCall first stage
-room_first first second stage has = record {
+pub room_first : (first second : ℕ) (parts : WorldParts) → HasRoomToCallBoth first second parts
+    → HasRoomToCall first parts
+room_first first second parts has = record {
   station = has.station_a;
   here = has.here_a;
   room = covered (both (for_call has.station_a.system) (for_call has.station_b.system))
-      (for_call has.station_a.system) stage.net
+      (for_call has.station_a.system) parts.net
       (record { entries = omega arith; buffers = omega arith; frames = λ port. omega arith }) has.room;
 }
 
-room_second : (first second : ℕ) (stage stage' : Stage)
-    → slice_get stage'.stations.items second ≡ slice_get stage.stations.items second
-    → CallUses first stage stage'.net → HasRoomToCallBoth first second stage → HasRoomToCall second stage'
-room_second first second stage stage' same uses has =
+room_second : (first second : ℕ) (parts stage' : WorldParts)
+    → slice_get stage'.stations.items second ≡ slice_get parts.stations.items second
+    → CallUses first parts stage'.net → HasRoomToCallBoth first second parts → HasRoomToCall second stage'
+room_second first second parts stage' same uses has =
     let near = for_call has.station_a.system in let far = for_call has.station_b.system in
     record {
       station = has.station_b;
       here = same ∙ has.here_b;
-      room = left_of near far stage.net stage'.net (uses has.station_a has.here_a) has.room;
+      room = left_of near far parts.net stage'.net (uses has.station_a has.here_a) has.room;
     }
 
 -- no other system changes
 elsewhere : {F : Type 0} (answers : Bounds → ℕ → F → Option ℕ → F → Type 0) (place other : ℕ) (input : Input)
-    (fate fate_after : F) (stage stage' : Stage) → WasTold answers place input fate fate_after stage stage'
+    (fate fate_after : F) (parts stage' : WorldParts) → WasTold answers place input fate fate_after parts stage'
     → other ≢ place
-    → slice_get stage'.stations.items other ≡ slice_get stage.stations.items other
-elsewhere answers place other input fate fate_after stage stage' told apart = by told.calls
+    → slice_get stage'.stations.items other ≡ slice_get parts.stations.items other
+elsewhere answers place other input fate fate_after parts stage' told apart = by told.calls
   where
-    by : CallsIfLive place input (world_of stage) told.draws (world_of stage')
-        → slice_get stage'.stations.items other ≡ slice_get stage.stations.items other
+    by : CallsIfLive place input (world_of parts) told.draws (world_of stage')
+        → slice_get stage'.stations.items other ≡ slice_get parts.stations.items other
     by (inl (answer, calls)) =
         ap (λ (w : WorldState). slice_get w.stations other) calls.is
-        ∙ get-set_other stage.stations.items place other (in_state calls.after calls.station) apart
+        ∙ get-set_other parts.stations.items place other (in_state calls.after calls.station) apart
     by (inr (failed, none, same)) = ap (λ (w : WorldState). slice_get w.stations other) same
 
 -- the second can still be told
-pub record CanTellSecond (b : End) (stage : Stage) : Type 0 where
-  pub port : IsPortAt b.place b.port stage
-  pub room : HasRoomToCall b.place stage
+pub record CanTellSecond (b : End) (parts : WorldParts) : Type 0 where
+  pub port : IsPortAt b.place b.port parts
+  pub room : HasRoomToCall b.place parts
 
 pub can_tell_second : {F : Type 0} (answers : Bounds → ℕ → F → Option ℕ → F → Type 0) (a b : End) (input : Input)
-    (fate fate_after : F) (stage stage' : Stage) → CanTell a b stage
-    → WasTold answers a.place input fate fate_after stage stage'
-    → CallUses a.place stage stage'.net → CanTellSecond b stage'
-can_tell_second answers a b input fate fate_after stage stage' can told uses =
-    let same = elsewhere answers a.place b.place input fate fate_after stage stage' told (λ e. can.apart (sym e)) in
+    (fate fate_after : F) (parts stage' : WorldParts) → CanTell a b parts
+    → WasTold answers a.place input fate fate_after parts stage'
+    → CallUses a.place parts stage'.net → CanTellSecond b stage'
+can_tell_second answers a b input fate fate_after parts stage' can told uses =
+    let same = elsewhere answers a.place b.place input fate fate_after parts stage' told (λ e. can.apart (sym e)) in
     let own = can.port_b in
     record {
       port = record { station = own.station; here = same ∙ own.here; port_of = own.port_of };
-      room = room_second a.place b.place stage stage' same uses can.room;
+      room = room_second a.place b.place parts stage' same uses can.room;
     }
 
 -- ---- both were told
@@ -281,32 +283,32 @@ known_link net link join is here =
 
 -- the link changed in this way, and both its ends were told
 pub record BothTold {F : Type 0} (answers : Bounds → ℕ → F → Option ℕ → F → Type 0) (input : ℕ → Input)
-    (changed : Channel → Net) (link : ℕ) (fate fate_after : F) (stage stage' : Stage) : Type 0 where
+    (changed : Channel → Net) (link : ℕ) (fate fate_after : F) (parts stage' : WorldParts) : Type 0 where
   pub channel : Channel
-  pub here : slice_get (world_of stage).net.channels link ≡ Some channel
+  pub here : slice_get (world_of parts).net.channels link ≡ Some channel
   pub draws : List Draw
   pub drawn : Draws answers fate draws fate_after
-  pub tells : TellsEnds input channel (record (world_of stage) { net = changed channel }) draws (world_of stage')
+  pub tells : TellsEnds input channel (record (world_of parts) { net = changed channel }) draws (world_of stage')
 
 pub both_told : {F : Type 0} (answers : Bounds → ℕ → F → Option ℕ → F → Type 0) (input : ℕ → Input)
-    (changed : Channel → Net) (link : ℕ) (a b : End) (first second third : F) (stage : Stage) (net : Between)
-    (between after : Stage) → IsStage stage
-    → AreEndsOf link a b stage.net.directory → CanTell a b (record stage { net = net })
-    → ((joined_link : JoinedLink) → slice_get stage.net.cables.items link ≡ Some joined_link
-    → (world_of (record stage { net = net })).net ≡ changed (channel_of joined_link))
-    → WasTold answers a.place (input a.port) first second (record stage { net = net }) between
+    (changed : Channel → Net) (link : ℕ) (a b : End) (first second third : F) (parts : WorldParts) (net : Between)
+    (between after : WorldParts) → IsStage parts
+    → AreEndsOf link a b parts.net.directory → CanTell a b (record parts { net = net })
+    → ((joined_link : JoinedLink) → slice_get parts.net.cables.items link ≡ Some joined_link
+    → (world_of (record parts { net = net })).net ≡ changed (channel_of joined_link))
+    → WasTold answers a.place (input a.port) first second (record parts { net = net }) between
     → WasTold answers b.place (input b.port) second third between after
-    → BothTold answers input changed link first third stage after
-both_told answers input changed link a b first second third stage net between after is ends can changes told_a told_b =
-    let made = known_link stage.net link ends.join is.net ends.here in
+    → BothTold answers input changed link first third parts after
+both_told answers input changed link a b first second third parts net between after is ends can changes told_a told_b =
+    let made = known_link parts.net link ends.join is.net ends.here in
     let joined_link = made.one in
     let channel = channel_of joined_link in
-    let at_a : IsEndAt channel.a a stage.net.directory =
-    subst (λ (j : Join). IsEndAt j.a a stage.net.directory) made.is ends.at_a in
-    let at_b : IsEndAt channel.b b stage.net.directory =
-    subst (λ (j : Join). IsEndAt j.b b stage.net.directory) made.is ends.at_b in
+    let at_a : IsEndAt channel.a a parts.net.directory =
+    subst (λ (j : Join). IsEndAt j.a a parts.net.directory) made.is ends.at_a in
+    let at_b : IsEndAt channel.b b parts.net.directory =
+    subst (λ (j : Join). IsEndAt j.b b parts.net.directory) made.is ends.at_b in
     let room = can.room in
-    let start = world_of (record stage { net = net }) in let all = told_a.draws ++ told_b.draws in
+    let start = world_of (record parts { net = net }) in let all = told_a.draws ++ told_b.draws in
     let tells : TellsEnds input channel start all (world_of after) =
     record {
       place_a = a.place;
@@ -316,8 +318,8 @@ both_told answers input changed link a b first second third stage net between af
       first = told_a.draws;
       second = told_b.draws;
       between = world_of between;
-      is_a = record { here = room.here_a; named = named stage channel.a a room.station_a is at_a room.here_a };
-      is_b = record { here = room.here_b; named = named stage channel.b b room.station_b is at_b room.here_b };
+      is_a = record { here = room.here_a; named = named parts channel.a a room.station_a is at_a room.here_a };
+      is_b = record { here = room.here_b; named = named parts channel.b b room.station_b is at_b room.here_b };
       draws_are = refl;
       at_a = subst (λ p. CallsIfLive a.place (input p) start told_a.draws (world_of between)) at_a.number told_a.calls;
       at_b = subst (λ p. CallsIfLive b.place (input p) (world_of between) told_b.draws (world_of after)) at_b.number
@@ -325,9 +327,9 @@ both_told answers input changed link a b first second third stage net between af
     } in
     record {
       channel = channel;
-      here = mapped_there channel_of stage.net.cables.items link joined_link made.there;
+      here = mapped_there channel_of parts.net.cables.items link joined_link made.there;
       draws = all;
       drawn = draws.draws-append answers first second third told_a.draws told_b.draws told_a.drawn told_b.drawn;
-      tells = subst (λ n. TellsEnds input channel (record (world_of stage) { net = n }) all (world_of after))
+      tells = subst (λ n. TellsEnds input channel (record (world_of parts) { net = n }) all (world_of after))
           (changes joined_link made.there) tells;
     }

@@ -16,7 +16,7 @@ use Rattle.gptp_system.specs.TimersChanged.{IsTouchedOf, Touches}
 use Rattle.gptp_world.specs.declared.joined_link.Lane.{Lane}
 use Rattle.gptp_model.specs.declared.item.Item.TheVariants.{Expiry, Arrival}
 use Rattle.gptp_world.specs.declared.net.Net.{Net as Between}
-use Rattle.gptp_world.specs.declared.stage.Stage.{Stage}
+use Rattle.gptp_world.specs.declared.parts.WorldParts.{WorldParts}
 use Rattle.gptp_model.specs.declared.station.Station.{Station}
 use Rattle.gptp_system.specs.declared.touched.TimersChanged.{TimersChanged}
 use Rattle.gptp_system.specs.declared.touched.TimersChanged.TheVariants as touches
@@ -25,7 +25,7 @@ use Rattle.gptp_model.specs.Agrees.{Agrees}
 use Rattle.gptp_model.specs.Item.{same_item}
 use Rattle.gptp_model.specs.Pending.{Entry, set_due, times_of_item, without_first_entry}
 use Rattle.gptp_world.specs.Net.{between, OnlyEntries}
-use Rattle.gptp_world.specs.Stage.{world_of, HasStepped}
+use Rattle.gptp_world.specs.WorldParts.{world_of, HasStepped}
 use Rattle.gptp_world.specs.Timing.{selected_from, AreSetAt, AreSetBut, AreSetFor, HasTouched}
 use Rattle.gptp_model.specs.World.{station_due, timers_from, Channel, Net}
 use Rattle.gptp_model.proofs.AgreeLemmas.{no_arrival, running}
@@ -226,16 +226,16 @@ same_touched_of s s' touches.All ports is = tt
 -- ---- after a step
 
 -- A live system took a step, which left all its timers but these. They were pending when they were due, and still are.
-pub has_touched : (stage left : Stage) (place : ℕ) (input : Input) (answer : Answer) (touched : TimersChanged)
-    (step : HasStepped place input answer stage left) → AreSetFor input place stage
+pub has_touched : (parts left : WorldParts) (place : ℕ) (input : Input) (answer : Answer) (touched : TimersChanged)
+    (step : HasStepped place input answer parts left) → AreSetFor input place parts
     → Touches input touched step.station.system step.after → HasTouched touched place left
-has_touched stage left place input answer touched step set touches =
+has_touched parts left place input answer touched step set touches =
     let s = step.station.system in let s' = step.after in let net = step.net in let live = step.live in
     let stations = step.stations in
     record {
       station = in_state s' step.station;
-      here = rw stations (get-set_same stage.stations.items place step.station (in_state s' step.station) step.here);
-      own = same_touched_of s s' touched (same_ports input stage.now s s' left.outbox.items answer step.steps)
+      here = rw stations (get-set_same parts.stations.items place step.station (in_state s' step.station) step.here);
+      own = same_touched_of s s' touched (same_ports input parts.now s s' left.outbox.items answer step.steps)
           touches.own;
       set = λ timer off.
           let still : due timer s' ≡ due timer s = touches.leaves timer off in
@@ -247,13 +247,13 @@ has_touched stage left place input answer touched step set touches =
 -- ---- before a step
 
 -- where all agrees each timer of a system is pending when it is due, also once a frame is taken
-pub set_for_frame : (stage : Stage) (net : Between) (lane : Lane) (octets : List ℕ) (channel : Channel) (place : ℕ)
-    → Agrees (world_of stage)
-    → TakesFrame lane.link lane.direction stage.now octets channel (between stage.net) (between net)
-    → AreSetAt (λ timer. false) place (record stage { net = net })
-set_for_frame stage net lane octets channel place agrees takes station here timer off =
+pub set_for_frame : (parts : WorldParts) (net : Between) (lane : Lane) (octets : List ℕ) (channel : Channel) (place : ℕ)
+    → Agrees (world_of parts)
+    → TakesFrame lane.link lane.direction parts.now octets channel (between parts.net) (between net)
+    → AreSetAt (λ timer. false) place (record parts { net = net })
+set_for_frame parts net lane octets channel place agrees takes station here timer off =
     ap (λ (n : Net). times_of_item (Expiry place timer) n.pending) takes.is
-    ∙ times-without_first_other (Arrival lane.link lane.direction) (Expiry place timer) stage.net.pending.entries
+    ∙ times-without_first_other (Arrival lane.link lane.direction) (Expiry place timer) parts.net.pending.entries
     (no_arrival place timer lane.link lane.direction)
     ∙ agrees (Expiry place timer) ∙ ap (running timer) here
 
@@ -268,12 +268,12 @@ differs place t u off = by (same_item (Expiry place u) (Expiry place t)) refl
         subst (λ v. same_timer t v ≡ true) (sym (same_expiry place place u t is).1) (timer_itself t) in absurd cc
     by false is = is
 
-pub set_for_timer : (stage : Stage) (net : Between) (place : ℕ) (timer : Timer) → Agrees (world_of stage)
+pub set_for_timer : (parts : WorldParts) (net : Between) (place : ℕ) (timer : Timer) → Agrees (world_of parts)
     → between net
-    ≡ record (between stage.net) { pending = without_first_entry (Expiry place timer) (between stage.net).pending }
-    → AreSetAt (same_timer timer) place (record stage { net = net })
-set_for_timer stage net place timer agrees taken station here other off =
+    ≡ record (between parts.net) { pending = without_first_entry (Expiry place timer) (between parts.net).pending }
+    → AreSetAt (same_timer timer) place (record parts { net = net })
+set_for_timer parts net place timer agrees taken station here other off =
     ap (λ (n : Net). times_of_item (Expiry place other) n.pending) taken
-    ∙ times-without_first_other (Expiry place timer) (Expiry place other) stage.net.pending.entries
+    ∙ times-without_first_other (Expiry place timer) (Expiry place other) parts.net.pending.entries
     (differs place timer other off)
     ∙ agrees (Expiry place other) ∙ ap (running other) here

@@ -13,7 +13,7 @@ use Rattle.gptp_invariants.specs.WorldStanding.{stations_have_clock, channel_is_
 use Rattle.gptp_invariants.proofs.WorldSystemLemmas.{OwnClocks, clock_in, clock_lives, clock_there, live_from, live_there}
 use Rattle.gptp_world.specs.declared.joined_link.JoinedLink.{JoinedLink}
 use Rattle.gptp_world.specs.declared.joined_link.Lane.{Lane}
-use Rattle.gptp_world.specs.declared.stage.Stage.{Stage}
+use Rattle.gptp_world.specs.declared.parts.WorldParts.{WorldParts}
 use Rattle.gptp_world.specs.JoinedLink.{channel_of, join_of}
 use Rattle.gptp_world.specs.Directory.{direction_end}
 use Rattle.gptp_world.specs.WorldCore.{IsFounded}
@@ -46,19 +46,19 @@ lives_by stations place number station false true own here named lives known =
 lives_by stations place number station false false own here named lives known = refl
 
 -- so it is of the system at the end of a lane
-pub lives_there : (stage : Stage) (lane : Lane) (place : ℕ) (joined_link : JoinedLink) → IsFounded stage
-    → slice_get stage.net.cables.items lane.link ≡ Some joined_link → IsReceiver lane place stage.net.directory
-    → (station : Station) → slice_get stage.stations.items place ≡ Some station
-    → station.live ≡ stations_have_clock (live_stations stage.stations.items)
+pub lives_there : (parts : WorldParts) (lane : Lane) (place : ℕ) (joined_link : JoinedLink) → IsFounded parts
+    → slice_get parts.net.cables.items lane.link ≡ Some joined_link → IsReceiver lane place parts.net.directory
+    → (station : Station) → slice_get parts.stations.items place ≡ Some station
+    → station.live ≡ stations_have_clock (live_stations parts.stations.items)
     (receiver lane.direction (channel_of joined_link)).clock
-lives_there stage lane place joined_link is here receives station there =
-    let known = receives (join_of joined_link) (known_join stage.net lane.link joined_link is.stage_kept.net here) in
-    let at = station_at stage place (direction_end lane.direction (join_of joined_link)).clock is.stage_kept known in
+lives_there parts lane place joined_link is here receives station there =
+    let known = receives (join_of joined_link) (known_join parts.net lane.link joined_link is.stage_kept.net here) in
+    let at = station_at parts place (direction_end lane.direction (join_of joined_link)).clock is.stage_kept known in
     let one : at.station ≡ station = same_Some at.station station (sym at.here ∙ there) in
     let named : clock station.system ≡ (receiver lane.direction (channel_of joined_link)).clock =
     ap (λ (x : Station). clock x.system) (sym one) ∙ (at.named
     ∙ ap (λ port. port.clock) (end_same lane.direction joined_link)) in
-    lives_by stage.stations.items place (receiver lane.direction (channel_of joined_link)).clock station station.live _
+    lives_by parts.stations.items place (receiver lane.direction (channel_of joined_link)).clock station station.live _
     is.sound.wired.clocks there named refl refl
 
 -- ---- one link more
@@ -136,47 +136,47 @@ used_none systems channel same = by (channel_is_used systems channel) refl
 -- ---- the links of a stage, one after another
 
 -- those before a place
-abbrev pub used_before : Stage → ℕ → List Link
-used_before stage link =
-    used_channels (live_stations stage.stations.items) (take link (map channel_of stage.net.cables.items))
+abbrev pub used_before : WorldParts → ℕ → List Link
+used_before parts link =
+    used_channels (live_stations parts.stations.items) (take link (map channel_of parts.net.cables.items))
 
-module _ (stage : Stage) (link : ℕ) (joined_link : JoinedLink)
-    (here : slice_get stage.net.cables.items link ≡ Some joined_link) where
+module _ (parts : WorldParts) (link : ℕ) (joined_link : JoinedLink)
+    (here : slice_get parts.net.cables.items link ≡ Some joined_link) where
   abbrev systems : List System
-  systems = live_stations stage.stations.items
+  systems = live_stations parts.stations.items
 
-  there : slice_get (map channel_of stage.net.cables.items) link ≡ Some (channel_of joined_link)
-  there = mapped_there channel_of stage.net.cables.items link joined_link here
+  there : slice_get (map channel_of parts.net.cables.items) link ≡ Some (channel_of joined_link)
+  there = mapped_there channel_of parts.net.cables.items link joined_link here
 
-  pub one_more : used_before stage (link + 1) ≡ used_before stage link ++ used_if systems (channel_of joined_link)
-  one_more = used_more systems (map channel_of stage.net.cables.items) link (channel_of joined_link) there
+  pub one_more : used_before parts (link + 1) ≡ used_before parts link ++ used_if systems (channel_of joined_link)
+  one_more = used_more systems (map channel_of parts.net.cables.items) link (channel_of joined_link) there
 
   pub counted_more : channel_is_used systems (channel_of joined_link) ≡ true
-      → length (used_before stage (link + 1)) ≡ length (used_before stage link) + 1
+      → length (used_before parts (link + 1)) ≡ length (used_before parts link) + 1
   counted_more is =
       let if_used : used_if systems (channel_of joined_link) ≡ standing_link
       (channel_of joined_link) ∷ [] = rw is refl in
       let more = ap (λ (ls : List Link). length ls)
-      (one_more ∙ ap (λ (ls : List Link). used_before stage link ++ ls) if_used) in
-      omega (arith, more, length-append (used_before stage link) (standing_link (channel_of joined_link) ∷ []))
+      (one_more ∙ ap (λ (ls : List Link). used_before parts link ++ ls) if_used) in
+      omega (arith, more, length-append (used_before parts link) (standing_link (channel_of joined_link) ∷ []))
 
   pub counted_same : channel_is_used systems (channel_of joined_link) ≡ false
-      → length (used_before stage (link + 1)) ≡ length (used_before stage link)
+      → length (used_before parts (link + 1)) ≡ length (used_before parts link)
   counted_same is =
       let if_used : used_if systems (channel_of joined_link) ≡ [] = rw is refl in
       ap (λ (ls : List Link). length ls) (one_more
-      ∙ (ap (λ (ls : List Link). used_before stage link ++ ls) if_used ∙ append-nil (used_before stage link)))
+      ∙ (ap (λ (ls : List Link). used_before parts link ++ ls) if_used ∙ append-nil (used_before parts link)))
 
   pub stands_here : channel_is_used systems (channel_of joined_link) ≡ true
-      → slice_get (used_in stage) (length (used_before stage link)) ≡ used systems (channel_of joined_link)
+      → slice_get (used_in parts) (length (used_before parts link)) ≡ used systems (channel_of joined_link)
   stands_here is =
-      used_here systems (map channel_of stage.net.cables.items) link (channel_of joined_link) there is
+      used_here systems (map channel_of parts.net.cables.items) link (channel_of joined_link) there is
       ∙ sym (used_yes systems (channel_of joined_link) is)
 
 -- before the end all stand
-pub used_all : (stage : Stage) (link : ℕ) → length stage.net.cables.items ≤ link
-    → used_before stage link ≡ used_in stage
-used_all stage link past =
-    ap (used_channels (live_stations stage.stations.items))
-    (take_all link (map channel_of stage.net.cables.items)
-    (let long = length-map stage.net.cables.items channel_of in omega arith))
+pub used_all : (parts : WorldParts) (link : ℕ) → length parts.net.cables.items ≤ link
+    → used_before parts link ≡ used_in parts
+used_all parts link past =
+    ap (used_channels (live_stations parts.stations.items))
+    (take_all link (map channel_of parts.net.cables.items)
+    (let long = length-map parts.net.cables.items channel_of in omega arith))

@@ -7,25 +7,25 @@ use Rattle.gptp_system.specs.State.{SystemState}
 use Rattle.gptp_system.specs.Steps.{HasPortNumber}
 use Rattle.gptp_model.specs.declared.item.Item.{Item}
 use Rattle.gptp_model.specs.declared.item.Item.TheVariants.{Expiry, Arrival}
-use Rattle.gptp_world.specs.declared.stage.Stage.{Stage}
+use Rattle.gptp_world.specs.declared.parts.WorldParts.{WorldParts}
 use Rattle.gptp_model.specs.declared.station.Station.{Station}
 use Rattle.gptp_model.specs.Acts.{AtSystem}
 use Rattle.gptp_model.specs.Agrees.{Agrees}
 use Rattle.gptp_model.specs.Pending.{IsNext}
-use Rattle.gptp_world.specs.Stage.{world_of}
+use Rattle.gptp_world.specs.WorldParts.{world_of}
 use Rattle.gptp_model.specs.Sound.{IsSound}
-use Rattle.gptp_world.specs.Stage.{IsPlacedItem}
+use Rattle.gptp_world.specs.WorldParts.{IsPlacedItem}
 use Rattle.gptp_model.specs.Views.{FollowsRoot, HasPort, HasRole, ShowsLive}
 use Rattle.gptp_model.specs.World.{WorldState}
 use Rattle.gptp_model.proofs.NextDueLemmas.{next_runs_out}
 
 -- the system of what is next is there
-pub next_placed : (stage : Stage) (time : ℕ) (item : Item) → Agrees (world_of stage)
-    → IsNext stage.net.pending.entries time item → IsPlacedItem item stage
-next_placed stage time (Arrival link direction) agrees next = tt
-next_placed stage time (Expiry place timer) agrees next =
-    let out = next_runs_out place timer time (world_of stage) agrees next in
-    slice_get_within stage.stations.items place out.station out.here
+pub next_placed : (parts : WorldParts) (time : ℕ) (item : Item) → Agrees (world_of parts)
+    → IsNext parts.net.pending.entries time item → IsPlacedItem item parts
+next_placed parts time (Arrival link direction) agrees next = tt
+next_placed parts time (Expiry place timer) agrees next =
+    let out = next_runs_out place timer time (world_of parts) agrees next in
+    slice_get_within parts.stations.items place out.station out.here
 
 -- a clock is that of one system alone, so a port that this one hasn't got is nowhere
 pub no_port : (number port : ℕ) (w : WorldState) (s : SystemState) → IsSound w → ShowsLive number w s

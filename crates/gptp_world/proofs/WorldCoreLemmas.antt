@@ -7,12 +7,12 @@ use Rattle.gptp_links.specs.Fate.{Draw}
 use Rattle.gptp_links.proofs.DrawLemmas as draws
 use Rattle.gptp_system.specs.Input.{Input}
 use Rattle.gptp_scenario.specs.declared.change.Act.{Act}
-use Rattle.gptp_world.specs.declared.stage.Stage.{Stage}
+use Rattle.gptp_world.specs.declared.parts.WorldParts.{WorldParts}
 use Rattle.gptp_model.specs.Acts.{at, IsReadyAct}
 use Rattle.gptp_model.specs.Changing.{fresh, CallsAll, Starts, StartsAll}
 use Rattle.gptp_world.specs.WorldCore.{SystemsStarted}
 use Rattle.gptp_model.specs.Sound.{IsSound}
-use Rattle.gptp_world.specs.Stage.{world_of}
+use Rattle.gptp_world.specs.WorldParts.{world_of}
 use Rattle.gptp_world.specs.Starting.{CanStart, Started}
 use Rattle.gptp_model.specs.World.{WorldState}
 use Rattle.gptp_world.proofs.ComingUpLemmas.{range-more}
@@ -22,10 +22,10 @@ use Rattle.gptp_model.proofs.SoundLemmas.{later_sound, starts_sound}
 -- ---- one system
 
 -- a system of a sound world can start
-pub can_start : (stage : Stage) (place : ℕ) → IsSound (world_of stage) → place < length stage.stations.items
-    → CanStart place stage
-can_start stage place is less =
-    let found = member_there stage.stations.items place less in
+pub can_start : (parts : WorldParts) (place : ℕ) → IsSound (world_of parts) → place < length parts.stations.items
+    → CanStart place parts
+can_start parts place is less =
+    let found = member_there parts.stations.items place less in
     record {
       station = found.0;
       here = found.1;
@@ -92,15 +92,15 @@ starts_more (p ∷ ps) place w between after ds es (first, rest, next, are, star
     associates (x ∷ xs) ys zs = ap (λ us. x ∷ us) (associates xs ys zs)
 
 pub one_started : {F : Type 0} (answers : Bounds → ℕ → F → Option ℕ → F → Type 0) (count : ℕ) (first second third : F)
-    (stage between after : Stage) → SystemsStarted answers count first second stage between
-    → Started answers count second third between after → SystemsStarted answers (count + 1) first third stage after
-one_started answers count first second third stage between after so_far one =
+    (parts between after : WorldParts) → SystemsStarted answers count first second parts between
+    → Started answers count second third between after → SystemsStarted answers (count + 1) first third parts after
+one_started answers count first second third parts between after so_far one =
     let places : range_with_len 0 (count + 1) ≡ range_with_len 0 count ++ count ∷ [] =
     range-more 0 count ∙ ap (λ p. range_with_len 0 count ++ p ∷ []) (omega arith) in
     record {
       draws = so_far.draws ++ one.draws;
       drawn = draws.draws-append answers first second third so_far.draws one.draws so_far.drawn one.drawn;
       starts = rw places
-          (starts_more (range_with_len 0 count) count (world_of stage) (world_of between) (world_of after)
+          (starts_more (range_with_len 0 count) count (world_of parts) (world_of between) (world_of after)
           so_far.draws one.draws so_far.starts one.starts);
     }

@@ -6,7 +6,7 @@ use Rattle.gptp_model.specs.declared.item.Item.{Item}
 use Rattle.gptp_model.specs.Pending.{Entry, IsNext}
 use Rattle.gptp_model.specs.World.{WorldState}
 use Rattle.gptp_world.specs.Observing.{Observed}
-use Rattle.gptp_world.specs.Transitions.{Passes, PassesTo, Transition}
+use Rattle.gptp_world.specs.Transitions.{Passes, PassesTo, ActTrace}
 
 -- what is next of all that is pending, where something is
 abbrev pub IsUpcoming : Option (ℕ × Item) → List Entry → Type 0
@@ -18,7 +18,7 @@ IsUpcoming (Some due) es = IsNext es due.0 due.1
 pub record Follows {F O : Type 0} (answers : Bounds → ℕ → F → Option ℕ → F → Type 0)
     (tells : Told → WorldState → O → O → List (List ℕ) → Type 0) (until : ℕ) (fate fate_after : F) (w w' : WorldState)
     (o o_after : O) (So : List ℕ → Type 0) : Type 0 where
-  pub ts : List Transition
+  pub ts : List ActTrace
   pub passes : Passes answers until ts fate fate_after w w'
   pub observed : Observed tells ts o o_after So
 
@@ -26,6 +26,6 @@ pub record Follows {F O : Type 0} (answers : Bounds → ℕ → F → Option ℕ
 pub record PassesSeen {F O : Type 0} (answers : Bounds → ℕ → F → Option ℕ → F → Type 0)
     (tells : Told → WorldState → O → O → List (List ℕ) → Type 0) (until : ℕ) (fate fate_after : F) (w w' : WorldState)
     (o o_after : O) (So : List ℕ → Type 0) : Type 0 where
-  pub ts : List Transition
+  pub ts : List ActTrace
   pub passes : PassesTo answers until ts fate fate_after w w'
   pub observed : Observed tells ts o o_after So

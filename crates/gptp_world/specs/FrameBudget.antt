@@ -9,7 +9,7 @@ use Rattle.gptp_world.specs.declared.target.ActTarget.{ActTarget}
 use Rattle.gptp_world.specs.declared.target.ActTarget.TheVariants as aims
 use Rattle.gptp_world.specs.declared.joined_link.Lane.{Lane}
 use Rattle.gptp_world.specs.declared.net.Net.{Net as Between}
-use Rattle.gptp_world.specs.declared.stage.Stage.{Stage}
+use Rattle.gptp_world.specs.declared.parts.WorldParts.{WorldParts}
 use Rattle.gptp_world.specs.JoinedLink.{HasRoomOn}
 use Rattle.gptp_world.specs.Directory.{direction_end, BeginsAt, Join}
 use Rattle.gptp_world.specs.Net.{IsOldest}
@@ -62,54 +62,54 @@ HasReachBeyond r place frame_budget net = (number : ℕ) (port : PortId) (lane :
     + credit_of net.directory.clocks frame_budget port.clock) lane net.cables.items
 
 -- there is room for whatever a call of the system at a place can leave, where it reaches so far
-pub record HasRoomBeyond (r : Reach) (place : ℕ) (frame_budget : List ℕ) (stage : Stage) : Type 0 where
+pub record HasRoomBeyond (r : Reach) (place : ℕ) (frame_budget : List ℕ) (parts : WorldParts) : Type 0 where
   pub station : Station
-  pub here : slice_get stage.stations.items place ≡ Some station
+  pub here : slice_get parts.stations.items place ≡ Some station
   pub room : WorldHasRoom (both (for_reach r station.system)
-      (for_credit stage.net.directory.clocks frame_budget)) stage.net
+      (for_credit parts.net.directory.clocks frame_budget)) parts.net
 
 -- when the system at the end of a lane hears the oldest frame there
-abbrev pub HearsBeyond : Lane → List ℕ → Stage → Type 0
-HearsBeyond lane frame_budget stage = (join : Join) (place : ℕ) (octets : List ℕ)
-    → slice_get stage.net.directory.joins lane.link ≡ Some join
-    → slice_get stage.net.directory.clocks place ≡ Some (direction_end lane.direction join).clock
-    → IsOldest lane octets stage.net → HasRoomBeyond (frame_reach octets) place frame_budget stage
+abbrev pub HearsBeyond : Lane → List ℕ → WorldParts → Type 0
+HearsBeyond lane frame_budget parts = (join : Join) (place : ℕ) (octets : List ℕ)
+    → slice_get parts.net.directory.joins lane.link ≡ Some join
+    → slice_get parts.net.directory.clocks place ≡ Some (direction_end lane.direction join).clock
+    → IsOldest lane octets parts.net → HasRoomBeyond (frame_reach octets) place frame_budget parts
 
 -- when a timer of the system at a place expires
-abbrev pub ExpiresBeyond : ℕ → Timer → List ℕ → Stage → Type 0
-ExpiresBeyond place timer frame_budget stage = (station : Station) → slice_get stage.stations.items place ≡ Some station
-    → HasRoomBeyond (timer_reach timer station.system) place frame_budget stage
+abbrev pub ExpiresBeyond : ℕ → Timer → List ℕ → WorldParts → Type 0
+ExpiresBeyond place timer frame_budget parts = (station : Station) → slice_get parts.stations.items place ≡ Some station
+    → HasRoomBeyond (timer_reach timer station.system) place frame_budget parts
 
 -- an act leaves the credit as it is; where it is a change, there is none
-abbrev pub LeavesCredit : ActTarget → List ℕ → Stage → Type 0
-LeavesCredit (aims.Arrival lane) frame_budget stage = HearsBeyond lane frame_budget stage
-LeavesCredit (aims.Timer place timer) frame_budget stage = ExpiresBeyond place timer frame_budget stage
-LeavesCredit target frame_budget stage = HasNoCredit frame_budget
+abbrev pub LeavesCredit : ActTarget → List ℕ → WorldParts → Type 0
+LeavesCredit (aims.Arrival lane) frame_budget parts = HearsBeyond lane frame_budget parts
+LeavesCredit (aims.Timer place timer) frame_budget parts = ExpiresBeyond place timer frame_budget parts
+LeavesCredit target frame_budget parts = HasNoCredit frame_budget
 
 -- ---- what an act used
 
 -- the system at the end of a lane heard the oldest frame there, and used no more room than that reaches
-pub record HearUses (lane : Lane) (stage : Stage) (net : Between) : Type 0 where
+pub record HearUses (lane : Lane) (parts : WorldParts) (net : Between) : Type 0 where
   pub join : Join
   pub place : ℕ
   pub octets : List ℕ
   pub station : Station
-  pub there : slice_get stage.net.directory.joins lane.link ≡ Some join
-  pub placed : slice_get stage.net.directory.clocks place ≡ Some (direction_end lane.direction join).clock
-  pub oldest : IsOldest lane octets stage.net
-  pub here : slice_get stage.stations.items place ≡ Some station
-  pub uses : Uses (for_reach (frame_reach octets) station.system) stage.net net
+  pub there : slice_get parts.net.directory.joins lane.link ≡ Some join
+  pub placed : slice_get parts.net.directory.clocks place ≡ Some (direction_end lane.direction join).clock
+  pub oldest : IsOldest lane octets parts.net
+  pub here : slice_get parts.stations.items place ≡ Some station
+  pub uses : Uses (for_reach (frame_reach octets) station.system) parts.net net
 
 -- a timer of the system at a place expired, and it used no more room than that reaches
-pub record ExpiryUses (place : ℕ) (timer : Timer) (stage : Stage) (net : Between) : Type 0 where
+pub record ExpiryUses (place : ℕ) (timer : Timer) (parts : WorldParts) (net : Between) : Type 0 where
   pub station : Station
-  pub here : slice_get stage.stations.items place ≡ Some station
-  pub uses : Uses (for_reach (timer_reach timer station.system) station.system) stage.net net
+  pub here : slice_get parts.stations.items place ≡ Some station
+  pub uses : Uses (for_reach (timer_reach timer station.system) station.system) parts.net net
 
-abbrev pub UsesForAim : ActTarget → Stage → Between → Type 0
-UsesForAim (aims.Arrival lane) stage net = HearUses lane stage net
-UsesForAim (aims.Timer place timer) stage net = ExpiryUses place timer stage net
-UsesForAim target stage net = ⊤
+abbrev pub UsesForAim : ActTarget → WorldParts → Between → Type 0
+UsesForAim (aims.Arrival lane) parts net = HearUses lane parts net
+UsesForAim (aims.Timer place timer) parts net = ExpiryUses place timer parts net
+UsesForAim target parts net = ⊤
 
 -- a change is neither
 abbrev pub IsChange : ActTarget → Type 0

@@ -14,7 +14,7 @@ pub mod Pending
 pub mod Performing
 pub mod Room
 pub mod WorldCore
-pub mod Stage
+pub mod WorldParts
 pub mod Starting
 pub mod Telling
 pub mod Timing

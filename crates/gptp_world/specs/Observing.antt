@@ -5,7 +5,7 @@ use Rattle.gptp_model.specs.declared.done.Done.{Done}
 use Rattle.gptp_model.specs.Advancing.{Told}
 use Rattle.gptp_model.specs.World.{WorldState}
 use Rattle.gptp_words.specs.Lines.{text_of}
-use Rattle.gptp_world.specs.Transitions.{Transition}
+use Rattle.gptp_world.specs.Transitions.{ActTrace}
 
 abbrev pub told_of : Timed → Done → Told
 told_of timed done = record { timed = timed; done = done }
@@ -20,7 +20,7 @@ abbrev pub tells_nothing : {O : Type 0} → Told → WorldState → O → O → 
 tells_nothing told w o o_after lines = (o_after ≡ o) × (lines ≡ [])
 
 -- what is told of acts, one after another
-abbrev pub Tells : {O : Type 0} → (Told → WorldState → O → O → List (List ℕ) → Type 0) → List Transition → O → O
+abbrev pub Tells : {O : Type 0} → (Told → WorldState → O → O → List (List ℕ) → Type 0) → List ActTrace → O → O
     → List (List ℕ) → Type 0
 Tells tells [] o o_after lines = (o_after ≡ o) × (lines ≡ [])
 Tells {O} tells (t ∷ ts) o o_after lines =
@@ -28,7 +28,7 @@ Tells {O} tells (t ∷ ts) o o_after lines =
     × Tells tells ts between o_after rest × (lines ≡ first ++ rest)
 
 -- this is so of the text of that
-pub record Observed {O : Type 0} (tells : Told → WorldState → O → O → List (List ℕ) → Type 0) (ts : List Transition)
+pub record Observed {O : Type 0} (tells : Told → WorldState → O → O → List (List ℕ) → Type 0) (ts : List ActTrace)
     (o o_after : O) (So : List ℕ → Type 0) : Type 0 where
   pub lines : List (List ℕ)
   pub are : Tells tells ts o o_after lines

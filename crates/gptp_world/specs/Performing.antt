@@ -12,7 +12,7 @@ use Rattle.gptp_scenario.specs.declared.change.Act.{Act}
 use Rattle.gptp_scenario.specs.declared.change.Act.TheVariants.{Change as Changing}
 use Rattle.gptp_scenario.specs.declared.change.Change.TheVariants as changes
 use Rattle.gptp_model.specs.declared.done.Done.{Done}
-use Rattle.gptp_world.specs.declared.stage.Stage.{Stage}
+use Rattle.gptp_world.specs.declared.parts.WorldParts.{WorldParts}
 use Rattle.gptp_model.specs.declared.station.Station.{Station}
 use Rattle.gptp_model.specs.Act.{TimerRunsOut}
 use Rattle.gptp_model.specs.Acts.{Acts}
@@ -20,7 +20,7 @@ use Rattle.gptp_model.specs.Changing.{with_bounds, with_setup, with_station, Cal
 use Rattle.gptp_world.specs.Delivering.{HasRoomToHear}
 use Rattle.gptp_world.specs.Net.{LinkIs}
 use Rattle.gptp_world.specs.Room.{HasRoomToInject}
-use Rattle.gptp_world.specs.Stage.{world_of, HasRoomToCall, HasRoomToGive, SystemIs}
+use Rattle.gptp_world.specs.WorldParts.{world_of, HasRoomToCall, HasRoomToGive, SystemIs}
 use Rattle.gptp_world.specs.Starting.{CanStart, HasRoomToStart}
 use Rattle.gptp_world.specs.Telling.{HasRoomAtEnds}
 use Rattle.gptp_model.specs.World.{Channel, WorldState, sender}
@@ -28,28 +28,28 @@ use Rattle.gptp_model.specs.World.{Channel, WorldState, sender}
 -- ---- room for what an act can leave
 
 -- a failure leaves nothing, nor does what changes nothing
-abbrev pub HasRoomForAim : ActTarget → Stage → Type 0
-HasRoomForAim (aims.Arrival lane) stage = HasRoomToHear lane stage
-HasRoomForAim (aims.Timer place timer) stage = HasRoomToGive (TimerExpires timer) place stage
-HasRoomForAim (aims.LinkDown link) stage = LinkIs true link stage.net → HasRoomAtEnds link stage
-HasRoomForAim (aims.LinkUp link) stage = LinkIs false link stage.net → HasRoomAtEnds link stage
-HasRoomForAim (aims.LinkSet link bounds) stage = ⊤
-HasRoomForAim (aims.Fail place) stage = ⊤
-HasRoomForAim (aims.Recover place) stage = SystemIs false place stage → HasRoomToStart place stage
-HasRoomForAim (aims.Priority1 place value) stage = HasRoomToCall place stage
-HasRoomForAim (aims.Inject lane) stage = LinkIs true lane.link stage.net → HasRoomToInject lane stage.net
+abbrev pub HasRoomForAim : ActTarget → WorldParts → Type 0
+HasRoomForAim (aims.Arrival lane) parts = HasRoomToHear lane parts
+HasRoomForAim (aims.Timer place timer) parts = HasRoomToGive (TimerExpires timer) place parts
+HasRoomForAim (aims.LinkDown link) parts = LinkIs true link parts.net → HasRoomAtEnds link parts
+HasRoomForAim (aims.LinkUp link) parts = LinkIs false link parts.net → HasRoomAtEnds link parts
+HasRoomForAim (aims.LinkSet link bounds) parts = ⊤
+HasRoomForAim (aims.Fail place) parts = ⊤
+HasRoomForAim (aims.Recover place) parts = SystemIs false place parts → HasRoomToStart place parts
+HasRoomForAim (aims.Priority1 place value) parts = HasRoomToCall place parts
+HasRoomForAim (aims.Inject lane) parts = LinkIs true lane.link parts.net → HasRoomToInject lane parts.net
 
 -- ---- what is done, by place
 
 -- what is changed is there, and the bounds of a link that is set are such as a link can have
-abbrev pub CanChange : ActTarget → Stage → Type 0
-CanChange (aims.LinkDown link) stage = link < length stage.net.cables.items
-CanChange (aims.LinkUp link) stage = link < length stage.net.cables.items
-CanChange (aims.LinkSet link bounds) stage = (link < length stage.net.cables.items) × Fit bounds
-CanChange (aims.Fail place) stage = place < length stage.stations.items
-CanChange (aims.Recover place) stage = CanStart place stage
-CanChange (aims.Priority1 place value) stage = place < length stage.stations.items
-CanChange target stage = ⊥
+abbrev pub CanChange : ActTarget → WorldParts → Type 0
+CanChange (aims.LinkDown link) parts = link < length parts.net.cables.items
+CanChange (aims.LinkUp link) parts = link < length parts.net.cables.items
+CanChange (aims.LinkSet link bounds) parts = (link < length parts.net.cables.items) × Fit bounds
+CanChange (aims.Fail place) parts = place < length parts.stations.items
+CanChange (aims.Recover place) parts = CanStart place parts
+CanChange (aims.Priority1 place value) parts = place < length parts.stations.items
+CanChange target parts = ⊥
 
 -- what a change makes of the link, or the system, at a place
 abbrev pub OfLink : ℕ → WorldState → (Channel → Type 0) → Type 0
@@ -72,18 +72,18 @@ TurnsOver target w draws w' = ⊥
 -- it was changed so: the fate drew once for each send that a link carries
 pub record Turned {F : Type 0} (answers : Bounds → ℕ → F → Option ℕ → F → Type 0) (target : ActTarget)
     (fate fate_after : F)
-    (stage stage_after : Stage) : Type 0 where
+    (parts stage_after : WorldParts) : Type 0 where
   pub draws : List Draw
   pub drawn : Draws answers fate draws fate_after
-  pub turns : TurnsOver target (world_of stage) draws (world_of stage_after)
+  pub turns : TurnsOver target (world_of parts) draws (world_of stage_after)
 
 -- these octets were injected on a lane: where its link is up the fate drew once for them
 pub record Injected {F : Type 0} (answers : Bounds → ℕ → F → Option ℕ → F → Type 0) (lane : Lane) (octets : List ℕ)
-    (fate fate_after : F) (stage stage_after : Stage) : Type 0 where
+    (fate fate_after : F) (parts stage_after : WorldParts) : Type 0 where
   pub draws : List Draw
   pub drawn : Draws answers fate draws fate_after
-  pub injects : OfLink lane.link (world_of stage) (λ channel.
-      InjectsIf channel.up (sender lane.direction channel) octets (world_of stage) draws (world_of stage_after))
+  pub injects : OfLink lane.link (world_of parts) (λ channel.
+      InjectsIf channel.up (sender lane.direction channel) octets (world_of parts) draws (world_of stage_after))
 
 -- what an act injects; nothing but an injection does
 abbrev pub octets_of : Act → List ℕ
@@ -92,16 +92,16 @@ octets_of act = []
 
 -- a timer of the system at a place expired
 pub record Expired {F : Type 0} (answers : Bounds → ℕ → F → Option ℕ → F → Type 0)
-    (place : ℕ) (timer : Timer) (fate fate_after : F) (stage stage_after : Stage) : Type 0 where
+    (place : ℕ) (timer : Timer) (fate fate_after : F) (parts stage_after : WorldParts) : Type 0 where
   pub draws : List Draw
   pub drawn : Draws answers fate draws fate_after
-  pub expires : TimerRunsOut place timer (world_of stage) draws (world_of stage_after)
+  pub expires : TimerRunsOut place timer (world_of parts) draws (world_of stage_after)
 
 -- ---- an act
 
 -- the act was carried out, and this is told of it: the fate drew once for each send that a link carries
 pub record ActIsDone {F : Type 0} (answers : Bounds → ℕ → F → Option ℕ → F → Type 0) (act : Act) (done : Done)
-    (fate fate_after : F) (stage stage_after : Stage) : Type 0 where
+    (fate fate_after : F) (parts stage_after : WorldParts) : Type 0 where
   pub draws : List Draw
   pub drawn : Draws answers fate draws fate_after
-  pub acts : Acts act (world_of stage) draws done (world_of stage_after)
+  pub acts : Acts act (world_of parts) draws done (world_of stage_after)

@@ -4,11 +4,11 @@ use Rattle.gptp_links.specs.declared.bounds.Bounds.{Bounds}
 use Rattle.gptp_links.specs.Fate.{Draw, Draws}
 use Rattle.gptp_system.specs.Input.{Input, PortUp, PortDown}
 use Rattle.gptp_vector.specs.declared.port.PortId.{PortId}
-use Rattle.gptp_world.specs.declared.stage.Stage.{Stage}
+use Rattle.gptp_world.specs.declared.parts.WorldParts.{WorldParts}
 use Rattle.gptp_world.specs.declared.telling.End.{End}
 use Rattle.gptp_model.specs.Changing.{CallsIfLive, ComesUpIf, GoesDownIf}
 use Rattle.gptp_world.specs.Directory.{DirectoryState, Join}
-use Rattle.gptp_world.specs.Stage.{world_of, HasRoomToCallBoth}
+use Rattle.gptp_world.specs.WorldParts.{world_of, HasRoomToCallBoth}
 use Rattle.gptp_model.specs.World.{Channel}
 
 -- ---- the ends of a link
@@ -27,11 +27,11 @@ pub record AreEndsOf (link : ℕ) (a b : End) (directory : DirectoryState) : Typ
   pub apart : a.place ≢ b.place
 
 -- there is room for one call of each of the systems at the ends of a link
-pub record HasRoomAtEnds (link : ℕ) (stage : Stage) : Type 0 where
+pub record HasRoomAtEnds (link : ℕ) (parts : WorldParts) : Type 0 where
   pub a : End
   pub b : End
-  pub ends : AreEndsOf link a b stage.net.directory
-  pub room : HasRoomToCallBoth a.place b.place stage
+  pub ends : AreEndsOf link a b parts.net.directory
+  pub room : HasRoomToCallBoth a.place b.place parts
 
 -- ---- what they are told
 
@@ -42,25 +42,25 @@ link_input false p = PortDown p
 
 -- A live system was given an input, and what its call left was carried out; one that has failed was not.
 pub record WasTold {F : Type 0} (answers : Bounds → ℕ → F → Option ℕ → F → Type 0) (place : ℕ) (input : Input)
-    (fate fate_after : F) (stage stage_after : Stage) : Type 0 where
+    (fate fate_after : F) (parts stage_after : WorldParts) : Type 0 where
   pub draws : List Draw
   pub drawn : Draws answers fate draws fate_after
-  pub calls : CallsIfLive place input (world_of stage) draws (world_of stage_after)
+  pub calls : CallsIfLive place input (world_of parts) draws (world_of stage_after)
 
 -- a link went down: what was in flight was lost, and its ends were told
 pub record GoneDown {F : Type 0} (answers : Bounds → ℕ → F → Option ℕ → F → Type 0) (link : ℕ) (fate fate_after : F)
-    (stage stage_after : Stage) : Type 0 where
+    (parts stage_after : WorldParts) : Type 0 where
   pub channel : Channel
-  pub here : slice_get (world_of stage).net.channels link ≡ Some channel
+  pub here : slice_get (world_of parts).net.channels link ≡ Some channel
   pub draws : List Draw
   pub drawn : Draws answers fate draws fate_after
-  pub down : GoesDownIf true link channel (world_of stage) draws (world_of stage_after)
+  pub down : GoesDownIf true link channel (world_of parts) draws (world_of stage_after)
 
 -- a link came up, and its ends were told
 pub record ComeUp {F : Type 0} (answers : Bounds → ℕ → F → Option ℕ → F → Type 0) (link : ℕ) (fate fate_after : F)
-    (stage stage_after : Stage) : Type 0 where
+    (parts stage_after : WorldParts) : Type 0 where
   pub channel : Channel
-  pub here : slice_get (world_of stage).net.channels link ≡ Some channel
+  pub here : slice_get (world_of parts).net.channels link ≡ Some channel
   pub draws : List Draw
   pub drawn : Draws answers fate draws fate_after
-  pub up : ComesUpIf false link channel (world_of stage) draws (world_of stage_after)
+  pub up : ComesUpIf false link channel (world_of parts) draws (world_of stage_after)

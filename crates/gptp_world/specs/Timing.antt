@@ -7,7 +7,7 @@ use Rattle.gptp_system.specs.declared.touched.TimersChanged.{TimersChanged}
 use Rattle.gptp_system.specs.Input.{Input}
 use Rattle.gptp_system.specs.TimersChanged.{holds, is_always_touched, IsTouchedOf}
 use Rattle.gptp_model.specs.declared.item.Item.TheVariants.{Expiry}
-use Rattle.gptp_world.specs.declared.stage.Stage.{Stage}
+use Rattle.gptp_world.specs.declared.parts.WorldParts.{WorldParts}
 use Rattle.gptp_model.specs.declared.station.Station.{Station}
 use Rattle.gptp_model.specs.Pending.{Entry, timer_time, times_of_item}
 use Rattle.gptp_model.specs.World.{station_due}
@@ -26,17 +26,17 @@ AreSetBut otherwise place station es =
     → times_of_item (Expiry place timer) es ≡ timer_time (station_due timer station)
 
 -- so is each of the system at a place
-abbrev pub AreSetAt : (Timer → Bool) → ℕ → Stage → Type 0
-AreSetAt otherwise place stage = (station : Station) → slice_get stage.stations.items place ≡ Some station
-    → AreSetBut otherwise place station stage.net.pending.entries
+abbrev pub AreSetAt : (Timer → Bool) → ℕ → WorldParts → Type 0
+AreSetAt otherwise place parts = (station : Station) → slice_get parts.stations.items place ≡ Some station
+    → AreSetBut otherwise place station parts.net.pending.entries
 
 -- so it is before a step by this input, but for the timers that count as touched in any case
-abbrev pub AreSetFor : Input → ℕ → Stage → Type 0
-AreSetFor input place stage = AreSetAt (is_always_touched input) place stage
+abbrev pub AreSetFor : Input → ℕ → WorldParts → Type 0
+AreSetFor input place parts = AreSetAt (is_always_touched input) place parts
 
 -- A step of the system at a place touched these, which are its own; all its other timers are pending when they are due.
-pub record HasTouched (touched : TimersChanged) (place : ℕ) (stage : Stage) : Type 0 where
+pub record HasTouched (touched : TimersChanged) (place : ℕ) (parts : WorldParts) : Type 0 where
   pub station : Station
-  pub here : slice_get stage.stations.items place ≡ Some station
+  pub here : slice_get parts.stations.items place ≡ Some station
   pub own : IsTouchedOf station.system touched
-  pub set : AreSetBut (holds touched) place station stage.net.pending.entries
+  pub set : AreSetBut (holds touched) place station parts.net.pending.entries

@@ -9,16 +9,16 @@ use Rattle.gptp_model.specs.Pending.{NothingBefore}
 use Rattle.gptp_model.specs.World.{WorldState}
 
 -- an act that was done and what was told of it, the world before it, and the world after it
-pub record Transition : Type 0 where
+pub record ActTrace : Type 0 where
   pub told : Told
   pub before : WorldState
   pub after : WorldState
 
-abbrev pub transition : Timed → Done → WorldState → WorldState → Transition
+abbrev pub transition : Timed → Done → WorldState → WorldState → ActTrace
 transition timed done w w' = record { told = record { timed = timed; done = done }; before = w; after = w' }
 
 -- Acts one after another, each of them the next that is pending then, none later than a time.
-abbrev pub Passes : {F : Type 0} → (Bounds → ℕ → F → Option ℕ → F → Type 0) → ℕ → List Transition → F → F
+abbrev pub Passes : {F : Type 0} → (Bounds → ℕ → F → Option ℕ → F → Type 0) → ℕ → List ActTrace → F → F
     → WorldState → WorldState → Type 0
 Passes answers until [] fate fate_after w w' = (fate_after ≡ fate) × (w' ≡ w)
 Passes {F} answers until (t ∷ ts) fate fate_after w w' =
@@ -26,7 +26,7 @@ Passes {F} answers until (t ∷ ts) fate fate_after w w' =
     × Passes answers until ts drawn fate_after t.after w'
 
 -- It went on so until nothing was left that is due by a time, and then its time became that.
-pub record PassesTo {F : Type 0} (answers : Bounds → ℕ → F → Option ℕ → F → Type 0) (until : ℕ) (ts : List Transition)
+pub record PassesTo {F : Type 0} (answers : Bounds → ℕ → F → Option ℕ → F → Type 0) (until : ℕ) (ts : List ActTrace)
     (fate fate_after : F) (w w' : WorldState) : Type 0 where
   pub ahead : w.time ≤ until
   pub between : WorldState

@@ -5,7 +5,7 @@ use Rattle.gptp_vector.specs.declared.port.PortId.{PortId}
 use Rattle.gptp_model.specs.World.{Channel}
 use Rattle.gptp_invariants.specs.WorldStanding.{channel_is_used, standing_link, live_stations, used_channels}
 use Rattle.gptp_invariants.specs.ChoiceView.{port_identity_number}
-use Rattle.gptp_world.specs.declared.stage.Stage.{Stage}
+use Rattle.gptp_world.specs.declared.parts.WorldParts.{WorldParts}
 use Rattle.gptp_world.specs.JoinedLink.{channel_of}
 
 -- a link as a snapshot has it, by its two ports, that of its end a first
@@ -21,5 +21,5 @@ abbrev pub used_if : List System → Channel → List Link
 used_if systems channel = if channel_is_used systems channel then standing_link channel ∷ [] else []
 
 -- all that are
-abbrev pub used_in : Stage → List Link
-used_in stage = used_channels (live_stations stage.stations.items) (map channel_of stage.net.cables.items)
+abbrev pub used_in : WorldParts → List Link
+used_in parts = used_channels (live_stations parts.stations.items) (map channel_of parts.net.cables.items)

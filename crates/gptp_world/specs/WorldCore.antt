@@ -3,30 +3,30 @@ use Rattle.std.specs.Prelude.{ℕ, List, Option}
 use Rattle.std.specs.List.{range_with_len}
 use Rattle.gptp_links.specs.declared.bounds.Bounds.{Bounds}
 use Rattle.gptp_links.specs.Fate.{Draw, Draws}
-use Rattle.gptp_world.specs.declared.stage.Stage.{Stage}
+use Rattle.gptp_world.specs.declared.parts.WorldParts.{WorldParts}
 use Rattle.gptp_model.specs.Changing.{StartsAll}
 use Rattle.gptp_model.specs.Sound.{IsSound}
 use Rattle.gptp_world.specs.FrameBudget.{IsCovered}
-use Rattle.gptp_world.specs.Stage.{world_of, IsStage}
+use Rattle.gptp_world.specs.WorldParts.{world_of, IsStage}
 use Rattle.gptp_invariants.specs.SyncTimedClaim.{WorldInvariant}
 
 -- what the code keeps of a world while its systems start
-pub record IsFounded (stage : Stage) : Type 0 where
-  pub stage_kept : IsStage stage
-  pub sound : IsSound (world_of stage)
+pub record IsFounded (parts : WorldParts) : Type 0 where
+  pub stage_kept : IsStage parts
+  pub sound : IsSound (world_of parts)
 
 -- what it keeps between acts: also what every world of a network keeps, from which it follows that the world settles
 -- and how exact its offsets are; and there is room for the credit of each system
-pub record IsWorldCore (frame_budget : List ℕ) (stage : Stage) : Type 0 where
-  pub stage_kept : IsStage stage
-  pub sound : IsSound (world_of stage)
-  pub claimed : WorldInvariant (world_of stage)
-  pub covered : IsCovered frame_budget stage.net
+pub record IsWorldCore (frame_budget : List ℕ) (parts : WorldParts) : Type 0 where
+  pub stage_kept : IsStage parts
+  pub sound : IsSound (world_of parts)
+  pub claimed : WorldInvariant (world_of parts)
+  pub covered : IsCovered frame_budget parts.net
 
 -- so many systems started, one after another
 pub record SystemsStarted {F : Type 0} (answers : Bounds → ℕ → F → Option ℕ → F → Type 0) (count : ℕ)
     (fate fate_after : F)
-    (stage stage_after : Stage) : Type 0 where
+    (parts stage_after : WorldParts) : Type 0 where
   pub draws : List Draw
   pub drawn : Draws answers fate draws fate_after
-  pub starts : StartsAll (range_with_len 0 count) (world_of stage) draws (world_of stage_after)
+  pub starts : StartsAll (range_with_len 0 count) (world_of parts) draws (world_of stage_after)

@@ -42,7 +42,7 @@ impl WorldCore {
     fn upcoming(&self) -> Option<(u64, Item)>
         ensures { IsUpcoming result self.now.net.pending }
     {
-        self.stage.net.pending.next()
+        self.parts.net.pending.next()
     }
 
     /// What is next, which is this, where its time is at most that.
@@ -71,7 +71,7 @@ impl WorldCore {
                 port: _,
                 answer: _,
                 frame,
-            } => self.stage.net.buffers.put_back(frame),
+            } => self.parts.net.buffers.put_back(frame),
             Done::Quiet => {}
         }
     }
@@ -85,7 +85,7 @@ impl WorldCore {
     {
         Timed {
             at: time,
-            act: act_of(&self.stage, item),
+            act: act_of(&self.parts, item),
         }
     }
 
@@ -96,7 +96,7 @@ impl WorldCore {
         requires first { NothingBefore (until + 1) self.old.net.pending }
         ensures { self.new ≡ at until self.old }
     {
-        self.stage.now = until;
+        self.parts.now = until;
     }
 }
 

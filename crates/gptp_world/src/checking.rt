@@ -2,7 +2,7 @@
 
 ghost use Rattle.gptp_invariants.specs.WorldEncodableLaws.{SetsAnOctet};
 
-use crate::stage::Stage;
+use crate::parts::WorldParts;
 use crate::target::ActTarget;
 use gptp_model::{Act, Change, Refused, Timed};
 
@@ -32,13 +32,13 @@ pub(crate) fn sets_an_octet(act: &Act)
     }
 }
 
-impl Stage {
+impl WorldParts {
     ghost use Rattle.std.specs.Prelude.{◌≡◌, ◌≢◌, ◌↔◌, IsTrue, IfOk, IfErr, true, false};
     ghost use Rattle.gptp_model.specs.declared.done.Refused.TheVariants.{OutOfMemory};
     ghost use Rattle.gptp_model.specs.Acts.{IsDueThen, IsEarlier, IsReadyAct, Refuses};
     ghost use Rattle.gptp_world.specs.ActTarget.{IsTargetOf};
     ghost use Rattle.gptp_model.specs.Pending.{NothingBefore};
-    ghost use Rattle.gptp_world.specs.Stage.{world_of, IsStage};
+    ghost use Rattle.gptp_world.specs.WorldParts.{world_of, IsStage};
 
     /// Whether nothing is due before a time.
     fn is_first(&self, time: u64) -> bool
@@ -53,7 +53,7 @@ impl Stage {
 
     /// Whether an act is due at a time.
     fn is_due(&self, act: &Act, target: ActTarget, time: u64) -> bool
-        requires stage { IsStage self.now }
+        requires parts { IsStage self.now }
         requires target { IsTargetOf act.now (world_of self.now) target }
         ensures { IsTrue result ↔ IsDueThen act.now time (world_of self.entry.now) }
     {

@@ -2,7 +2,7 @@
 
 use crate::frame_budget::FrameBudget;
 use crate::net::Net;
-use crate::stage::Stage;
+use crate::parts::WorldParts;
 use gptp_links::Fate;
 use gptp_system::{Input, Timer};
 use std::alloc::AllocError;
@@ -26,27 +26,27 @@ impl Net {
     }
 }
 
-impl Stage {
+impl WorldParts {
     ghost use Rattle.std.specs.Prelude.{◌≡◌, OnOk};
     ghost use Rattle.gptp_model.specs.Agrees.{Agrees};
     ghost use Rattle.gptp_system.specs.Input.{Expires};
     ghost use Rattle.gptp_world.specs.ActTarget.{IsTimerDue};
     ghost use Rattle.gptp_world.specs.FrameBudget.{ExpiresBeyond, ExpiryUses, IsCovered};
     ghost use Rattle.gptp_world.specs.Performing.{Expired};
-    ghost use Rattle.gptp_world.specs.Stage.{world_of, HasRoomToGive, HasTimerAt, IsStage};
+    ghost use Rattle.gptp_world.specs.WorldParts.{world_of, HasRoomToGive, HasTimerAt, IsStage};
 
     /// A timer of the system at a place, which is due now, expires.
     pub(crate) fn run_out<F: Fate>(&mut self, place: usize, timer: Timer, fate: &mut F)
-        requires stage { IsStage self.old }
+        requires parts { IsStage self.old }
         requires due { IsTimerDue place timer self.old.now (world_of self.old) }
         requires agrees { Agrees (world_of self.old) }
         requires room { HasRoomToGive (Expires timer) place self.old }
-        ensures stage { IsStage self.new }
+        ensures parts { IsStage self.new }
         ensures expired { Expired F.answers place timer fate.old fate.new self.old self.new }
         ensures uses { ExpiryUses place timer self.old self.new.net }
     {
         self.net.take_timer(place, timer);
-        self.give(place, Input::Expires(timer), fate);
+        self.step_system(place, Input::Expires(timer), fate);
     }
 
     /// Makes room for whatever the system at a place can leave when a timer of it expires, beyond the credit that is
@@ -57,10 +57,10 @@ impl Stage {
         timer: Timer,
         frame_budget: &mut FrameBudget,
     ) -> Result<(), AllocError>
-        requires stage { IsStage self.old }
+        requires parts { IsStage self.old }
         requires timer { HasTimerAt place timer self.old }
         requires covered { IsCovered frame_budget.old self.old.net }
-        ensures stage { IsStage self.new }
+        ensures parts { IsStage self.new }
         ensures world { world_of self.new ≡ world_of self.old }
         ensures covered { IsCovered frame_budget.new self.new.net }
         ensures room { OnOk result (ExpiresBeyond place timer frame_budget.new self.new) }

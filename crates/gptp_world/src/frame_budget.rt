@@ -4,7 +4,7 @@ ghost use Rattle.std.specs.Prelude.{◌≡◌, true, false, IfOk, slice_set};
 ghost use Rattle.gptp_world.specs.FrameBudget.{DrawsTwo, HasNoCredit};
 
 use crate::net::Net;
-use crate::stage::Stage;
+use crate::parts::WorldParts;
 use gptp_system::Reach;
 use std::alloc::{AllocError, Global};
 use std::marker::Model;
@@ -150,10 +150,10 @@ impl Net {
     }
 }
 
-impl Stage {
+impl WorldParts {
     ghost use Rattle.std.specs.Prelude.{◌≡◌, ◌<◌, length, OnOk};
     ghost use Rattle.gptp_world.specs.FrameBudget.{HasRoomBeyond, IsCovered};
-    ghost use Rattle.gptp_world.specs.Stage.{world_of, IsStage};
+    ghost use Rattle.gptp_world.specs.WorldParts.{world_of, IsStage};
 
     /// Makes room for whatever a call of the system at a place can leave that reaches so far, beyond the credit that is
     /// left then: each of its timers, and two frames at each port that it reaches. Refused where there is no memory for
@@ -164,10 +164,10 @@ impl Stage {
         place: usize,
         reach: Reach,
     ) -> Result<(), AllocError>
-        requires stage { IsStage self.old }
+        requires parts { IsStage self.old }
         requires place { place < length self.old.stations.items }
         requires covered { IsCovered frame_budget.old self.old.net }
-        ensures stage { IsStage self.new }
+        ensures parts { IsStage self.new }
         ensures world { world_of self.new ≡ world_of self.old }
         ensures covered { IsCovered frame_budget.new self.new.net }
         ensures room { OnOk result (HasRoomBeyond reach place frame_budget.new self.new) }

@@ -1,15 +1,15 @@
 //! Systems of a world that start, fail, or get another priority1.
 
-use crate::stage::Stage;
+use crate::parts::WorldParts;
 use gptp_links::Fate;
 use gptp_system::{Input, System};
 
-impl Stage {
+impl WorldParts {
     ghost use Rattle.std.specs.Prelude.{◌≡◌, ◌≤◌, ◌<◌, ◌^◌, [], ◌∷◌, Some, false, length, slice_get};
     ghost use Rattle.std.specs.List.{range_with_len};
     ghost use Rattle.gptp_model.specs.declared.station.Station.{Station};
     ghost use Rattle.gptp_model.specs.Changing.{failed, fresh, with_setup};
-    ghost use Rattle.gptp_world.specs.Stage.{world_of, CallUses, HasRoomToCall, IsLiveAt, IsPortAt, IsStage};
+    ghost use Rattle.gptp_world.specs.WorldParts.{world_of, CallUses, HasRoomToCall, IsLiveAt, IsPortAt, IsStage};
     ghost use Rattle.gptp_world.specs.Starting.{CameUp, CanSetTimers, CanStart, HasRoomForPorts, HasRoomToStart, HasSetTimers, Prioritized, StandsReplaced, Started};
 
     /// What is pending of the timers of the system at a place follows from its state.
@@ -23,25 +23,25 @@ impl Stage {
 
     /// A port of the live system at a place comes up where its link is up.
     fn port_up_if_linked<F: Fate>(&mut self, place: usize, port: u8, fate: &mut F)
-        requires stage { IsStage self.old }
+        requires parts { IsStage self.old }
         requires live { IsLiveAt place self.old }
         requires port { IsPortAt place port self.old }
         requires room { HasRoomToCall place self.old }
-        ensures stage { IsStage self.new }
+        ensures parts { IsStage self.new }
         ensures uses { CallUses place self.old self.new.net }
         ensures came { CameUp F.answers place (port ∷ []) fate.old fate.new self.old self.new }
     {
         if self.net.up_lane(place, port).is_some() {
-            self.give(place, Input::PortUp(port), fate);
+            self.step_system(place, Input::PortUp(port), fate);
         }
     }
 
     /// The ports of the live system at a place come up, by rising number, each whose link is up.
     fn bring_ports_up<F: Fate>(&mut self, place: usize, fate: &mut F)
-        requires stage { IsStage self.old }
+        requires parts { IsStage self.old }
         requires live { IsLiveAt place self.old }
         requires room { HasRoomForPorts place self.old }
-        ensures stage { IsStage self.new }
+        ensures parts { IsStage self.new }
         ensures came { (station : Station) → slice_get self.old.stations.items place ≡ Some station
             → CameUp F.answers place (range_with_len 1 (length station.system.ports)) fate.old fate.new self.old self.new }
     {
@@ -54,7 +54,7 @@ impl Stage {
     }
 
     /// The system at a place is new, and live.
-    fn renew(&mut self, place: usize)
+    fn restart(&mut self, place: usize)
         requires can { CanStart place self.old }
         requires moment { self.old.now ≤ 10 ^ 15 }
         ensures { (station : Station) → slice_get self.old.stations.items place ≡ Some station
@@ -68,19 +68,19 @@ impl Stage {
 
     /// The system at a place starts: new, with its Sync timer, and then its ports come up, each whose link is up.
     pub(crate) fn start<F: Fate>(&mut self, place: usize, fate: &mut F)
-        requires stage { IsStage self.old }
+        requires parts { IsStage self.old }
         requires can { CanStart place self.old }
         requires room { HasRoomToStart place self.old }
-        ensures stage { IsStage self.new }
+        ensures parts { IsStage self.new }
         ensures started { Started F.answers place fate.old fate.new self.old self.new }
     {
-        self.renew(place);
+        self.restart(place);
         self.set_timers(place);
         self.bring_ports_up(place, fate);
     }
 
     /// The system at a place isn't live any more.
-    fn silence(&mut self, place: usize)
+    fn mark_failed(&mut self, place: usize)
         requires { place < length self.old.stations.items }
         ensures { (station : Station) → slice_get self.old.stations.items place ≡ Some station
             → StandsReplaced place (record station { live = false }) self.old self.new }
@@ -90,13 +90,13 @@ impl Stage {
 
     /// The system at a place fails: all its timers stop.
     pub(crate) fn fail(&mut self, place: usize)
-        requires stage { IsStage self.old }
+        requires parts { IsStage self.old }
         requires place { place < length self.old.stations.items }
-        ensures stage { IsStage self.new }
+        ensures parts { IsStage self.new }
         ensures failed { (station : Station) → slice_get self.old.stations.items place ≡ Some station
             → world_of self.new ≡ failed place station (world_of self.old) }
     {
-        self.silence(place);
+        self.mark_failed(place);
         self.set_timers(place);
     }
 
@@ -112,14 +112,14 @@ impl Stage {
 
     /// The system at a place gets another priority1: it starts with it from now on, and where it is live it selects.
     pub(crate) fn set_priority1<F: Fate>(&mut self, place: usize, value: u8, fate: &mut F)
-        requires stage { IsStage self.old }
+        requires parts { IsStage self.old }
         requires room { HasRoomToCall place self.old }
-        ensures stage { IsStage self.new }
+        ensures parts { IsStage self.new }
         ensures prioritized { Prioritized F.answers place value fate.old fate.new self.old self.new }
     {
         self.prepare_priority1(place, value);
         if self.stations[place].live {
-            self.give(place, Input::Priority(value), fate);
+            self.step_system(place, Input::Priority(value), fate);
         }
     }
 }

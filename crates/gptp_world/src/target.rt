@@ -4,7 +4,7 @@ ghost use Rattle.std.specs.Prelude.{◌≡◌, ◌↔◌, ◌≤◌, IsTrue, Som
 
 use crate::delivering::narrowed;
 use crate::joined_link::Lane;
-use crate::stage::Stage;
+use crate::parts::WorldParts;
 use gptp_links::{Bounds, Direction};
 use gptp_model::{Act, Change};
 use gptp_system::Timer;
@@ -33,7 +33,7 @@ pub(crate) enum ActTarget {
     Inject(Lane),
 }
 
-impl Stage {
+impl WorldParts {
     ghost use Rattle.std.specs.Prelude.{◌≡◌, ◌↔◌, ◌<◌, IfSome, IfNone, IsTrue, length, Some, slice_get};
     ghost use Rattle.gptp_system.specs.Steps.{IsTimerOf};
     ghost use Rattle.gptp_scenario.specs.declared.change.Act.TheVariants.{Deliver, Expire};
@@ -42,7 +42,7 @@ impl Stage {
     ghost use Rattle.gptp_model.specs.Acts.{set_to, AtLink, AnyLink, AtSystem, AnySystem, IsThere, IsThereToChange};
     ghost use Rattle.gptp_world.specs.ActTarget.{IsTargetOf, IsAimOfChange, IsLaneAt, IsLinkAt, PlaceHasClock};
     ghost use Rattle.gptp_model.specs.World.{port_id};
-    ghost use Rattle.gptp_world.specs.Stage.{world_of, IsStage};
+    ghost use Rattle.gptp_world.specs.WorldParts.{world_of, IsStage};
 
     /// The lane that begins at a port, if there is a link at it.
     fn lane_at(&self, clock: ClockId, port: u16) -> Option<Lane>
@@ -209,13 +209,13 @@ impl Stage {
     }
 }
 
-impl Stage {
+impl WorldParts {
     ghost use Rattle.std.specs.Prelude.{◌≡◌, ◌↔◌, ◌<◌, IsTrue, length, Some, slice_get};
     ghost use Rattle.gptp_system.specs.Steps.{IsTimerOf};
     ghost use Rattle.gptp_model.specs.declared.station.Station.{Station};
     ghost use Rattle.gptp_model.specs.Acts.{IsDueThen, IsOldestDue};
     ghost use Rattle.gptp_world.specs.ActTarget.{IsTargetOf};
-    ghost use Rattle.gptp_world.specs.Stage.{world_of, IsStage};
+    ghost use Rattle.gptp_world.specs.WorldParts.{world_of, IsStage};
     ghost use Rattle.gptp_model.specs.World.{station_due, Channel};
 
     /// Whether the oldest frame of a lane is due at a time.

@@ -4,13 +4,13 @@ ghost use Rattle.std.specs.Prelude.{◌≡◌, ◌<◌, ◌++◌, length, map, o
 ghost use Rattle.gptp_invariants.specs.WorldStanding.{snapshot_of};
 
 use crate::joined_link::Lane;
-use crate::stage::Stage;
+use crate::parts::WorldParts;
 use crate::world_core::WorldCore;
 use gptp_links::Direction;
 use gptp_vector::PortId;
 use std::alloc::{AllocError, Global};
 
-impl Stage {
+impl WorldParts {
     ghost use Rattle.std.specs.Prelude.{◌≡◌, ◌<◌, ◌++◌, ◌&&◌, length, map, option_map, slice_get, IfOk, OnOk, Some};
     ghost use Rattle.gptp_model.specs.World.{receiver};
     ghost use Rattle.gptp_invariants.specs.WorldStanding.{stations_have_clock, channel_is_used, live_stations};
@@ -139,20 +139,20 @@ impl WorldCore {
     pub(crate) fn links(&self) -> usize
         ensures { result ≡ length (snapshot_of self.now).links }
     {
-        self.stage.count_used()
+        self.parts.count_used()
     }
 
     /// The ports of the one at a place among them, in order of the links. Past the last there is none.
     pub(crate) fn link_at(&self, place: usize) -> Option<(PortId, PortId)>
         ensures { option_map snapshot_link result ≡ slice_get (snapshot_of self.now).links place }
     {
-        self.stage.used_at(place)
+        self.parts.used_at(place)
     }
 
     /// Those of all of them, in order of the links. Refused for want of memory alone.
     pub(crate) fn list_links(&self, alloc: Global) -> Result<Vec<(PortId, PortId)>, AllocError>
         ensures { IfOk result (λ links. map snapshot_link links.items ≡ (snapshot_of self.now).links) }
     {
-        self.stage.list_used(alloc)
+        self.parts.list_used(alloc)
     }
 }

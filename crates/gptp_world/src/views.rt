@@ -4,11 +4,11 @@ ghost use Rattle.std.specs.Prelude.{◌≡◌, IfNone, IfSome};
 ghost use Rattle.gptp_system.specs.Start.{role_at};
 ghost use Rattle.gptp_system.specs.Steps.{HasPortNumber};
 ghost use Rattle.gptp_scenario.specs.Allowed.{IsFitAct};
-ghost use Rattle.gptp_world.specs.Stage.{world_of, IsStage};
-ghost use Rattle.gptp_world.specs.Stage.{IsPlacedItem};
+ghost use Rattle.gptp_world.specs.WorldParts.{world_of, IsStage};
+ghost use Rattle.gptp_world.specs.WorldParts.{IsPlacedItem};
 ghost use Rattle.gptp_model.specs.Views.{IsActOf};
 
-use crate::stage::Stage;
+use crate::parts::WorldParts;
 use crate::world_core::WorldCore;
 use gptp_model::{Act, Item, Timed};
 use gptp_roles::Role;
@@ -34,19 +34,19 @@ impl WorldCore {
     pub(crate) fn now(&self) -> u64
         ensures { result ≡ self.now.time }
     {
-        self.stage.now
+        self.parts.now
     }
 
     /// The time of the last change, in ns.
     pub(crate) fn last_change(&self) -> u64
         ensures { result ≡ self.now.last_change }
     {
-        self.stage.last_change
+        self.parts.last_change
     }
 
     /// Where the world gets its memory.
     pub(crate) fn alloc(&self) -> Global {
-        self.stage.net.buffers.alloc()
+        self.parts.net.buffers.alloc()
     }
 
     /// How many systems there are, live or not.
@@ -54,15 +54,15 @@ impl WorldCore {
         ensures count { result ≡ length self.now.stations }
         ensures few { result ≤ 512 }
     {
-        self.stage.net.directory.well_formed();
-        self.stage.stations.len()
+        self.parts.net.directory.well_formed();
+        self.parts.stations.len()
     }
 
     /// The clock of a system by its rank: the least has place 0. Past the last there is none.
     pub(crate) fn clock_at(&self, place: usize) -> Option<ClockId>
         ensures { result ≡ slice_get (rising_clocks self.now) place }
     {
-        self.stage.net.directory.clock_at(place)
+        self.parts.net.directory.clock_at(place)
     }
 
     /// The next that is due: of all that is pending one of least time, and of those the first that was put.
@@ -72,9 +72,9 @@ impl WorldCore {
         ensures prompt { IfSome result (λ timed. DelaysFitIntervals self.now timed.act) }
         ensures none { IfNone result (self.now.net.pending ≡ []) }
     {
-        match self.stage.net.pending.next() {
+        match self.parts.net.pending.next() {
             Some((at, item)) => {
-                let act = act_of(&self.stage, item);
+                let act = act_of(&self.parts, item);
                 Some(Timed { at, act })
             }
             None => None,
@@ -101,9 +101,9 @@ impl WorldCore {
         ensures some { IfSome result (λ system. ShowsLive clock self.now system.now) }
         ensures none { IfNone result (AtSystem clock self.now IsLiveSystem → ⊥) }
     {
-        match self.stage.net.directory.place_of(clock) {
+        match self.parts.net.directory.place_of(clock) {
             Some(place) => {
-                let station = &self.stage.stations[place];
+                let station = &self.parts.stations[place];
                 match station.live {
                     true => Some(&station.system),
                     false => None,
@@ -147,7 +147,7 @@ impl WorldCore {
         ensures claimed { SettlingInvariant self.now }
         ensures timed { WorldInvariant self.now }
     {
-        let _ = &self.stage;
+        let _ = &self.parts;
     }
 
     /// The role of a port of the live system with a clock. In time it is Disabled where no link is at it, and settled.
@@ -180,15 +180,15 @@ fn role_of(system: &System, port: u16) -> Option<Role>
 }
 
 /// The act that an item is.
-pub(crate) fn act_of(stage: &Stage, item: Item) -> Act
-    requires stage { IsStage stage.now }
-    requires placed { IsPlacedItem item stage.now }
-    ensures act { IsActOf item (world_of stage.entry.now) result }
+pub(crate) fn act_of(parts: &WorldParts, item: Item) -> Act
+    requires parts { IsStage parts.now }
+    requires placed { IsPlacedItem item parts.now }
+    ensures act { IsActOf item (world_of parts.entry.now) result }
     ensures fit { IsFitAct result }
 {
     match item {
         Item::Expiry { place, timer } => Act::Expire {
-            clock: stage.net.directory.clock_in(usize::from(place)),
+            clock: parts.net.directory.clock_in(usize::from(place)),
             timer,
         },
         Item::Arrival { link, direction } => Act::Deliver {

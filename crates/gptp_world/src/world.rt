@@ -1,6 +1,6 @@
 //! Simulated worlds.
 
-use crate::unseen::{Nowhere, Unseen};
+use crate::no_observer::{NoObserver, NullSink};
 use crate::world_core::WorldCore;
 use gptp_links::Fate;
 use gptp_model::{Done, Network, Refused, Timed};
@@ -140,7 +140,7 @@ impl<F: Fate + Drop> World<F> {
             return Err(Refused::InThePast);
         }
         let alloc = self.world_core.alloc();
-        match self.go_on(alloc, until, &mut Unseen, &mut Nowhere) {
+        match self.go_on(alloc, until, &mut NoObserver, &mut NullSink) {
             Ok(()) => Ok(()),
             Err(_) => Err(Refused::OutOfMemory),
         }

@@ -6,7 +6,7 @@ ghost use Rattle.gptp_world.specs.WorldCore.{IsFounded, SystemsStarted};
 
 use crate::checking::sets_an_octet;
 use crate::frame_budget::FrameBudget;
-use crate::stage::Stage;
+use crate::parts::WorldParts;
 use crate::target::ActTarget;
 use gptp_links::Fate;
 use gptp_model::{Done, Network, Refused, Timed};
@@ -16,7 +16,7 @@ use std::marker::Model;
 /// A world without its fate: its systems, and what is between them; and for how many frames there is room ahead.
 #[derive(Drop)]
 pub(crate) struct WorldCore {
-    pub(crate) stage: Stage,
+    pub(crate) parts: WorldParts,
     frame_budget: FrameBudget,
 }
 
@@ -25,35 +25,35 @@ impl Model for WorldCore {
 
     ghost Value = { WorldState };
 
-    ghost use Rattle.gptp_world.specs.Stage.{world_of};
+    ghost use Rattle.gptp_world.specs.WorldParts.{world_of};
     ghost use Rattle.gptp_world.specs.WorldCore.{IsWorldCore};
 
-    ghost view = { λ s. world_of s.stage };
+    ghost view = { λ s. world_of s.parts };
 
-    ghost invariant = { λ s. IsWorldCore s.frame_budget s.stage };
+    ghost invariant = { λ s. IsWorldCore s.frame_budget s.parts };
 }
 
 /// The system at a place starts, once room is made for it. Refused where there is no memory for that.
-fn start_next<F: Fate>(stage: &mut Stage, place: usize, fate: &mut F) -> Result<(), AllocError>
-    requires world_core { IsFounded stage.old }
-    requires place { place < length stage.old.stations.items }
-    ensures world_core { OnOk result (IsFounded stage.new) }
-    ensures count { OnOk result (length stage.new.stations.items ≡ length stage.old.stations.items) }
-    ensures started { OnOk result (Started F.answers place fate.old fate.new stage.old stage.new) }
+fn start_next<F: Fate>(parts: &mut WorldParts, place: usize, fate: &mut F) -> Result<(), AllocError>
+    requires world_core { IsFounded parts.old }
+    requires place { place < length parts.old.stations.items }
+    ensures world_core { OnOk result (IsFounded parts.new) }
+    ensures count { OnOk result (length parts.new.stations.items ≡ length parts.old.stations.items) }
+    ensures started { OnOk result (Started F.answers place fate.old fate.new parts.old parts.new) }
 {
-    stage.make_room_to_start(place)?;
-    stage.start(place, fate);
+    parts.make_room_to_start(place)?;
+    parts.start(place, fate);
     Ok(())
 }
 
 /// All systems start, in their order. Refused where there is no memory for that.
-fn start_all<F: Fate>(stage: &mut Stage, fate: &mut F) -> Result<(), AllocError>
-    requires { IsFounded stage.old }
-    ensures world_core { OnOk result (IsFounded stage.new) }
-    ensures started { OnOk result (SystemsStarted F.answers (length stage.old.stations.items) fate.old fate.new stage.old stage.new) }
+fn start_all<F: Fate>(parts: &mut WorldParts, fate: &mut F) -> Result<(), AllocError>
+    requires { IsFounded parts.old }
+    ensures world_core { OnOk result (IsFounded parts.new) }
+    ensures started { OnOk result (SystemsStarted F.answers (length parts.old.stations.items) fate.old fate.new parts.old parts.new) }
 {
-    for place in 0..stage.stations.len() {
-        start_next(stage, place, fate)?;
+    for place in 0..parts.stations.len() {
+        start_next(parts, place, fate)?;
     }
     Ok(())
 }
@@ -81,11 +81,11 @@ impl WorldCore {
         ensures { IfOk result (Begun F.answers network.now fate.old fate.new) }
     {
         network.well_formed();
-        let mut stage = Stage::found(alloc, network)?;
-        start_all(&mut stage, fate)?;
-        let frame_budget = FrameBudget::new(alloc, stage.stations.len())?;
+        let mut parts = WorldParts::found(alloc, network)?;
+        start_all(&mut parts, fate)?;
+        let frame_budget = FrameBudget::new(alloc, parts.stations.len())?;
         Ok(WorldCore {
-            stage,
+            parts,
             frame_budget,
         })
     }
@@ -106,7 +106,7 @@ impl WorldCore {
     {
         sets_an_octet(&timed.act);
         self.well_formed();
-        match self.stage.check(timed) {
+        match self.parts.check(timed) {
             Ok(target) => match self.perform(timed, target, fate) {
                 Ok(done) => Ok(done),
                 Err(_) => Err(Refused::OutOfMemory),
@@ -134,9 +134,9 @@ impl WorldCore {
         ensures kept { OnErr result (self.new ≡ self.old) }
         ensures fate { OnErr result (fate.new ≡ fate.old) }
     {
-        self.stage
+        self.parts
             .make_room_for(&timed.act, target, &mut self.frame_budget)?;
-        self.stage.now = timed.at;
-        Ok(self.stage.perform(&timed.act, target, fate))
+        self.parts.now = timed.at;
+        Ok(self.parts.perform(&timed.act, target, fate))
     }
 }

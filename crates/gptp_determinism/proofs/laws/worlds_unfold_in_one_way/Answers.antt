@@ -1,4 +1,4 @@
-use Rattle.gptp_determinism.proofs.TransitionLemmas.{courses_named, courses_once}
+use Rattle.gptp_determinism.proofs.ActTraceLemmas.{courses_named, courses_once}
 use Rattle.gptp_determinism.proofs.laws.worlds_unfold_in_one_way.Goals as goal
 
 pub returns-clause-courses : goal.returns-clause-courses

@@ -1,7 +1,7 @@
 use Rattle.std.proofs.Common.{ap, ◌∙◌}
 use Rattle.gptp_model.specs.Views.{rising_clocks}
 use Rattle.gptp_timeline.specs.Watch.{event_look, see_all}
-use Rattle.gptp_timeline.proofs.KeptLemmas.{last_two_are, no_limits}
+use Rattle.gptp_timeline.proofs.StretchesSoFarLemmas.{last_two_are, no_limits}
 use Rattle.gptp_timeline.proofs.timeline.last_stretches.Goals as goal
 
 pub all_stretches-requires-clause-begun : goal.all_stretches-requires-clause-begun

@@ -7,7 +7,7 @@ use Rattle.gptp_sink.proofs.SinkLemmas.{after_error}
 use Rattle.gptp_words.specs.Lines.{text_of}
 use Rattle.gptp_model.specs.Views.{rising_clocks}
 use Rattle.gptp_timeline.specs.Watch.{event_look, see_all}
-use Rattle.gptp_timeline.proofs.KeptLemmas.{exceeded_is}
+use Rattle.gptp_timeline.proofs.StretchesSoFarLemmas.{exceeded_is}
 use Rattle.gptp_timeline.proofs.ObservedLemmas.{start_told}
 use Rattle.gptp_timeline.proofs.PassLemmas.{if_ok_both}
 use Rattle.gptp_timeline.proofs.TimelineLemmas.{all_written, nothing_begun, start_begun, stretches_begun, verdict_begun}

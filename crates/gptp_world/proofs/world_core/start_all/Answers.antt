@@ -9,5 +9,5 @@ loop-place-preserved g c =
       world_core = next.world_core;
       count = next.count ∙ so_far.count;
       started = one_started g.F.Fate.answers c.loop-place.place c.args.fate.now c.loop-place.fate c.start_next.new.fate
-          c.args.stage.now c.loop-place.stage c.start_next.new.stage so_far.started next.started;
+          c.args.parts.now c.loop-place.parts c.start_next.new.parts so_far.started next.started;
     }

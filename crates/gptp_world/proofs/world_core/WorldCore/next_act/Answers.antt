@@ -7,7 +7,7 @@ use Rattle.gptp_world.proofs.world_core.WorldCore.next_act.Goals as goal
 
 pub act_of-requires-clause-placed : goal.act_of-requires-clause-placed
 act_of-requires-clause-placed c =
-    next_placed c.self.inside.stage c.args.time c.args.item c.self.invariant.sound.agrees
+    next_placed c.self.inside.parts c.args.time c.args.item c.self.invariant.sound.agrees
     (subst (λ (w : WorldState). IsNext w.net.pending c.args.time c.args.item) (sym c.self.view_is) c.requires)
 
 pub returns-clause-act : goal.returns-clause-act

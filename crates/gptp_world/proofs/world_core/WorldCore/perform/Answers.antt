@@ -3,7 +3,7 @@ use Rattle.gptp_model.specs.Acts.{at}
 use Rattle.gptp_world.specs.ActTarget.{IsTargetOf}
 use Rattle.gptp_world.specs.Memory.{AsksForNoMemory}
 use Rattle.gptp_model.specs.Sound.{IsSound}
-use Rattle.gptp_world.specs.Stage.{world_of}
+use Rattle.gptp_world.specs.WorldParts.{world_of}
 use Rattle.gptp_invariants.specs.SyncTimedClaim.{WorldInvariant}
 use Rattle.gptp_world.proofs.SettlingInvariantLemmas.{acted_claimed}
 use Rattle.gptp_world.proofs.FrameBudgetLemmas.{covered_after, leaves_later}
@@ -41,7 +41,7 @@ invariant_of-self-2 g c =
     let sound = ready_sound act time c.args.self.now made (subst IsSound c.self.view_is c.self.invariant.sound)
     (c.make_room_for.ensures.world ∙ c.self.view_is) c.requires.ready in
     record {
-      stage_kept = c.perform.ensures.stage;
+      stage_kept = c.perform.ensures.parts;
       sound = acts_sound act (at time made) acted.draws c.perform.result (world_of c.perform.new.self) sound
           c.requires.fit acted.acts;
       claimed = acted_claimed g.F.Fate.answers c.args.timed.now c.args.fate.now c.perform.new.fate c.args.self.now made
@@ -49,9 +49,9 @@ invariant_of-self-2 g c =
           (subst WorldInvariant c.self.view_is c.self.invariant.claimed)
           (c.make_room_for.ensures.world ∙ c.self.view_is)
           c.requires.fit c.requires.prompt c.requires.octet c.requires.ready acted.drawn acted.acts;
-      covered = let stage = c.make_room_for.new.self in let frame_budget = c.make_room_for.new.frame_budget in
+      covered = let parts = c.make_room_for.new.self in let frame_budget = c.make_room_for.new.frame_budget in
           covered_after c.args.target frame_budget
-          (at_time time stage) c.perform.new.self.net c.perform.ensures.stage.net
-          (leaves_later c.args.target frame_budget stage time c.in_ok-make_room_for.ensures.left)
+          (at_time time parts) c.perform.new.self.net c.perform.ensures.parts.net
+          (leaves_later c.args.target frame_budget parts time c.in_ok-make_room_for.ensures.left)
           c.perform.ensures.uses;
     }

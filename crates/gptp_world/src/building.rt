@@ -1,0 +1,143 @@
+//! A world made of a network.
+
+ghost use Rattle.std.specs.Prelude.{◌≡◌, ◌≤◌, ◌<◌, [], length, map, IfOk, Some, slice_get};
+ghost use Rattle.gptp_links.specs.Bounds.{Fit};
+ghost use Rattle.gptp_world.specs.JoinedLink.{channel_of};
+ghost use Rattle.gptp_model.specs.Initial.{channels_of, stations_of};
+
+use crate::buffers::Buffers;
+use crate::directory::Directory;
+use crate::joined_link::JoinedLink;
+use crate::net::Net;
+use crate::parts::WorldParts;
+use crate::pending::Pending;
+use gptp_links::{Bounds, Link};
+use gptp_model::{Network, Station};
+use gptp_system::{Outbox, Setup, System};
+use std::alloc::{AllocError, Global};
+
+impl WorldParts {
+    ghost use Rattle.std.specs.Prelude.{◌≡◌, IfOk};
+    ghost use Rattle.gptp_model.specs.Initial.{initial};
+    ghost use Rattle.gptp_world.specs.WorldParts.{world_of, IsStage};
+
+    /// The world of a network at time 0, before its systems start. Refused for want of memory alone.
+    pub(crate) fn found(alloc: Global, network: &Network) -> Result<Self, AllocError>
+        ensures parts { IfOk result IsStage }
+        ensures world { IfOk result (λ parts. world_of parts ≡ initial network.now) }
+    {
+        network.well_formed();
+        let stations = list_stations(alloc, network)?;
+        let net = Net::found(alloc, network)?;
+        Ok(WorldParts {
+            now: 0,
+            last_change: 0,
+            stations,
+            net,
+            outbox: Outbox::new(),
+        })
+    }
+}
+
+impl Net {
+    ghost use Rattle.std.specs.Prelude.{◌≡◌, length, IfOk};
+    ghost use Rattle.gptp_world.specs.Directory.{directory_clocks, joins_of};
+    ghost use Rattle.gptp_model.specs.Initial.{idle};
+    ghost use Rattle.gptp_world.specs.Net.{between, IsNet};
+
+    /// The links of a network, with nothing in flight or pending. Refused for want of memory alone.
+    fn found(alloc: Global, network: &Network) -> Result<Self, AllocError>
+        ensures net { IfOk result IsNet }
+        ensures between { IfOk result (λ net. between net ≡ idle network.now) }
+        ensures clocks { IfOk result (λ net. net.directory.clocks ≡ directory_clocks network.now.systems) }
+        ensures joins { IfOk result (λ net. net.directory.joins ≡ joins_of network.now.links) }
+        ensures systems { IfOk result (λ net. net.pending.systems ≡ length network.now.systems) }
+    {
+        network.well_formed();
+        let directory = Directory::new(alloc, network)?;
+        let cables = list_cables(alloc, network)?;
+        let pending = Pending::new(alloc, network.systems(), network.links())?;
+        Ok(Net {
+            directory,
+            cables,
+            pending,
+            buffers: Buffers::new(alloc),
+        })
+    }
+}
+
+/// The systems of a network, before they start.
+fn list_stations(alloc: Global, network: &Network) -> Result<Vec<Station>, AllocError>
+    ensures { IfOk result (λ v. v.items ≡ stations_of network.now) }
+{
+    let mut stations = Vec::with_capacity(alloc, network.systems())?;
+    for place in 0..network.systems() {
+        stations.push(station_in(network, place))?;
+    }
+    Ok(stations)
+}
+
+/// The system at a place of a network, before it starts.
+fn station_in(network: &Network, place: usize) -> Station
+    requires { place < length network.now.systems }
+    ensures { slice_get (stations_of network.now) place ≡ Some result }
+{
+    network.well_formed();
+    let (identity, ports, phase, drift, intervals) = network.system_at(place).unwrap();
+    let largest = network.largest();
+    let setup = Setup {
+        identity,
+        ports,
+        phase,
+        drift,
+        intervals,
+        largest,
+        params: network.params(),
+    };
+    let system = System::new(setup.copy(), 0);
+    Station {
+        setup,
+        system,
+        live: false,
+    }
+}
+
+/// The links of a network, with nothing in flight.
+fn list_cables(alloc: Global, network: &Network) -> Result<Vec<JoinedLink>, AllocError>
+    ensures { IfOk result (λ v. map channel_of v.items ≡ channels_of network.now) }
+{
+    let mut cables = Vec::with_capacity(alloc, network.links())?;
+    for place in 0..network.links() {
+        cables.push(cable_in(alloc, network, place))?;
+    }
+    Ok(cables)
+}
+
+/// The link at a place of a network, with nothing in flight.
+fn cable_in(alloc: Global, network: &Network, place: usize) -> JoinedLink
+    requires { place < length network.now.links }
+    ensures { slice_get (channels_of network.now) place ≡ Some (channel_of result) }
+{
+    network.well_formed();
+    let (a, b, bounds, up) = network.link_at(place).unwrap();
+    JoinedLink {
+        a,
+        b,
+        link: new_link(alloc, bounds, up),
+    }
+}
+
+/// A link that is up or down, with nothing in flight. Takes no memory.
+fn new_link(alloc: Global, bounds: Bounds, up: bool) -> Link
+    requires { Fit bounds }
+    ensures bounds { result.bounds ≡ bounds }
+    ensures up { result.up ≡ up }
+    ensures from_a { result.from_a.frames ≡ [] }
+    ensures from_b { result.from_b.frames ≡ [] }
+{
+    let mut link = Link::new(alloc, bounds);
+    if !up {
+        link.down();
+    }
+    link
+}
