@@ -88,8 +88,8 @@ HasWhy d at g p Master why = WinsWay g p why
 
 -- the line of a port
 abbrev pub explained_port_line : PortId → Role → Why → List ℕ
-explained_port_line p role why = codes "port " ++ clock_port_text p ++ codes " " ++ role_word role ++ codes "
-    " ++ why_text why
+explained_port_line p role why = codes "port " ++ clock_port_text p ++ codes " " ++ role_word role
+    ++ codes " " ++ why_text why
 
 -- it tells the port's settled role and why it has that
 pub record IsPortLine (d : DocumentState) (at : ℕ) (g : Snapshot) (p : PortId) (line : List ℕ) : Type 0 where
