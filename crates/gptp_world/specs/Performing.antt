@@ -4,7 +4,7 @@ use Rattle.gptp_links.specs.declared.bounds.Bounds.{Bounds}
 use Rattle.gptp_links.specs.Bounds.{Fit}
 use Rattle.gptp_links.specs.Fate.{Draw, Draws}
 use Rattle.gptp_setup.specs.declared.timer.Timer.{Timer}
-use Rattle.gptp_system.specs.Input.{TimerRunsOut as TimerExpires, Priority}
+use Rattle.gptp_system.specs.Input.{Expires as TimerExpires, Priority}
 use Rattle.gptp_world.specs.declared.act_target.ActTarget.{ActTarget}
 use Rattle.gptp_world.specs.declared.act_target.ActTarget.TheVariants as aims
 use Rattle.gptp_world.specs.declared.joined_link.Lane.{Lane}
