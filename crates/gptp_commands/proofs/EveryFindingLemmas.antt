@@ -9,7 +9,8 @@ use Rattle.gptp_network.specs.declared.why.Refusal.{Refusal}
 use Rattle.gptp_network.proofs.LawLemmas.{MeansOrFails, means_or_fails}
 use Rattle.gptp_outline.specs.Rows.{table_of}
 use Rattle.gptp_lint.specs.LintText.{calm_time_line, found_lines, refused_line}
-use Rattle.gptp_lint.specs.Refusal.{TellsPlace, TellsRefusal, no_toml_words, refusal_words}
+use Rattle.gptp_lint.specs.Outline.{header_line}
+use Rattle.gptp_lint.specs.Refusal.{TellsPlace, TellsRefusal, no_toml_words, place_of, refusal_words}
 use Rattle.gptp_lint.specs.UnreadKeys.{unread_keys}
 use Rattle.gptp_lint.proofs.EveryLemmas.{each_is_found}
 use Rattle.gptp_lint.proofs.UnreadLemmas.{bare, bare_near, bare_placed}
@@ -46,15 +47,16 @@ findings_told strict input d means =
       },
     )
 
--- nor are the line of a header and a key that is near where a document is refused
-told_of : (read : Result DocumentState Refusal) → (tail : List ℕ) × TellsRefusal read tail
-told_of (Ok d) = ([], refl)
-told_of (Err refusal) = (refusal_words refusal None None, (None, None, (λ missing. refl), refl))
+-- nor is a key that is near where a document is refused
+told_of : (input : List ℕ) (read : Result DocumentState Refusal) → (tail : List ℕ) × TellsRefusal input read tail
+told_of input (Ok d) = ([], refl)
+told_of input (Err refusal) =
+    (refusal_words refusal (header_line input (place_of refusal.place)) None, (None, (λ missing. refl), refl))
 
 told_at : (input : List ℕ) (fault : DocumentFault) → Fails input fault → (tail : List ℕ) × TellsPlace input tail
 told_at input fault (inl (is, no_toml)) = (no_toml_words None, inl (no_toml, (None, refl)))
 told_at input fault (inr (t, parses, is)) =
-    let (tail, told) = told_of (read_document t) in (tail, inr (t, parses, told))
+    let (tail, told) = told_of input (read_document t) in (tail, inr (t, parses, told))
 
 refused_at : (input : List ℕ) (fault : DocumentFault) → Fails input fault → HaveText (RefusesAtPlace input fault)
 refused_at input fault fails =

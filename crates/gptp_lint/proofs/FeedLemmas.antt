@@ -23,6 +23,7 @@ use Rattle.gptp_network.specs.declared.why.Shape.TheVariants as shapes
 use Rattle.gptp_network.specs.declared.why.Why.{Why}
 use Rattle.gptp_network.specs.declared.why.Why.TheVariants as whys
 use Rattle.gptp_words.specs.Digits.{clock_text}
+use Rattle.gptp_lint.specs.Outline.{header_line}
 use Rattle.gptp_lint.specs.Refusal.{HasNoFeed, TellsPlace, TellsRefusal, no_toml_words, place_of, refusal_words}
 use Rattle.gptp_lint.specs.Unread.{escaped, escaped_octet, is_plain, line_words, near_words, place_words, section_name}
 use Rattle.gptp_lint.specs.Why.{nanoseconds, port_words, shape_word, timing_words, why_words}
@@ -284,10 +285,12 @@ no_toml (Some at) =
     part (codes " text line ") refl then_part natural at.0 then_part part (codes " column ") refl
     then_part natural at.1
 
-told : (read : Result DocumentState Refusal) (tail : List ℕ) → TellsRefusal read tail → HasNoFeed tail
-told (Ok d) tail is = subst HasNoFeed (sym is) refl
-told (Err r) tail (line, near, missing, is) = subst HasNoFeed (sym is) (refusal r line near).has_no_feed
+told : (text : List ℕ) (read : Result DocumentState Refusal) (tail : List ℕ) → TellsRefusal text read tail
+    → HasNoFeed tail
+told text (Ok d) tail is = subst HasNoFeed (sym is) refl
+told text (Err r) tail (near, missing, is) =
+    subst HasNoFeed (sym is) (refusal r (header_line text (place_of r.place)) near).has_no_feed
 
 pub in_one_line : (text tail : List ℕ) → TellsPlace text tail → HasNoFeed tail
 in_one_line text tail (inl (none, (at, is))) = subst HasNoFeed (sym is) (no_toml at).has_no_feed
-in_one_line text tail (inr (t, parses, tells)) = told (read_document t) tail tells
+in_one_line text tail (inr (t, parses, tells)) = told text (read_document t) tail tells

@@ -16,6 +16,7 @@ use Rattle.gptp_lint.specs.declared.place.Place.{Place}
 use Rattle.gptp_lint.specs.declared.place.Place.TheVariants.{Member, Network, Top}
 use Rattle.gptp_lint.specs.declared.place.Section.{Section}
 use Rattle.gptp_lint.specs.declared.place.Section.TheVariants.{Event, Link, System}
+use Rattle.gptp_lint.specs.Outline.{header_line}
 use Rattle.gptp_lint.specs.Unread.{near_words, place_words}
 use Rattle.gptp_lint.specs.Why.{why_words}
 
@@ -45,19 +46,19 @@ abbrev pub no_toml_words : Option (ℕ × ℕ) → List ℕ
 no_toml_words None = codes " text"
 no_toml_words (Some at) = codes " text line " ++ decimal at.0 ++ codes " column " ++ decimal at.1
 
--- What follows the fault of a table that is refused; nothing where it is a document. The line of the header, and which
--- key is near a missing one, are left open here.
-abbrev pub TellsRefusal : Result DocumentState Refusal → List ℕ → Type 0
-TellsRefusal (Ok d) tail = tail ≡ []
-TellsRefusal (Err refusal) tail =
-    (line : Option ℕ) × (near : Option (List ℕ)) × (is_missing refusal.why ≡ false → near ≡ None)
-    × (tail ≡ refusal_words refusal line near)
+-- What follows the fault of the table that a text spells, where it is refused; nothing where it is a document. Which
+-- key is near a missing one is left open here.
+abbrev pub TellsRefusal : List ℕ → Result DocumentState Refusal → List ℕ → Type 0
+TellsRefusal input (Ok d) tail = tail ≡ []
+TellsRefusal input (Err refusal) tail =
+    (near : Option (List ℕ)) × (is_missing refusal.why ≡ false → near ≡ None)
+    × (tail ≡ refusal_words refusal (header_line input (place_of refusal.place)) near)
 
 -- What follows the fault of a text. Where it is no TOML, the line and the column are left open here.
 abbrev pub TellsPlace : List ℕ → List ℕ → Type 0
 TellsPlace text tail =
     (IsNoToml text × ((at : Option (ℕ × ℕ)) × (tail ≡ no_toml_words at)))
-    ⊎ ((t : Members) × Parses text t × TellsRefusal (read_document t) tail)
+    ⊎ ((t : Members) × Parses text t × TellsRefusal text (read_document t) tail)
 
 -- a text that is part of one line
 abbrev pub HasNoFeed : List ℕ → Type 0

@@ -1,9 +1,10 @@
 //! The line of a document that is refused.
 
-ghost use Rattle.std.specs.Prelude.{◌≡◌, ◌++◌, ◌∷◌, [], Err, None, Option, List, ℕ, IfOk, OnOk, false, option_map, string_bytes};
+ghost use Rattle.std.specs.Prelude.{◌≡◌, ◌++◌, ◌∷◌, [], Err, None, Some, Option, List, ℕ, IfOk, OnOk, false, option_map, string_bytes};
 ghost use Rattle.toml.specs.View.{table_view};
 ghost use Rattle.gptp_words.specs.Lines.{text_of};
 ghost use Rattle.gptp_network.specs.ReadDocument.{read_document};
+ghost use Rattle.gptp_outline.specs.Rows.{table_of};
 ghost use Rattle.gptp_lint.specs.LintText.{refused_line};
 ghost use Rattle.gptp_lint.specs.Refusal.{TellsPlace, TellsRefusal, is_missing, no_toml_words, refusal_words};
 
@@ -157,7 +158,8 @@ fn tell_refusal(
     document: &Table,
     refusal: &Refusal,
 ) -> Result<String, AllocError>
-    ensures { IfOk result (λ tail. TellsRefusal (Err refusal.now) (string_bytes tail)) }
+    requires { table_of input.now ≡ Some (table_view document.now) }
+    ensures { IfOk result (λ tail. TellsRefusal input.now (Err refusal.now) (string_bytes tail)) }
 {
     let outline = outline_of(alloc, input)?;
     let place = Place::of(refusal.place);
@@ -168,7 +170,9 @@ fn tell_refusal(
 
 /// What follows the fault of a text that spells a table; nothing where that is a document.
 fn tell_table(alloc: Global, input: &[u8], document: &Table) -> Result<String, AllocError>
-    ensures { IfOk result (λ tail. TellsRefusal (read_document (table_view document.now)) (string_bytes tail)) }
+    requires { table_of input.now ≡ Some (table_view document.now) }
+    ensures { IfOk result (λ tail.
+        TellsRefusal input.now (read_document (table_view document.now)) (string_bytes tail)) }
 {
     match Document::of_table(alloc, document) {
         Ok(_document) => Ok(String::new(alloc)),
