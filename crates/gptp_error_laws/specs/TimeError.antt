@@ -1,5 +1,5 @@
 -- The time error: how far the time that a system computes may be from the root's, by the way from the root to it.
-use Rattle.std.specs.Prelude.{ℕ, zero, suc, ◌+◌, ◌-◌, ◌*◌, ◌/◌, ℤ, pos, ◌-ℤ◌, ◌*ℤ◌, unsigned_abs, List, length, get_or}
+use Rattle.std.specs.Prelude.{ℕ, zero, suc, min, ◌+◌, ◌-◌, ◌*◌, ◌/◌, ℤ, pos, ◌-ℤ◌, ◌*ℤ◌, unsigned_abs, List, length, get_or}
 use Rattle.gptp_scaled.specs.Floor.{floor_div}
 use Rattle.gptp_scaled.specs.Rate.{unit, rate_of}
 use Rattle.gptp_pdelay.specs.GoodLink.{ceil_div}
@@ -43,9 +43,10 @@ total_below (suc n) f = total_below n f + f n
 abbrev pub jitter_at : Way → ℕ → ℕ
 jitter_at w i = (link_at w i).most - (link_at w i).least
 
--- what the jitter makes of the neighbour rate that is measured on a link
+-- What the jitter makes of the neighbour rate that is measured on a link. Both are held at 200 parts in a million, so
+-- no jitter makes more of it than that twice.
 abbrev pub rate_error_at : Way → ℕ → ℕ
-rate_error_at w i = ceil_div (2202000000000 * jitter_at w i) w.interval + 4
+rate_error_at w i = min (ceil_div (2202000000000 * jitter_at w i) w.interval) 879609302 + 4
 
 -- the neighbour rate that is measured there without jitter
 abbrev pub steady_rate_at : Way → ℕ → ℤ
@@ -58,9 +59,9 @@ unlike_at w i =
     unsigned_abs (sum_below (suc i) (steady_rate_at w) -ℤ
     floor_div ((pos (clock_at w 0) -ℤ pos (clock_at w (suc i))) *ℤ unit) (pos (clock_at w (suc i))))
 
--- the error of the rate so far
+-- the error of the rate so far; no rate of 32 bits misses that of two clocks by more than 2587332284 units
 abbrev pub rates_error_at : Way → ℕ → ℕ
-rates_error_at w i = total_below (suc i) (rate_error_at w) + unlike_at w i
+rates_error_at w i = min (total_below (suc i) (rate_error_at w) + unlike_at w i) 2587332284
 
 -- what a link of this jitter and greatest delay adds: its jitter, and rounding
 abbrev pub hop_error : ℕ → ℕ → ℕ → ℕ
@@ -83,3 +84,18 @@ time_error_at w h = total_below h (hop_error_at w) + total_below (h - 1) (wait_e
 -- the time error at the end of the way; 0 at the root itself
 abbrev pub time_error : Way → ℕ
 time_error w = time_error_at w (length w.links)
+
+-- The error of what is read after the link at a place, so long after the Follow_Up: the time error there; and what the
+-- error of the rate makes of that span, and of the link's jitter, by which the Follow_Up may come after its Sync.
+abbrev pub reading_error_at : Way → ℕ → ℕ → ℕ
+reading_error_at w i later =
+    time_error_at w (suc i) + ceil_div ((later + jitter_at w i) * rates_error_at w i) 33550000
+
+-- the same of a system so many links from the root; 0 at the root itself
+abbrev pub reading_error_after : Way → ℕ → ℕ → ℕ
+reading_error_after w zero later = 0
+reading_error_after w (suc i) later = reading_error_at w i later
+
+-- the same at the end of the way
+abbrev pub reading_error : Way → ℕ → ℕ
+reading_error w later = reading_error_after w (length w.links) later

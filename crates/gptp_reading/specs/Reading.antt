@@ -11,7 +11,7 @@ use Rattle.gptp_correction.specs.Correction.{nearest_rate, sync_received}
 use Rattle.gptp_setup.specs.declared.setup.Params.{Params}
 use Rattle.gptp_system.specs.State.{SystemState, local_time}
 use Rattle.gptp_system.specs.Syncing.{slave_rate}
-use Rattle.gptp_error_laws.specs.TimeError.{Way, jitter_at, rates_error_at, time_error_at}
+use Rattle.gptp_error_laws.specs.TimeError.{Way, reading_error_at}
 use Rattle.gptp_model.specs.Views.{ShowsLive}
 use Rattle.gptp_model.specs.World.{WorldState}
 use Rattle.gptp_sync_machine.specs.Tree.{IsWayTo}
@@ -49,16 +49,6 @@ pub record IsBestsTime (w : WorldState) (number time : ℕ) (shown : ℤ) : Type
   pub is : shown ≡ local_time root time
 
 -- ---- how far that may be off
-
--- The error of the rate so far; no rate of 32 bits misses that of two clocks by more than 2587332284 units.
-abbrev pub held_rates_error_at : Way → ℕ → ℕ
-held_rates_error_at w i = min (rates_error_at w i) 2587332284
-
--- The error of what is read after the link at a place, so long after the Follow_Up: the time error there; and what the
--- error of the rate makes of that span, and of the link's jitter, by which the Follow_Up may come after its Sync.
-abbrev pub reading_error_at : Way → ℕ → ℕ → ℕ
-reading_error_at w i later =
-    time_error_at w (suc i) + ceil_div ((later + jitter_at w i) * held_rates_error_at w i) 33550000
 
 -- The same of a system with so many links and one more on its way, over its parent and the parents of that.
 pub record IsReadingErrorOf (p : Params) (w : WorldState) (number steps later error : ℕ) : Type 0 where
