@@ -1,5 +1,5 @@
 -- Each document has time errors at each time, and their text.
-use Rattle.std.proofs.Common.{◌≡◌, ◌<◌, ◌≤◌, ℕ, zero, suc, ℤ, Bool, true, false, List, [], ◌∷◌, length, map, Option, Some, None, refl, sym, ap, ap₂, subst, ◌∙◌, inl, inr, arith}
+use Rattle.std.proofs.Common.{◌≡◌, ◌<◌, ◌≤◌, ℕ, zero, suc, ℤ, Bool, true, false, List, [], ◌∷◌, length, map, Option, Some, None, is_some, refl, sym, ap, ap₂, subst, ◌∙◌, inl, inr, arith}
 use Rattle.std.specs.Global.{Vec}
 use Rattle.std.proofs.lemmas.List.{length-map}
 use denote.RawPtr.{null_ptr}
@@ -23,16 +23,21 @@ use Rattle.gptp_error_laws.specs.TimeError.{WayLink, Way, time_error}
 use Rattle.gptp_error_laws.specs.WayLaws.{longer}
 use Rattle.gptp_accuracy.specs.AccuracyText.{accuracy_lines, error_is_exceeded}
 use Rattle.gptp_accuracy.specs.Laws.{EachIsExact}
-use Rattle.gptp_accuracy.specs.TimeErrors.{AreTimeErrors, IsErrorOf, IsExact, IsFrom, exact_from, root_is_capable}
+use Rattle.gptp_accuracy.specs.TimeErrors.{AreTimeErrors, HasByWay, IsExact, IsFrom, exact_from, greatest_age, root_is_capable}
+use Rattle.gptp_accuracy.specs.Readings.{ReadingTerms, reading_terms}
 use Rattle.gptp_accuracy.specs.Ways.{HasDrift, IsLinkTo, IsWay, root_way}
 use Rattle.gptp_accuracy.specs.declared.errors.SystemError.{SystemError}
 use Rattle.gptp_accuracy.specs.declared.errors.TimeErrors.{TimeErrors}
 use Rattle.gptp_accuracy.proofs.CalmLemmas.{calm_dec}
 use Rattle.gptp_accuracy.proofs.StandingLemmas.{member_stands, wire_stands}
 
-abbrev said : ℕ → ℕ → ℕ → Bool → Option ℕ → SystemError
-said clock root steps far error =
-    record { clock = clock; root = root; steps = steps; far = far; error = error }
+abbrev said : ℕ → ℕ → ℕ → Bool → Option ℕ → Option ReadingTerms → SystemError
+said clock root steps far error reading =
+    record { clock = clock; root = root; steps = steps; far = far; error = error; reading = reading }
+
+-- the same without errors
+abbrev bare : ℕ → ℕ → ℕ → Bool → SystemError
+bare clock root steps far = said clock root steps far None None
 
 abbrev clock_in : SystemError → ℕ
 clock_in s = s.clock
@@ -73,17 +78,18 @@ module _ (n : NetworkState) (events : List Timed) (g : Snapshot) (stands : Stand
 
   -- ---- errors
 
-  by_capable : (v root h : ℕ) (far capable : Bool) → IsCalm n events → h < 255 → root_is_capable root ≡ capable
-      → ((w : Way) × IsWay n events g h v w) → (e : Option ℕ) × IsErrorOf n events g (said v root h far e) e
-  by_capable v root h far true calm near is (w, way) = (Some (time_error w), (calm, near, is, (w, way, refl)))
-  by_capable v root h far false calm near is (w, way) = (None, inr (inr is))
+  module _ {A : Type 0} (of : Way → A) where
+    by_capable : (v root h : ℕ) (far capable : Bool) → IsCalm n events → h < 255 → root_is_capable root ≡ capable
+        → ((w : Way) × IsWay n events g h v w) → (e : Option A) × HasByWay n events g (bare v root h far) of e
+    by_capable v root h far true calm near is (w, way) = (Some (of w), (calm, near, is, (w, way, refl)))
+    by_capable v root h far false calm near is (w, way) = (None, inr (inr is))
 
-  error_exists : (v root h : ℕ) (far : Bool) → Dec (IsCalm n events) → Dec (h < 255)
-      → ((w : Way) × IsWay n events g h v w) → (e : Option ℕ) × IsErrorOf n events g (said v root h far e) e
-  error_exists v root h far (no restless) near way = (None, inl restless)
-  error_exists v root h far (yes calm) (no over) way = (None, inr (inl (omega (arith, over))))
-  error_exists v root h far (yes calm) (yes near) way =
-      by_capable v root h far (root_is_capable root) calm near refl way
+    by_way_exists : (v root h : ℕ) (far : Bool) → Dec (IsCalm n events) → Dec (h < 255)
+        → ((w : Way) × IsWay n events g h v w) → (e : Option A) × HasByWay n events g (bare v root h far) of e
+    by_way_exists v root h far (no restless) near way = (None, inl restless)
+    by_way_exists v root h far (yes calm) (no over) way = (None, inr (inl (omega (arith, over))))
+    by_way_exists v root h far (yes calm) (yes near) way =
+        by_capable v root h far (root_is_capable root) calm near refl way
 
   exact_exists : (v : ℕ) → In v (clocks g) → (s : SystemError) × IsExact n events g s × (s.clock ≡ v)
   exact_exists v live = by (dec_lt h 255)
@@ -99,28 +105,32 @@ module _ (n : NetworkState) (events : List Timed) (g : Snapshot) (stands : Stand
 
       by : Dec (h < 255) → (s : SystemError) × IsExact n events g s × (s.clock ≡ v)
       by (yes near) =
-          let (e, is) = error_exists v best.identity h false (calm_dec n events) (yes near)
-          (way_exists h v here live) in (
-            said v best.identity h false e,
+          let way = way_exists h v here live in
+          let (e, error) = by_way_exists time_error v best.identity h false (calm_dec n events) (yes near) way in
+          let (r, reading) = by_way_exists reading_terms v best.identity h false (calm_dec n events) (yes near) way in (
+            said v best.identity h false e r,
             record {
               root = (best, (best_exists g v wf live).1, refl);
               steps = here;
               near = λ same. near;
               far = λ same. absurd cc;
-              error = is;
+              error = error;
+              reading = reading;
             },
             refl,
           )
       by (no over) =
-          let (e, is) = error_exists v best.identity h true (calm_dec n events) (no over)
-          (way_exists h v here live) in (
-            said v best.identity h true e,
+          let way = way_exists h v here live in
+          let (e, error) = by_way_exists time_error v best.identity h true (calm_dec n events) (no over) way in
+          let (r, reading) = by_way_exists reading_terms v best.identity h true (calm_dec n events) (no over) way in (
+            said v best.identity h true e r,
             record {
               root = (best, (best_exists g v wf live).1, refl);
               steps = here;
               near = λ same. absurd cc;
               far = λ same. omega (arith, over);
-              error = is;
+              error = error;
+              reading = reading;
             },
             refl,
           )
@@ -177,23 +187,29 @@ errors_exist d until g network stands wf =
     ∙ length-map g.systems (λ (s : System). s.clock) in
     let few : length all.systems ≤ 512 =
     let most = (within_limits d until g network stands).systems in omega (arith, many, most) in (
-      record { time = last_change events; from = from; systems = held all.systems few },
+      record {
+        time = last_change events;
+        from = from;
+        age = greatest_age n events (is_some from);
+        systems = held all.systems few;
+      },
       record {
         snapshot = g;
         is = stands;
         network = wf;
         time = refl;
         from = is_from;
+        age = refl;
         systems = record { clocks = all.clocks_are; each = all.each };
       },
     )
 
 pub each_is_exact : EachIsExact
-each_is_exact text d until most means =
+each_is_exact text d until options means =
     let network = (meant_document text d means).0 in
     let (g, stands) = snapshot_exists d until network in
     let (t, are) = errors_exist d until g network stands (meant_well text d until g means stands) in (
-      accuracy_lines most t,
-      error_is_exceeded most t.systems.items,
+      accuracy_lines options t,
+      error_is_exceeded options t,
       record { errors = t; are = are; shown = refl; exceeded_is = refl },
     )

@@ -13,11 +13,15 @@ use Rattle.gptp_scenario.specs.Network.{NetworkState}
 use Rattle.gptp_scenario.specs.declared.change.Timed.{Timed}
 use Rattle.gptp_checker.proofs.PlaceLemmas.{AreLinesFor, lines_of_passed}
 use Rattle.gptp_error_laws.specs.TimeError.{Way, time_error}
-use Rattle.gptp_accuracy.specs.Passing.{IsDoneAt}
-use Rattle.gptp_accuracy.specs.TimeErrors.{AreEntries, AreExact, IsEntry, IsErrorOf, IsFrom, IsSystemOf, root_is_capable}
+use Rattle.gptp_accuracy.specs.Passing.{AreNearWithin, IsDoneAt}
+use Rattle.gptp_accuracy.specs.Readings.{ReadingTerms, reading_terms}
+use Rattle.gptp_accuracy.specs.Sums.{AreSummed, SumsAreWithin, terms_of}
+use Rattle.gptp_accuracy.specs.TimeErrors.{AreEntries, AreExact, HasByWay, IsEntry, IsErrorOf, IsFrom, IsReadingOf, IsSystemOf, if_promised, root_is_capable}
 use Rattle.gptp_accuracy.specs.Ways.{IsWay}
 use Rattle.gptp_accuracy.specs.declared.errors.SystemError.{SystemError}
 use Rattle.gptp_accuracy.specs.declared.sums.Sums.{Sums}
+use Rattle.gptp_accuracy.proofs.ReadingLemmas.{terms_are}
+use Rattle.gptp_accuracy.proofs.SumLemmas.{within_more}
 
 -- one line more
 pub entry_added : (calm : Bool) (lines : List SystemLine) (sums : List Sums) (place : ℕ) (systems : List SystemError)
@@ -54,47 +58,62 @@ none_some e = absurd cc
 module _ (n : NetworkState) (events : List Timed) (g : Snapshot) (lines : List SystemLine) (sums : List Sums)
     (choice : IsSettledChoice g lines)
     (done : (place : ℕ) → IsDoneAt n events g lines sums place) where
-  -- what the sums of a near line give
-  summed_error : (s : SystemError) (line : SystemLine) (place : ℕ) (to : Sums) → slice_get lines place ≡ Some line
-      → slice_get sums place ≡ Some to → s.clock ≡ line.clock → s.steps ≡ line.steps → line.far ≡ false
-      → (w : Way) × IsWay n events g s.steps s.clock w × (to.error ≡ time_error w)
-  summed_error s line place to there stands clock steps near =
-      let (other, at, summed) = done place line there near in
-      let same : other ≡ to = same_Some other to (sym at ∙ stands) in (
-        summed.way,
-        subst (λ d. IsWay n events g d s.clock summed.way) (sym steps)
-            (subst (λ v. IsWay n events g line.steps v summed.way) (sym clock) summed.is),
-        ap (λ (k : Sums). k.error) (sym same) ∙ summed.summed.sums.error,
-      )
+  module _ {A : Type 0} (by_way : Way → A) (by_sums : Sums → A)
+      (agree : (links : ℕ) (w : Way) (to : Sums) → AreSummed links n.params w to → by_sums to ≡ by_way w) where
+    -- what the sums of a near line give
+    summed_up : (s : SystemError) (line : SystemLine) (place : ℕ) (to : Sums) → slice_get lines place ≡ Some line
+        → slice_get sums place ≡ Some to → s.clock ≡ line.clock → s.steps ≡ line.steps → line.far ≡ false
+        → (w : Way) × IsWay n events g s.steps s.clock w × (by_sums to ≡ by_way w)
+    summed_up s line place to there stands clock steps near =
+        let (other, at, summed) = done place line there near in
+        let same : other ≡ to = same_Some other to (sym at ∙ stands) in (
+          summed.way,
+          subst (λ d. IsWay n events g d s.clock summed.way) (sym steps)
+              (subst (λ v. IsWay n events g line.steps v summed.way) (sym clock) summed.is),
+          ap by_sums (sym same) ∙ agree line.steps summed.way other summed.summed,
+        )
 
-  error_by : (s : SystemError) (line : SystemLine) (place : ℕ) (to : Sums) → slice_get lines place ≡ Some line
-      → slice_get sums place ≡ Some to → (calm : Bool) → IsSystemOf calm line to s → (from : Option ℕ)
-      → IsFrom n events g from → (far : Bool) → line.far ≡ far → (capable : Bool) → root_is_capable line.root ≡ capable
-      → IsErrorOf n events g s (if is_some from && (not far && capable) then Some to.error else None)
-  error_by s line place to there stands calm is None (inl from) far is_far capable known = absurd (none_some from.1)
-  error_by s line place to there stands calm is None (inr from) far is_far capable known = inl from.0
-  error_by s line place to there stands calm is (Some t) from true is_far capable known =
-      let above = (choice.settled line (In-slice_get line lines place there)).far is_far in
-      inr (inl (omega (arith, is.steps, above)))
-  error_by s line place to there stands calm is (Some t) from false is_far false known =
-      inr (inr (ap root_is_capable is.root ∙ known))
-  error_by s line place to there stands calm is (Some t) (inr from) false is_far true known =
-      absurd (none_some (sym from.1))
-  error_by s line place to there stands calm is (Some t) (inl from) false is_far true known =
-      let below = (choice.settled line (In-slice_get line lines place there)).near is_far in (
-        from.0,
-        omega (arith, is.steps, below),
-        ap root_is_capable is.root ∙ known,
-        summed_error s line place to there stands is.clock is.steps is_far,
-      )
+    by_line : (s : SystemError) (line : SystemLine) (place : ℕ) (to : Sums) → slice_get lines place ≡ Some line
+        → slice_get sums place ≡ Some to → (calm : Bool) → IsSystemOf calm line to s → (from : Option ℕ)
+        → IsFrom n events g from → (far : Bool) → line.far ≡ far → (capable : Bool)
+        → root_is_capable line.root ≡ capable → HasByWay n events g s by_way
+        (if is_some from && (not far && capable) then Some (by_sums to) else None)
+    by_line s line place to there stands calm is None (inl from) far is_far capable known =
+        absurd (none_some from.1)
+    by_line s line place to there stands calm is None (inr from) far is_far capable known = inl from.0
+    by_line s line place to there stands calm is (Some t) from true is_far capable known =
+        let above = (choice.settled line (In-slice_get line lines place there)).far is_far in
+        inr (inl (omega (arith, is.steps, above)))
+    by_line s line place to there stands calm is (Some t) from false is_far false known =
+        inr (inr (ap root_is_capable is.root ∙ known))
+    by_line s line place to there stands calm is (Some t) (inr from) false is_far true known =
+        absurd (none_some (sym from.1))
+    by_line s line place to there stands calm is (Some t) (inl from) false is_far true known =
+        let below = (choice.settled line (In-slice_get line lines place there)).near is_far in (
+          from.0,
+          omega (arith, is.steps, below),
+          ap root_is_capable is.root ∙ known,
+          summed_up s line place to there stands is.clock is.steps is_far,
+        )
 
-  -- the error that a system has
+    -- what a system has
+    by_entry : (from : Option ℕ) (s : SystemError) → IsFrom n events g from → (e : IsEntry (is_some from) lines sums s)
+        → HasByWay n events g s by_way (if_promised (is_some from) e.line.far e.line.root (by_sums e.to))
+    by_entry from s is_from e =
+        by_line s e.line e.place e.to e.there e.summed (is_some from) e.is from is_from e.line.far refl
+        (root_is_capable e.line.root) refl
+
   error_is : (from : Option ℕ) (s : SystemError) → IsFrom n events g from → IsEntry (is_some from) lines sums s
       → IsErrorOf n events g s s.error
   error_is from s is_from e =
       subst (IsErrorOf n events g s) (sym e.is.error)
-      (error_by s e.line e.place e.to e.there e.summed (is_some from) e.is
-      from is_from e.line.far refl (root_is_capable e.line.root) refl)
+      (by_entry time_error (λ (k : Sums). k.error) (λ links w to summed. summed.sums.error) from s is_from e)
+
+  reading_is : (from : Option ℕ) (s : SystemError) → IsFrom n events g from → IsEntry (is_some from) lines sums s
+      → IsReadingOf n events g s s.reading
+  reading_is from s is_from e =
+      subst (IsReadingOf n events g s) (sym e.is.reading)
+      (by_entry reading_terms terms_of (λ links w to summed. terms_are n.params w to links summed) from s is_from e)
 
 -- the systems by their lines
 pub are_exact : (n : NetworkState) (events : List Timed) (g : Snapshot) (lines : List SystemLine) (sums : List Sums)
@@ -116,5 +135,15 @@ are_exact n events g lines sums from systems rising lines_rising choice done is_
         near = λ near. let below = settled.near (sym e.is.far ∙ near) in omega (arith, e.is.steps, below);
         far = λ far. let above = settled.far (sym e.is.far ∙ far) in omega (arith, e.is.steps, above);
         error = error_is n events g lines sums choice done from s is_from e;
+        reading = reading_is n events g lines sums choice done from s is_from e;
       };
 }
+
+-- the sums of near lines are within the limits
+pub near_within : (n : NetworkState) (events : List Timed) (g : Snapshot) (lines : List SystemLine) (sums : List Sums)
+    → IsSettledChoice g lines → ((place : ℕ) → IsDoneAt n events g lines sums place) → AreNearWithin lines sums
+near_within n events g lines sums choice done place line to there near stands =
+    let (other, at, summed) = done place line there near in
+    let same : other ≡ to = same_Some other to (sym at ∙ stands) in
+    let below = (choice.settled line (In-slice_get line lines place there)).near near in
+    subst (SumsAreWithin 511) same (within_more line.steps other (omega (arith, below)) summed.summed.within)

@@ -5,6 +5,7 @@ pub mod DelayLemmas
 pub mod StandingLemmas
 pub mod PassLemmas
 mod EventLemmas
+pub mod ReadingLemmas
 pub mod ExactLemmas
 mod TextLemmas
 pub mod WayLemmas

@@ -112,7 +112,7 @@ module _ (p : Params) (w : Way) (l : WayLink) (s : Sums) (timed : IsTimedBy p w)
       split ∙ ap (λ z. z +ℤ steady_rate_at (longer w l) (length w.links)) before ∙ ap (λ z. s.rate +ℤ z) steady_is
 
   -- the error of the rate so far, of a way with a link
-  rates_error_is : (i : ℕ) → length w.links ≡ suc i → rates_error_of s ≡ rates_error_at w i
+  pub rates_error_is : (i : ℕ) → length w.links ≡ suc i → rates_error_of s ≡ rates_error_at w i
   rates_error_is i e =
       let of_rate : ℕ → ℕ → ℤ → ℕ = λ root own rate.
       unsigned_abs (rate -ℤ floor_div ((pos root -ℤ pos own) *ℤ unit) (pos own)) in
@@ -129,7 +129,7 @@ module _ (p : Params) (w : Way) (l : WayLink) (s : Sums) (timed : IsTimedBy p w)
       ∙ ap (λ n. cut (n + of_rate (clock_at w 0) (clock_at w (suc i)) (sum_below (suc i) (steady_rate_at w)))) jitters
 
   -- at the root there is none
-  no_rates_error : length w.links ≡ 0 → rates_error_of s ≡ 0
+  pub no_rates_error : length w.links ≡ 0 → rates_error_of s ≡ 0
   no_rates_error e =
       let jitters : s.rate_error ≡ 0 = sums.rate_error ∙ ap (λ n. total_below n (rate_error_at w)) e in
       let rate : s.rate ≡ pos 0 = sums.rate ∙ ap (λ n. sum_below n (steady_rate_at w)) e in

@@ -1,4 +1,5 @@
 pub mod Ways
+pub mod Readings
 pub mod Sums
 pub mod Passing
 pub mod TimeErrors

@@ -9,7 +9,7 @@ use Rattle.gptp_scenario.specs.Network.{NetworkState}
 use Rattle.gptp_scenario.specs.declared.change.Timed.{Timed}
 use Rattle.gptp_network.specs.SnapshotTables.{HasClock}
 use Rattle.gptp_error_laws.specs.TimeError.{Way}
-use Rattle.gptp_accuracy.specs.Sums.{AreSummed}
+use Rattle.gptp_accuracy.specs.Sums.{AreSummed, SumsAreWithin}
 use Rattle.gptp_accuracy.specs.Ways.{IsWay}
 use Rattle.gptp_accuracy.specs.declared.sums.Sums.{Sums}
 
@@ -52,3 +52,8 @@ pub record IsDone (n : NetworkState) (events : List Timed) (g : Snapshot) (sums 
 abbrev pub IsParentDone : NetworkState → List Timed → Snapshot → List Sums → SystemLine → Type 0
 IsParentDone n events g sums line = (l : ParentLink) → line.parent ≡ Some l
     → (steps : ℕ) × (suc steps ≡ line.steps) × IsDone n events g sums l.clock steps
+
+-- the sums of all lines that aren't far are within the limits
+abbrev pub AreNearWithin : List SystemLine → List Sums → Type 0
+AreNearWithin lines sums = (place : ℕ) (line : SystemLine) (to : Sums) → slice_get lines place ≡ Some line
+    → line.far ≡ false → slice_get sums place ≡ Some to → SumsAreWithin 511 to

@@ -8,6 +8,7 @@ use Rattle.gptp_correction.specs.Sum.{sum_below}
 use Rattle.gptp_setup.specs.Intervals.{interval_of}
 use Rattle.gptp_setup.specs.declared.setup.Params.{Params}
 use Rattle.gptp_error_laws.specs.TimeError.{WayLink, Way, drift_at, jitter_at, rate_error_at, steady_rate_at, time_error, total_below}
+use Rattle.gptp_accuracy.specs.Readings.{ReadingTerms}
 use Rattle.gptp_accuracy.specs.declared.sums.Link.{Link as SummedLink}
 use Rattle.gptp_accuracy.specs.declared.sums.Sums.{Sums}
 
@@ -42,6 +43,10 @@ rates_error_of s =
     let root = pos (clock_rate s.root_drift) in
     let own = pos (clock_rate s.drift) in
     min (s.rate_error + unsigned_abs (s.rate -ℤ floor_div ((root -ℤ own) *ℤ unit) own)) 2587332284
+
+-- what the error of a reading at the end of the way follows from
+abbrev pub terms_of : Sums → ReadingTerms
+terms_of s = record { error = s.error; jitter = s.jitter; rates_error = rates_error_of s }
 
 -- Sums over so many links within the limits: each has a rate error of 879609306 at most, a neighbour rate within 200
 -- parts in a million and a time error of 3 * 10^15 at most.

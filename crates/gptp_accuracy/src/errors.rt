@@ -1,6 +1,6 @@
 //! The time errors of all systems of a document.
 
-ghost use Rattle.std.specs.Prelude.{◌≡◌, ◌+◌, ◌≤◌, ◌<◌, ℕ, length, IfOk, OnOk, map};
+ghost use Rattle.std.specs.Prelude.{◌≡◌, ◌+◌, ◌≤◌, ◌<◌, ℕ, false, length, IfOk, OnOk, map};
 ghost use Rattle.gptp_lists.specs.Members.{In};
 ghost use Rattle.gptp_graph.specs.Labelling.{line_clocks};
 ghost use Rattle.gptp_scenario.specs.Allowed.{AreAllowed};
@@ -8,8 +8,11 @@ ghost use Rattle.gptp_scenario.specs.Calm.{last_change};
 ghost use Rattle.gptp_network.specs.Events.{AreInOrder};
 ghost use Rattle.gptp_network.specs.Snapshot.{StandsAfter, events_by};
 ghost use Rattle.gptp_certificate_text.specs.Certificate.{line_of};
-ghost use Rattle.gptp_accuracy.specs.TimeErrors.{AreEntries, AreTimeErrors, IsFrom, IsSystemOf, system_error, exact_from};
+ghost use Rattle.gptp_accuracy.specs.Passing.{AreNearWithin};
+ghost use Rattle.gptp_accuracy.specs.Sums.{SumsAreWithin, terms_of};
+ghost use Rattle.gptp_accuracy.specs.TimeErrors.{AreEntries, AreTimeErrors, IsFrom, IsSystemOf, if_promised, exact_from, greatest_age};
 
+use crate::reading::ReadingError;
 use crate::sums::Sums;
 use crate::ways::sums_of_all;
 use gptp_certificate_text::{Certificate, SystemLine};
@@ -33,6 +36,24 @@ pub struct SystemError {
     /// The time error, in units of 2^-16 ns; `None` where the network isn't calm, the system is far, or its root's
     /// priority1 is 255.
     pub error: Option<u128>,
+    /// The error of what it reads between two receipts; `None` where there is no time error.
+    pub reading: Option<ReadingError>,
+}
+
+impl SystemError {
+    ghost use Rattle.std.specs.Prelude.{◌≡◌};
+    ghost use Rattle.gptp_accuracy.specs.AccuracyText.{reading_at};
+
+    /// The error of what the system reads `later` ns after its last receipt, in units of 2^-16 ns, rounded up; 0 at a
+    /// root, and `None` where there is no time error.
+    pub fn reading_error(&self, later: u64) -> Option<u128>
+        ensures { result ≡ reading_at self.now later }
+    {
+        match self.reading {
+            Some(reading) => Some(reading.after(later)),
+            None => None,
+        }
+    }
 }
 
 /// How exact the time is that each live system of a document gets, from a time on.
@@ -42,6 +63,9 @@ pub struct TimeErrors {
     pub time: u64,
     /// The time from which on the errors hold, in ns; `None` where the network isn't calm.
     pub from: Option<u64>,
+    /// How old the last receipt of a system is at most, in ns, from so long after `from` on; `None` where the network
+    /// isn't calm or `sync_timeout` is 0.
+    pub age: Option<u64>,
     /// The live systems, by rising clock.
     pub systems: Vec<SystemError>,
 }
@@ -95,9 +119,22 @@ fn holds_from_if_calm(network: &Network, events: &[Timed], snapshot: &Snapshot) 
     }
 }
 
+/// How old the last receipt of a system is at most after these events, once the network has settled, in ns.
+fn greatest_age(network: &Network, events: &[Timed], calm: bool) -> Option<u64>
+    requires { AreAllowed events.now }
+    ensures { result ≡ greatest_age network.now events.now calm }
+{
+    network.well_formed();
+    if calm && network.params().sync_timeout != 0 {
+        Some(network.sync_wait(network.sync_paths(events)))
+    } else {
+        None
+    }
+}
+
 /// The time error of the system of a line, by what was summed up on the way to it.
 fn error_of(calm: bool, line: &SystemLine, to: &Sums) -> Option<u128>
-    ensures { result ≡ system_error calm line.now.far line.now.root to.now.error }
+    ensures { result ≡ if_promised calm line.now.far line.now.root to.now.error }
 {
     if calm && !line.far && line.root.capable() {
         Some(to.error)
@@ -106,8 +143,21 @@ fn error_of(calm: bool, line: &SystemLine, to: &Sums) -> Option<u128>
     }
 }
 
-/// The system of a line, with its time error.
-fn system_of(calm: bool, line: &SystemLine, to: &Sums) -> SystemError
+/// The error of what the system of a line reads, by what was summed up on the way to it.
+fn reading_of(calm: bool, line: &SystemLine, to: &Sums) -> Option<ReadingError>
+    requires { line.now.far ≡ false → SumsAreWithin 511 to.now }
+    ensures { result ≡ if_promised calm line.now.far line.now.root (terms_of to.now) }
+{
+    if calm && !line.far && line.root.capable() {
+        Some(ReadingError::of_sums(to))
+    } else {
+        None
+    }
+}
+
+/// The system of a line, with its errors.
+fn system_of(calm: bool, line: &SystemLine, to: &Sums, reading: Option<ReadingError>) -> SystemError
+    requires { reading ≡ if_promised calm line.now.far line.now.root (terms_of to.now) }
     ensures { IsSystemOf calm (line_of line.now) to.now result }
 {
     SystemError {
@@ -116,10 +166,11 @@ fn system_of(calm: bool, line: &SystemLine, to: &Sums) -> SystemError
         steps: line.steps,
         far: line.far,
         error: error_of(calm, line, to),
+        reading,
     }
 }
 
-/// Puts the system of a line after those of the lines before, with its time error.
+/// Puts the system of a line after those of the lines before, with its errors.
 fn push_system(
     systems: &mut Vec<SystemError>,
     calm: bool,
@@ -129,23 +180,27 @@ fn push_system(
 ) -> Result<(), AllocError>
     requires place { place < length certificate.now.lines }
     requires sums { length sums.now ≡ length certificate.now.lines }
+    requires within { AreNearWithin certificate.now.lines sums.now }
     requires before { AreEntries calm certificate.now.lines sums.now place systems.old.items }
     ensures { OnOk result (AreEntries calm certificate.now.lines sums.now (place + 1) systems.new.items) }
 {
     if let Some(line) = certificate.line(place) {
-        systems.push(system_of(calm, line, &sums[place]))?;
+        let to = &sums[place];
+        let reading = reading_of(calm, line, to);
+        systems.push(system_of(calm, line, to, reading))?;
     }
     Ok(())
 }
 
-/// The systems of a certificate, with their time errors.
+/// The systems of a certificate, with their errors.
 fn systems_of(
     alloc: Global,
     calm: bool,
     certificate: &Certificate,
     sums: &[Sums],
 ) -> Result<Vec<SystemError>, AllocError>
-    requires { length sums.now ≡ length certificate.now.lines }
+    requires sums { length sums.now ≡ length certificate.now.lines }
+    requires within { AreNearWithin certificate.now.lines sums.now }
     ensures { IfOk result (λ v. AreEntries calm certificate.now.lines sums.now (length certificate.now.lines) v.items) }
 {
     let mut systems = Vec::new(alloc);
@@ -157,6 +212,10 @@ fn systems_of(
 
 /// How exact the time is that each live system gets, of the network of a document as it stands after all events with
 /// time up to `until`, in ns. The only error is that memory ran out.
+///
+/// That the runs of a network keep to it is a law of gptp_reading: `RunsReadExactly` says that what a system reads so
+/// long after a receipt is off by at most its reading error (`IsReadingErrorOf`, by `reading_error_at` of
+/// gptp_error_laws), and `RunsReadLately` that its last receipt is no older than the greatest age.
 pub fn time_errors(alloc: Global, document: &Document, until: u64) -> Result<TimeErrors, AllocError>
     ensures { IfOk result (AreTimeErrors document.now until) }
 {
@@ -173,6 +232,7 @@ pub fn time_errors(alloc: Global, document: &Document, until: u64) -> Result<Tim
     Ok(TimeErrors {
         time: last_change(events),
         from,
+        age: greatest_age(network, events, from.is_some()),
         systems,
     })
 }

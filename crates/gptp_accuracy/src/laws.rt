@@ -1,6 +1,6 @@
 //! What time errors promise beyond single calls. Each function does nothing, and its contract is the law.
 
-ghost use Rattle.gptp_accuracy.specs.Laws.{EachIsExact, OneAccuracy, OneWay, WaysAreDocumented};
+ghost use Rattle.gptp_accuracy.specs.Laws.{EachIsExact, OneAccuracy, OneWay, ReadingErrorsAreOfWays, WaysAreDocumented};
 
 /// A system of a network has one way, and its distance is how many links that has.
 pub fn a_system_has_one_way()
@@ -11,6 +11,12 @@ pub fn a_system_has_one_way()
 /// gptp_error_laws ask. So a Sync that goes over the way brings the root's time within the time error that is said.
 pub fn ways_are_documented()
     ensures { WaysAreDocumented }
+{}
+
+/// The error of what a system reads, so long after its last receipt, is the `reading_error` of gptp_error_laws over its
+/// way, which is what gptp_reading promises of runs.
+pub fn reading_errors_are_of_ways()
+    ensures { ReadingErrorsAreOfWays }
 {}
 
 /// A document has one text at a time, and one answer to whether a greatest error is exceeded.

@@ -10,9 +10,13 @@ mod delays;
 mod drifts;
 mod errors;
 pub mod laws;
+mod options;
+mod reading;
 mod sums;
 mod text;
 mod ways;
 
 pub use errors::{SystemError, TimeErrors, time_errors};
+pub use options::AccuracyOptions;
+pub use reading::ReadingError;
 pub use text::{Thousandths, write_accuracy};

@@ -145,7 +145,7 @@ impl Sums {
     }
 
     /// The error of the rate so far, in units of 2^-41.
-    fn rates_error(&self) -> u128
+    pub fn rates_error(&self) -> u128
         requires { SumsAreWithin 511 self.now }
         ensures error { result ≡ rates_error_of self.now }
         ensures bound { result ≤ 2587332284 }

@@ -2,9 +2,9 @@ use Rattle.std.proofs.Common.{◌≡◌, ◌∙◌, is_some, length, sym, ap, su
 use Rattle.gptp_scenario.specs.Allowed.{AreAllowed}
 use Rattle.gptp_scenario.specs.Calm.{last_change}
 use Rattle.gptp_network.specs.Snapshot.{events_by}
-use Rattle.gptp_accuracy.specs.TimeErrors.{AreEntries, AreExact, IsFrom}
+use Rattle.gptp_accuracy.specs.TimeErrors.{AreEntries, AreExact, IsFrom, greatest_age}
 use Rattle.gptp_accuracy.proofs.EventLemmas.{allowed_by}
-use Rattle.gptp_accuracy.proofs.ExactLemmas.{are_exact}
+use Rattle.gptp_accuracy.proofs.ExactLemmas.{are_exact, near_within}
 use Rattle.gptp_accuracy.proofs.errors.time_errors.Goals as goal
 
 pub holds_from_if_calm-from-requires-clause-allowed : goal.holds_from_if_calm-from-requires-clause-allowed
@@ -25,6 +25,17 @@ pub last_change-requires : goal.last_change-requires
 last_change-requires c =
     subst AreAllowed (sym (c.events_by-events.ensures ∙ ap (events_by c.args.until) c.events.ensures))
     (allowed_by c.args.until c.args.document.now.events c.well_formed-2.ensures.allowed)
+
+pub greatest_age-requires : goal.greatest_age-requires
+greatest_age-requires c =
+    subst AreAllowed (sym (c.events_by-events.ensures ∙ ap (events_by c.args.until) c.events.ensures))
+    (allowed_by c.args.until c.args.document.now.events c.well_formed-2.ensures.allowed)
+
+pub systems_of-requires-clause-within : goal.systems_of-requires-clause-within
+systems_of-requires-clause-within c =
+    rw c.deref.ensures.value (near_within c.network-network.result.now c.events_by-events.result.now
+    c.in_ok-snapshot.snapshot c.in_ok-certificate.certificate.lines c.in_ok-sums.sums.items
+    c.in_ok-certificate.ensures.choice c.in_ok-sums.ensures.done)
 
 pub returns : goal.returns
 returns c =
@@ -52,6 +63,8 @@ returns c =
       time = c.last_change.ensures.time ∙ ap last_change events_are;
       from = subst (λ es. IsFrom d.network es g from) events_are
           (subst (λ m. IsFrom m events g from) network_is c.holds_from_if_calm-from.ensures);
+      age = c.greatest_age.ensures ∙ ap (greatest_age n events) c.is_some-2.ensures
+          ∙ (λ i. greatest_age (network_is i) (events_are i) (is_some from));
       systems = subst (λ es. AreExact d.network es g systems) events_are
           (subst (λ m. AreExact m events g systems) network_is exact);
     }

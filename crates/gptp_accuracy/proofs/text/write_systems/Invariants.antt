@@ -7,4 +7,5 @@ use Rattle.gptp_accuracy.proofs.text.write_systems.Given as goal
 
 abbrev pub invariant-loop-system : goal.invariant-loop-system
 invariant-loop-system l =
-    string_bytes l.text ≡ string_bytes l.initial.text ++ text_of (map system_line (take l.system-index l.systems))
+    string_bytes l.text
+    ≡ string_bytes l.initial.text ++ text_of (map (system_line l.options l.age) (take l.system-index l.systems))
