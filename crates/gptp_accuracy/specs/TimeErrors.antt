@@ -37,7 +37,8 @@ abbrev pub IsFrom : NetworkState → List Timed → Snapshot → Option ℕ → 
 IsFrom n events g from =
     (IsCalm n events × (from ≡ Some (exact_from n events g))) ⊎ ((IsCalm n events → ⊥) × (from ≡ None))
 
--- How old the last receipt of a system is at most, from when on a network that is calm then has settled: for how long it
+-- How old the last receipt of a system is at most, from when on a network that is calm then has settled: for how long
+-- it
 -- waits for the next. It is known where what the Slave port holds lapses for want of Sync.
 abbrev pub greatest_age : NetworkState → List Timed → Bool → Option ℕ
 greatest_age n events calm =

@@ -21,7 +21,7 @@ pub record IsCalmPort (n : Network) (now : ℕ) (p : PortIdentity) (q : Port) : 
   -- Nothing due earlier is left, by ports_are_due; and steps keep it, by ports_stay_selected.
   pub timer : (root steps : ℕ) → q.held ≡ Mine root steps → (now ≤ q.announce) × (q.announce ≤ now + n.interval_of p)
   -- Capability settles on quiet links, and a port is disabled exactly where it isn't capable. Shown of worlds by
-  -- claim_is_kept of the module `claimed`, like the two below.
+  -- claim_is_kept of the module `world_invariant`, like the two below.
   pub capable : n.ready p ≤ now → IsLinked n.graph p → q.held ≢ Disabled
   pub bare : n.bare ≤ now → (IsLinked n.graph p → ⊥) → (r : Reception) → q.held ≡ Received r → ⊥
   pub unlinked : n.off ≤ now → (IsLinked n.graph p → ⊥) → q.held ≡ Disabled

@@ -9,7 +9,7 @@
 //! The comments in `specs/` say of each of these facts why it is so of a simulated world, and by which law of
 //! `gptp_invariants`. Its laws `claim_is_kept` and `worlds_settle` draw the conclusion act by act, of every world. The
 //! one premise, that quiet links make ports capable (`AreCapableFrom`), is shown port by port by `gptp_pdelay_machine`,
-//! and the module `claimed` joins them.
+//! and the module `world_invariant` joins them.
 //!
 //! Nothing else is required: no order of due times within a queue, no formula for them and no least delay. Of frames in
 //! flight at the last change only when they are due matters, and of what was held then only how long it stays and that

@@ -25,7 +25,7 @@ use Rattle.gptp_world.specs.JoinedLink.{channel_of}
 use Rattle.gptp_model.specs.Changing.{IsChannel}
 use Rattle.gptp_world.specs.Directory.{direction_start, BeginsAt, DirectoryState, IsDirectory, PortIsPlaced}
 use Rattle.gptp_world.specs.Net.{between, IsNet}
-use Rattle.gptp_world.specs.WorldParts.{clock_at_place, world_of, IsStage}
+use Rattle.gptp_world.specs.WorldParts.{clock_at_place, world_of, IsWorldParts}
 use Rattle.gptp_model.specs.World.{Channel, WorldState, world_queue, sender}
 use Rattle.gptp_world.proofs.EndLemmas.{station_at}
 use Rattle.gptp_world.proofs.NetLemmas.{known_cable, known_lane}
@@ -45,7 +45,7 @@ pub lane_joins : (port : PortId) (w : WorldState) (lane : Lane) (at : IsLaneAt p
     → IsChannel port lane.link w.net at.channel
 lane_joins port w lane at = record { here = at.here; joined = at_end port lane.direction at.channel at.begins }
 
-pub lane_found : (parts : WorldParts) (port : PortId) (lane : Lane) → IsStage parts
+pub lane_found : (parts : WorldParts) (port : PortId) (lane : Lane) → IsWorldParts parts
     → BeginsAt parts.net.directory.joins port lane
     → IsLaneAt port (world_of parts) lane
 lane_found parts port lane is begins =
@@ -66,7 +66,7 @@ link_lane net port place channel is at = by at.joined
     by (inl a) = (record { link = place; direction = FromA }, known_lane net port place FromA channel is at.here a)
     by (inr b) = (record { link = place; direction = FromB }, known_lane net port place FromB channel is at.here b)
 
-pub no_lane : (parts : WorldParts) (port : PortId) → IsStage parts
+pub no_lane : (parts : WorldParts) (port : PortId) → IsWorldParts parts
     → ((lane : Lane) → BeginsAt parts.net.directory.joins port lane → ⊥) → AtLink port (world_of parts).net AnyLink → ⊥
 no_lane parts port is none at =
     let found = link_lane parts.net port at.place at.channel is.net at.is in none found.0 found.1
@@ -83,7 +83,7 @@ begins_placed d port lane is begins =
 
 -- ---- systems
 
-pub system_found : (parts : WorldParts) (number place : ℕ) → IsStage parts
+pub system_found : (parts : WorldParts) (number place : ℕ) → IsWorldParts parts
     → slice_get parts.net.directory.clocks place ≡ Some number
     → PlaceHasClock number (world_of parts) place
 system_found parts number place is there =
@@ -91,13 +91,14 @@ system_found parts number place is there =
     record { station = stands.station; is = record { here = stands.here; named = stands.named } }
 
 -- the directory knows the clock of a system
-pub system_clock : (parts : WorldParts) (number : ℕ) → IsStage parts → (at : AtSystem number (world_of parts) AnySystem)
+pub system_clock : (parts : WorldParts) (number : ℕ) → IsWorldParts parts
+    → (at : AtSystem number (world_of parts) AnySystem)
     → slice_get parts.net.directory.clocks at.place ≡ Some number
 system_clock parts number is at =
     ap (λ cs. slice_get cs at.place) (sym is.clocks)
     ∙ (mapped_there clock_at_place parts.stations.items at.place at.station at.is.here ∙ ap Some at.is.named)
 
-pub no_system : (parts : WorldParts) (number : ℕ) → IsStage parts
+pub no_system : (parts : WorldParts) (number : ℕ) → IsWorldParts parts
     → ((place : ℕ) → slice_get parts.net.directory.clocks place ≡ Some number → ⊥)
     → AtSystem number (world_of parts) AnySystem → ⊥
 no_system parts number is none at = none at.place (system_clock parts number is at)
@@ -105,7 +106,7 @@ no_system parts number is none at = none at.place (system_clock parts number is 
 -- ---- timers
 
 -- a clock and its timer are those of one system alone
-pub timer_found : (parts : WorldParts) (number place : ℕ) (timer : Timer) (is : IsStage parts)
+pub timer_found : (parts : WorldParts) (number place : ℕ) (timer : Timer) (is : IsWorldParts parts)
     → slice_get parts.net.directory.clocks place ≡ Some number
     → ((station : Station) → slice_get parts.stations.items place ≡ Some station → IsTimerOf station.system timer)
     → IsTimerAt number (world_of parts) place timer
@@ -117,7 +118,7 @@ timer_found parts number place timer is there of =
       timer_of = of stands.station stands.here;
     }
 
-pub no_timer_at : (parts : WorldParts) (number place : ℕ) (timer : Timer) → IsStage parts
+pub no_timer_at : (parts : WorldParts) (number place : ℕ) (timer : Timer) → IsWorldParts parts
     → IsDirectory parts.net.directory
     → slice_get parts.net.directory.clocks place ≡ Some number
     → ((station : Station) → slice_get parts.stations.items place ≡ Some station → IsTimerOf station.system timer → ⊥)

@@ -13,10 +13,10 @@ use Rattle.gptp_model.specs.declared.item.Item.{Item}
 use Rattle.gptp_world.specs.declared.world_parts.WorldParts.{WorldParts}
 use Rattle.gptp_model.specs.declared.station.Station.{Station}
 use Rattle.gptp_model.specs.Acts.{IsDueThen, IsEarlier, IsOldestDue, IsThere}
-use Rattle.gptp_world.specs.ActTarget.{IsTargetOf, IsAimOfChange}
+use Rattle.gptp_world.specs.ActTarget.{IsTargetOf, IsTargetOfChange}
 use Rattle.gptp_world.specs.Directory.{IsDirectory}
 use Rattle.gptp_model.specs.Pending.{Entry, pending_entry, IsNext}
-use Rattle.gptp_world.specs.WorldParts.{world_of, IsStage}
+use Rattle.gptp_world.specs.WorldParts.{world_of, IsWorldParts}
 use Rattle.gptp_model.specs.World.{Channel, WorldState, port_id, station_due}
 use Rattle.gptp_world.proofs.ActTargetLemmas.{lane_joins, system_clock}
 
@@ -35,7 +35,7 @@ next_earlier es due time item next less = (
 
 -- ---- what is found is there
 
-change_there : (c : Change) (w : WorldState) (target : ActTarget) → IsAimOfChange c w target → IsThere (Changing c) w
+change_there : (c : Change) (w : WorldState) (target : ActTarget) → IsTargetOfChange c w target → IsThere (Changing c) w
 change_there (changes.LinkDown number port) w (aims.Arrival lane) is = absurd is
 change_there (changes.LinkDown number port) w (aims.Timer place set) is = absurd is
 change_there (changes.LinkDown number port) w (aims.LinkDown at) is =
@@ -131,7 +131,7 @@ aim_there (Changing c) w target is = change_there c w target is
 
 -- ---- whether it is due
 
-no_arrival_of : (c : Change) (w : WorldState) (lane : Lane) → IsAimOfChange c w (aims.Arrival lane) → ⊥
+no_arrival_of : (c : Change) (w : WorldState) (lane : Lane) → IsTargetOfChange c w (aims.Arrival lane) → ⊥
 no_arrival_of (changes.LinkDown number port) w lane is = is
 no_arrival_of (changes.LinkUp number port) w lane is = is
 no_arrival_of (changes.LinkSet number port min max loss) w lane is = is
@@ -140,7 +140,8 @@ no_arrival_of (changes.Recover number) w lane is = is
 no_arrival_of (changes.Priority1 number value) w lane is = is
 no_arrival_of (changes.Inject number port octets) w lane is = is
 
-no_timer_of : (c : Change) (w : WorldState) (place : ℕ) (timer : Timer) → IsAimOfChange c w (aims.Timer place timer) → ⊥
+no_timer_of : (c : Change) (w : WorldState) (place : ℕ) (timer : Timer)
+    → IsTargetOfChange c w (aims.Timer place timer) → ⊥
 no_timer_of (changes.LinkDown number port) w place timer is = is
 no_timer_of (changes.LinkUp number port) w place timer is = is
 no_timer_of (changes.LinkSet number port min max loss) w place timer is = is
@@ -171,7 +172,8 @@ arrival_due (Deliver link direction) time w lane test is told = (
 arrival_due (Expire number timer) time w lane test is told = absurd is
 arrival_due (Changing c) time w lane test is told = absurd (no_arrival_of c w lane is)
 
-pub timer_due : (act : Act) (time : ℕ) (parts : WorldParts) (place : ℕ) (timer : Timer) (test : Bool) → IsStage parts
+pub timer_due : (act : Act) (time : ℕ) (parts : WorldParts) (place : ℕ) (timer : Timer) (test : Bool)
+    → IsWorldParts parts
     → IsDirectory parts.net.directory → IsTargetOf act (world_of parts) (aims.Timer place timer)
     → ((station : Station) → slice_get parts.stations.items place ≡ Some station → IsTrue test
     ↔ (station_due timer station ≡ Some time))

@@ -20,7 +20,7 @@ use Rattle.gptp_world.specs.Net.{between, IsUpLane}
 use Rattle.gptp_model.specs.World.{port_id}
 use Rattle.gptp_model.specs.Sends.{IsUnlinkedPort}
 use Rattle.gptp_world.specs.Room.{both, for_call, no_room, repeated, WorldHasRoom, Need, Uses}
-use Rattle.gptp_world.specs.WorldParts.{clock_at_place, world_of, Called, CallUses, HasRoomToCall, IsStage}
+use Rattle.gptp_world.specs.WorldParts.{clock_at_place, world_of, Called, CallUses, HasRoomToCall, IsWorldParts}
 use Rattle.gptp_world.specs.Starting.{CameUp, HasRoomForPorts}
 use Rattle.gptp_model.specs.World.{WorldState}
 use Rattle.gptp_world.proofs.NeedLemmas.{covered, left_of, unsent, uses_both, uses_less, Covers}
@@ -141,7 +141,7 @@ came_more answers place xs ys first second third parts middle stage' a b =
 -- ---- one port
 
 -- whether a link that is up is at a port of a system of the stage
-pub linked : (parts : WorldParts) (place port : ℕ) (one : Station) (lane : Option Lane) → IsStage parts
+pub linked : (parts : WorldParts) (place port : ℕ) (one : Station) (lane : Option Lane) → IsWorldParts parts
     → slice_get parts.stations.items place ≡ Some one
     → ((number : ℕ) → slice_get parts.net.directory.clocks place ≡ Some number
     → IfSome lane (IsUpLane parts.net (port_id number port)))

@@ -11,7 +11,7 @@ use Rattle.gptp_model.specs.World.{WorldState, world_queue}
 use Rattle.gptp_world.specs.JoinedLink.{channel_of, join_of}
 use Rattle.gptp_world.specs.Directory.{direction_end, DirectoryState, IsDirectory, Join}
 use Rattle.gptp_world.specs.Net.{between, IsFrameDue, IsOldest}
-use Rattle.gptp_world.specs.WorldParts.{world_of, IsStage}
+use Rattle.gptp_world.specs.WorldParts.{world_of, IsWorldParts}
 use Rattle.gptp_lists.proofs.MappedLemmas.{mapped_there}
 use Rattle.gptp_lists.proofs.PlaceLemmas.{member_there}
 use Rattle.gptp_world.proofs.EndLemmas.{known_join, place_within}
@@ -24,7 +24,7 @@ abbrev pub IsReceiver : Lane → ℕ → DirectoryState → Type 0
 IsReceiver lane place d = (join : Join) → slice_get d.joins lane.link ≡ Some join
     → slice_get d.clocks place ≡ Some (direction_end lane.direction join).clock
 
-pub receiver_within : (parts : WorldParts) (lane : Lane) (place : ℕ) → IsStage parts
+pub receiver_within : (parts : WorldParts) (lane : Lane) (place : ℕ) → IsWorldParts parts
     → lane.link < length parts.net.cables.items
     → IsReceiver lane place parts.net.directory → place < length parts.stations.items
 receiver_within parts lane place is known hears =
@@ -68,7 +68,7 @@ oldest_before parts stage' lane octets world oldest =
 
 -- what is so of how far the oldest frame of a lane reaches, and where it does
 pub so_heard : (parts stage' : WorldParts) (lane : Lane) (receiver : ℕ) (r : Reach) (So : Reach → ℕ → Type 0)
-    → IsStage parts → IsStage stage'
+    → IsWorldParts parts → IsWorldParts stage'
     → world_of stage' ≡ world_of parts → IsDirectory parts.net.directory → IsReceiver lane receiver parts.net.directory
     → ((octets : List ℕ) → IsOldest lane octets parts.net → r ≡ frame_reach octets)
     → So r receiver → (join : Join) (place : ℕ) (octets : List ℕ)

@@ -10,7 +10,7 @@ use Rattle.gptp_model.specs.declared.station.Station.{Station}
 use Rattle.gptp_world.specs.JoinedLink.{channel_of, join_of}
 use Rattle.gptp_world.specs.Directory.{direction_end, DirectoryState, IsDirectory, PortIsPlaced, Join}
 use Rattle.gptp_world.specs.Net.{IsNet}
-use Rattle.gptp_world.specs.WorldParts.{clock_at_place, IsStage}
+use Rattle.gptp_world.specs.WorldParts.{clock_at_place, IsWorldParts}
 use Rattle.gptp_model.specs.World.{receiver}
 use Rattle.gptp_world.proofs.NetLemmas.{from_map}
 use Rattle.gptp_lists.proofs.MappedLemmas.{mapped_there}
@@ -38,7 +38,7 @@ pub record StandsAt (parts : WorldParts) (place number : ℕ) : Type 0 where
   pub here : slice_get parts.stations.items place ≡ Some station
   pub named : clock_at_place station ≡ number
 
-pub station_at : (parts : WorldParts) (place number : ℕ) → IsStage parts
+pub station_at : (parts : WorldParts) (place number : ℕ) → IsWorldParts parts
     → slice_get parts.net.directory.clocks place ≡ Some number
     → StandsAt parts place number
 station_at parts place number is there =
@@ -46,7 +46,7 @@ station_at parts place number is there =
     (ap (λ cs. slice_get cs place) is.clocks ∙ there) in
     record { station = made.one; here = made.there; named = sym made.is }
 
-pub place_within : (parts : WorldParts) (place number : ℕ) → IsStage parts
+pub place_within : (parts : WorldParts) (place number : ℕ) → IsWorldParts parts
     → slice_get parts.net.directory.clocks place ≡ Some number
     → place < length parts.stations.items
 place_within parts place number is there =

@@ -17,7 +17,7 @@ use Rattle.gptp_model.specs.Item.{timer_port}
 use Rattle.gptp_world.specs.Net.{between}
 use Rattle.gptp_model.specs.Pending.{without_first_entry, IsKnownItem}
 use Rattle.gptp_world.specs.Performing.{Expired}
-use Rattle.gptp_world.specs.WorldParts.{world_of, Called, IsStage}
+use Rattle.gptp_world.specs.WorldParts.{world_of, Called, IsWorldParts}
 use Rattle.gptp_model.proofs.NextDueLemmas.{runs_out}
 
 -- the ports of timers are numbered as those of their system
@@ -31,7 +31,7 @@ timer_few s timers.Relay few of = omega arith
 timer_few s timers.Lapse few of = omega arith
 
 -- a timer that is due is one that can be pending
-pub known_timer : (parts : WorldParts) (place : ℕ) (timer : Timer) → IsStage parts
+pub known_timer : (parts : WorldParts) (place : ℕ) (timer : Timer) → IsWorldParts parts
     → IsTimerDue place timer parts.now (world_of parts)
     → IsKnownItem parts.net.pending.systems parts.net.pending.links (Expiry place timer)
 known_timer parts place timer is due =

@@ -17,12 +17,12 @@ use Rattle.gptp_world.specs.declared.joined_link.Lane.{Lane}
 use Rattle.gptp_world.specs.declared.net.Net.{Net as Between}
 use Rattle.gptp_world.specs.declared.world_parts.WorldParts.{WorldParts}
 use Rattle.gptp_world.specs.JoinedLink.{HasRoomOn}
-use Rattle.gptp_world.specs.FrameBudget.{credit_of, for_credit, AreItsPorts, DrawsTwo, ExpiresBeyond, HasNoCredit, HasReachBeyond, HasRoomBeyond, HearsBeyond, IsChange, IsCovered, LeavesCredit, UsesForAim}
+use Rattle.gptp_world.specs.FrameBudget.{credit_of, for_credit, AreItsPorts, DrawsTwo, ExpiresBeyond, HasNoBudget, HasReachBeyond, HasRoomBeyond, HearsBeyond, IsChange, IsCovered, LeavesBudget, UsesForTarget}
 use Rattle.gptp_world.specs.Delivering.{HasRoomToHear}
 use Rattle.gptp_world.specs.Directory.{BeginsAt, IsDirectory}
 use Rattle.gptp_world.specs.Net.{IsNet}
 use Rattle.gptp_world.specs.Room.{both, for_reach, is_reached, no_room, WorldHasRoom, HasRoomAtPorts, Need, OnlyRoom, Uses}
-use Rattle.gptp_world.specs.WorldParts.{clock_at_place, HasRoomToGive, HasRoomWithin, IsStage}
+use Rattle.gptp_world.specs.WorldParts.{clock_at_place, HasRoomToGive, HasRoomWithin, IsWorldParts}
 use Rattle.gptp_system.specs.Input.{Expires as TimerExpires}
 use Rattle.gptp_world.proofs.LaterLemmas.{at_time}
 use Rattle.gptp_world.proofs.NeedLemmas.{covered, fewer, nothing_with, uses_both, uses_less}
@@ -145,10 +145,10 @@ zeros (c ∷ cs) (suc count) asked = by (asked == c) refl (zeros cs count asked)
     by true test ih = rw test refl
     by false test ih = rw test ih
 
-pub no_credit : (count : ℕ) → HasNoCredit (replicate count 0)
+pub no_credit : (count : ℕ) → HasNoBudget (replicate count 0)
 no_credit count clocks asked = zeros clocks count asked
 
-pub none_covered : (frame_budget : List ℕ) (net : Between) → IsNet net → HasNoCredit frame_budget
+pub none_covered : (frame_budget : List ℕ) (net : Between) → IsNet net → HasNoBudget frame_budget
     → IsCovered frame_budget net
 none_covered frame_budget net is none port lane begins =
     let without = none net.directory.clocks port.clock in rw without (no_frames net port lane is begins)
@@ -163,7 +163,7 @@ covered_kept frame_budget net net' only has port lane begins =
     (only.lanes (credit_of net.directory.clocks frame_budget port.clock) lane (has port lane (rw (← directory) begins)))
 
 -- all lanes of a system of the stage begin at its ports
-pub its_ports : (parts : WorldParts) (place : ℕ) (station : Station) → IsStage parts
+pub its_ports : (parts : WorldParts) (place : ℕ) (station : Station) → IsWorldParts parts
     → slice_get parts.stations.items place ≡ Some station → AreItsPorts place (length station.system.ports) parts.net
 its_ports parts place station is here number port lane known same begins =
     let stands : slice_get parts.net.directory.clocks place ≡ Some (clock station.system) =
@@ -260,7 +260,7 @@ ahead place ports frame_budget net net' directory its has only made number port 
 -- ---- room for a call
 
 pub room_beyond : (parts : WorldParts) (r : Reach) (place : ℕ) (station : Station) (frame_budget : List ℕ)
-    → IsStage parts
+    → IsWorldParts parts
     → slice_get parts.stations.items place ≡ Some station
     → 6 * length station.system.ports + 3 ≤ parts.net.pending.room
     → 2 * length station.system.ports ≤ parts.net.buffers.ready
@@ -309,8 +309,8 @@ beyond_later : (r : Reach) (place : ℕ) (frame_budget : List ℕ) (parts : Worl
 beyond_later r place frame_budget parts time has = record { station = has.station; here = has.here; room = has.room }
 
 pub leaves_later : (target : ActTarget) (frame_budget : List ℕ) (parts : WorldParts) (time : ℕ)
-    → LeavesCredit target frame_budget parts
-    → LeavesCredit target frame_budget (at_time time parts)
+    → LeavesBudget target frame_budget parts
+    → LeavesBudget target frame_budget (at_time time parts)
 leaves_later (aims.Arrival lane) frame_budget parts time has = λ join place octets there placed oldest.
     beyond_later (frame_reach octets) place frame_budget parts time (has join place octets there placed oldest)
 leaves_later (aims.Timer place timer) frame_budget parts time has = λ station here.
@@ -336,7 +336,7 @@ left_covered frame_budget r place station parts net here has uses port lane begi
     let directory = uses.directory in rw directory (left.lanes port lane begins)
 
 pub covered_after : (target : ActTarget) (frame_budget : List ℕ) (parts : WorldParts) (net : Between) → IsNet net
-    → LeavesCredit target frame_budget parts → UsesForAim target parts net → IsCovered frame_budget net
+    → LeavesBudget target frame_budget parts → UsesForTarget target parts net → IsCovered frame_budget net
 covered_after (aims.Arrival lane) frame_budget parts net is leaves used =
     left_covered frame_budget (frame_reach used.octets) used.place used.station parts net used.here
     (leaves used.join used.place used.octets used.there used.placed used.oldest) used.uses
@@ -367,8 +367,8 @@ is_changing (aims.Inject lane) no_arrival no_timer = tt
 
 -- it leaves no credit, and uses what it likes
 pub change_leaves : (target : ActTarget) (frame_budget : List ℕ) (parts : WorldParts) → IsChange target
-    → HasNoCredit frame_budget
-    → LeavesCredit target frame_budget parts
+    → HasNoBudget frame_budget
+    → LeavesBudget target frame_budget parts
 change_leaves (aims.Arrival lane) frame_budget parts change none = absurd change
 change_leaves (aims.Timer place timer) frame_budget parts change none = absurd change
 change_leaves (aims.LinkDown link) frame_budget parts change none = none
@@ -380,7 +380,7 @@ change_leaves (aims.Priority1 place value) frame_budget parts change none = none
 change_leaves (aims.Inject lane) frame_budget parts change none = none
 
 pub change_uses : (target : ActTarget) (parts : WorldParts) (net : Between) → IsChange target
-    → UsesForAim target parts net
+    → UsesForTarget target parts net
 change_uses (aims.Arrival lane) parts net change = absurd change
 change_uses (aims.Timer place timer) parts net change = absurd change
 change_uses (aims.LinkDown link) parts net change = tt

@@ -33,7 +33,7 @@ use Rattle.gptp_model.specs.World.{port_id}
 use Rattle.gptp_scenario.specs.Network.{largest_of, member, pace_of, NetworkState, IsEnd, IsNetwork, IsPort, IsWire}
 use Rattle.gptp_scenario.proofs.LogLemmas.{largest_log, logs_up_to}
 use Rattle.gptp_model.specs.Sound.{AllFlow, AreApart, AreLinked, Flows, HaveOwnClocks, HaveTheirSetups, IsItsSetup, IsSound, JoinPorts}
-use Rattle.gptp_world.specs.WorldParts.{clock_at_place, IsStage}
+use Rattle.gptp_world.specs.WorldParts.{clock_at_place, IsWorldParts}
 use Rattle.gptp_model.specs.World.{Channel, world_queue, sender}
 use Rattle.gptp_model.proofs.ChangeAgreeLemmas.{silent_agrees}
 use Rattle.gptp_lists.proofs.MappedLemmas.{mapped, same_there}
@@ -310,7 +310,7 @@ have_few n is = each_station n (λ (station : Station). length station.system.po
 pub initial_stage : (n : NetworkState) (parts : WorldParts) → IsNetwork n → IsNet parts.net
     → parts.stations.items ≡ stations_of n → parts.net.directory.clocks ≡ directory_clocks n.systems
     → parts.net.directory.joins ≡ joins_of n.links → parts.net.pending.systems ≡ length n.systems
-    → parts.outbox.items ≡ [] → parts.now ≡ 0 → IsStage parts
+    → parts.outbox.items ≡ [] → parts.now ≡ 0 → IsWorldParts parts
 initial_stage n parts is net stations clocks joins systems empty now =
     let there : (place : ℕ) (station : Station) → slice_get parts.stations.items place ≡ Some station
     → slice_get (stations_of n) place ≡ Some station =

@@ -8,18 +8,18 @@ use Rattle.gptp_scenario.specs.declared.change.Change.{Change}
 use Rattle.gptp_scenario.specs.declared.change.Change.TheVariants as changes
 use Rattle.gptp_world.specs.declared.world_parts.WorldParts.{WorldParts}
 use Rattle.gptp_model.specs.Acts.{at}
-use Rattle.gptp_world.specs.ActTarget.{IsTargetOf, IsAimOfChange}
+use Rattle.gptp_world.specs.ActTarget.{IsTargetOf, IsTargetOfChange}
 use Rattle.gptp_system.specs.declared.reach.Reach.{Reach}
 use Rattle.gptp_system.specs.declared.reach.Reach.TheVariants as reaches
 use Rattle.gptp_system.specs.Reach.{frame_reach, timer_reach}
-use Rattle.gptp_world.specs.Performing.{HasRoomForAim}
-use Rattle.gptp_world.specs.WorldParts.{HasRoomWithin, IsStage}
+use Rattle.gptp_world.specs.Performing.{HasRoomForTarget}
+use Rattle.gptp_world.specs.WorldParts.{HasRoomWithin, IsWorldParts}
 use Rattle.gptp_world.specs.Starting.{HasRoomToStart}
 use Rattle.gptp_world.specs.Telling.{HasRoomAtEnds}
 use Rattle.gptp_model.specs.World.{WorldState}
 
-change_later : (c : Change) (w : WorldState) (time : ℕ) (target : ActTarget) → IsAimOfChange c w target
-    → IsAimOfChange c (at time w) target
+change_later : (c : Change) (w : WorldState) (time : ℕ) (target : ActTarget) → IsTargetOfChange c w target
+    → IsTargetOfChange c (at time w) target
 change_later (changes.LinkDown number port) w time (aims.Arrival lane) is = is
 change_later (changes.LinkDown number port) w time (aims.Timer place set) is = is
 change_later (changes.LinkDown number port) w time (aims.LinkDown link) is =
@@ -147,8 +147,8 @@ start_at : (place : ℕ) (parts : WorldParts) (time : ℕ) → HasRoomToStart pl
     → HasRoomToStart place (at_time time parts)
 start_at place parts time has = record { station = has.station; here = has.here; room = has.room }
 
-pub room_later : (target : ActTarget) (parts : WorldParts) (time : ℕ) → HasRoomForAim target parts
-    → HasRoomForAim target (at_time time parts)
+pub room_later : (target : ActTarget) (parts : WorldParts) (time : ℕ) → HasRoomForTarget target parts
+    → HasRoomForTarget target (at_time time parts)
 room_later (aims.Arrival lane) parts time has =
     λ join place octets there named oldest. room_at (frame_reach octets) place parts time
     (has join place octets there named oldest)
@@ -162,8 +162,8 @@ room_later (aims.Recover place) parts time has = λ failed. start_at place parts
 room_later (aims.Priority1 place set) parts time has = room_at reaches.All place parts time has
 room_later (aims.Inject lane) parts time has = has
 
-pub stage_later : (parts : WorldParts) (time : ℕ) → time ≤ 1000000000000000 → IsStage parts
-    → IsStage (at_time time parts)
+pub stage_later : (parts : WorldParts) (time : ℕ) → time ≤ 1000000000000000 → IsWorldParts parts
+    → IsWorldParts (at_time time parts)
 stage_later parts time early is = record {
   net = is.net;
   clocks = is.clocks;

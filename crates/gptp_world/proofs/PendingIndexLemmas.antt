@@ -17,7 +17,7 @@ use Rattle.gptp_world.proofs.SlotLemmas.{cut, length-cut, in_slot-push_same, in_
 use Rattle.gptp_world.proofs.QueueLemmas.{queue-same, queue-other, length-plain}
 use Rattle.gptp_model.specs.Pending.{Entry, plain, times_of_item, without_first_entry, IsKnownItem, arrival_place}
 use Rattle.gptp_world.specs.Chain.{rest_of}
-use Rattle.gptp_world.specs.PendingIndex.{FiledState, queue_at, filed_with_queue, slot_of, timer_place, filed_in_slot, running, timer_number, one_or_none, PendingIsFiled}
+use Rattle.gptp_world.specs.PendingIndex.{PendingIndexState, queue_at, filed_with_queue, slot_of, timer_place, filed_in_slot, running, timer_number, one_or_none, PendingIsIndexed}
 
 -- ---- places
 
@@ -59,8 +59,8 @@ pub known-plain : (systems links : ℕ) (es : List (Numbered Item))
 known-plain systems links [] all = tt
 known-plain systems links (e ∷ es) all = (all.0, known-plain systems links es all.1)
 
-module _ (systems links : ℕ) (pending_index : FiledState) (es : List (Numbered Item))
-    (are : PendingIsFiled systems links pending_index es) where
+module _ (systems links : ℕ) (pending_index : PendingIndexState) (es : List (Numbered Item))
+    (are : PendingIsIndexed systems links pending_index es) where
   due-times : (xs : List (Numbered Item)) → map (λ (e : Numbered Item). e.time) xs ≡ map (λ (r : ArmedTimer). r.due)
       (map running xs)
   due-times [] = refl
@@ -147,7 +147,7 @@ module _ (systems links : ℕ) (pending_index : FiledState) (es : List (Numbered
         ∙ sym (ap one_or_none (get_or-set_other pending_index.timers (timer_place place timer) p (Some
         (running put_timer)) None differ))
 
-    pub pending_index-put_timer : PendingIsFiled systems links (record pending_index { timers = with_timer })
+    pub pending_index-put_timer : PendingIsIndexed systems links (record pending_index { timers = with_timer })
         (es ++ put_timer ∷ [])
     pending_index-put_timer = record {
       few_systems = are.few_systems;
@@ -204,7 +204,7 @@ module _ (systems links : ℕ) (pending_index : FiledState) (es : List (Numbered
     plain-stopped next rises =
         ap plain (removed-timer next rises) ∙ plain-cut systems links (Expiry place timer) es known are.known
 
-    pending_index-cut_timer : PendingIsFiled systems links (record pending_index {
+    pending_index-cut_timer : PendingIsIndexed systems links (record pending_index {
       timers =
           without_timer;
     }) (cut (slot_of (Expiry place timer)) es)
@@ -221,7 +221,7 @@ module _ (systems links : ℕ) (pending_index : FiledState) (es : List (Numbered
     }
 
     pub pending_index-stopped : (next : ℕ) → RiseFrom 0 es next
-        → PendingIsFiled systems links (record pending_index { timers = without_timer }) (without_number r.number es)
+        → PendingIsIndexed systems links (record pending_index { timers = without_timer }) (without_number r.number es)
     pending_index-stopped next rises = rw (removed-timer next rises) pending_index-cut_timer
 
   -- an arrival is put
@@ -229,7 +229,7 @@ module _ (systems links : ℕ) (pending_index : FiledState) (es : List (Numbered
     abbrev put_arrival : Numbered Item
     put_arrival = numbered time number (Arrival link direction)
 
-    abbrev longer : FiledState
+    abbrev longer : PendingIndexState
     longer = filed_with_queue (arrival_place link direction)
         (queue_at (arrival_place link direction) pending_index ++ number ∷ [])
         room pending_index
@@ -253,7 +253,7 @@ module _ (systems links : ℕ) (pending_index : FiledState) (es : List (Numbered
         ∙ are.queues p
         ∙ sym (queue-other pending_index (arrival_place link direction) p _ room differ)
 
-    pub pending_index-put_arrival : PendingIsFiled systems links longer (es ++ put_arrival ∷ [])
+    pub pending_index-put_arrival : PendingIsIndexed systems links longer (es ++ put_arrival ∷ [])
     pending_index-put_arrival = record {
       few_systems = are.few_systems;
       few_links = are.few_links;
@@ -279,7 +279,7 @@ module _ (systems links : ℕ) (pending_index : FiledState) (es : List (Numbered
     removed-arrival next rises =
         ap (λ m. without_number m es) (sym front.3) ∙ removed arrival_slot 0 next es front.0 front.1 rises front.2
 
-    abbrev shorter : FiledState
+    abbrev shorter : PendingIndexState
     shorter = filed_with_queue (arrival_place link direction)
         (rest_of (queue_at (arrival_place link direction) pending_index)) room
         pending_index
@@ -303,7 +303,7 @@ module _ (systems links : ℕ) (pending_index : FiledState) (es : List (Numbered
         ∙ are.queues p
         ∙ sym (queue-other pending_index (arrival_place link direction) p _ room differ)
 
-    pending_index-cut_arrival : PendingIsFiled systems links shorter (cut arrival_slot es)
+    pending_index-cut_arrival : PendingIsIndexed systems links shorter (cut arrival_slot es)
     pending_index-cut_arrival = record {
       few_systems = are.few_systems;
       few_links = are.few_links;
@@ -315,7 +315,7 @@ module _ (systems links : ℕ) (pending_index : FiledState) (es : List (Numbered
     }
 
     pub pending_index-taken : (next : ℕ) → RiseFrom 0 es next
-        → PendingIsFiled systems links shorter (without_number n es)
+        → PendingIsIndexed systems links shorter (without_number n es)
     pending_index-taken next rises = rw (removed-arrival next rises) pending_index-cut_arrival
 
     pub plain-taken : (next : ℕ) → RiseFrom 0 es next

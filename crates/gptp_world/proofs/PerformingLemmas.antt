@@ -31,16 +31,16 @@ use Rattle.gptp_world.specs.declared.world_parts.WorldParts.{WorldParts}
 use Rattle.gptp_model.specs.declared.station.Station.{Station}
 use Rattle.gptp_model.specs.Acts.{Acts, AtPlace, Changes, IsOldestDue, TellsHearing}
 use Rattle.gptp_scenario.specs.Allowed.{IsFitAct}
-use Rattle.gptp_world.specs.ActTarget.{IsTargetOf, IsAimOfChange}
+use Rattle.gptp_world.specs.ActTarget.{IsTargetOf, IsTargetOfChange}
 use Rattle.gptp_world.specs.JoinedLink.{channel_of, join_of, SentOne}
 use Rattle.gptp_model.specs.Changing.{with_bounds, with_setup, with_station, CallsIfLive, InjectsIf}
 use Rattle.gptp_world.specs.Delivering.{Delivered, MayHear}
 use Rattle.gptp_world.specs.Directory.{direction_end, Join}
 use Rattle.gptp_world.specs.Memory.{AsksForNoMemory, ChangesWithoutMemory}
 use Rattle.gptp_world.specs.Net.{between, IsFrameDue, LinkIs}
-use Rattle.gptp_world.specs.Performing.{octets_of, ActIsDone, CanChange, HasRoomForAim, Injected, OfLink, OfSystem, Turned, TurnsOver}
+use Rattle.gptp_world.specs.Performing.{octets_of, ActIsDone, CanChange, HasRoomForTarget, Injected, OfLink, OfSystem, Turned, TurnsOver}
 use Rattle.gptp_model.specs.Sound.{AreLinked, Flows, IsSound, IsWired}
-use Rattle.gptp_world.specs.WorldParts.{clock_at_place, world_of, HasRoomWithin, HasTimerAt, IsStage, SystemIs}
+use Rattle.gptp_world.specs.WorldParts.{clock_at_place, world_of, HasRoomWithin, HasTimerAt, IsWorldParts, SystemIs}
 use Rattle.gptp_world.specs.Telling.{HasRoomAtEnds}
 use Rattle.gptp_model.specs.World.{Channel, WorldState, port_id, world_queue, receiver, sender}
 use Rattle.gptp_world.proofs.ActTargetLemmas.{lane_joins}
@@ -72,7 +72,7 @@ link_within parts link channel here =
     (slice_get_within (map channel_of parts.net.cables.items) link channel here)
 
 change_within : (change : Change) (target : ActTarget) (parts : WorldParts)
-    → IsAimOfChange change (world_of parts) target
+    → IsTargetOfChange change (world_of parts) target
     → IsWithin target parts
 change_within (changes.LinkDown number port) (aims.LinkDown link) parts at =
     link_within parts link at.channel at.is.here
@@ -135,7 +135,8 @@ system_is : (parts : WorldParts) (place : ℕ) (live : Bool) (station : Station)
 system_is parts place live station here is = λ other there.
     let same : other ≡ station = same_Some other station (sym there ∙ here) in ap (λ (x : Station). x.live) same ∙ is
 
-free_change : (change : Change) (target : ActTarget) (parts : WorldParts) → IsAimOfChange change (world_of parts) target
+free_change : (change : Change) (target : ActTarget) (parts : WorldParts)
+    → IsTargetOfChange change (world_of parts) target
     → ChangesWithoutMemory change (world_of parts) → AsksForNone target parts
 free_change (changes.LinkDown number port) (aims.LinkDown link) parts at asks =
     link_is parts link false at.channel at.is.here (asks link at.channel at.is)
@@ -202,7 +203,7 @@ end_up w link place FromB channel station linked there up here live named =
     linked link place FromA channel station there up here live named
 
 -- the directory knows where a lane ends
-end_is : (parts : WorldParts) (link : ℕ) (direction : Direction) (join : Join) (channel : Channel) → IsStage parts
+end_is : (parts : WorldParts) (link : ℕ) (direction : Direction) (join : Join) (channel : Channel) → IsWorldParts parts
     → slice_get parts.net.directory.joins link ≡ Some join → slice_get (world_of parts).net.channels link ≡ Some channel
     → direction_end direction join ≡ receiver direction channel
 end_is parts link direction join channel is there here =
@@ -212,7 +213,7 @@ end_is parts link direction join channel is there here =
     ap (direction_end direction) one ∙ (end_same direction made.one ∙ ap (receiver direction) (sym made.is))
 
 -- the port that a frame reaches is one whose link is up
-pub may_hear : (parts : WorldParts) (lane : Lane) (time : ℕ) → IsStage parts → IsWired (world_of parts)
+pub may_hear : (parts : WorldParts) (lane : Lane) (time : ℕ) → IsWorldParts parts → IsWired (world_of parts)
     → AtPlace lane.link (world_of parts).net (IsOldestDue lane.direction time) → MayHear lane parts
 may_hear parts lane time is wired at = λ join place there placed station here live.
     let ends = end_is parts lane.link lane.direction join at.channel is there at.here in
@@ -229,7 +230,7 @@ may_hear parts lane time is wired at = λ join place there placed station here l
 -- it is told where the frame went
 pub arrived : {F : Type 0} (answers : Bounds → ℕ → F → Option ℕ → F → Type 0) (lane : Lane) (reached : PortId)
     (answer : Option Answer) (octets : List ℕ) (done : Done) (fate fate_after : F) (parts stage' : WorldParts)
-    → IsStage parts
+    → IsWorldParts parts
     → TellsHearing reached answer octets done
     → Delivered answers lane reached answer octets fate fate_after parts stage'
     → ActIsDone answers (Deliver lane.link lane.direction) done fate fate_after parts stage'
@@ -325,7 +326,7 @@ abbrev pub changed_now : WorldParts → WorldParts
 changed_now parts = record parts { last_change = parts.now }
 
 pub changes_so : (change : Change) (target : ActTarget) (parts : WorldParts) (draws : List Draw) (w' : WorldState)
-    → IsAimOfChange change (world_of parts) target → TurnsOver target (world_of (changed_now parts)) draws w'
+    → IsTargetOfChange change (world_of parts) target → TurnsOver target (world_of (changed_now parts)) draws w'
     → Changes change (world_of (changed_now parts)) draws w'
 changes_so (changes.LinkDown number port) (aims.LinkDown link) parts draws w' at turns =
     record { place = link; channel = at.channel; is = at.is; so = turns at.channel at.is.here }
@@ -367,7 +368,7 @@ changes_so change target parts draws w' at turns = absurd at
 -- what is changed can be changed
 pub can_change : (change : Change) (target : ActTarget) (parts : WorldParts) → IsSound (world_of parts)
     → IsFitAct (Changing change)
-    → ((lane : Lane) → target ≢ aims.Inject lane) → IsAimOfChange change (world_of parts) target
+    → ((lane : Lane) → target ≢ aims.Inject lane) → IsTargetOfChange change (world_of parts) target
     → CanChange target (changed_now parts)
 can_change (changes.LinkDown number port) (aims.LinkDown link) parts sound fit other at =
     link_within parts link at.channel at.is.here
@@ -392,7 +393,7 @@ can_change (changes.Inject number port octets) (aims.Inject lane) parts sound fi
 can_change change target parts sound fit other at = absurd at
 
 -- the time of the last change takes no room
-pub same_stage : (parts : WorldParts) → IsStage parts → IsStage (changed_now parts)
+pub same_stage : (parts : WorldParts) → IsWorldParts parts → IsWorldParts (changed_now parts)
 same_stage parts is = record {
   net = is.net;
   clocks = is.clocks;
@@ -423,8 +424,8 @@ same_room_within : (r : Reach) (place : ℕ) (parts : WorldParts) → HasRoomWit
     → HasRoomWithin r place (changed_now parts)
 same_room_within r place parts has = record { station = has.station; here = has.here; room = has.room }
 
-pub same_room : (target : ActTarget) (parts : WorldParts) → HasRoomForAim target parts
-    → HasRoomForAim target (changed_now parts)
+pub same_room : (target : ActTarget) (parts : WorldParts) → HasRoomForTarget target parts
+    → HasRoomForTarget target (changed_now parts)
 same_room (aims.Arrival lane) parts has = λ join place octets there placed oldest.
     same_room_within (frame_reach octets) place parts (has join place octets there placed oldest)
 same_room (aims.Timer place timer) parts has = λ station here.
@@ -442,7 +443,7 @@ same_room (aims.Inject lane) parts has = has
 pub record IsSomeChange (act : Act) (target : ActTarget) (w : WorldState) : Type 0 where
   pub change : Change
   pub act_is : act ≡ Changing change
-  pub at : IsAimOfChange change w target
+  pub at : IsTargetOfChange change w target
 
 pub is_change : (act : Act) (target : ActTarget) (w : WorldState) → ((lane : Lane) → target ≢ aims.Arrival lane)
     → ((place : ℕ) (timer : Timer) → target ≢ aims.Timer place timer) → IsTargetOf act w target

@@ -12,15 +12,16 @@ use Rattle.gptp_world.specs.declared.chain.Chain.{Chain}
 use Rattle.gptp_world.specs.declared.chain.Node.{Node}
 use Rattle.gptp_world.specs.declared.pending_index.ArmedTimer.{ArmedTimer}
 use Rattle.gptp_world.specs.Chain.{chain_at, chain_head, no_chain, chain_numbers, AreChained, ChangesOne}
-use Rattle.gptp_world.specs.PendingIndex.{FiledState, queue_at, filed_with_queue}
+use Rattle.gptp_world.specs.PendingIndex.{PendingIndexState, queue_at, filed_with_queue}
 use Rattle.gptp_world.proofs.ChainLemmas.{numbers-changed, numbers_there}
 
-pub queue-same : (pending_index : FiledState) (place : ℕ) (queue : List ℕ) (room : ℕ)
+pub queue-same : (pending_index : PendingIndexState) (place : ℕ) (queue : List ℕ) (room : ℕ)
     → place < length pending_index.queues
     → queue_at place (filed_with_queue place queue room pending_index) ≡ queue
 queue-same pending_index place queue room within = get_or-set_same pending_index.queues place queue [] within
 
-pub queue-other : (pending_index : FiledState) (place other : ℕ) (queue : List ℕ) (room : ℕ) → (other ≡ place → ⊥)
+pub queue-other : (pending_index : PendingIndexState) (place other : ℕ) (queue : List ℕ) (room : ℕ)
+    → (other ≡ place → ⊥)
     → queue_at other (filed_with_queue place queue room pending_index) ≡ queue_at other pending_index
 queue-other pending_index place other queue room differ = get_or-set_other pending_index.queues place other
     queue [] differ
@@ -44,14 +45,14 @@ length-plain (e ∷ es) = let ih = length-plain es in omega arith
 
 -- ---- the table as it is kept
 
-abbrev table : List (Option ArmedTimer) → Slab Node → List Chain → FiledState
+abbrev table : List (Option ArmedTimer) → Slab Node → List Chain → PendingIndexState
 table timers nodes chains = record {
   timers = timers;
   queues = map (chain_numbers (get nodes)) chains;
   room = nodes.capacity - slab_len nodes;
 }
 
-abbrev made : List (Option ArmedTimer) → List (List ℕ) → ℕ → FiledState
+abbrev made : List (Option ArmedTimer) → List (List ℕ) → ℕ → PendingIndexState
 made timers queues room = record { timers = timers; queues = queues; room = room }
 
 -- the chain at a place changed, so the queue there did

@@ -19,7 +19,7 @@ use Rattle.gptp_world.specs.Directory.{BeginsAt, IsDirectory, Join}
 use Rattle.gptp_world.specs.Net.{IsNet}
 use Rattle.gptp_model.specs.World.{port_id}
 use Rattle.gptp_world.specs.Room.{both, for_call, for_timers, repeated, HasRoomAtPorts, HasRoomBothWays, HasRoomFrom, KeepsRoomOn, Need, OnlyRoom}
-use Rattle.gptp_world.specs.WorldParts.{clock_at_place, HasRoomToCall, HasRoomToCallBoth, IsStage}
+use Rattle.gptp_world.specs.WorldParts.{clock_at_place, HasRoomToCall, HasRoomToCallBoth, IsWorldParts}
 use Rattle.gptp_world.specs.Starting.{for_start, HasRoomToStart}
 use Rattle.gptp_model.specs.World.{Channel, Net}
 use Rattle.gptp_world.proofs.NeedLemmas.{covered, repeated-covered, Covers}
@@ -145,7 +145,7 @@ one_more_port more place ports net net' only has last =
 
 pub stage_stays : (parts stage' : WorldParts) → stage'.stations ≡ parts.stations → stage'.now ≡ parts.now
     → stage'.outbox.items ≡ parts.outbox.items
-    → OnlyRoom parts.net stage'.net → IsStage parts → IsStage stage'
+    → OnlyRoom parts.net stage'.net → IsWorldParts parts → IsWorldParts stage'
 stage_stays parts stage' stations now outbox only is =
     let directory = only.directory in let systems = only.systems in
     record {
@@ -176,7 +176,7 @@ abbrev most_from : ℕ → ℕ → PortId → ℕ
 most_from more number port = if port.clock == number then more else 0
 
 -- so many frames from each port of the system at a place, and none from others
-pub frames_from : (parts : WorldParts) (more place : ℕ) (station : Station) → IsStage parts
+pub frames_from : (parts : WorldParts) (more place : ℕ) (station : Station) → IsWorldParts parts
     → slice_get parts.stations.items place ≡ Some station
     → HasRoomAtPorts more place (length station.system.ports) parts.net → (port : PortId) (lane : Lane)
     → BeginsAt parts.net.directory.joins port lane
@@ -230,7 +230,7 @@ with_timers timers large small covers = record {
 }
 
 -- there is room for a call of a system where each of its ports has it
-pub room_to_call : (parts : WorldParts) (place : ℕ) (station : Station) → IsStage parts
+pub room_to_call : (parts : WorldParts) (place : ℕ) (station : Station) → IsWorldParts parts
     → slice_get parts.stations.items place ≡ Some station
     → 6 * length station.system.ports + 3 ≤ parts.net.pending.room
     → 2 * length station.system.ports ≤ parts.net.buffers.ready
@@ -246,7 +246,7 @@ room_to_call parts place station is here entries buffers has = record {
 }
 
 -- and for a start
-pub room_to_start : (parts : WorldParts) (place : ℕ) (station : Station) → IsStage parts
+pub room_to_start : (parts : WorldParts) (place : ℕ) (station : Station) → IsWorldParts parts
     → slice_get parts.stations.items place ≡ Some station
     → 4 * length station.system.ports + 3 + length station.system.ports * (6 * length station.system.ports + 3)
     ≤ parts.net.pending.room
@@ -268,7 +268,7 @@ room_to_start parts place station is here entries buffers has =
     }
 
 -- systems at two places have two clocks
-pub clocks_apart : (parts : WorldParts) (first second : ℕ) (near far : Station) → IsStage parts
+pub clocks_apart : (parts : WorldParts) (first second : ℕ) (near far : Station) → IsWorldParts parts
     → IsDirectory parts.net.directory
     → slice_get parts.stations.items first ≡ Some near → slice_get parts.stations.items second ≡ Some far
     → first ≢ second
@@ -289,7 +289,7 @@ not_same m n apart = by (eqb_tells m n)
     by (inr (test, differ)) = test
 
 -- and for one call of each of two
-pub room_to_call_both : (parts : WorldParts) (first second : ℕ) (near far : Station) → IsStage parts
+pub room_to_call_both : (parts : WorldParts) (first second : ℕ) (near far : Station) → IsWorldParts parts
     → slice_get parts.stations.items first ≡ Some near → slice_get parts.stations.items second ≡ Some far
     → clock near.system ≢ clock far.system
     → 6 * (length near.system.ports + length far.system.ports) + 6 ≤ parts.net.pending.room

@@ -15,7 +15,7 @@ use Rattle.gptp_model.specs.Changing.{failed, fresh, is_up_at, with_setup, with_
 use Rattle.gptp_world.specs.Net.{OnlyEntries}
 use Rattle.gptp_world.specs.Room.{both, for_call, for_timers, repeated, WorldHasRoom, Need}
 use Rattle.gptp_model.specs.Sound.{IsItsSetup}
-use Rattle.gptp_world.specs.WorldParts.{world_of, Called, HasRoomToCall, IsStage}
+use Rattle.gptp_world.specs.WorldParts.{world_of, Called, HasRoomToCall, IsWorldParts}
 use Rattle.gptp_world.specs.Starting.{for_all_timers, for_start, CameUp, CanSetTimers, CanStart, HasRoomForPorts, HasRoomToStart, HasSetTimers, Prioritized, StandsReplaced, Started}
 use Rattle.gptp_model.specs.World.{WorldState}
 use Rattle.gptp_model.proofs.AgreeLemmas.{replaced}
@@ -34,11 +34,11 @@ stands_there parts left place old new here by =
     ap (λ xs. slice_get xs place) by.stations ∙ get-set_same parts.stations.items place old new here
 
 -- with the same clock and as many ports it keeps the stage
-pub replaced_stage : (parts left : WorldParts) (place : ℕ) (old new : Station) → IsStage parts
+pub replaced_stage : (parts left : WorldParts) (place : ℕ) (old new : Station) → IsWorldParts parts
     → slice_get parts.stations.items place ≡ Some old
     → length new.system.ports ≡ length old.system.ports → clock new.system ≡ clock old.system
     → StandsReplaced place new parts left
-    → IsStage left
+    → IsWorldParts left
 replaced_stage parts left place old new is here ports clocks by =
     let net = by.net in
     becomes parts left place old new is here ports clocks by.stations (rw net is.net) (rw net refl) (rw net refl) by.now
@@ -47,7 +47,7 @@ replaced_stage parts left place old new is here ports clocks by =
 -- ---- all timers of a system
 
 -- the timers of a system of the stage can be set
-pub can_set_timers : (parts : WorldParts) (place : ℕ) (station : Station) → IsStage parts
+pub can_set_timers : (parts : WorldParts) (place : ℕ) (station : Station) → IsWorldParts parts
     → slice_get parts.stations.items place ≡ Some station
     → (station.live ≡ true → WorldHasRoom (for_all_timers station.system) parts.net) → CanSetTimers place parts
 can_set_timers parts place station is here room =
@@ -60,8 +60,8 @@ can_set_timers parts place station is here room =
       room = λ live. (room live).entries;
     }
 
-pub timers_stage : (parts stage' : WorldParts) (place : ℕ) → IsStage parts → HasSetTimers place parts stage'
-    → IsStage stage'
+pub timers_stage : (parts stage' : WorldParts) (place : ℕ) → IsWorldParts parts → HasSetTimers place parts stage'
+    → IsWorldParts stage'
 timers_stage parts stage' place is set =
     let stations = set.stations in let directory = set.only.directory in let systems = set.only.systems in
     let now = set.now in
@@ -107,8 +107,8 @@ fresh_need station now is =
     ∙ ap (λ (need : Need). both (for_all_timers station.system) (repeated (length station.system.ports) need)) call
 
 -- the stage with the new system
-pub renewed_stage : (parts left : WorldParts) (place : ℕ) (can : CanStart place parts) → IsStage parts
-    → StandsReplaced place (fresh parts.now can.station) parts left → IsStage left
+pub renewed_stage : (parts left : WorldParts) (place : ℕ) (can : CanStart place parts) → IsWorldParts parts
+    → StandsReplaced place (fresh parts.now can.station) parts left → IsWorldParts left
 renewed_stage parts left place can is by =
     replaced_stage parts left place can.station (fresh parts.now can.station) is can.here
     (fresh_ports can.station parts.now can.setup) can.setup.named by
@@ -124,7 +124,7 @@ renewed_room parts left place can has by =
     subst (λ (need : Need). WorldHasRoom need left.net) (sym (fresh_need can.station parts.now can.setup)) room
 
 -- its timers can be set
-pub renewed_timers : (parts left : WorldParts) (place : ℕ) (can : CanStart place parts) → IsStage parts
+pub renewed_timers : (parts left : WorldParts) (place : ℕ) (can : CanStart place parts) → IsWorldParts parts
     → HasRoomToStart place parts
     → StandsReplaced place (fresh parts.now can.station) parts left → CanSetTimers place left
 renewed_timers parts left place can is has by =

@@ -23,7 +23,7 @@ use Rattle.gptp_world.specs.Directory.{direction_end, direction_start, Directory
 use Rattle.gptp_world.specs.Net.{IsNet}
 use Rattle.gptp_model.specs.World.{port_id}
 use Rattle.gptp_world.specs.Room.{both, for_call, no_room, WorldHasRoom, Need, Uses}
-use Rattle.gptp_world.specs.WorldParts.{clock_at_place, world_of, Called, CallUses, HasRoomToCall, HasRoomToCallBoth, IsPortAt, IsStage, IsTimelyAt}
+use Rattle.gptp_world.specs.WorldParts.{clock_at_place, world_of, Called, CallUses, HasRoomToCall, HasRoomToCallBoth, IsPortAt, IsWorldParts, IsTimelyAt}
 use Rattle.gptp_world.specs.Telling.{link_input, AreEndsOf, HasRoomAtEnds, IsEndAt, WasTold}
 use Rattle.gptp_world.specs.Timing.{AreSetFor}
 use Rattle.gptp_model.specs.World.{Channel, Net, WorldState}
@@ -67,7 +67,7 @@ room_for link a b parts is ends has =
     (subst (λ p. HasRoomToCallBoth has.a.place p parts) (one_place d ends.join.b has.b b is had_b ends.at_b) has.room)
 
 -- a system at the place of an end is the one that its port names
-named : (parts : WorldParts) (port : PortId) (end : End) (station : Station) → IsStage parts
+named : (parts : WorldParts) (port : PortId) (end : End) (station : Station) → IsWorldParts parts
     → IsEndAt port end parts.net.directory → slice_get parts.stations.items end.place ≡ Some station
     → clock station.system ≡ port.clock
 named parts port end station is at there =
@@ -77,7 +77,8 @@ named parts port end station is at there =
     same_Some (clock station.system) port.clock (sym known ∙ at.clock)
 
 -- the port of an end is one of its system
-end_port : (parts : WorldParts) (link : ℕ) (d : Direction) (join : Join) (end : End) (station : Station) → IsStage parts
+end_port : (parts : WorldParts) (link : ℕ) (d : Direction) (join : Join) (end : End) (station : Station)
+    → IsWorldParts parts
     → slice_get parts.net.directory.joins link ≡ Some join → IsEndAt (direction_start d join) end parts.net.directory
     → slice_get parts.stations.items end.place ≡ Some station → IsPortAt end.place end.port parts
 end_port parts link d join end station is here at there =
@@ -89,12 +90,14 @@ end_port parts link d join end station is here at there =
     record { station = station; here = there; port_of = record { least = range.0; most = range.1 } }
 
 -- while the state of the world is the same, the directory knows the same systems and links
-pub same_clocks : (parts stage' : WorldParts) → IsStage parts → IsStage stage' → world_of stage' ≡ world_of parts
+pub same_clocks : (parts stage' : WorldParts) → IsWorldParts parts → IsWorldParts stage'
+    → world_of stage' ≡ world_of parts
     → stage'.net.directory.clocks ≡ parts.net.directory.clocks
 same_clocks parts stage' is is' world =
     sym is'.clocks ∙ (ap (λ (w : WorldState). map clock_at_place w.stations) world ∙ is.clocks)
 
-pub same_joins : (parts stage' : WorldParts) → IsStage parts → IsStage stage' → world_of stage' ≡ world_of parts
+pub same_joins : (parts stage' : WorldParts) → IsWorldParts parts → IsWorldParts stage'
+    → world_of stage' ≡ world_of parts
     → stage'.net.directory.joins ≡ parts.net.directory.joins
 same_joins parts stage' is is' world =
     sym is'.net.joins
@@ -102,7 +105,7 @@ same_joins parts stage' is is' world =
     ∙ is.net.joins)
 
 -- room was made for the ends of a link
-pub room_at_ends : (parts stage' : WorldParts) (link : ℕ) (a b : End) → IsStage parts → IsStage stage'
+pub room_at_ends : (parts stage' : WorldParts) (link : ℕ) (a b : End) → IsWorldParts parts → IsWorldParts stage'
     → world_of stage' ≡ world_of parts
     → AreEndsOf link a b parts.net.directory → HasRoomToCallBoth a.place b.place stage' → HasRoomAtEnds link stage'
 room_at_ends parts stage' link a b is is' world ends room =
@@ -125,8 +128,9 @@ room_at_ends parts stage' link a b is is' world ends room =
 -- ---- the link changes
 
 -- what is between the systems becomes another of the same systems and links
-pub net_becomes : (parts : WorldParts) (net : Between) → IsStage parts → IsNet net → net.directory ≡ parts.net.directory
-    → net.pending.systems ≡ parts.net.pending.systems → IsStage (record parts { net = net })
+pub net_becomes : (parts : WorldParts) (net : Between) → IsWorldParts parts → IsNet net
+    → net.directory ≡ parts.net.directory
+    → net.pending.systems ≡ parts.net.pending.systems → IsWorldParts (record parts { net = net })
 net_becomes parts net is after directory systems = record {
   net = after;
   clocks = rw directory is.clocks;
@@ -138,8 +142,8 @@ net_becomes parts net is after directory systems = record {
 }
 
 -- so it is where it has no less room
-pub net_changes : (parts : WorldParts) (net : Between) → IsStage parts → IsNet net → Uses no_room parts.net net
-    → IsStage (record parts { net = net })
+pub net_changes : (parts : WorldParts) (net : Between) → IsWorldParts parts → IsNet net → Uses no_room parts.net net
+    → IsWorldParts (record parts { net = net })
 net_changes parts net is after uses = net_becomes parts net is after uses.directory uses.systems
 
 -- where a link only changes, there is as much room
@@ -156,7 +160,7 @@ pub record CanTell (a b : End) (parts : WorldParts) : Type 0 where
   pub room : HasRoomToCallBoth a.place b.place parts
   pub apart : a.place ≢ b.place
 
-pub can_tell : (parts : WorldParts) (net : Between) (link : ℕ) (a b : End) → IsStage parts
+pub can_tell : (parts : WorldParts) (net : Between) (link : ℕ) (a b : End) → IsWorldParts parts
     → IsDirectory parts.net.directory
     → AreEndsOf link a b parts.net.directory → HasRoomAtEnds link parts → Uses no_room parts.net net
     → CanTell a b (record parts { net = net })
@@ -292,7 +296,7 @@ pub record BothTold {F : Type 0} (answers : Bounds → ℕ → F → Option ℕ 
 
 pub both_told : {F : Type 0} (answers : Bounds → ℕ → F → Option ℕ → F → Type 0) (input : ℕ → Input)
     (changed : Channel → Net) (link : ℕ) (a b : End) (first second third : F) (parts : WorldParts) (net : Between)
-    (between after : WorldParts) → IsStage parts
+    (between after : WorldParts) → IsWorldParts parts
     → AreEndsOf link a b parts.net.directory → CanTell a b (record parts { net = net })
     → ((joined_link : JoinedLink) → slice_get parts.net.cables.items link ≡ Some joined_link
     → (world_of (record parts { net = net })).net ≡ changed (channel_of joined_link))

@@ -30,7 +30,7 @@ use Rattle.gptp_system.specs.Steps.{IsTimerOf}
 use Rattle.gptp_system.proofs.ReachLemmas.{steps_reach}
 use Rattle.gptp_system.proofs.TimelyLemmas.{timely_timer}
 use Rattle.gptp_world.specs.declared.world_parts.WorldParts.{WorldParts}
-use Rattle.gptp_world.specs.WorldParts.{clock_at_place, for_left, Called, CallUses, CarriesOut, GiveUses, HasRoomToCall, HasRoomToGive, HasRoomWithin, HasStepped, IsLiveAt, IsStage, IsTimelyAt}
+use Rattle.gptp_world.specs.WorldParts.{clock_at_place, for_left, Called, CallUses, CarriesOut, GiveUses, HasRoomToCall, HasRoomToGive, HasRoomWithin, HasStepped, IsLiveAt, IsWorldParts, IsTimelyAt}
 use Rattle.gptp_model.specs.World.{timers_from}
 use Rattle.gptp_world.proofs.NeedLemmas.{covered, nothing_with, uses_less, Covers}
 use Rattle.gptp_model.proofs.SteadyLemmas.{same_clock, same_ports}
@@ -93,14 +93,14 @@ within_few reaches.All ports xs within has = record { all = within.few; each = w
 
 -- ---- one call
 
-clocks_kept : (parts : WorldParts) (place : ℕ) (old new : Station) → IsStage parts
+clocks_kept : (parts : WorldParts) (place : ℕ) (old new : Station) → IsWorldParts parts
     → slice_get parts.stations.items place ≡ Some old
     → clock new.system ≡ clock old.system
     → map clock_at_place (slice_set parts.stations.items place new) ≡ parts.net.directory.clocks
 clocks_kept parts place old new is here same =
     map-set_same clock_at_place parts.stations.items place old new here same ∙ is.clocks
 
-few_kept : (parts : WorldParts) (place : ℕ) (old new : Station) → IsStage parts
+few_kept : (parts : WorldParts) (place : ℕ) (old new : Station) → IsWorldParts parts
     → slice_get parts.stations.items place ≡ Some old
     → length new.system.ports ≡ length old.system.ports
     → (other : ℕ) (station : Station) → slice_get (slice_set parts.stations.items place new) other ≡ Some station
@@ -117,7 +117,7 @@ few_kept parts place old new is here same other station there = by (same_place o
         rw one (rw same few)
     by (inr apart) = is.few other station (sym (get-set_other parts.stations.items place other new apart) ∙ there)
 
-ports_kept : (parts : WorldParts) (place : ℕ) (old new : Station) → IsStage parts
+ports_kept : (parts : WorldParts) (place : ℕ) (old new : Station) → IsWorldParts parts
     → slice_get parts.stations.items place ≡ Some old
     → length new.system.ports ≡ length old.system.ports → clock new.system ≡ clock old.system
     → (other : ℕ) (station : Station) (p : ℕ) (lane : Lane)
@@ -233,7 +233,7 @@ stepped parts stage' place input answer one after live value steps stations net 
     }
 
 -- what it left can be carried out
-pub carries : (parts stage' : WorldParts) (place : ℕ) (input : Input) (answer : Answer) → IsStage parts
+pub carries : (parts stage' : WorldParts) (place : ℕ) (input : Input) (answer : Answer) → IsWorldParts parts
     → HasRoomToGive input place parts
     → HasStepped place input answer parts stage' → IsTimelyAt input place parts → CarriesOut place stage'
 carries parts stage' place input answer is room step timely =
@@ -265,13 +265,13 @@ carries parts stage' place input answer is room step timely =
     }
 
 -- a stage in which a system became another with the same clock and as many ports
-pub becomes : (parts stage' : WorldParts) (place : ℕ) (old new : Station) → IsStage parts
+pub becomes : (parts stage' : WorldParts) (place : ℕ) (old new : Station) → IsWorldParts parts
     → slice_get parts.stations.items place ≡ Some old
     → length new.system.ports ≡ length old.system.ports → clock new.system ≡ clock old.system
     → stage'.stations.items ≡ slice_set parts.stations.items place new → IsNet stage'.net
     → stage'.net.directory ≡ parts.net.directory
     → stage'.net.pending.systems ≡ parts.net.pending.systems → stage'.now ≡ parts.now → stage'.outbox.items ≡ []
-    → IsStage stage'
+    → IsWorldParts stage'
 becomes parts stage' place old new is here ports clocks list net directory systems now outbox =
     let places = is.systems in
     record {
@@ -285,11 +285,11 @@ becomes parts stage' place old new is here ports clocks list net directory syste
     }
 
 -- the stage after it was carried out, from the one that it left
-pub stays : (parts left stage' : WorldParts) (place : ℕ) (input : Input) (answer : Answer) → IsStage parts
+pub stays : (parts left stage' : WorldParts) (place : ℕ) (input : Input) (answer : Answer) → IsWorldParts parts
     → HasStepped place input answer parts left → stage'.stations ≡ left.stations → IsNet stage'.net
     → stage'.net.directory ≡ left.net.directory → stage'.net.pending.systems ≡ left.net.pending.systems
     → stage'.now ≡ left.now
-    → stage'.outbox.items ≡ [] → IsStage stage'
+    → stage'.outbox.items ≡ [] → IsWorldParts stage'
 stays parts left stage' place input answer is step stations net directory systems now outbox =
     let old = step.station in
     becomes parts stage' place old (in_state step.after old) is step.here
@@ -361,9 +361,9 @@ call_uses input place parts net uses = λ station here.
 -- ---- another net
 
 -- a stage whose net became another, with everything where it was
-pub net_replaced : (parts : WorldParts) (net : Between) → IsStage parts → IsNet net
+pub net_replaced : (parts : WorldParts) (net : Between) → IsWorldParts parts → IsNet net
     → net.directory ≡ parts.net.directory
-    → net.pending.systems ≡ parts.net.pending.systems → IsStage (record parts { net = net })
+    → net.pending.systems ≡ parts.net.pending.systems → IsWorldParts (record parts { net = net })
 net_replaced parts net is still directory systems = record {
   net = still;
   clocks = rw directory is.clocks;

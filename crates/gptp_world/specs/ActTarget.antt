@@ -35,17 +35,17 @@ pub record PlaceHasClock (number : ℕ) (w : WorldState) (place : ℕ) : Type 0 
   pub is : IsStation number place w station
 
 -- a change is about this
-abbrev pub IsAimOfChange : Change → WorldState → ActTarget → Type 0
-IsAimOfChange (changes.LinkDown number port) w (aims.LinkDown link) = IsLinkAt (port_id number port) w link
-IsAimOfChange (changes.LinkUp number port) w (aims.LinkUp link) = IsLinkAt (port_id number port) w link
-IsAimOfChange (changes.LinkSet number port min max loss) w (aims.LinkSet link bounds) =
+abbrev pub IsTargetOfChange : Change → WorldState → ActTarget → Type 0
+IsTargetOfChange (changes.LinkDown number port) w (aims.LinkDown link) = IsLinkAt (port_id number port) w link
+IsTargetOfChange (changes.LinkUp number port) w (aims.LinkUp link) = IsLinkAt (port_id number port) w link
+IsTargetOfChange (changes.LinkSet number port min max loss) w (aims.LinkSet link bounds) =
     (at : IsLinkAt (port_id number port) w link) × (bounds ≡ set_to min max loss at.channel)
-IsAimOfChange (changes.Fail number) w (aims.Fail place) = PlaceHasClock number w place
-IsAimOfChange (changes.Recover number) w (aims.Recover place) = PlaceHasClock number w place
-IsAimOfChange (changes.Priority1 number value) w (aims.Priority1 place set) = PlaceHasClock number w place
+IsTargetOfChange (changes.Fail number) w (aims.Fail place) = PlaceHasClock number w place
+IsTargetOfChange (changes.Recover number) w (aims.Recover place) = PlaceHasClock number w place
+IsTargetOfChange (changes.Priority1 number value) w (aims.Priority1 place set) = PlaceHasClock number w place
     × (set ≡ value)
-IsAimOfChange (changes.Inject number port octets) w (aims.Inject lane) = IsLaneAt (port_id number port) w lane
-IsAimOfChange change w target = ⊥
+IsTargetOfChange (changes.Inject number port octets) w (aims.Inject lane) = IsLaneAt (port_id number port) w lane
+IsTargetOfChange change w target = ⊥
 
 -- the system with a clock and a timer
 pub record IsTimerAt (number : ℕ) (w : WorldState) (place : ℕ) (timer : Timer) : Type 0 where
@@ -58,7 +58,7 @@ abbrev pub IsTargetOf : Act → WorldState → ActTarget → Type 0
 IsTargetOf (Deliver link direction) w (aims.Arrival lane) =
     (lane.link ≡ link) × ((lane.direction ≡ direction) × AtPlace link w.net (λ channel. ⊤))
 IsTargetOf (Expire number timer) w (aims.Timer place set) = IsTimerAt number w place timer × (set ≡ timer)
-IsTargetOf (Changing change) w target = IsAimOfChange change w target
+IsTargetOf (Changing change) w target = IsTargetOfChange change w target
 IsTargetOf act w target = ⊥
 
 -- a timer of the system at a place is due at this time

@@ -31,8 +31,8 @@ for_credit clocks frame_budget = record {
 }
 
 -- no system has any
-abbrev pub HasNoCredit : List ℕ → Type 0
-HasNoCredit frame_budget = (clocks : List ℕ) (clock : ℕ) → credit_of clocks frame_budget clock ≡ 0
+abbrev pub HasNoBudget : List ℕ → Type 0
+HasNoBudget frame_budget = (clocks : List ℕ) (clock : ℕ) → credit_of clocks frame_budget clock ≡ 0
 
 -- two are drawn off that of the system at a place
 pub record DrawsTwo (place : ℕ) (frame_budget after : List ℕ) : Type 0 where
@@ -81,10 +81,10 @@ ExpiresBeyond place timer frame_budget parts = (station : Station) → slice_get
     → HasRoomBeyond (timer_reach timer station.system) place frame_budget parts
 
 -- an act leaves the credit as it is; where it is a change, there is none
-abbrev pub LeavesCredit : ActTarget → List ℕ → WorldParts → Type 0
-LeavesCredit (aims.Arrival lane) frame_budget parts = HearsBeyond lane frame_budget parts
-LeavesCredit (aims.Timer place timer) frame_budget parts = ExpiresBeyond place timer frame_budget parts
-LeavesCredit target frame_budget parts = HasNoCredit frame_budget
+abbrev pub LeavesBudget : ActTarget → List ℕ → WorldParts → Type 0
+LeavesBudget (aims.Arrival lane) frame_budget parts = HearsBeyond lane frame_budget parts
+LeavesBudget (aims.Timer place timer) frame_budget parts = ExpiresBeyond place timer frame_budget parts
+LeavesBudget target frame_budget parts = HasNoBudget frame_budget
 
 -- ---- what an act used
 
@@ -106,10 +106,10 @@ pub record ExpiryUses (place : ℕ) (timer : Timer) (parts : WorldParts) (net : 
   pub here : slice_get parts.stations.items place ≡ Some station
   pub uses : Uses (for_reach (timer_reach timer station.system) station.system) parts.net net
 
-abbrev pub UsesForAim : ActTarget → WorldParts → Between → Type 0
-UsesForAim (aims.Arrival lane) parts net = HearUses lane parts net
-UsesForAim (aims.Timer place timer) parts net = ExpiryUses place timer parts net
-UsesForAim target parts net = ⊤
+abbrev pub UsesForTarget : ActTarget → WorldParts → Between → Type 0
+UsesForTarget (aims.Arrival lane) parts net = HearUses lane parts net
+UsesForTarget (aims.Timer place timer) parts net = ExpiryUses place timer parts net
+UsesForTarget target parts net = ⊤
 
 -- a change is neither
 abbrev pub IsChange : ActTarget → Type 0

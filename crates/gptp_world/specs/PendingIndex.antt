@@ -10,18 +10,18 @@ use Rattle.gptp_model.specs.Item.{timer_kind, timer_port}
 use Rattle.gptp_model.specs.Pending.{IsKnownItem, arrival_place}
 
 -- the table: timers, the numbers of the entries of each direction of a link, in order of putting, and room for more
-pub record FiledState : Type 0 where
+pub record PendingIndexState : Type 0 where
   pub timers : List (Option ArmedTimer)
   pub queues : List (List ℕ)
   pub room : ℕ
 
 -- ---- queues
 
-abbrev pub queue_at : ℕ → FiledState → List ℕ
+abbrev pub queue_at : ℕ → PendingIndexState → List ℕ
 queue_at place pending_index = slice_index_or pending_index.queues place []
 
 -- the queue at a place is this, and there is so much room
-abbrev pub filed_with_queue : ℕ → List ℕ → ℕ → FiledState → FiledState
+abbrev pub filed_with_queue : ℕ → List ℕ → ℕ → PendingIndexState → PendingIndexState
 filed_with_queue place queue room pending_index = record pending_index
     { queues = slice_set pending_index.queues place queue; room = room }
 
@@ -52,7 +52,8 @@ one_or_none None = []
 one_or_none (Some timer) = timer ∷ []
 
 -- The entries are filed: each timer that runs, at most once, and the numbers of the arrivals, in order of putting.
-pub record PendingIsFiled (systems links : ℕ) (pending_index : FiledState) (es : List (Numbered Item)) : Type 0 where
+pub record PendingIsIndexed (systems links : ℕ) (pending_index : PendingIndexState)
+    (es : List (Numbered Item)) : Type 0 where
   pub few_systems : systems ≤ 512
   pub few_links : links ≤ 2048
   pub timers_len : length pending_index.timers ≡ systems * 119

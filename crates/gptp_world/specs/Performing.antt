@@ -28,16 +28,16 @@ use Rattle.gptp_model.specs.World.{Channel, WorldState, sender}
 -- ---- room for what an act can leave
 
 -- a failure leaves nothing, nor does what changes nothing
-abbrev pub HasRoomForAim : ActTarget → WorldParts → Type 0
-HasRoomForAim (aims.Arrival lane) parts = HasRoomToHear lane parts
-HasRoomForAim (aims.Timer place timer) parts = HasRoomToGive (TimerExpires timer) place parts
-HasRoomForAim (aims.LinkDown link) parts = LinkIs true link parts.net → HasRoomAtEnds link parts
-HasRoomForAim (aims.LinkUp link) parts = LinkIs false link parts.net → HasRoomAtEnds link parts
-HasRoomForAim (aims.LinkSet link bounds) parts = ⊤
-HasRoomForAim (aims.Fail place) parts = ⊤
-HasRoomForAim (aims.Recover place) parts = SystemIs false place parts → HasRoomToStart place parts
-HasRoomForAim (aims.Priority1 place value) parts = HasRoomToCall place parts
-HasRoomForAim (aims.Inject lane) parts = LinkIs true lane.link parts.net → HasRoomToInject lane parts.net
+abbrev pub HasRoomForTarget : ActTarget → WorldParts → Type 0
+HasRoomForTarget (aims.Arrival lane) parts = HasRoomToHear lane parts
+HasRoomForTarget (aims.Timer place timer) parts = HasRoomToGive (TimerExpires timer) place parts
+HasRoomForTarget (aims.LinkDown link) parts = LinkIs true link parts.net → HasRoomAtEnds link parts
+HasRoomForTarget (aims.LinkUp link) parts = LinkIs false link parts.net → HasRoomAtEnds link parts
+HasRoomForTarget (aims.LinkSet link bounds) parts = ⊤
+HasRoomForTarget (aims.Fail place) parts = ⊤
+HasRoomForTarget (aims.Recover place) parts = SystemIs false place parts → HasRoomToStart place parts
+HasRoomForTarget (aims.Priority1 place value) parts = HasRoomToCall place parts
+HasRoomForTarget (aims.Inject lane) parts = LinkIs true lane.link parts.net → HasRoomToInject lane parts.net
 
 -- ---- what is done, by place
 

@@ -7,18 +7,18 @@ use Rattle.gptp_world.specs.declared.world_parts.WorldParts.{WorldParts}
 use Rattle.gptp_model.specs.Changing.{StartsAll}
 use Rattle.gptp_model.specs.Sound.{IsSound}
 use Rattle.gptp_world.specs.FrameBudget.{IsCovered}
-use Rattle.gptp_world.specs.WorldParts.{world_of, IsStage}
+use Rattle.gptp_world.specs.WorldParts.{world_of, IsWorldParts}
 use Rattle.gptp_invariants.specs.SyncTimedClaim.{WorldInvariant}
 
 -- what the code keeps of a world while its systems start
 pub record IsFounded (parts : WorldParts) : Type 0 where
-  pub stage_kept : IsStage parts
+  pub stage_kept : IsWorldParts parts
   pub sound : IsSound (world_of parts)
 
 -- what it keeps between acts: also what every world of a network keeps, from which it follows that the world settles
 -- and how exact its offsets are; and there is room for the credit of each system
 pub record IsWorldCore (frame_budget : List ℕ) (parts : WorldParts) : Type 0 where
-  pub stage_kept : IsStage parts
+  pub stage_kept : IsWorldParts parts
   pub sound : IsSound (world_of parts)
   pub claimed : WorldInvariant (world_of parts)
   pub covered : IsCovered frame_budget parts.net

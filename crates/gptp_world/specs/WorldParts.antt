@@ -38,7 +38,7 @@ clock_at_place station = clock station.system
 
 -- The directory knows the systems and the links, and what is pending has a place for each. A link joins ports that
 -- systems have. The outbox is empty.
-pub record IsStage (parts : WorldParts) : Type 0 where
+pub record IsWorldParts (parts : WorldParts) : Type 0 where
   pub net : IsNet parts.net
   pub clocks : map clock_at_place parts.stations.items ≡ parts.net.directory.clocks
   pub systems : length parts.stations.items ≤ parts.net.pending.systems

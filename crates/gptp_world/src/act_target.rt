@@ -40,13 +40,13 @@ impl WorldParts {
     ghost use Rattle.gptp_model.specs.declared.station.Station.{Station};
     ghost use Rattle.gptp_model.specs.World.{Channel};
     ghost use Rattle.gptp_model.specs.Acts.{set_to, AtLink, AnyLink, AtSystem, AnySystem, IsThere, IsThereToChange};
-    ghost use Rattle.gptp_world.specs.ActTarget.{IsTargetOf, IsAimOfChange, IsLaneAt, IsLinkAt, PlaceHasClock};
+    ghost use Rattle.gptp_world.specs.ActTarget.{IsTargetOf, IsTargetOfChange, IsLaneAt, IsLinkAt, PlaceHasClock};
     ghost use Rattle.gptp_model.specs.World.{port_id};
-    ghost use Rattle.gptp_world.specs.WorldParts.{world_of, IsStage};
+    ghost use Rattle.gptp_world.specs.WorldParts.{world_of, IsWorldParts};
 
     /// The lane that begins at a port, if there is a link at it.
     fn lane_at(&self, clock: ClockId, port: u16) -> Option<Lane>
-        requires { IsStage self.now }
+        requires { IsWorldParts self.now }
         ensures some { IfSome result (IsLaneAt (port_id clock port) (world_of self.entry.now)) }
         ensures none { IfNone result (AtLink (port_id clock port) (world_of self.entry.now).net AnyLink → ⊥) }
     {
@@ -65,7 +65,7 @@ impl WorldParts {
 
     /// The place of the link at a port, if there is one.
     fn link_at(&self, clock: ClockId, port: u16) -> Option<usize>
-        requires { IsStage self.now }
+        requires { IsWorldParts self.now }
         ensures some { IfSome result (IsLinkAt (port_id clock port) (world_of self.entry.now)) }
         ensures none { IfNone result (AtLink (port_id clock port) (world_of self.entry.now).net AnyLink → ⊥) }
     {
@@ -77,7 +77,7 @@ impl WorldParts {
 
     /// The place of the system with a clock, if there is one.
     fn system_at(&self, clock: ClockId) -> Option<usize>
-        requires { IsStage self.now }
+        requires { IsWorldParts self.now }
         ensures some { IfSome result (PlaceHasClock clock (world_of self.entry.now)) }
         ensures none { IfNone result (AtSystem clock (world_of self.entry.now) AnySystem → ⊥) }
     {
@@ -89,8 +89,8 @@ impl WorldParts {
 
     /// What a change is about, if that is there.
     fn aim_of_change(&self, change: &Change) -> Option<ActTarget>
-        requires { IsStage self.now }
-        ensures some { IfSome result (IsAimOfChange change.now (world_of self.entry.now)) }
+        requires { IsWorldParts self.now }
+        ensures some { IfSome result (IsTargetOfChange change.now (world_of self.entry.now)) }
         ensures none { IfNone result (IsThereToChange change.now (world_of self.entry.now) → ⊥) }
     {
         match *change {
@@ -170,7 +170,7 @@ impl WorldParts {
 
     /// What an act is about, if that is there.
     pub(crate) fn target(&self, act: &Act) -> Option<ActTarget>
-        requires { IsStage self.now }
+        requires { IsWorldParts self.now }
         ensures some { IfSome result (IsTargetOf act.now (world_of self.entry.now)) }
         ensures none { IfNone result (IsThere act.now (world_of self.entry.now) → ⊥) }
     {
@@ -194,7 +194,7 @@ impl WorldParts {
 
     /// The timer of the system with a clock, if there is one.
     fn timer_at(&self, clock: ClockId, timer: Timer) -> Option<ActTarget>
-        requires { IsStage self.now }
+        requires { IsWorldParts self.now }
         ensures some { IfSome result (IsTargetOf (Expire clock timer) (world_of self.entry.now)) }
         ensures none { IfNone result (IsThere (Expire clock timer) (world_of self.entry.now) → ⊥) }
     {
@@ -215,7 +215,7 @@ impl WorldParts {
     ghost use Rattle.gptp_model.specs.declared.station.Station.{Station};
     ghost use Rattle.gptp_model.specs.Acts.{IsDueThen, IsOldestDue};
     ghost use Rattle.gptp_world.specs.ActTarget.{IsTargetOf};
-    ghost use Rattle.gptp_world.specs.WorldParts.{world_of, IsStage};
+    ghost use Rattle.gptp_world.specs.WorldParts.{world_of, IsWorldParts};
     ghost use Rattle.gptp_model.specs.World.{station_due, Channel};
 
     /// Whether the oldest frame of a lane is due at a time.

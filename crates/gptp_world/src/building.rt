@@ -19,11 +19,11 @@ use std::alloc::{AllocError, Global};
 impl WorldParts {
     ghost use Rattle.std.specs.Prelude.{◌≡◌, IfOk};
     ghost use Rattle.gptp_model.specs.Initial.{initial};
-    ghost use Rattle.gptp_world.specs.WorldParts.{world_of, IsStage};
+    ghost use Rattle.gptp_world.specs.WorldParts.{world_of, IsWorldParts};
 
     /// The world of a network at time 0, before its systems start. Refused for want of memory alone.
     pub(crate) fn found(alloc: Global, network: &Network) -> Result<Self, AllocError>
-        ensures parts { IfOk result IsStage }
+        ensures parts { IfOk result IsWorldParts }
         ensures world { IfOk result (λ parts. world_of parts ≡ initial network.now) }
     {
         network.well_formed();

@@ -38,7 +38,7 @@ impl WorldParts {
     ghost use Rattle.gptp_model.specs.Acts.{IsDueThen, IsEarlier, IsReadyAct, Refuses};
     ghost use Rattle.gptp_world.specs.ActTarget.{IsTargetOf};
     ghost use Rattle.gptp_model.specs.Pending.{NothingBefore};
-    ghost use Rattle.gptp_world.specs.WorldParts.{world_of, IsStage};
+    ghost use Rattle.gptp_world.specs.WorldParts.{world_of, IsWorldParts};
 
     /// Whether nothing is due before a time.
     fn is_first(&self, time: u64) -> bool
@@ -53,7 +53,7 @@ impl WorldParts {
 
     /// Whether an act is due at a time.
     fn is_due(&self, act: &Act, target: ActTarget, time: u64) -> bool
-        requires parts { IsStage self.now }
+        requires parts { IsWorldParts self.now }
         requires target { IsTargetOf act.now (world_of self.now) target }
         ensures { IsTrue result ↔ IsDueThen act.now time (world_of self.entry.now) }
     {
@@ -73,7 +73,7 @@ impl WorldParts {
 
     /// What an act is about, where it can be done; otherwise the first test that it fails.
     pub(crate) fn check(&self, timed: &Timed) -> Result<ActTarget, Refused>
-        requires { IsStage self.now }
+        requires { IsWorldParts self.now }
         ensures target { IfOk result (IsTargetOf timed.now.act (world_of self.entry.now)) }
         ensures ready { IfOk result (λ target. IsReadyAct timed.now.act timed.now.at (world_of self.entry.now)) }
         ensures refused { IfErr result (Refuses timed.now.act timed.now.at (world_of self.entry.now)) }

@@ -32,7 +32,7 @@ impl WorldParts {
     ghost use Rattle.gptp_system.specs.Input.{Frame};
     ghost use Rattle.gptp_system.specs.Reach.{frame_reach};
     ghost use Rattle.gptp_world.specs.Net.{IsFrameDue, IsOldest};
-    ghost use Rattle.gptp_world.specs.WorldParts.{world_of, GiveUses, HasRoomToGive, IsStage};
+    ghost use Rattle.gptp_world.specs.WorldParts.{world_of, GiveUses, HasRoomToGive, IsWorldParts};
     ghost use Rattle.gptp_world.specs.FrameBudget.{HearsBeyond, HearUses, IsCovered};
     ghost use Rattle.gptp_world.specs.Delivering.{Delivered, HasRoomToHear, HeardAt, IsHeardAt, MayHear};
     ghost use Rattle.gptp_world.specs.Timing.{AreSetFor};
@@ -45,12 +45,12 @@ impl WorldParts {
         frame: &[u8],
         fate: &mut F,
     ) -> Option<Answer>
-        requires parts { IsStage self.old }
+        requires parts { IsWorldParts self.old }
         requires place { place < length self.old.stations.items }
         requires heard { IsHeardAt place port self.old }
         requires set { AreSetFor (Frame port frame.now) place self.old }
         requires room { HasRoomToGive (Frame port frame.now) place self.old }
-        ensures parts { IsStage self.new }
+        ensures parts { IsWorldParts self.new }
         ensures heard { HeardAt F.answers place port frame.now result fate.old fate.new self.old self.new }
         ensures uses { GiveUses (Frame port frame.now) place self.old self.new.net }
     {
@@ -69,12 +69,12 @@ impl WorldParts {
 
     /// The oldest frame of a lane, which is due now, reaches the port at its end.
     pub(crate) fn deliver<F: Fate>(&mut self, lane: Lane, fate: &mut F) -> Reached
-        requires parts { IsStage self.old }
+        requires parts { IsWorldParts self.old }
         requires due { IsFrameDue lane self.old.now self.old.net }
         requires hears { MayHear lane self.old }
         requires agrees { Agrees (world_of self.old) }
         requires room { HasRoomToHear lane self.old }
-        ensures parts { IsStage self.new }
+        ensures parts { IsWorldParts self.new }
         ensures delivered { Delivered F.answers lane result.at result.answer result.frame.items fate.old fate.new self.old self.new }
         ensures uses { HearUses lane self.old self.new.net }
     {
@@ -106,10 +106,10 @@ impl WorldParts {
         lane: Lane,
         frame_budget: &mut FrameBudget,
     ) -> Result<(), AllocError>
-        requires parts { IsStage self.old }
+        requires parts { IsWorldParts self.old }
         requires link { lane.link < length self.old.net.cables.items }
         requires covered { IsCovered frame_budget.old self.old.net }
-        ensures parts { IsStage self.new }
+        ensures parts { IsWorldParts self.new }
         ensures world { world_of self.new ≡ world_of self.old }
         ensures covered { IsCovered frame_budget.new self.new.net }
         ensures room { OnOk result (HearsBeyond lane frame_budget.new self.new) }

@@ -33,15 +33,15 @@ impl WorldParts {
     ghost use Rattle.gptp_world.specs.ActTarget.{IsTimerDue};
     ghost use Rattle.gptp_world.specs.FrameBudget.{ExpiresBeyond, ExpiryUses, IsCovered};
     ghost use Rattle.gptp_world.specs.Performing.{Expired};
-    ghost use Rattle.gptp_world.specs.WorldParts.{world_of, HasRoomToGive, HasTimerAt, IsStage};
+    ghost use Rattle.gptp_world.specs.WorldParts.{world_of, HasRoomToGive, HasTimerAt, IsWorldParts};
 
     /// A timer of the system at a place, which is due now, expires.
     pub(crate) fn run_out<F: Fate>(&mut self, place: usize, timer: Timer, fate: &mut F)
-        requires parts { IsStage self.old }
+        requires parts { IsWorldParts self.old }
         requires due { IsTimerDue place timer self.old.now (world_of self.old) }
         requires agrees { Agrees (world_of self.old) }
         requires room { HasRoomToGive (Expires timer) place self.old }
-        ensures parts { IsStage self.new }
+        ensures parts { IsWorldParts self.new }
         ensures expired { Expired F.answers place timer fate.old fate.new self.old self.new }
         ensures uses { ExpiryUses place timer self.old self.new.net }
     {
@@ -57,10 +57,10 @@ impl WorldParts {
         timer: Timer,
         frame_budget: &mut FrameBudget,
     ) -> Result<(), AllocError>
-        requires parts { IsStage self.old }
+        requires parts { IsWorldParts self.old }
         requires timer { HasTimerAt place timer self.old }
         requires covered { IsCovered frame_budget.old self.old.net }
-        ensures parts { IsStage self.new }
+        ensures parts { IsWorldParts self.new }
         ensures world { world_of self.new ≡ world_of self.old }
         ensures covered { IsCovered frame_budget.new self.new.net }
         ensures room { OnOk result (ExpiresBeyond place timer frame_budget.new self.new) }

@@ -1,7 +1,7 @@
 //! Room that is made ahead, so that an act seldom asks each lane for it.
 
 ghost use Rattle.std.specs.Prelude.{◌≡◌, true, false, IfOk, slice_set};
-ghost use Rattle.gptp_world.specs.FrameBudget.{DrawsTwo, HasNoCredit};
+ghost use Rattle.gptp_world.specs.FrameBudget.{DrawsTwo, HasNoBudget};
 
 use crate::net::Net;
 use crate::world_parts::WorldParts;
@@ -33,7 +33,7 @@ impl Model for FrameBudget {
 impl FrameBudget {
     /// None, for so many systems.
     pub(crate) fn new(alloc: Global, systems: usize) -> Result<Self, AllocError>
-        ensures { IfOk result HasNoCredit }
+        ensures { IfOk result HasNoBudget }
     {
         let frames = vec![in alloc; 0; systems]?;
         Ok(FrameBudget { frames })
@@ -41,7 +41,7 @@ impl FrameBudget {
 
     /// Gives all of it up.
     pub(crate) fn give_up(&mut self)
-        ensures { HasNoCredit self.new }
+        ensures { HasNoBudget self.new }
     {
         self.frames.as_mut_slice().fill(0);
     }
@@ -153,7 +153,7 @@ impl Net {
 impl WorldParts {
     ghost use Rattle.std.specs.Prelude.{◌≡◌, ◌<◌, length, OnOk};
     ghost use Rattle.gptp_world.specs.FrameBudget.{HasRoomBeyond, IsCovered};
-    ghost use Rattle.gptp_world.specs.WorldParts.{world_of, IsStage};
+    ghost use Rattle.gptp_world.specs.WorldParts.{world_of, IsWorldParts};
 
     /// Makes room for whatever a call of the system at a place can leave that reaches so far, beyond the credit that is
     /// left then: each of its timers, and two frames at each port that it reaches. Refused where there is no memory for
@@ -164,10 +164,10 @@ impl WorldParts {
         place: usize,
         reach: Reach,
     ) -> Result<(), AllocError>
-        requires parts { IsStage self.old }
+        requires parts { IsWorldParts self.old }
         requires place { place < length self.old.stations.items }
         requires covered { IsCovered frame_budget.old self.old.net }
-        ensures parts { IsStage self.new }
+        ensures parts { IsWorldParts self.new }
         ensures world { world_of self.new ≡ world_of self.old }
         ensures covered { IsCovered frame_budget.new self.new.net }
         ensures room { OnOk result (HasRoomBeyond reach place frame_budget.new self.new) }

@@ -52,7 +52,7 @@ impl Model for Pending {
 
     ghost use Rattle.std.specs.Prelude.{min};
     ghost use Rattle.gptp_model.specs.Pending.{plain};
-    ghost use Rattle.gptp_world.specs.PendingIndex.{PendingIsFiled};
+    ghost use Rattle.gptp_world.specs.PendingIndex.{PendingIsIndexed};
 
     ghost view = { λ p. record {
       systems = p.systems;
@@ -61,7 +61,7 @@ impl Model for Pending {
       room = min p.agenda.room p.pending_index.room;
     } };
 
-    ghost invariant = { λ p. PendingIsFiled p.systems p.links p.pending_index p.agenda.entries };
+    ghost invariant = { λ p. PendingIsIndexed p.systems p.links p.pending_index p.agenda.entries };
 }
 
 impl Pending {

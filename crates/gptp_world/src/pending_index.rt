@@ -31,9 +31,9 @@ pub(crate) struct PendingIndex {
 }
 
 impl Model for PendingIndex {
-    ghost use Rattle.gptp_world.specs.PendingIndex.{FiledState};
+    ghost use Rattle.gptp_world.specs.PendingIndex.{PendingIndexState};
 
-    ghost Value = { FiledState };
+    ghost Value = { PendingIndexState };
 
     ghost use Rattle.std.specs.Prelude.{◌-◌, map};
     ghost use Rattle.slab.specs.Slab.{get, slab_len};

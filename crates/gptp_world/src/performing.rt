@@ -39,21 +39,21 @@ impl WorldParts {
     ghost use Rattle.gptp_world.specs.FrameBudget.{HearUses};
     ghost use Rattle.gptp_world.specs.Delivering.{HasRoomToHear};
     ghost use Rattle.gptp_world.specs.Net.{LinkIs};
-    ghost use Rattle.gptp_world.specs.Performing.{ActIsDone, CanChange, HasRoomForAim, Injected, Turned, TurnsOver};
+    ghost use Rattle.gptp_world.specs.Performing.{ActIsDone, CanChange, HasRoomForTarget, Injected, Turned, TurnsOver};
     ghost use Rattle.gptp_model.specs.Sound.{IsWired};
     ghost use Rattle.gptp_world.specs.Room.{HasRoomToInject};
-    ghost use Rattle.gptp_world.specs.WorldParts.{world_of, IsStage, SystemIs};
+    ghost use Rattle.gptp_world.specs.WorldParts.{world_of, IsWorldParts, SystemIs};
     ghost use Rattle.gptp_world.specs.Starting.{CanStart, HasRoomToStart};
     ghost use Rattle.gptp_world.specs.Telling.{HasRoomAtEnds};
 
     /// The oldest frame of a lane, which is due now, arrives.
     fn arrive<F: Fate>(&mut self, lane: Lane, fate: &mut F) -> Done
-        requires parts { IsStage self.old }
+        requires parts { IsWorldParts self.old }
         requires wired { IsWired (world_of self.old) }
         requires agrees { Agrees (world_of self.old) }
         requires due { AtPlace lane.link (world_of self.old).net (IsOldestDue lane.direction self.old.now) }
         requires room { HasRoomToHear lane self.old }
-        ensures parts { IsStage self.new }
+        ensures parts { IsWorldParts self.new }
         ensures arrived { ActIsDone F.answers (Deliver lane.link lane.direction) result fate.old fate.new self.old self.new }
         ensures uses { HearUses lane self.old self.new.net }
     {
@@ -68,10 +68,10 @@ impl WorldParts {
 
     /// A link goes down, where it is up.
     fn take_link_down<F: Fate>(&mut self, link: usize, fate: &mut F)
-        requires parts { IsStage self.old }
+        requires parts { IsWorldParts self.old }
         requires link { link < length self.old.net.cables.items }
         requires room { LinkIs true link self.old.net → HasRoomAtEnds link self.old }
-        ensures parts { IsStage self.new }
+        ensures parts { IsWorldParts self.new }
         ensures down { Turned F.answers (LinkDown link) fate.old fate.new self.old self.new }
     {
         if self.net.is_up(link) {
@@ -81,10 +81,10 @@ impl WorldParts {
 
     /// A link comes up, where it is down.
     fn bring_link_up<F: Fate>(&mut self, link: usize, fate: &mut F)
-        requires parts { IsStage self.old }
+        requires parts { IsWorldParts self.old }
         requires link { link < length self.old.net.cables.items }
         requires room { LinkIs false link self.old.net → HasRoomAtEnds link self.old }
-        ensures parts { IsStage self.new }
+        ensures parts { IsWorldParts self.new }
         ensures up { Turned F.answers (LinkUp link) fate.old fate.new self.old self.new }
     {
         if !self.net.is_up(link) {
@@ -94,10 +94,10 @@ impl WorldParts {
 
     /// A link gets other bounds.
     fn set_link(&mut self, link: usize, bounds: Bounds)
-        requires parts { IsStage self.old }
+        requires parts { IsWorldParts self.old }
         requires link { link < length self.old.net.cables.items }
         requires fit { Fit bounds }
-        ensures parts { IsStage self.new }
+        ensures parts { IsWorldParts self.new }
         ensures set { TurnsOver (LinkSet link bounds) (world_of self.old) [] (world_of self.new) }
     {
         self.net.set_bounds(link, bounds);
@@ -105,9 +105,9 @@ impl WorldParts {
 
     /// A system fails, where it is live.
     fn fail_if_live(&mut self, place: usize)
-        requires parts { IsStage self.old }
+        requires parts { IsWorldParts self.old }
         requires place { place < length self.old.stations.items }
-        ensures parts { IsStage self.new }
+        ensures parts { IsWorldParts self.new }
         ensures failed { TurnsOver (Fail place) (world_of self.old) [] (world_of self.new) }
     {
         if self.stations[place].live {
@@ -117,10 +117,10 @@ impl WorldParts {
 
     /// A system starts again, where it has failed.
     fn recover<F: Fate>(&mut self, place: usize, fate: &mut F)
-        requires parts { IsStage self.old }
+        requires parts { IsWorldParts self.old }
         requires can { CanStart place self.old }
         requires room { SystemIs false place self.old → HasRoomToStart place self.old }
-        ensures parts { IsStage self.new }
+        ensures parts { IsWorldParts self.new }
         ensures recovered { Turned F.answers (Recover place) fate.old fate.new self.old self.new }
     {
         if !self.stations[place].live {
@@ -130,11 +130,11 @@ impl WorldParts {
 
     /// A frame with these octets goes onto a lane, where its link is up, as if the system at its beginning had sent it.
     fn inject<F: Fate>(&mut self, lane: Lane, octets: &[u8], fate: &mut F)
-        requires parts { IsStage self.old }
+        requires parts { IsWorldParts self.old }
         requires link { lane.link < length self.old.net.cables.items }
         requires few { length octets.now ≤ 2116 }
         requires room { LinkIs true lane.link self.old.net → HasRoomToInject lane self.old.net }
-        ensures parts { IsStage self.new }
+        ensures parts { IsWorldParts self.new }
         ensures injected { Injected F.answers lane octets.now fate.old fate.new self.old self.new }
     {
         if self.net.is_up(lane.link) {
@@ -144,10 +144,10 @@ impl WorldParts {
 
     /// What a change is about is changed.
     fn change<F: Fate>(&mut self, target: ActTarget, fate: &mut F)
-        requires parts { IsStage self.old }
+        requires parts { IsWorldParts self.old }
         requires can { CanChange target self.old }
-        requires room { HasRoomForAim target self.old }
-        ensures parts { IsStage self.new }
+        requires room { HasRoomForTarget target self.old }
+        ensures parts { IsWorldParts self.new }
         ensures changed { Turned F.answers target fate.old fate.new self.old self.new }
     {
         match target {
@@ -169,21 +169,21 @@ impl WorldParts {
     ghost use Rattle.gptp_model.specs.Acts.{IsDueThen};
     ghost use Rattle.gptp_scenario.specs.Allowed.{IsFitAct};
     ghost use Rattle.gptp_world.specs.ActTarget.{IsTargetOf};
-    ghost use Rattle.gptp_world.specs.FrameBudget.{IsChange, IsCovered, LeavesCredit, UsesForAim};
+    ghost use Rattle.gptp_world.specs.FrameBudget.{IsChange, IsCovered, LeavesBudget, UsesForTarget};
     ghost use Rattle.gptp_world.specs.Memory.{AsksForNoMemory};
-    ghost use Rattle.gptp_world.specs.Performing.{ActIsDone, HasRoomForAim};
+    ghost use Rattle.gptp_world.specs.Performing.{ActIsDone, HasRoomForTarget};
     ghost use Rattle.gptp_model.specs.Sound.{IsSound};
-    ghost use Rattle.gptp_world.specs.WorldParts.{world_of, IsStage};
+    ghost use Rattle.gptp_world.specs.WorldParts.{world_of, IsWorldParts};
 
     /// Makes room for whatever a change can leave: none for a failure, or where nothing will change. Refused where
     /// there is no memory for it. The state of the world doesn't change.
     fn make_room_to_change(&mut self, act: &Act, target: ActTarget) -> Result<(), AllocError>
-        requires parts { IsStage self.old }
+        requires parts { IsWorldParts self.old }
         requires target { IsTargetOf act.now (world_of self.old) target }
         requires change { IsChange target }
-        ensures parts { IsStage self.new }
+        ensures parts { IsWorldParts self.new }
         ensures world { world_of self.new ≡ world_of self.old }
-        ensures room { OnOk result (HasRoomForAim target self.new) }
+        ensures room { OnOk result (HasRoomForTarget target self.new) }
         ensures free { AsksForNoMemory act.now (world_of self.old) → IsOk result }
     {
         match target {
@@ -207,14 +207,14 @@ impl WorldParts {
         target: ActTarget,
         frame_budget: &mut FrameBudget,
     ) -> Result<(), AllocError>
-        requires parts { IsStage self.old }
+        requires parts { IsWorldParts self.old }
         requires target { IsTargetOf act.now (world_of self.old) target }
         requires covered { IsCovered frame_budget.old self.old.net }
-        ensures parts { IsStage self.new }
+        ensures parts { IsWorldParts self.new }
         ensures world { world_of self.new ≡ world_of self.old }
         ensures covered { IsCovered frame_budget.new self.new.net }
-        ensures room { OnOk result (HasRoomForAim target self.new) }
-        ensures left { OnOk result (LeavesCredit target frame_budget.new self.new) }
+        ensures room { OnOk result (HasRoomForTarget target self.new) }
+        ensures left { OnOk result (LeavesBudget target frame_budget.new self.new) }
         ensures free { AsksForNoMemory act.now (world_of self.old) → IsOk result }
     {
         match target {
@@ -233,15 +233,15 @@ impl WorldParts {
 
     /// An act that is there, and due now, is carried out.
     pub(crate) fn perform<F: Fate>(&mut self, act: &Act, target: ActTarget, fate: &mut F) -> Done
-        requires parts { IsStage self.old }
+        requires parts { IsWorldParts self.old }
         requires sound { IsSound (world_of self.old) }
         requires target { IsTargetOf act.now (world_of self.old) target }
         requires due { IsDueThen act.now self.old.now (world_of self.old) }
         requires fit { IsFitAct act.now }
-        requires room { HasRoomForAim target self.old }
-        ensures parts { IsStage self.new }
+        requires room { HasRoomForTarget target self.old }
+        ensures parts { IsWorldParts self.new }
         ensures acted { ActIsDone F.answers act.now result fate.old fate.new self.old self.new }
-        ensures uses { UsesForAim target self.old self.new.net }
+        ensures uses { UsesForTarget target self.old self.new.net }
     {
         match target {
             ActTarget::Arrival(lane) => self.arrive(lane, fate),

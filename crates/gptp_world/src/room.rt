@@ -93,15 +93,15 @@ impl WorldParts {
     ghost use Rattle.std.specs.Prelude.{◌≡◌, ◌≢◌, ◌≤◌, ◌<◌, length, true, false, IsOk, OnOk};
     ghost use Rattle.gptp_world.specs.Net.{LinkIs};
     ghost use Rattle.gptp_world.specs.Room.{HasRoomToInject};
-    ghost use Rattle.gptp_world.specs.WorldParts.{world_of, HasRoomToCall, HasRoomToCallBoth, IsStage, SystemIs};
+    ghost use Rattle.gptp_world.specs.WorldParts.{world_of, HasRoomToCall, HasRoomToCallBoth, IsWorldParts, SystemIs};
     ghost use Rattle.gptp_world.specs.Starting.{HasRoomToStart};
 
     /// Makes room for whatever a call of the system at a place can leave: each of its timers, and two frames at each
     /// port. Refused where there is no memory for it. The state of the world doesn't change.
     pub(crate) fn make_room(&mut self, place: usize) -> Result<(), AllocError>
-        requires parts { IsStage self.old }
+        requires parts { IsWorldParts self.old }
         requires place { place < length self.old.stations.items }
-        ensures parts { IsStage self.new }
+        ensures parts { IsWorldParts self.new }
         ensures world { world_of self.new ≡ world_of self.old }
         ensures room { OnOk result (HasRoomToCall place self.new) }
     {
@@ -114,9 +114,9 @@ impl WorldParts {
     /// Makes room for a start of the system at a place: each of its timers, and a call for each of its ports. Refused
     /// where there is no memory for it. The state of the world doesn't change.
     pub(crate) fn make_room_to_start(&mut self, place: usize) -> Result<(), AllocError>
-        requires parts { IsStage self.old }
+        requires parts { IsWorldParts self.old }
         requires place { place < length self.old.stations.items }
-        ensures parts { IsStage self.new }
+        ensures parts { IsWorldParts self.new }
         ensures world { world_of self.new ≡ world_of self.old }
         ensures room { OnOk result (HasRoomToStart place self.new) }
     {
@@ -129,9 +129,9 @@ impl WorldParts {
     /// Makes room for the system at a place to start again, where it has failed. Refused where there is no memory for
     /// it. The state of the world doesn't change.
     pub(crate) fn make_room_to_recover(&mut self, place: usize) -> Result<(), AllocError>
-        requires parts { IsStage self.old }
+        requires parts { IsWorldParts self.old }
         requires place { place < length self.old.stations.items }
-        ensures parts { IsStage self.new }
+        ensures parts { IsWorldParts self.new }
         ensures world { world_of self.new ≡ world_of self.old }
         ensures room { OnOk result (SystemIs false place self.new → HasRoomToStart place self.new) }
         ensures free { SystemIs true place self.old → IsOk result }
@@ -149,11 +149,11 @@ impl WorldParts {
         first: usize,
         second: usize,
     ) -> Result<(), AllocError>
-        requires parts { IsStage self.old }
+        requires parts { IsWorldParts self.old }
         requires first { first < length self.old.stations.items }
         requires second { second < length self.old.stations.items }
         requires apart { first ≢ second }
-        ensures parts { IsStage self.new }
+        ensures parts { IsWorldParts self.new }
         ensures world { world_of self.new ≡ world_of self.old }
         ensures room { OnOk result (HasRoomToCallBoth first second self.new) }
     {
@@ -169,9 +169,9 @@ impl WorldParts {
     /// Makes room for one more frame on a lane: an entry, a buffer, and a place after those in flight. Refused where
     /// there is no memory for it. The state of the world doesn't change.
     fn make_room_for_frame(&mut self, lane: Lane) -> Result<(), AllocError>
-        requires parts { IsStage self.old }
+        requires parts { IsWorldParts self.old }
         requires link { lane.link < length self.old.net.cables.items }
-        ensures parts { IsStage self.new }
+        ensures parts { IsWorldParts self.new }
         ensures world { world_of self.new ≡ world_of self.old }
         ensures room { OnOk result (HasRoomToInject lane self.new.net) }
     {
@@ -182,9 +182,9 @@ impl WorldParts {
     /// Makes room for a frame that is injected on a lane, where its link is up. Refused where there is no memory for
     /// it. The state of the world doesn't change.
     pub(crate) fn make_room_to_inject(&mut self, lane: Lane) -> Result<(), AllocError>
-        requires parts { IsStage self.old }
+        requires parts { IsWorldParts self.old }
         requires link { lane.link < length self.old.net.cables.items }
-        ensures parts { IsStage self.new }
+        ensures parts { IsWorldParts self.new }
         ensures world { world_of self.new ≡ world_of self.old }
         ensures room { OnOk result (LinkIs true lane.link self.new.net → HasRoomToInject lane self.new.net) }
         ensures free { LinkIs false lane.link self.old.net → IsOk result }

@@ -9,7 +9,7 @@ impl WorldParts {
     ghost use Rattle.std.specs.List.{range_with_len};
     ghost use Rattle.gptp_model.specs.declared.station.Station.{Station};
     ghost use Rattle.gptp_model.specs.Changing.{failed, fresh, with_setup};
-    ghost use Rattle.gptp_world.specs.WorldParts.{world_of, CallUses, HasRoomToCall, IsLiveAt, IsPortAt, IsStage};
+    ghost use Rattle.gptp_world.specs.WorldParts.{world_of, CallUses, HasRoomToCall, IsLiveAt, IsPortAt, IsWorldParts};
     ghost use Rattle.gptp_world.specs.Starting.{CameUp, CanSetTimers, CanStart, HasRoomForPorts, HasRoomToStart, HasSetTimers, Prioritized, StandsReplaced, Started};
 
     /// What is pending of the timers of the system at a place follows from its state.
@@ -23,11 +23,11 @@ impl WorldParts {
 
     /// A port of the live system at a place comes up where its link is up.
     fn port_up_if_linked<F: Fate>(&mut self, place: usize, port: u8, fate: &mut F)
-        requires parts { IsStage self.old }
+        requires parts { IsWorldParts self.old }
         requires live { IsLiveAt place self.old }
         requires port { IsPortAt place port self.old }
         requires room { HasRoomToCall place self.old }
-        ensures parts { IsStage self.new }
+        ensures parts { IsWorldParts self.new }
         ensures uses { CallUses place self.old self.new.net }
         ensures came { CameUp F.answers place (port ∷ []) fate.old fate.new self.old self.new }
     {
@@ -38,10 +38,10 @@ impl WorldParts {
 
     /// The ports of the live system at a place come up, by rising number, each whose link is up.
     fn bring_ports_up<F: Fate>(&mut self, place: usize, fate: &mut F)
-        requires parts { IsStage self.old }
+        requires parts { IsWorldParts self.old }
         requires live { IsLiveAt place self.old }
         requires room { HasRoomForPorts place self.old }
-        ensures parts { IsStage self.new }
+        ensures parts { IsWorldParts self.new }
         ensures came { (station : Station) → slice_get self.old.stations.items place ≡ Some station
             → CameUp F.answers place (range_with_len 1 (length station.system.ports)) fate.old fate.new self.old self.new }
     {
@@ -68,10 +68,10 @@ impl WorldParts {
 
     /// The system at a place starts: new, with its Sync timer, and then its ports come up, each whose link is up.
     pub(crate) fn start<F: Fate>(&mut self, place: usize, fate: &mut F)
-        requires parts { IsStage self.old }
+        requires parts { IsWorldParts self.old }
         requires can { CanStart place self.old }
         requires room { HasRoomToStart place self.old }
-        ensures parts { IsStage self.new }
+        ensures parts { IsWorldParts self.new }
         ensures started { Started F.answers place fate.old fate.new self.old self.new }
     {
         self.restart(place);
@@ -90,9 +90,9 @@ impl WorldParts {
 
     /// The system at a place fails: all its timers stop.
     pub(crate) fn fail(&mut self, place: usize)
-        requires parts { IsStage self.old }
+        requires parts { IsWorldParts self.old }
         requires place { place < length self.old.stations.items }
-        ensures parts { IsStage self.new }
+        ensures parts { IsWorldParts self.new }
         ensures failed { (station : Station) → slice_get self.old.stations.items place ≡ Some station
             → world_of self.new ≡ failed place station (world_of self.old) }
     {
@@ -112,9 +112,9 @@ impl WorldParts {
 
     /// The system at a place gets another priority1: it starts with it from now on, and where it is live it selects.
     pub(crate) fn set_priority1<F: Fate>(&mut self, place: usize, value: u8, fate: &mut F)
-        requires parts { IsStage self.old }
+        requires parts { IsWorldParts self.old }
         requires room { HasRoomToCall place self.old }
-        ensures parts { IsStage self.new }
+        ensures parts { IsWorldParts self.new }
         ensures prioritized { Prioritized F.answers place value fate.old fate.new self.old self.new }
     {
         self.prepare_priority1(place, value);

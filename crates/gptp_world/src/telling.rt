@@ -67,15 +67,15 @@ fn link_input<'a>(port: u8, up: bool) -> Input<'a>
 impl WorldParts {
     ghost use Rattle.std.specs.Prelude.{◌≡◌, ◌<◌, length, true, false, IsOk, OnOk};
     ghost use Rattle.gptp_world.specs.Net.{LinkIs};
-    ghost use Rattle.gptp_world.specs.WorldParts.{world_of, CallUses, HasRoomToCall, IsPortAt, IsStage};
+    ghost use Rattle.gptp_world.specs.WorldParts.{world_of, CallUses, HasRoomToCall, IsPortAt, IsWorldParts};
     ghost use Rattle.gptp_world.specs.Telling.{link_input, ComeUp, GoneDown, HasRoomAtEnds, WasTold};
 
     /// The system at a place is told that the link of a port comes up, or goes down; one that has failed isn't.
     fn tell<F: Fate>(&mut self, place: usize, port: u8, up: bool, fate: &mut F)
-        requires parts { IsStage self.old }
+        requires parts { IsWorldParts self.old }
         requires port { IsPortAt place port self.old }
         requires room { HasRoomToCall place self.old }
-        ensures parts { IsStage self.new }
+        ensures parts { IsWorldParts self.new }
         ensures told { WasTold F.answers place (link_input up port) fate.old fate.new self.old self.new }
         ensures uses { CallUses place self.old self.new.net }
     {
@@ -87,10 +87,10 @@ impl WorldParts {
     /// The link at a place, which is up, goes down: what is in flight on it is lost, and then its ends are told, its
     /// end a first.
     pub(crate) fn link_down<F: Fate>(&mut self, link: usize, fate: &mut F)
-        requires parts { IsStage self.old }
+        requires parts { IsWorldParts self.old }
         requires link { link < length self.old.net.cables.items }
         requires room { HasRoomAtEnds link self.old }
-        ensures parts { IsStage self.new }
+        ensures parts { IsWorldParts self.new }
         ensures down { GoneDown F.answers link fate.old fate.new self.old self.new }
     {
         self.net.directory.well_formed();
@@ -102,10 +102,10 @@ impl WorldParts {
 
     /// The link at a place, which is down, comes up, and then its ends are told, its end a first.
     pub(crate) fn link_up<F: Fate>(&mut self, link: usize, fate: &mut F)
-        requires parts { IsStage self.old }
+        requires parts { IsWorldParts self.old }
         requires link { link < length self.old.net.cables.items }
         requires room { HasRoomAtEnds link self.old }
-        ensures parts { IsStage self.new }
+        ensures parts { IsWorldParts self.new }
         ensures up { ComeUp F.answers link fate.old fate.new self.old self.new }
     {
         self.net.directory.well_formed();
@@ -118,9 +118,9 @@ impl WorldParts {
     /// Makes room for one call of each of the systems at the ends of a link. Refused where there is no memory for it.
     /// The state of the world doesn't change.
     fn make_room_at_ends(&mut self, link: usize) -> Result<(), AllocError>
-        requires parts { IsStage self.old }
+        requires parts { IsWorldParts self.old }
         requires link { link < length self.old.net.cables.items }
-        ensures parts { IsStage self.new }
+        ensures parts { IsWorldParts self.new }
         ensures world { world_of self.new ≡ world_of self.old }
         ensures room { OnOk result (HasRoomAtEnds link self.new) }
     {
@@ -130,9 +130,9 @@ impl WorldParts {
 
     /// So it does for a link that goes down, where it is up.
     pub(crate) fn make_room_to_take_down(&mut self, link: usize) -> Result<(), AllocError>
-        requires parts { IsStage self.old }
+        requires parts { IsWorldParts self.old }
         requires link { link < length self.old.net.cables.items }
-        ensures parts { IsStage self.new }
+        ensures parts { IsWorldParts self.new }
         ensures world { world_of self.new ≡ world_of self.old }
         ensures room { OnOk result (LinkIs true link self.new.net → HasRoomAtEnds link self.new) }
         ensures free { LinkIs false link self.old.net → IsOk result }
@@ -145,9 +145,9 @@ impl WorldParts {
 
     /// So it does for a link that comes up, where it is down.
     pub(crate) fn make_room_to_bring_up(&mut self, link: usize) -> Result<(), AllocError>
-        requires parts { IsStage self.old }
+        requires parts { IsWorldParts self.old }
         requires link { link < length self.old.net.cables.items }
-        ensures parts { IsStage self.new }
+        ensures parts { IsWorldParts self.new }
         ensures world { world_of self.new ≡ world_of self.old }
         ensures room { OnOk result (LinkIs false link self.new.net → HasRoomAtEnds link self.new) }
         ensures free { LinkIs true link self.old.net → IsOk result }

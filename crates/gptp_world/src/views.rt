@@ -4,7 +4,7 @@ ghost use Rattle.std.specs.Prelude.{◌≡◌, IfNone, IfSome};
 ghost use Rattle.gptp_system.specs.Start.{role_at};
 ghost use Rattle.gptp_system.specs.Steps.{HasPortNumber};
 ghost use Rattle.gptp_scenario.specs.Allowed.{IsFitAct};
-ghost use Rattle.gptp_world.specs.WorldParts.{world_of, IsStage};
+ghost use Rattle.gptp_world.specs.WorldParts.{world_of, IsWorldParts};
 ghost use Rattle.gptp_world.specs.WorldParts.{IsPlacedItem};
 ghost use Rattle.gptp_model.specs.Views.{IsActOf};
 
@@ -181,7 +181,7 @@ fn role_of(system: &System, port: u16) -> Option<Role>
 
 /// The act that an item is.
 pub(crate) fn act_of(parts: &WorldParts, item: Item) -> Act
-    requires parts { IsStage parts.now }
+    requires parts { IsWorldParts parts.now }
     requires placed { IsPlacedItem item parts.now }
     ensures act { IsActOf item (world_of parts.entry.now) result }
     ensures fit { IsFitAct result }

@@ -20,7 +20,7 @@ impl WorldParts {
     ghost use Rattle.gptp_system.specs.declared.answer.Answer.{Answer};
     ghost use Rattle.gptp_system.specs.Input.{given, Input as Given};
     ghost use Rattle.gptp_world.specs.declared.world_parts.WorldParts.{WorldParts};
-    ghost use Rattle.gptp_world.specs.WorldParts.{Called, CallUses, CarriesOut, GiveUses, HasRoomToGive, HasStepped, IsLiveAt, IsStage, IsTimelyAt};
+    ghost use Rattle.gptp_world.specs.WorldParts.{Called, CallUses, CarriesOut, GiveUses, HasRoomToGive, HasStepped, IsLiveAt, IsWorldParts, IsTimelyAt};
     ghost use Rattle.gptp_world.specs.Timing.{AreSetFor, HasTouched};
 
     /// What a step of the system at a place left is carried out: its timers follow, of which it touched no others than
@@ -28,8 +28,8 @@ impl WorldParts {
     fn carry_out<F: Fate>(&mut self, place: usize, touched: TimersChanged, fate: &mut F)
         requires carries { CarriesOut place self.old }
         requires touched { HasTouched touched place self.old }
-        ensures parts { (before : WorldParts) (input : Given) (answer : Answer) → IsStage before
-            → HasStepped place input answer before self.old → IsStage self.new }
+        ensures parts { (before : WorldParts) (input : Given) (answer : Answer) → IsWorldParts before
+            → HasStepped place input answer before self.old → IsWorldParts self.new }
         ensures called { (before : WorldParts) (input : Given) (answer : Answer) → HasStepped place input answer before self.old
             → Called F.answers place input answer fate.old fate.new before self.new }
         ensures within { (before : WorldParts) (input : Given) (answer : Answer) → HasStepped place input answer before self.old
@@ -55,12 +55,12 @@ impl WorldParts {
         input: Input<'_>,
         fate: &mut F,
     ) -> Answer
-        requires parts { IsStage self.old }
+        requires parts { IsWorldParts self.old }
         requires live { IsLiveAt place self.old }
         requires timely { IsTimelyAt (given input) place self.old }
         requires set { AreSetFor (given input) place self.old }
         requires room { HasRoomToGive (given input) place self.old }
-        ensures parts { IsStage self.new }
+        ensures parts { IsWorldParts self.new }
         ensures called { Called F.answers place (given input.entry) result fate.old fate.new self.old self.new }
         ensures within { GiveUses (given input.entry) place self.old self.new.net }
         ensures uses { CallUses place self.old self.new.net }

@@ -1,6 +1,6 @@
 use Rattle.std.proofs.Common.{◌≡◌, length, ap, subst, sym, ◌∙◌}
 use Rattle.std.proofs.lemmas.List.{with_items_is}
-use Rattle.gptp_world.specs.FrameBudget.{HasNoCredit}
+use Rattle.gptp_world.specs.FrameBudget.{HasNoBudget}
 use Rattle.gptp_world.proofs.FrameBudgetLemmas.{no_credit}
 use Rattle.gptp_world.proofs.frame_budget.FrameBudget.give_up.Goals as goal
 
@@ -10,4 +10,4 @@ returns c =
     let count : length new ≡ length frames.items = c.fill.ensures.len ∙ ap length c.as_mut_slice.ensures.value in
     let items = with_items_is frames new (count ∙ sym frames.ok.0) in
     let zeros = c.fill.ensures.after (λ y is. cc) in
-    subst HasNoCredit (sym (items ∙ zeros)) (no_credit (length old))
+    subst HasNoBudget (sym (items ∙ zeros)) (no_credit (length old))

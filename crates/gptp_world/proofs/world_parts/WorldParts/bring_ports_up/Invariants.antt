@@ -1,6 +1,6 @@
 use Rattle.std.proofs.Common.{◌-◌, ◌≤◌}
 use Rattle.std.specs.List.{range_with_len}
-use Rattle.gptp_world.specs.WorldParts.{IsStage}
+use Rattle.gptp_world.specs.WorldParts.{IsWorldParts}
 use Rattle.gptp_world.specs.Starting.{CameUp}
 use Rattle.gptp_world.proofs.ComingUpLemmas.{CallsUse}
 use Rattle.gptp_world.proofs.world_parts.WorldParts.bring_ports_up.Given as goal
@@ -9,7 +9,7 @@ use Rattle.gptp_world.proofs.world_parts.WorldParts.bring_ports_up.Given as goal
 abbrev pub invariant-loop-port : goal.invariant-loop-port
 invariant-loop-port g l = record {
   within : l.port ≤ l.ports;
-  parts : IsStage l.self;
+  parts : IsWorldParts l.self;
   uses : CallsUse l.port l.place l.initial.self l.self.net;
   came : CameUp g.F.Fate.answers l.place (range_with_len 1 l.port) l.initial.fate l.fate l.initial.self l.self;
 }

@@ -1,7 +1,7 @@
 use Rattle.std.proofs.Common.{subst, sym}
 use Rattle.gptp_world.specs.ActTarget.{IsTargetOf}
-use Rattle.gptp_world.specs.FrameBudget.{LeavesCredit}
-use Rattle.gptp_world.specs.Performing.{HasRoomForAim}
+use Rattle.gptp_world.specs.FrameBudget.{LeavesBudget}
+use Rattle.gptp_world.specs.Performing.{HasRoomForTarget}
 use Rattle.gptp_world.specs.WorldParts.{world_of}
 use Rattle.gptp_world.proofs.FrameBudgetLemmas.{change_leaves, expires_room, hears_room, is_changing, none_covered}
 use Rattle.gptp_world.proofs.PerformingLemmas.{aim_within, free_aim, timer_there, AsksForNone, IsWithin}
@@ -24,14 +24,14 @@ pub returns-in-Arrival-clause-room : goal.returns-in-Arrival-clause-room
 returns-in-Arrival-clause-room c =
     let parts = c.make_room_to_hear.new.self in let frame_budget = c.make_room_to_hear.new.frame_budget in
     on_ok c.make_room_to_hear.result _ _
-    (λ has. subst (λ target. HasRoomForAim target parts) (sym c.in-Arrival.is)
+    (λ has. subst (λ target. HasRoomForTarget target parts) (sym c.in-Arrival.is)
     (hears_room c.in-Arrival.lane frame_budget parts has))
     c.make_room_to_hear.ensures.room
 
 pub returns-in-Arrival-clause-left : goal.returns-in-Arrival-clause-left
 returns-in-Arrival-clause-left c =
     let parts = c.make_room_to_hear.new.self in let frame_budget = c.make_room_to_hear.new.frame_budget in
-    on_ok c.make_room_to_hear.result _ _ (λ has. subst (λ target. LeavesCredit target frame_budget parts)
+    on_ok c.make_room_to_hear.result _ _ (λ has. subst (λ target. LeavesBudget target frame_budget parts)
     (sym c.in-Arrival.is) has)
     c.make_room_to_hear.ensures.room
 
@@ -46,14 +46,14 @@ pub returns-in-Timer-clause-room : goal.returns-in-Timer-clause-room
 returns-in-Timer-clause-room c =
     let parts = c.make_room_to_expire.new.self in let frame_budget = c.make_room_to_expire.new.frame_budget in
     on_ok c.make_room_to_expire.result _ _
-    (λ has. subst (λ target. HasRoomForAim target parts) (sym c.in-Timer.is)
+    (λ has. subst (λ target. HasRoomForTarget target parts) (sym c.in-Timer.is)
     (expires_room c.in-Timer.place c.in-Timer.timer frame_budget parts has))
     c.make_room_to_expire.ensures.room
 
 pub returns-in-Timer-clause-left : goal.returns-in-Timer-clause-left
 returns-in-Timer-clause-left c =
     let parts = c.make_room_to_expire.new.self in let frame_budget = c.make_room_to_expire.new.frame_budget in
-    on_ok c.make_room_to_expire.result _ _ (λ has. subst (λ target. LeavesCredit target frame_budget parts)
+    on_ok c.make_room_to_expire.result _ _ (λ has. subst (λ target. LeavesBudget target frame_budget parts)
     (sym c.in-Timer.is) has)
     c.make_room_to_expire.ensures.room
 
