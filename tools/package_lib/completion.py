@@ -1,4 +1,4 @@
-"""Completion for bash, of the commands and options that the help tells."""
+"""Completion for bash, of the commands and options that the help has."""
 
 from .helps import Page
 

@@ -70,7 +70,7 @@ def _sums(root: Path) -> str:
 
 
 def package(root: Path, facts: Facts, folder: Path) -> Path:
-    """Builds the package of what stands in ROOT/usr, in a folder."""
+    """Builds the package of what is in ROOT/usr, in a folder."""
     made = folder / f"{NAME}_{facts.version}_{ARCHITECTURE}.deb"
     put(root / "DEBIAN/md5sums", _sums(root))
     put(root / "DEBIAN/control", _control(root / "usr", facts))

@@ -33,7 +33,7 @@ def tracked(*folders: str) -> list[Path]:
 
 @dataclass(frozen=True)
 class Facts:
-    """What is told of a package."""
+    """What a package says of itself."""
 
     version: str
     commit: str
@@ -55,7 +55,7 @@ class Facts:
 
 
 def facts(program: Path, version: str) -> Facts:
-    """The facts of a program that was built from the repository as it stands."""
+    """The facts of a program that was built from the repository as it is."""
     commit, epoch = git("log", "-1", "--format=%H %ct").split()
     changed = " with changes" if git("status", "--porcelain", "--untracked-files=no") else ""
     toolchain = subprocess.run(["rt", "version"], stdout=subprocess.PIPE, text=True, check=True).stdout.strip()

@@ -1,4 +1,4 @@
-"""The commands of a program and their options, as its help tells them."""
+"""The commands of a program and their options, as its help has them."""
 
 import os
 import re
@@ -9,7 +9,7 @@ from pathlib import Path
 # wide, so that no line is folded
 _ENVIRONMENT = {"COLUMNS": "1000", "LC_ALL": "C.UTF-8"}
 
-# what argparse writes, as clap writes it; what is told of a long option begins a line of its own
+# what argparse writes, as clap writes it; what is said of a long option begins a line of its own
 _AS_CLAP = (
     (r"^usage:", "Usage:"),
     (r"^positional arguments:\n +COMMAND$", "Commands:"),
@@ -38,7 +38,7 @@ class Page:
         return told.rstrip(".")
 
     def _terms(self, head: str) -> list[str]:
-        """What a section tells of: of each line what stands before two blanks."""
+        """What a section lists: of each line what is before two blanks."""
         section = re.search(rf"^{head}:\n((?: .*\n)+)", self.text + "\n", re.MULTILINE)
         return [line.strip().split("  ")[0] for line in section[1].splitlines()] if section else []
 

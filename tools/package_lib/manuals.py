@@ -22,12 +22,12 @@ def _see_also(page: Page, pages: list[Page]) -> str:
 
 
 def _kept_lines(roff: str) -> str:
-    """A block of lines that stands further in is an excerpt: its lines are kept as they are."""
+    """A block of lines that is indented further is an excerpt: its lines are kept as they are."""
     return re.sub(r"^\.IP\n((?:[^.\n].*\n)+)", r".IP\n.nf\n\1.fi\n", roff, flags=re.MULTILINE)
 
 
 def _manual(page: Page, pages: list[Page], facts: Facts, folder: Path) -> str:
-    """One page. help2man calls a program for its help: here that is a script that writes the help as it was told."""
+    """One page. help2man calls a program for its help: here that is a script that writes the help as it was read."""
     text = re.sub(r"\n(?=(?:Output|Example): )", "\n\n", page.text)
     (folder / "help").write_text(text)
     (folder / "include").write_text(_see_also(page, pages))

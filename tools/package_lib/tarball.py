@@ -7,7 +7,7 @@ from .facts import ARCHITECTURE, NAME, Facts
 
 
 def tarball(root: Path, facts: Facts, folder: Path) -> Path:
-    """Builds the tarball of what stands in ROOT/usr, in a folder: bin/ and share/ within one folder."""
+    """Builds the tarball of what is in ROOT/usr, in a folder: bin/ and share/ within one folder."""
     made = folder / f"{NAME}_{facts.version}_{ARCHITECTURE}.tar.gz"
     subprocess.run(
         ["tar", "-C", root, "--sort=name", f"--mtime=@{facts.epoch}", "--owner=root:0", "--group=root:0",

@@ -1,4 +1,4 @@
-"""The files of a package, as they stand below /usr."""
+"""The files of a package, as they are below /usr."""
 
 import gzip
 import os
@@ -38,7 +38,7 @@ def _put_programs(usr: Path, program: Path) -> None:
 
 
 def _put_helps(usr: Path, facts: Facts) -> None:
-    """Manual pages and completion, of what the programs that were put there tell."""
+    """Manual pages and completion, of the helps of the programs that were put there."""
     for name in ("gptp_sim", "gptp_planner"):
         told = pages(usr / "bin" / name)
         for page, text in manuals(told, facts).items():
@@ -47,7 +47,7 @@ def _put_helps(usr: Path, facts: Facts) -> None:
 
 
 def _put_documents(usr: Path, facts: Facts) -> None:
-    """README, docs/ and examples/ beside each other, and what is told of the package."""
+    """README, docs/ and examples/ beside each other, and what the package says of itself."""
     doc = usr / "share/doc" / NAME
     for path in tracked("README.md", "docs", "examples"):
         put(doc / path, (TOP / path).read_bytes())

@@ -15,7 +15,7 @@ from .program import NOT_BUILT
 from .refusal import NotBuilt, Refused
 
 _LAUNCHER = Path(__file__).resolve().parents[2] / "gptp_sim"
-# the options that take a time; those of times at any moment, of bounds and of detection stand here when the program
+# the options that take a time; those of times at any moment, of bounds and of detection are here when the program
 # has them
 TIMES = ("--until", "--at", "--hold", "--max-choice", "--max-holdover", "--max-error")
 _CLOCK = re.compile(r"[0-9a-fA-F]{16}")
@@ -35,7 +35,7 @@ def shell_word() -> str:
 
 
 def words_for(document: Document, words: list[str]) -> list[str]:
-    """The program's words: times in ns after the options that take one, and the clock that `explain` asks for."""
+    """The program's words: times in ns after the options that take one, and the clock that `explain` takes."""
     names = Names(document)
     made = words[:1]
     for word in words[1:]:

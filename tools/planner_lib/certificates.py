@@ -63,7 +63,7 @@ def read(paths: list[str]) -> list[Device]:
 
 
 def _responses(path: str) -> Iterator[tuple[End, str, dict[str, str]]]:
-    """Each response to one of the four questions: the port that tells it, the data set, and its members."""
+    """Each response to one of the four questions: the port that sent it, the data set, and its members."""
     members: dict[str, str] | None = None
     for number, line in enumerate(read_text(path).splitlines(), 1):
         if found := _RESPONSE.fullmatch(line):

@@ -10,7 +10,7 @@ _NOTHING = dict.fromkeys(("Date", "Creator", "Format", "Type"))
 
 
 def as_svg(figure: Figure) -> bytes:
-    """A figure as an SVG file that tells neither when nor by what it was made, and loads nothing."""
+    """A figure as an SVG file that says neither when nor by what it was made, and loads nothing."""
     written = io.BytesIO()
     with matplotlib.rc_context({"svg.hashsalt": "gptp_sim", "svg.fonttype": "none"}):
         figure.savefig(written, format="svg", metadata=_NOTHING)

@@ -131,7 +131,7 @@ def _shown(arguments: Arguments, octets: bytes, table: faults.Faults, case: faul
 
 
 def _judge(arguments: Arguments) -> int:
-    """Says whether a document keeps what is asked of it; the status."""
+    """Says whether a document keeps what is required of it; the status."""
     octets = documents.read_file(arguments.doc)
     judgement = _judged(arguments, octets, documents.parse(octets, arguments.doc))
     _write(arguments, judgement.text())
@@ -221,7 +221,7 @@ def _ask(arguments: Arguments) -> int:
 
 
 def _pass_on(arguments: Arguments, lines: Iterable[bytes], readable: Readable | None) -> None:
-    """Writes lines as they come, made readable where that is asked for; each is written before the next is read."""
+    """Writes lines as they come, made readable where that is wanted; each is written before the next is read."""
     with ExitStack() as stack:
         file = stack.enter_context(open(arguments.o, "wb")) if arguments.o else sys.stdout.buffer
         for line in lines:

@@ -1,4 +1,4 @@
-"""Pictures of a network: laid out once, of all links, and drawn as it stands at some time."""
+"""Pictures of a network: laid out once, of all links, and drawn as it is at some time."""
 
 import json
 from dataclasses import dataclass, field
@@ -32,7 +32,7 @@ class Seen:
 
 @dataclass(frozen=True)
 class View:
-    """How a network stands: its systems, which links are up, a title, and the colours of roots where there are any."""
+    """The state of a network: its systems, which links are up, a title, and the colours of roots, if any."""
 
     standing: Standing
     up: list[bool]
@@ -52,7 +52,7 @@ class Drawing:
         self._places: dict[str, str] = {}
 
     def dot(self, view: View) -> str:
-        """The network in DOT as it stands; a root's colour fills the boxes that follow it."""
+        """The network in DOT as it is; a root's colour fills the boxes that follow it."""
         if view.standing.keys() != {system.clock for system in self._document.systems}:
             raise Refused("the program tells of other systems than the document")
         lines = [f"  label={quoted(view.title)}; labelloc=t; fontname=Helvetica; splines=true;"]
@@ -95,7 +95,7 @@ class Drawing:
         return depth
 
     def _called(self, box: Box) -> str:
-        """What a box is called: its system, or how many stations it stands for."""
+        """What a box is called: its system, or how many stations it is of."""
         return self._document.name(box.identity) if len(box.clocks) == 1 else f"{len(box.clocks)} stations"
 
     def _size(self, box: Box) -> str:
@@ -144,12 +144,12 @@ class Drawing:
         return f"{between} [dir=none, {'style=dashed' if passive else 'color=gray60'}, {ports}]"
 
     def _ports(self, box: Box, ends: tuple[End, ...]) -> str:
-        """What stands at an end of an edge: its ports; of several stations nothing."""
+        """The text at an end of an edge: its ports; of several stations nothing."""
         return "" if len(box.clocks) > 1 else ", ".join(runs([self._names.port(end.clock, end.port) for end in ends]))
 
 
 def _role(system: SystemStanding, port: int) -> str:
-    """The role of a port; one that the program doesn't tell is disabled."""
+    """The role of a port; one that the program doesn't print is disabled."""
     return system.ports.get(port, PortStanding("disabled", False)).role
 
 

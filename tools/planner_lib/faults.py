@@ -1,4 +1,4 @@
-"""What `faults` tells: its cases, and parts of it as one."""
+"""What `faults` prints: its cases, and parts of it as one."""
 
 from concurrent.futures import ThreadPoolExecutor
 from dataclasses import dataclass
@@ -90,7 +90,7 @@ def _case(lines: Sequence[Line], where: str) -> Case:
 
 
 def in_parts(ask: Callable[..., list[Line]], words: list[str], jobs: int) -> Faults:
-    """What `faults` says, asked in so many parts at a time."""
+    """What `faults` says, run in so many parts at a time."""
     numbers = range(1, jobs + 1)
     with ThreadPoolExecutor(jobs) as pool:
         told = pool.map(lambda part: ask(*words, "--parts", str(jobs), "--part", str(part)), numbers)

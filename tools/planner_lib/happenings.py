@@ -50,7 +50,7 @@ class Parts:
         self._by_port[device, port] = name
 
     def of(self, word: str) -> list[str]:
-        """The systems that a name stands for."""
+        """The systems that a name means."""
         return self._names.get(word, [word])
 
     def with_port(self, word: str) -> str:
@@ -67,7 +67,7 @@ class Parts:
 
 @dataclass
 class _Cable:
-    """A link as it stands: whether it is up, its delays in ns and its loss, and which systems without power hold it."""
+    """A link as it is: whether it is up, its delays in ns and its loss, and which systems without power hold it."""
 
     up: bool
     keys: dict[str, int]

@@ -1,4 +1,4 @@
-"""Whether a document keeps what is asked of it: a file of requirements, and what the program says."""
+"""Whether a document keeps what is required of it: a file of requirements, and what the program says."""
 
 import re
 from dataclasses import dataclass
@@ -16,7 +16,7 @@ from .texts import Line
 # the keys in the order in which they are answered
 _ANSWERED = ("after_fault", "settle", "shared", "cut", "grandmaster")
 _HOW = ("kept_by", "moments", "seeds", "hold", "at")
-# the keys that are decided by what the program doesn't tell yet; each is decided where the others are once it does
+# the keys that are decided by what the program doesn't print yet; each is decided where the others are once it does
 _LATER = {
     "first": "timeline --times",
     "time": "timeline --times",
@@ -37,7 +37,7 @@ Ask = Callable[..., list[Line]]
 
 @dataclass(frozen=True)
 class Verdict:
-    """Of one requirement: whether it is met, what was got and asked, and whose and where that was."""
+    """Of one requirement: whether it is met, what was got and required, and whose and where that was."""
 
     key: str
     met: bool
@@ -78,7 +78,7 @@ class Judgement:
 
 
 class Requirements:
-    """What a file asks: times in ns, numbers, and who is to lead, by clock, in order."""
+    """What a file requires: times in ns, numbers, and who is to lead, by clock, in order."""
 
     def __init__(self, path: str, document: Document) -> None:
         self._path = path
@@ -164,7 +164,7 @@ class Requirements:
 
 
 class _Judge:
-    """The program's words against what is asked."""
+    """The program's words against what is required."""
 
     def __init__(self, document: Document, asked: dict[str, Any]) -> None:
         self._document = document
@@ -208,7 +208,7 @@ class _Judge:
         return any(line.kind == "exceeded" and line["word"] == word for line in verdicts)
 
     def _measured(self) -> Iterator[tuple[Line, str]]:
-        """The lines that tell of a fault, with where it is: the document's own events, and the single faults."""
+        """The lines of a fault, with where it is: the document's own events, and the single faults."""
         for line in self._timeline:
             if line.kind == "after" and line["from"] > 0:
                 told = ", ".join(self._event(event) for event in self._document.events if event.at == line["from"])
@@ -276,7 +276,7 @@ class _Judge:
         return Verdict("grandmaster", False, name(broken[0]) if broken[0] else "none", asked, broken[2])
 
     def _led(self) -> Iterator[tuple[str | None, str | None, str]]:
-        """Who leads, who ought to, and where: in the end, in each down, and in each back that tells who is followed.
+        """Who leads, who ought to, and where: in the end, in each down, and in each back that says who is followed.
 
         Where none of the list is live nobody ought to.
         """

@@ -12,7 +12,7 @@ End = tuple[str, str]
 
 
 def read(paths: list[str]) -> Plan:
-    """The network of the devices' files. A link that both ends tell is one; a chassis' MAC address is its clock."""
+    """The network of the devices' files. A link that both ends report is one; a chassis' MAC address is its clock."""
     clocks: dict[str, str | None] = {Path(path).stem: None for path in paths}
     ends: dict[frozenset[End], tuple[End, End]] = {}
     for path in paths:
@@ -37,7 +37,7 @@ def _neighbours(path: str) -> Iterator[tuple[str, dict[str, Any]]]:
 
 
 def _peer(neighbour: dict[str, Any], where: str) -> tuple[str, str | None, str]:
-    """A neighbour's name, its clock where it tells a MAC address, and its port."""
+    """A neighbour's name, its clock where it gives a MAC address, and its port."""
     try:
         chassis, port = neighbour["chassis"], neighbour["port"]
         name = "" if "id" in chassis else next(iter(chassis))

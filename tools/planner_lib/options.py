@@ -75,7 +75,7 @@ def kind(text: str) -> str:
 
 _LONGEST = 10**15
 # the options of `faults` that a part takes as the whole does; those of power, of detection, of bounds and of times at
-# any moment stand here when the program has them
+# any moment are here when the program has them
 FAULTS_OPTIONS: dict[str, Callable[[str], int | str]] = {
     "--seeds": whole(1, 1000),
     "--moments": whole(1, 1000),

@@ -23,7 +23,7 @@ from .texts import Line
 from .timelines import Stretch, joined
 
 _NONE = "\u2013"
-_MOST_EVENTS = 6  # that are told of a stretch
+_MOST_EVENTS = 6  # that are shown of a stretch
 _DEFAULTS = {"announce": 0, "sync": -3, "pdelay": 0, "timeout": 3, "lost": 9, "threshold": 800, "turnaround": 1000,
              "residence": 1000, "sync_timeout": 0}
 
@@ -44,7 +44,7 @@ class Table(NamedTuple):
 
 @dataclass(frozen=True)
 class Told:
-    """What a page tells: a document and what the program says of it, and the calls that were made for that."""
+    """What a page shows: a document and what the program says of it, and the calls that were made for that."""
 
     title: str
     document: Document
@@ -78,7 +78,7 @@ class _Page:
         self._joined = joined(told.stretches, 2 * told.document.sync)
 
     def parts(self) -> dict[str, object]:
-        """What the template asks for."""
+        """What the template takes."""
         told = self._told
         judgement = told.judgement
         over = plots.over_steps(self._document, told.stretches, (), told.bounds,
@@ -105,7 +105,7 @@ class _Page:
         }
 
     def _judged(self, judgement: Judgement) -> Table:
-        """What is asked, what was got, and whether that is kept."""
+        """What is required, what was got, and whether that is kept."""
         return Table(("", "", "got", "asked", "who", "where"),
                      [[Cell("kept" if line.met else "broken", "kept" if line.met else "broken"),
                        *(Cell(word, "text") for word in (line.key, line.got, line.asked, line.who, line.where))]

@@ -1,4 +1,4 @@
-"""The network as it stands, as a graph in DOT for Graphviz to lay out: a box a system, with its offset."""
+"""The network as it is, as a graph in DOT for Graphviz to lay out: a box a system, with its offset."""
 
 from .documents import Document, End, Link
 from .refusal import Refused
@@ -44,7 +44,7 @@ def _box(name: str, system: SystemStanding) -> str:
 
 
 def place(system: SystemStanding) -> str:
-    """Where a system stands in its tree."""
+    """The place of a system in its tree."""
     if system.slave is None and system.steps == 0:
         return "grandmaster" if system.grandmaster else "own root, never grandmaster"
     steps = "1 step" if system.steps == 1 else f"{system.steps} steps"
@@ -64,7 +64,7 @@ def _edge(link: Link, up: bool, standing: Standing) -> str:
 
 
 def _role(standing: Standing, end: End) -> str:
-    """The role of a port; one that the program doesn't tell is disabled."""
+    """The role of a port; one that the program doesn't print is disabled."""
     return standing[end.clock].ports.get(end.port, PortStanding("disabled", False)).role
 
 

@@ -62,7 +62,7 @@ class Settings:
 
 @dataclass(frozen=True)
 class Plan:
-    """The systems and cables of a network, what happens to it, and what its first comment and the user are told."""
+    """The systems and cables of a network, what happens to it, and what its first comment and the user are to read."""
 
     nodes: list[Node]
     cables: list[Cable]
@@ -261,7 +261,7 @@ def _fitting(cables: list[Cable], labels: dict[str, list[str]]) -> None:
 
 
 def _too_many(name: str, labels: list[str]) -> str:
-    """What is told of a system with too many links; its ports are in the order of the table."""
+    """What is said of a system with too many links; its ports are in the order of the table."""
     names = [label for label in labels if not label.startswith(_UNNAMED)]
     which = f" ({', '.join(runs(names))})" if names else ""
     spare = len(labels) - MOST_PORTS

@@ -54,7 +54,7 @@ def _least_above(errors: list[float], part: float) -> float:
 
 
 def _bounds(axes: Axes, stretch: Stretch, bounds: Mapping[str, Decimal], limit: Decimal | None) -> None:
-    """The bound at each number of steps, and what is asked, as lines."""
+    """The bound at each number of steps, and what is required, as lines."""
     of_steps: dict[int, float] = {}
     for clock, bound in bounds.items():
         standing = stretch.ended.get(clock)

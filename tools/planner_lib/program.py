@@ -1,4 +1,4 @@
-"""The program that is asked: the launcher at the top of the repository, or what GPTP_SIM names."""
+"""The program that is run: the launcher at the top of the repository, or what GPTP_SIM names."""
 
 import os
 import re
@@ -32,7 +32,7 @@ def _call(command: list[str], octets: bytes) -> subprocess.CompletedProcess[byte
 
 
 def _refusal(program: str, document: bytes, told: str) -> str:
-    """Why a document is refused: `lint` tells the place of the same fault, of which the line comes first."""
+    """Why a document is refused: `lint` prints the place of the same fault, of which the line comes first."""
     lines = _call([program, "lint"], document).stdout.decode("ascii", errors="replace").splitlines()
     whole = lines[0] if lines and lines[0].startswith(told) else told
     found = re.match(r"refused .*? line (\d+)", whole)
@@ -40,7 +40,7 @@ def _refusal(program: str, document: bytes, told: str) -> str:
 
 
 def ask(words: list[str], document: bytes, source: str) -> list[str]:
-    """The lines that the program writes for a document. A refusal is told with the name of the document's file."""
+    """The lines that the program writes for a document. A refusal is printed with the name of the document's file."""
     program = os.environ.get("GPTP_SIM") or _built()
     try:
         ended = _call([program, *words], document)

@@ -29,7 +29,7 @@ class Readable:
         self._units = units
 
     def line(self, text: str) -> str:
-        """A line, without its end, with names, and with units where they are asked for."""
+        """A line, without its end, with names, and with units where they are wanted."""
         edits = {found.span(): self._named(found[0]) for found in _DIGITS.finditer(text)}
         for span in spans(text):
             edits |= dict(self._field(text, span))

@@ -21,7 +21,7 @@ class MissingPackage(Exception):
 
 @contextmanager
 def told_at(place: str) -> Iterator[None]:
-    """What is refused within is told with its place; an empty one isn't told."""
+    """What is refused within is reported with its place; an empty one isn't."""
     try:
         yield
     except Refused as why:

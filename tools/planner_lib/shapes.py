@@ -11,7 +11,7 @@ def _nodes(names: list[str]) -> list[Node]:
 
 
 def line(count: int) -> Shape:
-    """Systems in a row: port 1 to the one before, port 2 to the one behind."""
+    """Systems in a row: port 1 to the one before, port 2 to the one after."""
     names = [f"system {place}" for place in range(1, count + 1)]
     return _nodes(names), [Cable(a, b) for a, b in zip(names, names[1:])]
 

@@ -1,4 +1,4 @@
-"""How a network stands: what the report of `run` says, and what the lines of `timeline` add up to."""
+"""The state of a network: what the report of `run` says, and what the lines of `timeline` add up to."""
 
 from dataclasses import dataclass, field, replace
 from decimal import ROUND_HALF_UP, Decimal
@@ -17,7 +17,7 @@ class PortStanding:
 
 @dataclass(frozen=True)
 class SystemStanding:
-    """A system: the root that it follows, how, and its offset in ns as text where that was told."""
+    """A system: the root that it follows, how, and its offset in ns as text where that was printed."""
 
     root: str = ""
     steps: int = 0
@@ -57,7 +57,7 @@ def in_nanoseconds(scaled: int) -> str:
 
 
 def of_run(lines: Iterable[Line]) -> tuple[int, Standing]:
-    """When a run ended, and how the network stood then."""
+    """When a run ended, and the state of the network then."""
     at, standing = 0, {}
     for line in lines:
         if line.kind == "time":
@@ -74,7 +74,7 @@ def of_run(lines: Iterable[Line]) -> tuple[int, Standing]:
 
 
 def apply(standing: Standing, line: Line) -> None:
-    """Changes how a network stands by a line of `timeline`."""
+    """Changes the state of a network by a line of `timeline`."""
     if line.kind == "at system":
         before = standing.get(line["clock"], SystemStanding())
         system = _system(line, before.ports)

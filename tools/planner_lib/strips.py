@@ -61,7 +61,7 @@ class Colours:
 
 
 def _standings(stretches: Sequence[Stretch]) -> Iterator[Standing]:
-    """How the network stands at each time at which something changes."""
+    """The state of the network at each time at which something changes."""
     for stretch in stretches:
         now = dict(stretch.began)
         yield now

@@ -19,7 +19,7 @@ NS_A_METRE = {"copper": 5, "fibre": 5}
 
 _ENDS = ("a", "a_port", "b", "b_port")
 LINK_COLUMNS = (*_ENDS, "min", "max", "jitter", "metres", "medium", "loss")
-# `continues` of a system stands here when the program has that key
+# `continues` of a system is here when the program has that key
 SYSTEM_COLUMNS = ("name", "clock", "ppm", *RANGES["system"], "relay", "start")
 EVENT_COLUMNS = ("at", "kind", "what", *CELLS)
 
@@ -39,14 +39,14 @@ def read(links: str, systems: str | None, events: str | None, jitter: int | None
 
 
 def told_of_jitter(cables: list[Cable]) -> str:
-    """What is told of links whose jitter isn't given; empty where there is none."""
+    """What is said of links whose jitter isn't given; empty where there is none."""
     count = sum(cable.assumed for cable in cables)
     links = "1 link" if count == 1 else f"{count} links"
     return f"{links} without jitter: {DEFAULT_JITTER} ns taken (--jitter)" if count else ""
 
 
 def cable(row: Row, where: str = "", jitter: int | None = None) -> Cable:
-    """A link of its columns. The jitter, in ns, is taken where a length or a least delay stands alone."""
+    """A link of its columns. The jitter, in ns, is taken where a length or a least delay is given alone."""
     if not row["a"] or not row["b"]:
         raise Refused("a or b is empty")
     keys = {key: _key("link", row, key) for key in RANGES["link"] if row.get(key)}
@@ -170,7 +170,7 @@ def _decimal(row: Row, key: str) -> Fraction:
 
 
 def _each(path: str, columns: tuple[str, ...], required: tuple[str, ...], member: Callable[[Row, str], T]) -> list[T]:
-    """The members of a table, each of its row and its place; what is refused is told with that."""
+    """The members of a table, each of its row and its place; what is refused is reported with that."""
     members = []
     for number, row in _rows(path, columns, required):
         where = f"{path}: line {number}"

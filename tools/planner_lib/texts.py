@@ -102,7 +102,7 @@ _CONSTANTS: dict[str, Value] = {"none": None, "yes": True, "no": False}
 
 @dataclass(frozen=True)
 class Line:
-    """A line that was read: its kind, its fields, and the line as it stood."""
+    """A line that was read: its kind, its fields, and the line as it was."""
 
     kind: str
     fields: dict[str, Value]
@@ -119,7 +119,7 @@ def _group(field: re.Match[str]) -> str:
 
 
 def _pattern(template: str) -> re.Pattern[str]:
-    """The lines that a template stands for."""
+    """The lines that a template makes."""
     optional = re.sub(r"\[(.*?)\]", r"(?:\1)?", template)
     return re.compile(re.sub(r"[A-Z_]+", _group, optional))
 

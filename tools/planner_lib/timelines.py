@@ -1,4 +1,4 @@
-"""What `timeline` tells, stretch by stretch."""
+"""What `timeline` prints, stretch by stretch."""
 
 from dataclasses import dataclass, field
 from decimal import Decimal
@@ -20,7 +20,7 @@ class Sample:
 
 @dataclass(frozen=True)
 class Change:
-    """How a system stands after an act."""
+    """The state of a system after an act."""
 
     at: int
     clock: str
@@ -41,7 +41,7 @@ class Stretch:
 
     @cached_property
     def changes_of(self) -> dict[str, list[Change]]:
-        """The changes of each system; asked once all are read."""
+        """The changes of each system; taken once all are read."""
         changes: dict[str, list[Change]] = {}
         for change in self.changes:
             changes.setdefault(change.clock, []).append(change)

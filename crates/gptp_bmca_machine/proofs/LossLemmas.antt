@@ -7,7 +7,7 @@ use Rattle.gptp_graph.specs.Snapshot.{System, PortIdentity, Snapshot, clocks, po
 use Rattle.gptp_graph.specs.Best.{IsBest}
 use Rattle.gptp_graph.specs.Distance.{IsDistance}
 use Rattle.gptp_graph.proofs.LinkLemmas.{Joins-sym, Joins-clock, Adjacent-sym}
-use Rattle.gptp_graph.proofs.SystemLemmas.{In-clocks, station_system as live_system}
+use Rattle.gptp_graph.proofs.SystemLemmas.{In-clocks, system_of as live_system}
 use Rattle.gptp_graph.proofs.BestLemmas.{IsBest-unique, IsBest-neighbour}
 use Rattle.gptp_graph.proofs.DistanceLemmas.{IsDistance-unique, IsDistance-neighbour, IsDistance-clock}
 use Rattle.gptp_graph.proofs.ExistenceLemmas.{distance_exists}

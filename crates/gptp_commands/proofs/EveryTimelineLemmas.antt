@@ -5,7 +5,7 @@ use Rattle.std.proofs.lemmas.Option.{none-some, same_Some}
 use native.Mathlib.Decide.{dec_le}
 use Rattle.gptp_model.specs.Views.{rising_clocks}
 use Rattle.gptp_graph.specs.PathBound.{path_bound}
-use Rattle.gptp_invariants.proofs.HoldsLemmas.{paths_fewer}
+use Rattle.gptp_invariants.proofs.ChoiceSettlesAsMachineLemmas.{paths_fewer}
 use Rattle.gptp_network.specs.Document.{DocumentState, Means}
 use Rattle.gptp_network.specs.Events.{AreEvents}
 use Rattle.gptp_network.proofs.EventLemmas.{early_from, events_allowed}

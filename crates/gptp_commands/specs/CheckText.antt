@@ -3,7 +3,7 @@ use Rattle.std.specs.Prelude.{◌≡◌, ◌⊎◌, ℕ, List, [], ◌∷◌, �
 use Rattle.gptp_graph.specs.Snapshot.{IsWellFormed, Snapshot}
 use Rattle.gptp_network.specs.declared.fault.DocumentFault.{DocumentFault}
 use Rattle.gptp_network.specs.declared.fault.DocumentFault.TheVariants.{TooMany}
-use Rattle.gptp_network.specs.Document.{DocumentState, FailsToParse as FailsDocument, Means}
+use Rattle.gptp_network.specs.Document.{DocumentState, Fails as FailsDocument, Means}
 use Rattle.gptp_network.specs.Snapshot.{IsSnapshot}
 use Rattle.gptp_scenario.specs.Calm.{last_change}
 use Rattle.gptp_certificate_text.specs.declared.fault.CertificateFault.{CertificateFault}

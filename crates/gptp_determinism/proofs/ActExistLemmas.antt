@@ -11,7 +11,7 @@ use Rattle.gptp_links.specs.Fate.{Draw}
 use Rattle.gptp_links.specs.Queue.{frame, Frame}
 use Rattle.gptp_setup.specs.declared.timer.Timer.{Timer}
 use Rattle.gptp_system.specs.declared.answer.Answer.{Answer}
-use Rattle.gptp_system.specs.Input.{TimerRunsOut as TimerExpires, Frame as FrameHeard}
+use Rattle.gptp_system.specs.Input.{Expires as TimerExpires, Frame as FrameHeard}
 use Rattle.gptp_system.specs.State.{clock, due}
 use Rattle.gptp_system.specs.Steps.{IsDue, IsUp}
 use Rattle.gptp_scenario.specs.declared.change.Act.{Act}

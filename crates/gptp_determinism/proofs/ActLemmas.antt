@@ -9,7 +9,7 @@ use Rattle.gptp_links.specs.Queue.{frame, Frame}
 use Rattle.gptp_setup.specs.declared.timer.Timer.{Timer}
 use Rattle.gptp_system.specs.declared.answer.Answer.{Answer}
 use Rattle.gptp_system.specs.Input.{PortDown, PortUp, Priority}
-use Rattle.gptp_system.specs.Input.{TimerRunsOut as TimerExpires, Frame as FrameHeard}
+use Rattle.gptp_system.specs.Input.{Expires as TimerExpires, Frame as FrameHeard}
 use Rattle.gptp_scenario.specs.declared.change.Act.{Act}
 use Rattle.gptp_scenario.specs.declared.change.Act.TheVariants.{Deliver, Expire, Change as Changing}
 use Rattle.gptp_scenario.specs.declared.change.Change.{Change}

@@ -17,7 +17,7 @@ use Rattle.gptp_model.specs.Ahead.{IsSteady}
 use Rattle.gptp_model.specs.declared.station.Station.{Station}
 use Rattle.gptp_model.specs.Sound.{IsSound}
 use Rattle.gptp_model.specs.World.{Channel, WorldState, world_queue, receiver, sender}
-use Rattle.gptp_bmca_machine.specs.Facts.{StationFacts, SystemIsRoot as SeenItself, SystemFollowsPort as SeenFollows, HeldIsInTime, IsLiveStationState, NetworkSetting}
+use Rattle.gptp_bmca_machine.specs.Facts.{StationFacts, FollowsItself as SeenItself, FollowsPort as SeenFollows, HeldIsInTime, IsLiveStationState, NetworkSetting}
 use Rattle.gptp_bmca_machine.specs.Frame.{AnnounceFrame as SeenFrame, Lane}
 use Rattle.gptp_bmca_machine.specs.Network.{network_setting}
 use Rattle.gptp_bmca_machine.specs.Station.{Reception as SeenReception, Station as SeenStation, HoldsAt}

@@ -14,7 +14,7 @@ use Rattle.gptp_setup.specs.SettlingParams.{SettlingParams, lapse_span, largest_
 use Rattle.gptp_setup.specs.declared.setup.Setup.{Setup}
 use Rattle.gptp_setup.specs.declared.timer.Timer.{Timer}
 use Rattle.gptp_setup.specs.Intervals.{interval_of}
-use Rattle.gptp_system.specs.Input.{Input, Frame as FrameHeard, Priority, TimerRunsOut as TimerExpires}
+use Rattle.gptp_system.specs.Input.{Input, Frame as FrameHeard, Priority, Expires as TimerExpires}
 use Rattle.gptp_system.specs.State.{clock}
 use Rattle.gptp_system.proofs.StepLemmas.{steps_steady}
 use Rattle.gptp_scenario.specs.Calm.{SyncsComeInTime}

@@ -16,7 +16,7 @@ use Rattle.gptp_model.specs.Sound.{IsSound}
 use Rattle.gptp_model.specs.World.{Channel, WorldState, receiver, sender}
 use Rattle.gptp_bmca_machine.specs.Calm.{Calm, HasLane, HasStation, IsCalmPort, IsCalmStation}
 use Rattle.gptp_bmca_machine.specs.Frame.{AnnounceFrame as SeenFrame, Lane}
-use Rattle.gptp_scenario.specs.Calm.{NothingNearLapses as IsOff}
+use Rattle.gptp_scenario.specs.Calm.{NothingLapses as IsOff}
 use Rattle.gptp_bmca_machine.specs.Lapsing.{NothingNearLapses}
 use Rattle.gptp_bmca_machine.specs.Network.{IsSettlingNetwork, Network, network_setting}
 use Rattle.gptp_bmca_machine.specs.Station.{Reception as SeenReception, Received, Station as SeenStation}

@@ -11,7 +11,7 @@ use Rattle.gptp_receipt.specs.Held.{received}
 use Rattle.gptp_system.specs.declared.port.Port.{Port}
 use Rattle.gptp_setup.specs.declared.timer.Timer.{Timer}
 use Rattle.gptp_setup.specs.declared.timer.Timer.TheVariants as timers
-use Rattle.gptp_system.specs.Input.{TimerRunsOut as TimerExpires}
+use Rattle.gptp_system.specs.Input.{Expires as TimerExpires}
 use Rattle.gptp_system.specs.State.{SystemState, age_due, due, held_at}
 use Rattle.gptp_system.specs.Steps.{IsDue}
 use Rattle.gptp_system.specs.Touch.{Hear, Grow}

@@ -10,7 +10,7 @@ use Rattle.gptp_links.specs.Fate.{Draw}
 use Rattle.gptp_setup.specs.Intervals.{IsLog}
 use Rattle.gptp_setup.specs.SettlingParams.{SettlingParams, lapse_span, largest_interval, longest_span}
 use Rattle.gptp_setup.proofs.IntervalLemmas.{interval_positive}
-use Rattle.gptp_scenario.specs.Calm.{NothingNearLapses as IsOff, SyncsComeInTime}
+use Rattle.gptp_scenario.specs.Calm.{NothingLapses as IsOff, SyncsComeInTime}
 use Rattle.gptp_scenario.specs.SyncWait.{sync_wait}
 use Rattle.gptp_scenario.specs.declared.change.Act.{Act}
 use Rattle.gptp_scenario.specs.declared.change.Act.TheVariants.{Deliver, Expire, Change as Changing}
@@ -21,7 +21,7 @@ use Rattle.gptp_model.specs.Acts.{Acts, at}
 use Rattle.gptp_scenario.specs.Allowed.{IsFitAct}
 use Rattle.gptp_model.specs.Course.{Begun, WasDone}
 use Rattle.gptp_model.specs.Initial.{initial}
-use Rattle.gptp_scenario.specs.Network.{IsSettlingNetwork as IsSimulated, NetworkState, pace_of}
+use Rattle.gptp_scenario.specs.Network.{IsNetwork as IsSimulated, NetworkState, pace_of}
 use Rattle.gptp_model.specs.Prompt.{DelaysFitIntervals}
 use Rattle.gptp_scenario.specs.SettlingTime.{capability_span}
 use Rattle.gptp_scenario.proofs.LogLemmas.{largest_log}

@@ -8,7 +8,7 @@ use Rattle.gptp_links.specs.Fate.{Draw}
 use Rattle.gptp_links.specs.Queue.{Frame, frame}
 use Rattle.gptp_system.specs.declared.answer.Answer.{Answer}
 use Rattle.gptp_setup.specs.declared.timer.Timer.{Timer}
-use Rattle.gptp_system.specs.Input.{PortUp, PortDown, Priority, Frame as FrameHeard, TimerRunsOut as TimerExpires}
+use Rattle.gptp_system.specs.Input.{PortUp, PortDown, Priority, Frame as FrameHeard, Expires as TimerExpires}
 use Rattle.gptp_system.specs.State.{number}
 use Rattle.gptp_system.specs.Steps.{IsUp}
 use Rattle.gptp_system.proofs.InTimeLemmas.{later_in_time}

@@ -335,15 +335,15 @@ module _ (at : LinkPlace) (P : WorldState → Type 0) (link_in : (w : WorldState
   -- ---- calls one after another
 
   -- the link is watched, and the world is orderly
-  record SettlesAsMachine (w : WorldState) : Type 0 where
+  record StaysWatched (w : WorldState) : Type 0 where
     watched : P w
     orderly : IsOrderly w
 
   calls_hold : (place : ℕ) (input : Input) (w : WorldState) (draws : List Draw)
       (answer : Answer) (w' : WorldState) (k : Calls place input w draws answer w')
-      → IsTimely k.station.system w.time input → (h : SettlesAsMachine w)
+      → IsTimely k.station.system w.time input → (h : StaysWatched w)
       → IsAside at place input (link_in w h.watched).channel
-      → SettlesAsMachine w'
+      → StaysWatched w'
   calls_hold place input w draws answer w' k timely h aside = record {
     watched = acted w w' h.watched
         (call_aside at place input w draws answer w' k timely h.orderly (link_in w h.watched) aside);
@@ -353,12 +353,12 @@ module _ (at : LinkPlace) (P : WorldState → Type 0) (link_in : (w : WorldState
   if_live_hold : (place : ℕ) (input : Input) (w : WorldState) (draws : List Draw)
       (w' : WorldState)
       → ((station : Station) → slice_get w.stations place ≡ Some station → IsTimely station.system w.time input)
-      → (h : SettlesAsMachine w) → IsAside at place input (link_in w h.watched).channel
-      → CallsIfLive place input w draws w' → SettlesAsMachine w'
+      → (h : StaysWatched w) → IsAside at place input (link_in w h.watched).channel
+      → CallsIfLive place input w draws w' → StaysWatched w'
   if_live_hold place input w draws w' timely h aside (inl (answer, k)) =
       calls_hold place input w draws answer w' k (timely k.station k.here) h aside
   if_live_hold place input w draws w' timely h aside (inr (failed, none, same)) =
-      subst SettlesAsMachine (sym same) h
+      subst StaysWatched (sym same) h
 
   -- an input of a port
   record IsOfPort (input : ℕ → Input) : Type 0 where
@@ -405,8 +405,8 @@ module _ (at : LinkPlace) (P : WorldState → Type 0) (link_in : (w : WorldState
       (draws : List Draw) (w' : WorldState) → IsOfPort input
       → ((direction way : Direction) (v : WorldState) → JoinTheSame w.net.channels v.net.channels → (l : IsLinkOf at v)
       → sender direction l.channel ≢ sender way channel)
-      → IsPortAmong channel.a w.stations → IsPortAmong channel.b w.stations → SettlesAsMachine w
-      → TellsEnds input channel w draws w' → SettlesAsMachine w'
+      → IsPortAmong channel.a w.stations → IsPortAmong channel.b w.stations → StaysWatched w
+      → TellsEnds input channel w draws w' → StaysWatched w'
   tells_hold input place channel w draws w' of other port_a port_b h k =
       if_live_hold k.place_b (input channel.b.port) k.between k.second w' timely_b first
       (aside_of at k.place_b input channel.b k.between (link_in k.between first.watched) of named_b
@@ -418,7 +418,7 @@ module _ (at : LinkPlace) (P : WorldState → Type 0) (link_in : (w : WorldState
           ap (λ (x : Station). clock x.system) (same_there w.stations k.place_a station k.station_a there k.is_a.here)
           ∙ k.is_a.named
 
-      first : SettlesAsMachine k.between
+      first : StaysWatched k.between
       first = if_live_hold k.place_a (input channel.a.port) w k.first k.between
           (λ station there. of.timely station.system w.time channel.a.port
           (port_a k.place_a station there (named_a station there))) h
@@ -444,9 +444,9 @@ module _ (at : LinkPlace) (P : WorldState → Type 0) (link_in : (w : WorldState
 
   -- a system at neither end is brought up
   all_hold : (place : ℕ) (ps : List ℕ) (w : WorldState) (draws : List Draw) (w' : WorldState)
-      → at.asking ≢ place → at.answering ≢ place → HasAll place ps w → SettlesAsMachine w
-      → CallsAll place (map PortUp ps) w draws w' → SettlesAsMachine w'
-  all_hold place [] w draws w' asking answering has h (none, same) = subst SettlesAsMachine (sym same) h
+      → at.asking ≢ place → at.answering ≢ place → HasAll place ps w → StaysWatched w
+      → CallsAll place (map PortUp ps) w draws w' → StaysWatched w'
+  all_hold place [] w draws w' asking answering has h (none, same) = subst StaysWatched (sym same) h
   all_hold place (p ∷ ps) w draws w' asking answering has h (first, rest, between, answer, split, k, more) =
       let one = calls_hold place (PortUp p) w first answer between k
       (has p (inl refl) k.station k.here) h

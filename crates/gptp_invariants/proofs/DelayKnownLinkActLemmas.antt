@@ -8,7 +8,7 @@ use Rattle.gptp_links.specs.Fate.{Draw}
 use Rattle.gptp_system.specs.declared.answer.Answer.{Answer}
 use Rattle.gptp_setup.specs.declared.timer.Timer.{Timer}
 use Rattle.gptp_setup.specs.declared.timer.Timer.TheVariants as timers
-use Rattle.gptp_system.specs.Input.{Frame, TimerRunsOut as TimerExpires, Priority}
+use Rattle.gptp_system.specs.Input.{Frame, Expires as TimerExpires, Priority}
 use Rattle.gptp_system.specs.State.{due}
 use Rattle.gptp_scenario.specs.declared.change.Act.{Act}
 use Rattle.gptp_scenario.specs.declared.change.Act.TheVariants.{Deliver, Expire, Change as Changing}

@@ -12,7 +12,7 @@ use Rattle.gptp_system.specs.declared.sending.Sending.{Sending}
 use Rattle.gptp_setup.specs.declared.setup.Params.{Params}
 use Rattle.gptp_setup.specs.declared.timer.Timer.{Timer}
 use Rattle.gptp_setup.specs.declared.timer.Timer.TheVariants as timers
-use Rattle.gptp_system.specs.Input.{TimerRunsOut as TimerExpires}
+use Rattle.gptp_system.specs.Input.{Expires as TimerExpires}
 use Rattle.gptp_setup.specs.Intervals.{interval_of}
 use Rattle.gptp_system.specs.Measures.{Part, part_answered, part_asked, measure_at}
 use Rattle.gptp_system.specs.Measuring.{Responds, RespondsIf, owed_at}

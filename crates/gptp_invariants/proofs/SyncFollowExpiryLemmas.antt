@@ -10,7 +10,7 @@ use Rattle.gptp_setup.specs.declared.timer.Timer.{Timer}
 use Rattle.gptp_setup.specs.declared.timer.Timer.TheVariants as timers
 use Rattle.gptp_setup.specs.SettlingParams.{SettlingParams}
 use Rattle.gptp_system.specs.declared.answer.Answer.{Answer}
-use Rattle.gptp_system.specs.Input.{Input, Steps, TimerRunsOut as TimerExpires}
+use Rattle.gptp_system.specs.Input.{Input, Steps, Expires as TimerExpires}
 use Rattle.gptp_system.specs.Messages.{AreSent}
 use Rattle.gptp_system.specs.Selection.{kept_if}
 use Rattle.gptp_system.specs.State.{SystemState, clock, due}

@@ -9,7 +9,7 @@ use Rattle.gptp_messages.proofs.GrammarLemmas.{one_reading}
 use Rattle.gptp_links.specs.declared.link.Direction.{Direction}
 use Rattle.gptp_correction.specs.declared.correction.Relayed.{Relayed}
 use Rattle.gptp_correction.specs.declared.sync_in.SyncInfo.{SyncInfo}
-use Rattle.gptp_correction.specs.SyncIn.{FollowerSync as KeptInSystem, together}
+use Rattle.gptp_correction.specs.SyncIn.{KeptSync as KeptInSystem, together}
 use Rattle.gptp_system.specs.declared.answer.Answer.{Answer}
 use Rattle.gptp_system.specs.declared.sending.Sending.{Sending}
 use Rattle.gptp_system.specs.Input.{Steps, Frame as FrameHeard}

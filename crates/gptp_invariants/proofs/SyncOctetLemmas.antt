@@ -10,7 +10,7 @@ use Rattle.gptp_messages.specs.declared.message.Message.{Message}
 use Rattle.gptp_messages.specs.declared.message.Message.TheVariants as messages
 use Rattle.gptp_messages.specs.FollowUp.{follow_up_tlvs, information_tlv, ReadsRate}
 use Rattle.gptp_messages.specs.Frame.{PortFits, field, port_at}
-use Rattle.gptp_messages.specs.Grammar.{Reads, ReadsTlvs, StampIsRead, Written, header_fault, sent_message as message_at}
+use Rattle.gptp_messages.specs.Grammar.{Reads, ReadsTlvs, StampIsRead, Written, header_fault, message_of as message_at}
 use Rattle.gptp_messages.specs.Head.{HeadFits, head_of, message_length, message_type}
 use Rattle.gptp_messages.specs.MessageType.{least_length, type_of}
 use Rattle.gptp_messages.specs.Timestamp.{stamp_of}

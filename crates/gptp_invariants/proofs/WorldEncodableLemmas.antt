@@ -9,7 +9,7 @@ use Rattle.gptp_links.specs.Queue.{Frame, due_after, frame}
 use Rattle.gptp_system.specs.declared.answer.Answer.{Answer}
 use Rattle.gptp_system.specs.declared.sending.Sending.{Sending}
 use Rattle.gptp_setup.specs.declared.timer.Timer.{Timer}
-use Rattle.gptp_system.specs.Input.{Input, IsTimely, Frame as FrameHeard, TimerRunsOut as TimerExpires}
+use Rattle.gptp_system.specs.Input.{Input, IsTimely, Frame as FrameHeard, Expires as TimerExpires}
 use Rattle.gptp_system.specs.State.{SystemState}
 use Rattle.gptp_model.specs.declared.station.Station.{Station}
 use Rattle.gptp_model.specs.Act.{Calls, Delivers, TimerRunsOut, Hears, TakesFrame, all_timers, in_state}

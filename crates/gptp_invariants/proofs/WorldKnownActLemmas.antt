@@ -5,7 +5,7 @@ use Rattle.gptp_links.specs.Fate.{Draw}
 use Rattle.gptp_system.specs.declared.answer.Answer.{Answer}
 use Rattle.gptp_setup.specs.SettlingParams.{SettlingParams}
 use Rattle.gptp_setup.specs.declared.timer.Timer.{Timer}
-use Rattle.gptp_system.specs.Input.{Frame as FrameHeard, TimerRunsOut as TimerExpires}
+use Rattle.gptp_system.specs.Input.{Frame as FrameHeard, Expires as TimerExpires}
 use Rattle.gptp_system.specs.State.{due}
 use Rattle.gptp_system.specs.Steps.{IsDue, IsUp}
 use Rattle.gptp_model.specs.declared.station.Station.{Station}

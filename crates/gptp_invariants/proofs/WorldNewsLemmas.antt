@@ -45,7 +45,7 @@ use Rattle.gptp_bmca_machine.specs.Facts.{StationFacts}
 use Rattle.gptp_bmca_machine.specs.Frame.{AnnounceFrame as SeenFrame, Lane}
 use Rattle.gptp_bmca_machine.specs.Levels.{Invariant}
 use Rattle.gptp_bmca_machine.specs.Station.{MachineState}
-use Rattle.gptp_bmca_machine.specs.Network.{IsSettlingNetwork, Network, link_setting as settling_of}
+use Rattle.gptp_bmca_machine.specs.Network.{IsSettlingNetwork, Network, network_setting as settling_of}
 use Rattle.gptp_bmca_machine.proofs.SoundEverywhereLemmas.{on_links}
 use Rattle.gptp_bmca_machine.proofs.LevelLemmas.{invariant_begins, invariant_kept, no_early_ports}
 use Rattle.gptp_bmca_machine.proofs.SoundLemmas.{received_fits}

@@ -8,7 +8,7 @@ use Rattle.gptp_messages.specs.declared.message.Message.TheVariants as messages
 use Rattle.gptp_messages.specs.Grammar.{Reads}
 use Rattle.gptp_links.specs.declared.link.Direction.{Direction}
 use Rattle.gptp_correction.specs.declared.correction.Relayed.{Relayed}
-use Rattle.gptp_correction.specs.SyncIn.{FollowerSync as KeptInSystem}
+use Rattle.gptp_correction.specs.SyncIn.{KeptSync as KeptInSystem}
 use Rattle.gptp_system.specs.State.{SystemState}
 use Rattle.gptp_model.specs.World.{Channel}
 use Rattle.gptp_sync_machine.specs.Follower.{Follower, FollowerSync}

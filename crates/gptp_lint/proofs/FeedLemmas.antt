@@ -27,7 +27,7 @@ use Rattle.gptp_lint.specs.Refusal.{HasNoFeed, TellsPlace, TellsRefusal, no_toml
 use Rattle.gptp_lint.specs.Unread.{escaped, escaped_octet, is_plain, line_words, near_words, place_words, section_name}
 use Rattle.gptp_lint.specs.Why.{nanoseconds, port_words, shape_word, timing_words, why_words}
 use Rattle.gptp_lint.specs.declared.place.Place.{Place}
-use Rattle.gptp_lint.specs.declared.place.Place.TheVariants.{SystemSpec, Network, Top}
+use Rattle.gptp_lint.specs.declared.place.Place.TheVariants.{Member, Network, Top}
 use Rattle.gptp_lint.specs.declared.place.Section.{Section}
 use Rattle.gptp_lint.specs.declared.place.Section.TheVariants.{Event, Link, System}
 
@@ -266,7 +266,7 @@ section Event = part (codes "event") refl
 place : (p : Place) (line : Option ℕ) → IsPart (place_words p line)
 place Top line = part (codes "top") refl
 place Network line = part (codes "network") refl
-place (SystemSpec s count) line =
+place (Member s count) line =
     section s then_part part (codes " ") refl then_part natural count then_part header line
 
 known : (near : Option (List ℕ)) → IsPart (near_words near)

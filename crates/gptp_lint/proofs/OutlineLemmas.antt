@@ -13,7 +13,7 @@ use Rattle.gptp_outline.specs.declared.row.Row.{Row}
 use Rattle.gptp_outline.proofs.OutlineLemmas.{no_rows}
 use Rattle.gptp_lint.specs.Outline.{after, before_rows, first_part, keys_at, numbered, outline_of_text}
 use Rattle.gptp_lint.specs.declared.place.Place.{Place}
-use Rattle.gptp_lint.specs.declared.place.Place.TheVariants.{SystemSpec}
+use Rattle.gptp_lint.specs.declared.place.Place.TheVariants.{Member}
 use Rattle.gptp_lint.specs.declared.place.Section.{Section}
 
 -- one key more at a place
@@ -28,17 +28,17 @@ keys_more place xs i x there =
 -- one member more of a section
 pub numbered_more : (section : Section) (n : ℕ) (xs : List (List Key)) (keys : List Key)
     → numbered section n (xs ++ keys ∷ [])
-    ≡ numbered section n xs ++ keys_at (SystemSpec section (n + length xs)) keys
+    ≡ numbered section n xs ++ keys_at (Member section (n + length xs)) keys
 numbered_more section n [] keys =
     let same : n ≡ n + 0 = omega arith in
-    append-nil (keys_at (SystemSpec section n) keys) ∙ ap (λ m. keys_at (SystemSpec section m) keys) same
+    append-nil (keys_at (Member section n) keys) ∙ ap (λ m. keys_at (Member section m) keys) same
 numbered_more section n (x ∷ xs) keys =
     let same : suc n + length xs ≡ n + suc (length xs) = omega arith in
-    ap (λ rest. keys_at (SystemSpec section n) x ++ rest)
+    ap (λ rest. keys_at (Member section n) x ++ rest)
     (numbered_more section (suc n) xs keys
-    ∙ ap (λ m. numbered section (suc n) xs ++ keys_at (SystemSpec section m) keys) same)
-    ∙ sym (append_assoc (keys_at (SystemSpec section n) x) (numbered section (suc n) xs)
-    (keys_at (SystemSpec section (n + suc (length xs))) keys))
+    ∙ ap (λ m. numbered section (suc n) xs ++ keys_at (Member section m) keys) same)
+    ∙ sym (append_assoc (keys_at (Member section n) x) (numbered section (suc n) xs)
+    (keys_at (Member section (n + suc (length xs))) keys))
 
 -- two pieces after what was there
 pub two_pieces : {X : Type 0} (old mid new xs ys : List X) → mid ≡ old ++ xs → new ≡ mid ++ ys → new ≡ old ++ (xs ++ ys)

@@ -4,7 +4,7 @@ use Rattle.std.specs.List.{list_any}
 use Rattle.toml.specs.Data.{Data, Items, Members, as_array, as_integer, as_str, as_table, get_item, get_member, no_items}
 use Rattle.gptp_lint.specs.Unread.{section_name}
 use Rattle.gptp_lint.specs.declared.place.Place.{Place}
-use Rattle.gptp_lint.specs.declared.place.Place.TheVariants.{SystemSpec, Network, Top}
+use Rattle.gptp_lint.specs.declared.place.Place.TheVariants.{Member, Network, Top}
 use Rattle.gptp_lint.specs.declared.place.Section.{Section}
 use Rattle.gptp_lint.specs.declared.place.Section.TheVariants.{Event, Link, System}
 
@@ -90,7 +90,7 @@ member_at items number = table_in (get_item number items)
 abbrev pub table_at : Members → Place → Option Members
 table_at t Top = Some t
 table_at t Network = table_in (get_member (codes "network") t)
-table_at t (SystemSpec section number) = member_at (members_of t section) number
+table_at t (Member section number) = member_at (members_of t section) number
 
 -- the kind of an event, empty where it has none
 abbrev pub text_in : Option (List ℕ) → List ℕ
@@ -109,9 +109,9 @@ kind_text None = []
 abbrev pub keys_read : Members → Place → List (List ℕ)
 keys_read t Top = top_keys
 keys_read t Network = network_keys
-keys_read t (SystemSpec System number) = system_keys t
-keys_read t (SystemSpec Link number) = link_keys
-keys_read t (SystemSpec Event number) = event_keys (kind_text (table_at t (SystemSpec Event number)))
+keys_read t (Member System number) = system_keys t
+keys_read t (Member Link number) = link_keys
+keys_read t (Member Event number) = event_keys (kind_text (table_at t (Member Event number)))
 
 -- a key is one of these, or a name, which is read nowhere and may stand everywhere
 abbrev pub is_known : List (List ℕ) → List ℕ → Bool

@@ -14,7 +14,7 @@ use Rattle.gptp_lint.specs.declared.components.Nobody.{Nobody}
 use Rattle.gptp_lint.specs.declared.findings.Findings.{Findings}
 use Rattle.gptp_lint.specs.declared.trouble.Long.{Long}
 use Rattle.gptp_lint.specs.declared.trouble.Lossy.{Lossy}
-use Rattle.gptp_lint.specs.declared.place.Place.TheVariants.{SystemSpec}
+use Rattle.gptp_lint.specs.declared.place.Place.TheVariants.{Member}
 use Rattle.gptp_lint.specs.declared.place.Section.TheVariants.{Link}
 use Rattle.gptp_lint.specs.Outline.{header_line, outline_of_text}
 use Rattle.gptp_lint.specs.Unread.{UnreadKey, line_words, placed, unread_line}
@@ -78,8 +78,8 @@ other_lines f =
 abbrev pub found_lines : List ℕ → ℕ → Findings → List UnreadKey → List (List ℕ)
 found_lines input threshold f unread =
     map (unread_line (outline_of_text input)) unread
-    ++ map (λ (l : Long). long_line threshold (header_line input (SystemSpec Link l.link)) l) f.long.items
-    ++ map (λ (l : Lossy). lossy_line (header_line input (SystemSpec Link l.link)) l) f.lossy.items
+    ++ map (λ (l : Long). long_line threshold (header_line input (Member Link l.link)) l) f.long.items
+    ++ map (λ (l : Lossy). lossy_line (header_line input (Member Link l.link)) l) f.lossy.items
     ++ flat_map (late_lines f.limit) f.calm.items ++ other_lines f
 
 -- The findings of a document of this threshold, which the input spells: the keys that aren't read, the links that are

@@ -10,7 +10,7 @@ use Rattle.gptp_outline.specs.declared.row.RowKind.TheVariants.{ArrayTable, Pair
 use Rattle.gptp_lint.specs.declared.outline.Entry.{Entry}
 use Rattle.gptp_lint.specs.declared.outline.Outline.{Outline}
 use Rattle.gptp_lint.specs.declared.place.Place.{Place}
-use Rattle.gptp_lint.specs.declared.place.Place.TheVariants.{SystemSpec, Network, Top}
+use Rattle.gptp_lint.specs.declared.place.Place.TheVariants.{Member, Network, Top}
 use Rattle.gptp_lint.specs.declared.place.Section.{Section}
 use Rattle.gptp_lint.specs.declared.place.Section.TheVariants.{Event, Link, System}
 
@@ -80,7 +80,7 @@ network_entries None row = keys_at Network (table_keys row)
 -- the keys of the members of an array, from this number on
 abbrev pub numbered : Section → ℕ → List (List Key) → List PlacedKey
 numbered section n [] = []
-numbered section n (keys ∷ more) = keys_at (SystemSpec section n) keys ++ numbered section (suc n) more
+numbered section n (keys ∷ more) = keys_at (Member section n) keys ++ numbered section (suc n) more
 
 abbrev pub section_entries : Option Section → RowState → List PlacedKey
 section_entries (Some section) row = numbered section 0 (array_keys row)
@@ -95,7 +95,7 @@ value_entries row =
 abbrev pub inner_entries : Place → RowState → List PlacedKey
 inner_entries Top row = value_entries row
 inner_entries Network row = []
-inner_entries (SystemSpec section number) row = []
+inner_entries (Member section number) row = []
 
 -- a pair has its key where the last header says, and at the top what its value has
 abbrev pub placed_entries : Place → RowState → List PlacedKey
@@ -113,7 +113,7 @@ after_pair o row = record o { entries = o.entries ++ pair_entries o.context row 
 -- the member whose header came last
 abbrev pub last_member : Section → OutlineState → Option Place
 last_member section o =
-    if length (lines_of section o) == 0 then None else Some (SystemSpec section (length (lines_of section o) - 1))
+    if length (lines_of section o) == 0 then None else Some (Member section (length (lines_of section o) - 1))
 
 -- where the second part of a header stands
 abbrev pub place_inside : List ℕ → OutlineState → Option Place
@@ -145,11 +145,11 @@ after_table o row = with_header o row.key (table_context row.key)
 -- `[[system]]` begins a member in its line
 abbrev pub opened : Section → ℕ → OutlineState → OutlineState
 opened System line o = record o {
-  context = Some (SystemSpec System (length o.systems));
+  context = Some (Member System (length o.systems));
   systems = o.systems ++ line ∷ [];
 }
-opened Link line o = record o { context = Some (SystemSpec Link (length o.links)); links = o.links ++ line ∷ [] }
-opened Event line o = record o { context = Some (SystemSpec Event (length o.events)); events = o.events ++ line ∷ [] }
+opened Link line o = record o { context = Some (Member Link (length o.links)); links = o.links ++ line ∷ [] }
+opened Event line o = record o { context = Some (Member Event (length o.events)); events = o.events ++ line ∷ [] }
 
 abbrev pub opened_if : Option Section → ℕ → OutlineState → OutlineState
 opened_if (Some section) line o = opened section line o
@@ -176,7 +176,7 @@ outline_of_text input = fold after before_rows (rows input)
 abbrev pub line_in : OutlineState → Place → Option ℕ
 line_in o Top = None
 line_in o Network = None
-line_in o (SystemSpec section number) = slice_get (lines_of section o) number
+line_in o (Member section number) = slice_get (lines_of section o) number
 
 abbrev pub header_line : List ℕ → Place → Option ℕ
 header_line input place = line_in (outline_of_text input) place

@@ -13,7 +13,7 @@ use Rattle.gptp_network.specs.declared.why.Refusal.{Refusal}
 use Rattle.gptp_network.specs.declared.why.Why.{Why}
 use Rattle.gptp_network.specs.declared.why.Why.TheVariants as whys
 use Rattle.gptp_lint.specs.declared.place.Place.{Place}
-use Rattle.gptp_lint.specs.declared.place.Place.TheVariants.{SystemSpec, Network, Top}
+use Rattle.gptp_lint.specs.declared.place.Place.TheVariants.{Member, Network, Top}
 use Rattle.gptp_lint.specs.declared.place.Section.{Section}
 use Rattle.gptp_lint.specs.declared.place.Section.TheVariants.{Event, Link, System}
 use Rattle.gptp_lint.specs.Unread.{near_words, place_words}
@@ -28,7 +28,7 @@ section_of sections.Event = Event
 abbrev pub place_of : DocumentPlace → Place
 place_of places.Top = Top
 place_of places.Network = Network
-place_of (places.SystemSpec section number) = SystemSpec (section_of section) number
+place_of (places.Member section number) = Member (section_of section) number
 
 -- a key is missing: then another may be named that is near
 abbrev pub is_missing : Why → Bool

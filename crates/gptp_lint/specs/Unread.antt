@@ -5,7 +5,7 @@ use Rattle.std.specs.List.{flat_map}
 use Rattle.hex.specs.Hex.{encode_lower}
 use Rattle.gptp_lint.specs.Outline.{OutlineState, PlacedKey, line_in}
 use Rattle.gptp_lint.specs.declared.place.Place.{Place}
-use Rattle.gptp_lint.specs.declared.place.Place.TheVariants.{Top, Network, SystemSpec}
+use Rattle.gptp_lint.specs.declared.place.Place.TheVariants.{Top, Network, Member}
 use Rattle.gptp_lint.specs.declared.place.Section.{Section}
 use Rattle.gptp_lint.specs.declared.place.Section.TheVariants.{System, Link, Event}
 
@@ -23,7 +23,7 @@ section_name Event = codes "event"
 abbrev pub place_words : Place → Option ℕ → List ℕ
 place_words Top line = codes "top"
 place_words Network line = codes "network"
-place_words (SystemSpec section number) line = section_name section ++ codes " " ++ decimal number ++ line_words line
+place_words (Member section number) line = section_name section ++ codes " " ++ decimal number ++ line_words line
 
 -- an octet that is shown as it is: it is printed, and neither a blank nor `\`, which is 92
 abbrev pub is_plain : ℕ → Bool

@@ -14,7 +14,7 @@ use Rattle.gptp_lint.specs.Outline.{OutlineState, PlacedKey, entry_view, outline
 use Rattle.gptp_lint.specs.Unread.{UnreadKey, placed, unread_line}
 use Rattle.gptp_lint.specs.declared.outline.Entry.{Entry}
 use Rattle.gptp_lint.specs.declared.place.Place.{Place}
-use Rattle.gptp_lint.specs.declared.place.Place.TheVariants.{SystemSpec, Network, Top}
+use Rattle.gptp_lint.specs.declared.place.Place.TheVariants.{Member, Network, Top}
 use Rattle.gptp_lint.specs.declared.place.Section.{Section}
 use Rattle.gptp_lint.specs.declared.place.Section.TheVariants.{Event, Link, System}
 
@@ -27,12 +27,12 @@ part_of_section Event = 4
 abbrev pub part_of : Place → ℕ
 part_of Top = 0
 part_of Network = 1
-part_of (SystemSpec section number) = part_of_section section
+part_of (Member section number) = part_of_section section
 
 abbrev pub number_of : Place → ℕ
 number_of Top = 0
 number_of Network = 0
-number_of (SystemSpec section number) = number
+number_of (Member section number) = number
 
 -- the same key at the same place
 abbrev pub compare_keys : (ℕ × ℕ) × List ℕ → (ℕ × ℕ) × List ℕ → Ordering

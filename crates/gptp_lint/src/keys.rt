@@ -174,7 +174,7 @@ pub(crate) fn table_at<'a>(document: &'a Table, place: Place) -> Option<&'a Tabl
             None => None,
             Some(value) => value.as_table(),
         },
-        Place::SystemSpec(section, number) => member_table(members(document, section), number),
+        Place::Member(section, number) => member_table(members(document, section), number),
     }
 }
 
@@ -196,9 +196,9 @@ pub(crate) fn keys_at(document: &Table, place: Place) -> &'static [&'static str]
     match place {
         Place::Top => TOP,
         Place::Network => NETWORK,
-        Place::SystemSpec(Section::System, _) => system_keys(document),
-        Place::SystemSpec(Section::Link, _) => LINK,
-        Place::SystemSpec(Section::Event, _) => event_keys(kind_of(table_at(document, place))),
+        Place::Member(Section::System, _) => system_keys(document),
+        Place::Member(Section::Link, _) => LINK,
+        Place::Member(Section::Event, _) => event_keys(kind_of(table_at(document, place))),
     }
 }
 

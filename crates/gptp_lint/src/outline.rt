@@ -142,7 +142,7 @@ fn push_members(
 {
     let mut number = 0;
     for keys in members {
-        push_keys(alloc, entries, Place::SystemSpec(section, number), keys)?;
+        push_keys(alloc, entries, Place::Member(section, number), keys)?;
         number += 1;
     }
     Ok(())
@@ -207,7 +207,7 @@ fn push_pair_at(
     match place {
         Place::Top => push_value(alloc, entries, row),
         Place::Network => Ok(()),
-        Place::SystemSpec(_, _) => Ok(()),
+        Place::Member(_, _) => Ok(()),
     }
 }
 
@@ -304,7 +304,7 @@ impl Outline {
         match place {
             Place::Top => None,
             Place::Network => None,
-            Place::SystemSpec(section, number) => self.lines(section).get(number).copied(),
+            Place::Member(section, number) => self.lines(section).get(number).copied(),
         }
     }
 
@@ -323,7 +323,7 @@ impl Outline {
         if count == 0 {
             None
         } else {
-            Some(Place::SystemSpec(section, count - 1))
+            Some(Place::Member(section, count - 1))
         }
     }
 
@@ -366,17 +366,17 @@ impl Outline {
         match section {
             Section::System => {
                 let number = push_line(&mut self.systems, line)?;
-                self.context = Some(Place::SystemSpec(Section::System, number));
+                self.context = Some(Place::Member(Section::System, number));
                 Ok(())
             }
             Section::Link => {
                 let number = push_line(&mut self.links, line)?;
-                self.context = Some(Place::SystemSpec(Section::Link, number));
+                self.context = Some(Place::Member(Section::Link, number));
                 Ok(())
             }
             Section::Event => {
                 let number = push_line(&mut self.events, line)?;
-                self.context = Some(Place::SystemSpec(Section::Event, number));
+                self.context = Some(Place::Member(Section::Event, number));
                 Ok(())
             }
         }

@@ -53,7 +53,7 @@ impl Section {
 pub(crate) enum Place {
     Top,
     Network,
-    SystemSpec(Section, usize),
+    Member(Section, usize),
 }
 
 impl Place {
@@ -64,8 +64,8 @@ impl Place {
         match place {
             gptp_network::Place::Top => Place::Top,
             gptp_network::Place::Network => Place::Network,
-            gptp_network::Place::SystemSpec(section, number) => {
-                Place::SystemSpec(Section::of(section), number)
+            gptp_network::Place::Member(section, number) => {
+                Place::Member(Section::of(section), number)
             }
         }
     }
@@ -106,7 +106,7 @@ impl fmt::Display for PlaceWords {
         match self.place {
             Place::Top => f.write_str("top"),
             Place::Network => f.write_str("network"),
-            Place::SystemSpec(section, number) => {
+            Place::Member(section, number) => {
                 write!(f, "{} {number}{}", section.name(), LineWords(self.line))
             }
         }

@@ -33,7 +33,7 @@ fn part_of(place: Place) -> u8
     match place {
         Place::Top => 0,
         Place::Network => 1,
-        Place::SystemSpec(section, _) => part_of_section(section),
+        Place::Member(section, _) => part_of_section(section),
     }
 }
 
@@ -44,7 +44,7 @@ fn number_of(place: Place) -> usize
     match place {
         Place::Top => 0,
         Place::Network => 0,
-        Place::SystemSpec(_, number) => number,
+        Place::Member(_, number) => number,
     }
 }
 

@@ -11,7 +11,7 @@ use Rattle.gptp_links.specs.Queue.{frame, Frame, due_after}
 use Rattle.gptp_system.specs.declared.answer.Answer.{Answer}
 use Rattle.gptp_system.specs.declared.sending.Sending.{Sending}
 use Rattle.gptp_setup.specs.declared.timer.Timer.{Timer}
-use Rattle.gptp_system.specs.Input.{Input, Frame as FrameHeard, TimerRunsOut as TimerExpires}
+use Rattle.gptp_system.specs.Input.{Input, Frame as FrameHeard, Expires as TimerExpires}
 use Rattle.gptp_system.specs.State.{SystemState, own}
 use Rattle.gptp_system.proofs.FactLemmas.{keeps_length}
 use Rattle.gptp_system.proofs.StepLemmas.{steps_sound}

@@ -8,7 +8,7 @@ use Rattle.gptp_links.specs.declared.link.Direction.TheVariants.{FromA, FromB}
 use Rattle.gptp_links.specs.Fate.{Draw}
 use Rattle.gptp_system.specs.declared.answer.Answer.{Answer}
 use Rattle.gptp_setup.specs.declared.timer.Timer.{Timer}
-use Rattle.gptp_system.specs.Input.{Input, PortUp, PortDown, Frame as FrameHeard, TimerRunsOut as TimerExpires}
+use Rattle.gptp_system.specs.Input.{Input, PortUp, PortDown, Frame as FrameHeard, Expires as TimerExpires}
 use Rattle.gptp_system.specs.State.{clock}
 use Rattle.gptp_system.specs.Steps.{HasPortNumber, IsUp}
 use Rattle.gptp_model.specs.declared.station.Station.{Station}

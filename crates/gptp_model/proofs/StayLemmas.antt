@@ -10,7 +10,7 @@ use Rattle.gptp_roles.specs.Selection.{clock_of}
 use Rattle.gptp_system.specs.declared.answer.Answer.{Answer}
 use Rattle.gptp_system.specs.declared.sending.Sending.{Sending}
 use Rattle.gptp_setup.specs.declared.timer.Timer.{Timer}
-use Rattle.gptp_system.specs.Input.{Input, PortUp, PortDown, Priority, Frame as FrameHeard, TimerRunsOut as TimerExpires}
+use Rattle.gptp_system.specs.Input.{Input, PortUp, PortDown, Priority, Frame as FrameHeard, Expires as TimerExpires}
 use Rattle.gptp_system.specs.Start.{started}
 use Rattle.gptp_system.specs.State.{SystemState, clock}
 use Rattle.gptp_system.proofs.StartLemmas.{length-new_ports}

@@ -6,7 +6,7 @@ use Rattle.gptp_links.specs.Queue.{frame, Frame}
 use Rattle.gptp_system.specs.declared.answer.Answer.{Answer}
 use Rattle.gptp_system.specs.declared.sending.Sending.{Sending}
 use Rattle.gptp_setup.specs.declared.timer.Timer.{Timer}
-use Rattle.gptp_system.specs.Input.{Input, Frame as FrameHeard, TimerRunsOut as TimerExpires, Steps}
+use Rattle.gptp_system.specs.Input.{Input, Frame as FrameHeard, Expires as TimerExpires, Steps}
 use Rattle.gptp_system.specs.State.{SystemState, clock}
 use Rattle.gptp_model.specs.declared.item.Item.TheVariants.{Expiry, Arrival}
 use Rattle.gptp_model.specs.declared.station.Station.{Station}

@@ -187,8 +187,8 @@ each_is : {X : Type 0} (section : Section) (one : Data → X → Result X Why) (
     → forget_place (read_each section one number ds x) ≡ each_of plain ds x
 each_is section one plain same number no_items x = refl
 each_is section one plain same number (item d ds) x =
-    step_at (at_place (places.SystemSpec section number) (one d x)) (plain d x) (read_each section one (suc number) ds)
-    (each_of plain ds) (forget_at (places.SystemSpec section number) (one d x) ∙ same d x)
+    step_at (at_place (places.Member section number) (one d x)) (plain d x) (read_each section one (suc number) ds)
+    (each_of plain ds) (forget_at (places.Member section number) (one d x) ∙ same d x)
     (λ y. each_is section one plain same (suc number) ds y)
 
 -- ---- `[network]`

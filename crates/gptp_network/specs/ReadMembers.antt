@@ -28,7 +28,7 @@ unfoldable pub limited_in : Section → Items → Result Items Refusal
 limited_in section ds =
     if nat_lt (section_limit section) (count ds)
     then Err (record {
-      place = places.SystemSpec section (section_limit section);
+      place = places.Member section (section_limit section);
       why = whys.TooMany (count ds) (section_limit section);
     })
     else Ok ds
@@ -37,5 +37,5 @@ limited_in section ds =
 abbrev pub read_each : {X : Type 0} → Section → (Data → X → Result X Why) → ℕ → Items → X → Result X Refusal
 read_each section one number no_items x = Ok x
 read_each section one number (item d ds) x = do
-  y ← at_place (places.SystemSpec section number) (one d x)
+  y ← at_place (places.Member section number) (one d x)
   read_each section one (suc number) ds y

@@ -423,7 +423,7 @@ fn add_each(
     for (number, value) in values.iter().enumerate() {
         if let Err(why) = add_event(alloc, events, network, value) {
             return Err(Refusal {
-                place: Place::SystemSpec(Section::Event, number),
+                place: Place::Member(Section::Event, number),
                 why,
             });
         }

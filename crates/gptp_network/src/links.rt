@@ -180,7 +180,7 @@ fn add_each(network: &mut Network, links: &[Value]) -> Result<(), Refusal>
     for (number, link) in links.iter().enumerate() {
         if let Err(why) = add_link(network, link) {
             return Err(Refusal {
-                place: Place::SystemSpec(Section::Link, number),
+                place: Place::Member(Section::Link, number),
                 why,
             });
         }

@@ -50,7 +50,7 @@ pub(crate) fn limited_in(section: Section, values: &[Value]) -> Result<&[Value],
     let count = values.len();
     if most < count {
         Err(Refusal {
-            place: Place::SystemSpec(section, most),
+            place: Place::Member(section, most),
             why: Why::TooMany { count, most },
         })
     } else {

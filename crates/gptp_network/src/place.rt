@@ -42,5 +42,5 @@ impl Section {
 pub enum Place {
     Top,
     Network,
-    SystemSpec(Section, usize),
+    Member(Section, usize),
 }

@@ -213,7 +213,7 @@ fn add_each(network: &mut Network, version: u64, systems: &[Value]) -> Result<()
     for (number, system) in systems.iter().enumerate() {
         if let Err(why) = add_system(network, version, system) {
             return Err(Refusal {
-                place: Place::SystemSpec(Section::System, number),
+                place: Place::Member(Section::System, number),
                 why,
             });
         }

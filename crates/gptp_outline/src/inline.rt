@@ -77,7 +77,8 @@ fn item_keys(alloc: Global, s: &str, depth: usize) -> Result<Vec<Vec<Key>>, Pars
     items_after(alloc, skip(s, 1), depth.saturating_sub(1))
 }
 
-/// The keys of the inline table that a pair gives its key; none where it gives another value.
+/// The keys of the inline table that a pair gives its key, in the order of the text; none where it gives another
+/// value. Of a row of a document the only error is that memory ran out.
 pub fn table_keys(alloc: Global, row: &Row<'_>) -> Result<Vec<Key>, ParseError>
     ensures { IfOk result (λ keys. HasValue (shown row.now) → row.now.kind ≡ Pair
         → map key_view keys.items ≡ table_keys (shown row.now)) }
@@ -86,7 +87,8 @@ pub fn table_keys(alloc: Global, row: &Row<'_>) -> Result<Vec<Key>, ParseError>
     value_keys(alloc, at_value, RECURSION_LIMIT)
 }
 
-/// The keys of each item of the array that a pair gives its key: of an item that is no inline table none.
+/// The keys of each item of the array that a pair gives its key: of an item that is no inline table none. Of a row of a
+/// document the only error is that memory ran out.
 pub fn array_keys(alloc: Global, row: &Row<'_>) -> Result<Vec<Vec<Key>>, ParseError>
     ensures { IfOk result (λ items. HasValue (shown row.now) → row.now.kind ≡ Pair
         → map keys_view items.items ≡ array_keys (shown row.now)) }

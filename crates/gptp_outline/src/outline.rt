@@ -23,7 +23,8 @@ fn skip_bom(s: &str) -> &str
     }
 }
 
-/// The rows of a document: its lines that aren't blank.
+/// The rows of a document: its lines that aren't blank, in the order of the text. Errors: [`ParseError::OutOfMemory`]
+/// where memory ran out, else where the text stops being TOML.
 pub fn rows<'a>(alloc: Global, text: &'a str) -> Result<Vec<Row<'a>>, ParseError>
     ensures are { IfOk result (λ found. IsDocument text.now → map shown found.items ≡ rows text.now) }
     ensures refused { IfErr result (λ e. (e ≡ OutOfMemory → ⊥) → IsDocument text.now → ⊥) }

@@ -11,7 +11,7 @@ use Rattle.gptp_receipt.specs.declared.held.Held.{Held}
 use Rattle.gptp_receipt.specs.declared.held.Held.TheVariants as helds
 use Rattle.gptp_receipt.specs.declared.held.Heard.TheVariants as heards
 use Rattle.gptp_receipt.specs.declared.held.Reception.{Reception}
-use Rattle.gptp_receipt.specs.Held.{comparison, held_after_selection as held_when_heard, message_vector, received, reception}
+use Rattle.gptp_receipt.specs.Held.{comparison, held_after as held_when_heard, message_vector, received, reception}
 use Rattle.gptp_receipt.specs.Qualification.{Qualified}
 use Rattle.gptp_roles.specs.Choice.{path_vectors}
 use Rattle.gptp_roles.specs.Role.{each_from, held_after_selection, is_master, chosen_role}

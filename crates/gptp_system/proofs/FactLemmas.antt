@@ -54,7 +54,7 @@ pub record Sound (s s' : SystemState) : Type 0 where
   pub rest : AreHeld s → IsAtRest s → IsAtRest s'
 
 -- the same before it is selected
-pub record TimersChanged (s t : SystemState) : Type 0 where
+pub record KeepsBeforeSelection (s t : SystemState) : Type 0 where
   pub kept : Keeps s t
   pub held : AreHeld s → AreHeld t
   pub shown : AreShown s → AreShown t
@@ -264,7 +264,8 @@ choosing_rest v now s a chosen =
 pub selects_rest : (now : ℕ) (t u : SystemState) (sends : List Sending) → AreHeld t → Selects now t u sends → IsAtRest u
 selects_rest now t u sends a k = subst IsAtRest (sym k.state) (choosing_rest k.vector now t a k.is_chosen)
 
-pub selects_sound : (now : ℕ) (s t u : SystemState) (sends : List Sending) → TimersChanged s t → Selects now t u sends
+pub selects_sound : (now : ℕ) (s t u : SystemState) (sends : List Sending) → KeepsBeforeSelection s t
+    → Selects now t u sends
     → Sound s u
 selects_sound now s t u sends m k =
     let v = k.vector in
@@ -276,7 +277,7 @@ selects_sound now s t u sends m k =
       rest = λ h r. choosing_rest v now t (m.held h) k.is_chosen;
     })
 
-pub selects_steady : (now : ℕ) (s t u : SystemState) (sends : List Sending) → TimersChanged s t
+pub selects_steady : (now : ℕ) (s t u : SystemState) (sends : List Sending) → KeepsBeforeSelection s t
     → t.identity ≡ s.identity
     → Selects now t u sends
     → Steady s u

@@ -20,7 +20,7 @@ use Rattle.gptp_system.specs.Lapse.{dropped, lapsed}
 use Rattle.gptp_system.specs.Times.{WaitsAnew}
 use Rattle.gptp_system.specs.Touch.{Touch, Grow, Other, IsLapseSeenAs, PortHoldsInTouch}
 use Rattle.gptp_system.proofs.ChangedLemmas.{Changed, change-get, number-get}
-use Rattle.gptp_system.proofs.FactLemmas.{TimersChanged}
+use Rattle.gptp_system.proofs.FactLemmas.{KeepsBeforeSelection}
 use Rattle.gptp_system.proofs.MidLemmas.{Mids}
 use Rattle.gptp_system.proofs.TimersChangedLemmas.{holds_touches}
 
@@ -96,12 +96,12 @@ dropped_on helds.Aged on = on
 dropped_on (helds.Mine root steps) on = on
 dropped_on (helds.Received r) on = λ e. absurd cc
 
-dropped_touches : (p : ℕ) (s : SystemState) → TimersChanged s (on_held p dropped s)
+dropped_touches : (p : ℕ) (s : SystemState) → KeepsBeforeSelection s (on_held p dropped s)
 dropped_touches p s =
     holds_touches p dropped s (λ h came. dropped_came (own s p) h came) (λ h e. rw e refl) (λ h on. dropped_on h on)
 
 -- the timer stops beside that
-stops_touches : (s t : SystemState) → TimersChanged s t → TimersChanged s (record t { lapse = None })
+stops_touches : (s t : SystemState) → KeepsBeforeSelection s t → KeepsBeforeSelection s (record t { lapse = None })
 stops_touches s t k = record {
   kept = record {
     params = k.kept.params;
@@ -116,7 +116,7 @@ stops_touches s t k = record {
   shown = λ a. let b = k.shown a in record { places = b.places; each = b.each };
 }
 
-itself_touches : (s : SystemState) → TimersChanged s s
+itself_touches : (s : SystemState) → KeepsBeforeSelection s s
 itself_touches s = record {
   kept = record {
     params = refl;
@@ -138,10 +138,10 @@ lapsed_at slave s = record s {
   lapse = None;
 }
 
-pub lapsed_touches : (s : SystemState) → TimersChanged s (lapsed s)
+pub lapsed_touches : (s : SystemState) → KeepsBeforeSelection s (lapsed s)
 lapsed_touches s = go s.slave
   where
-    go : (o : Option ℕ) → TimersChanged s (lapsed_at o s)
+    go : (o : Option ℕ) → KeepsBeforeSelection s (lapsed_at o s)
     go None = stops_touches s s (itself_touches s)
     go (Some p) = stops_touches s (on_held p dropped s) (dropped_touches p s)
 

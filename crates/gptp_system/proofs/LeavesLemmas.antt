@@ -12,8 +12,8 @@ use Rattle.gptp_system.specs.declared.answer.Answer.TheVariants as answers
 use Rattle.gptp_system.specs.declared.sending.Sending.{Sending}
 use Rattle.gptp_setup.specs.declared.timer.Timer.{Timer}
 use Rattle.gptp_setup.specs.declared.timer.Timer.TheVariants as timers
-use Rattle.gptp_system.specs.declared.touched.TimersChanged.{TimersChanged}
-use Rattle.gptp_system.specs.declared.touched.TimersChanged.TheVariants as touches
+use Rattle.gptp_system.specs.declared.timers_changed.TimersChanged.{TimersChanged}
+use Rattle.gptp_system.specs.declared.timers_changed.TimersChanged.TheVariants as touches
 use Rattle.gptp_system.specs.Announcing.{answer_to_heard, compared, replaces_held, HearsQualified}
 use Rattle.gptp_system.specs.Input.{Input, Frame, Expires}
 use Rattle.gptp_system.specs.Measuring.{is_turned, TurnsIf}

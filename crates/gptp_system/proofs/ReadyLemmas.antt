@@ -11,7 +11,7 @@ use Rattle.gptp_receipt.specs.declared.held.Heard.{Heard}
 use Rattle.gptp_receipt.specs.declared.held.Heard.TheVariants as heards
 use Rattle.gptp_receipt.specs.declared.held.Reception.{Reception}
 use Rattle.gptp_receipt.specs.Held.{received, reception, comparison, aged, is_due}
-use Rattle.gptp_receipt.specs.Held.{held_after_selection as heard_after}
+use Rattle.gptp_receipt.specs.Held.{held_after as heard_after}
 use Rattle.gptp_receipt.specs.Qualification.{Qualified}
 use Rattle.gptp_roles.specs.Choice.{ArePlaced, IsPlaced}
 use Rattle.gptp_roles.specs.Role.{each_from, held_after_selection, is_fresh, is_master, chosen_role}

@@ -20,7 +20,7 @@ use Rattle.gptp_system.specs.Measuring.{down, held_if, held_turned, is_turned, s
 use Rattle.gptp_system.specs.Announcing.{aged_at, aged_by, compared, replaces_held, with_priority}
 use Rattle.gptp_system.specs.Facts.{AreHeld, AreShown, IsShown, Keeps}
 use Rattle.gptp_system.proofs.ChangedLemmas.{Changed, change-get, change-length, change-map, change-same, number-get}
-use Rattle.gptp_system.proofs.FactLemmas.{TimersChanged}
+use Rattle.gptp_system.proofs.FactLemmas.{KeepsBeforeSelection}
 
 -- what a port holds becomes something else that came to it
 still_held : (p : ℕ) (g : Held → Held) (s : SystemState)
@@ -42,7 +42,7 @@ pub record Touching (p : ℕ) (g : Held → Held) (f : Port → Port) (s : Syste
       → IsShown (g h) (f q)
 
 pub touches : (p : ℕ) (g : Held → Held) (f : Port → Port) (s : SystemState) → Touching p g f s
-    → TimersChanged s (on_held p g (on_port p f s))
+    → KeepsBeforeSelection s (on_held p g (on_port p f s))
 touches p g f s k = record { kept = kept; held = λ a. still_held p g s k.came a; shown = shown }
   where
     kept : Keeps s (on_held p g (on_port p f s))
@@ -76,7 +76,7 @@ touches p g f s k = record { kept = kept; held = λ a. still_held p g s k.came a
 pub holds_touches : (p : ℕ) (g : Held → Held) (s : SystemState)
     → ((h : Held) → HoldsFor (own s p) h → HoldsFor (own s p) (g h))
     → ((h : Held) → (h ≡ helds.Disabled → g h ≡ helds.Disabled))
-    → ((h : Held) → h ≢ helds.Disabled → g h ≢ helds.Disabled) → TimersChanged s (on_held p g s)
+    → ((h : Held) → h ≢ helds.Disabled → g h ≢ helds.Disabled) → KeepsBeforeSelection s (on_held p g s)
 holds_touches p g s came off on = record {
   kept =
       record {
@@ -127,7 +127,7 @@ qualified_came a own now k =
     record { foreign = k.foreign; receiver = refl; near = k.near; no_loop = k.no_loop; short = k.short }
 
 pub compared_touches : (p : ℕ) (a : AnnounceView) (now : ℕ) (s : SystemState) → Qualified a (clock s)
-    → TimersChanged s (compared p a now s)
+    → KeepsBeforeSelection s (compared p a now s)
 compared_touches p a now s k =
     holds_touches p (λ h. held_after (comparison h (own s p) a) h (reception a (own s p) now)) s
     (λ h before. heard_came (own s p) (comparison h (own s p) a) h (reception a (own s p) now)
@@ -173,7 +173,7 @@ aged_on h span now on = go (is_due h span now)
     go true = λ e. absurd cc
     go false = on
 
-pub aged_touches : (p now : ℕ) (s : SystemState) → TimersChanged s (aged_at p now s)
+pub aged_touches : (p now : ℕ) (s : SystemState) → KeepsBeforeSelection s (aged_at p now s)
 aged_touches p now s =
     holds_touches p (aged_by s.params s.largest now) s
     (λ h before. came h (span_of h s.params.timeout s.largest) before)
@@ -201,7 +201,7 @@ held_if_came : (own : PortId) (b : Bool) → HoldsFor own (held_if b)
 held_if_came own true = λ r is. absurd (none-some r is)
 held_if_came own false = λ r is. absurd (none-some r is)
 
-pub turned_touches : (p : ℕ) (step : PeerState → PeerState) (s : SystemState) → TimersChanged s (turned p step s)
+pub turned_touches : (p : ℕ) (step : PeerState → PeerState) (s : SystemState) → KeepsBeforeSelection s (turned p step s)
 turned_touches p step s =
     touches p (held_turned step (number s.ports p)) (λ (q : Port). record q { peer = step q.peer }) s
     (record { log = λ q. refl; came = λ h before. came (number s.ports p) h before; shows = shows })
@@ -216,7 +216,7 @@ turned_touches p step s =
         let new : Port = record q { peer = step q.peer } in
         subst (λ o. IsShown (held_turned step o h) new) (sym there) (held_if_shows (is_capable (step q.peer)) new refl)
 
-pub down_touches : (p : ℕ) (s : SystemState) → TimersChanged s (down p s)
+pub down_touches : (p : ℕ) (s : SystemState) → KeepsBeforeSelection s (down p s)
 down_touches p s =
     touches p (λ h. helds.Disabled) silenced s
     (record {
@@ -247,7 +247,7 @@ low_octets value n = omega arith
 pub priority_clock : (value : ℕ) (s : SystemState) → clock (with_priority value s) ≡ clock s
 priority_clock value s = low_octets value s.identity
 
-pub priority_touches : (value : ℕ) (s : SystemState) → TimersChanged s (with_priority value s)
+pub priority_touches : (value : ℕ) (s : SystemState) → KeepsBeforeSelection s (with_priority value s)
 priority_touches value s = record {
   kept =
       record {

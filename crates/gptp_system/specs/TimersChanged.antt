@@ -7,8 +7,8 @@ use Rattle.gptp_system.specs.declared.answer.Answer.{Answer}
 use Rattle.gptp_system.specs.declared.answer.Answer.TheVariants as answers
 use Rattle.gptp_setup.specs.declared.timer.Timer.{Timer}
 use Rattle.gptp_setup.specs.declared.timer.Timer.TheVariants as timers
-use Rattle.gptp_system.specs.declared.touched.TimersChanged.{TimersChanged}
-use Rattle.gptp_system.specs.declared.touched.TimersChanged.TheVariants as touches
+use Rattle.gptp_system.specs.declared.timers_changed.TimersChanged.{TimersChanged}
+use Rattle.gptp_system.specs.declared.timers_changed.TimersChanged.TheVariants as touches
 use Rattle.gptp_system.specs.Input.{Input, Frame, Expires}
 use Rattle.gptp_system.specs.Measuring.{is_turned}
 use Rattle.gptp_system.specs.Reach.{is_of_time, is_selected, same_timer, stops_at, Leaves}

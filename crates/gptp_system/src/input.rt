@@ -5,7 +5,7 @@ ghost use Rattle.std.specs.Prelude.{◌≡◌};
 use crate::answer::Answer;
 use crate::sending::Outbox;
 use crate::state::State;
-use crate::touched::{TimersChanged, asking_touches, selected_if, takes_place};
+use crate::timers_changed::{TimersChanged, asking_touches, selected_if, takes_place};
 use gptp_messages::{Message, decode};
 use gptp_setup::Timer;
 

@@ -22,7 +22,7 @@ mod start;
 mod state;
 mod syncing;
 mod system;
-mod touched;
+mod timers_changed;
 mod views;
 
 pub use answer::Answer;
@@ -31,4 +31,4 @@ pub use input::{Input, Stepped};
 pub use reach::Reach;
 pub use sending::{Body, Outbox, Sending};
 pub use system::System;
-pub use touched::TimersChanged;
+pub use timers_changed::TimersChanged;

@@ -32,7 +32,7 @@ use Rattle.gptp_invariants.proofs.WorldBoundedLemmas.{bounded_at_once, bounded_b
 use Rattle.gptp_invariants.proofs.ChoiceCalmKeptLemmas.{later_quiet}
 use Rattle.gptp_invariants.proofs.WorldSettlingInvariantLemmas.{settled_at_once, settled_by_paths}
 use Rattle.gptp_invariants.proofs.SyncExactLemmas.{receipts_are_exact}
-use Rattle.gptp_invariants.proofs.HoldsLemmas.{systems_bound}
+use Rattle.gptp_invariants.proofs.ChoiceSettlesAsMachineLemmas.{systems_bound}
 use Rattle.gptp_invariants.proofs.WorldStandsLemmas.{stands_well}
 use Rattle.gptp_invariants.proofs.WorldTreeLemmas.{settled_is_tree}
 use Rattle.gptp_certificate.specs.Stated.{States}

@@ -20,7 +20,7 @@ use Rattle.gptp_invariants.specs.ChoiceSettled.{Settled}
 use Rattle.gptp_invariants.specs.WorldSound.{IsSoundWorld}
 use Rattle.gptp_invariants.specs.WorldStanding.{snapshot_of}
 use Rattle.gptp_invariants.proofs.WorldClaimLemmas.{claim_begins, claim_kept, claim_later}
-use Rattle.gptp_invariants.proofs.HoldsLemmas.{paths_bound}
+use Rattle.gptp_invariants.proofs.ChoiceSettlesAsMachineLemmas.{paths_bound}
 use Rattle.gptp_invariants.proofs.WorldNewsCourseLemmas.{begun_settles, gain_settles, link_up_settles}
 use Rattle.gptp_invariants.proofs.ChoiceRestSoundLemmas.{rest_sound}
 use Rattle.gptp_invariants.proofs.WorldSoundLemmas.{sound_acts, sound_begins, sound_gains, sound_later}

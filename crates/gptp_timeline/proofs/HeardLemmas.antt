@@ -9,7 +9,7 @@ use Rattle.gptp_model.specs.declared.done.Done.{Done}
 use Rattle.gptp_model.specs.declared.done.Done.TheVariants.{Heard, Quiet}
 use Rattle.gptp_model.specs.Views.{ShowsLive}
 use Rattle.gptp_model.specs.World.{WorldState}
-use Rattle.gptp_model.specs.World.{receiver_clock as to}
+use Rattle.gptp_model.specs.World.{receiver as to}
 use Rattle.gptp_invariants.specs.SyncExact.{IsExactInTime, IsHeardExact}
 use Rattle.gptp_invariants.specs.SyncTimedLaws.{AreFollowUp}
 use Rattle.gptp_links.specs.Fate.{Draw}

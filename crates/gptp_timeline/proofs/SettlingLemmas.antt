@@ -64,7 +64,7 @@ use Rattle.gptp_theorem.proofs.BeginLemmas.{begun_stands}
 use Rattle.gptp_theorem.proofs.CalmLemmas.{quiet_stands}
 use Rattle.gptp_theorem.proofs.ChangeLemmas.{changes_stand}
 use Rattle.gptp_theorem.proofs.SettlingInvariantLemmas.{each_there}
-use Rattle.gptp_theorem.proofs.StretchesSoFarLemmas.{acts_stand, time_stands}
+use Rattle.gptp_theorem.proofs.KeptLemmas.{acts_stand, time_stands}
 use Rattle.gptp_theorem.proofs.SnapshotLemmas.{snapshots_stand}
 use Rattle.gptp_theorem.proofs.SyncPathLemmas.{paths_stand}
 use Rattle.gptp_world.specs.Transitions.{Passes, PassesTo, ActTrace, transition}

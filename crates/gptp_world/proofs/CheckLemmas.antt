@@ -2,15 +2,15 @@
 use Rattle.std.proofs.Common.{◌≡◌, ◌↔◌, ℕ, ◌<◌, Bool, List, [], ◌∷◌, ◌++◌, Some, slice_get, IsTrue, refl, ap, sym, subst, ◌∙◌, inl, inr}
 use Rattle.gptp_lists.specs.Members.{In}
 use Rattle.gptp_setup.specs.declared.timer.Timer.{Timer}
-use Rattle.gptp_world.specs.declared.target.ActTarget.{ActTarget}
-use Rattle.gptp_world.specs.declared.target.ActTarget.TheVariants as aims
+use Rattle.gptp_world.specs.declared.act_target.ActTarget.{ActTarget}
+use Rattle.gptp_world.specs.declared.act_target.ActTarget.TheVariants as aims
 use Rattle.gptp_world.specs.declared.joined_link.Lane.{Lane}
 use Rattle.gptp_scenario.specs.declared.change.Act.{Act}
 use Rattle.gptp_scenario.specs.declared.change.Act.TheVariants.{Deliver, Expire, Change as Changing}
 use Rattle.gptp_scenario.specs.declared.change.Change.{Change}
 use Rattle.gptp_scenario.specs.declared.change.Change.TheVariants as changes
 use Rattle.gptp_model.specs.declared.item.Item.{Item}
-use Rattle.gptp_world.specs.declared.parts.WorldParts.{WorldParts}
+use Rattle.gptp_world.specs.declared.world_parts.WorldParts.{WorldParts}
 use Rattle.gptp_model.specs.declared.station.Station.{Station}
 use Rattle.gptp_model.specs.Acts.{IsDueThen, IsEarlier, IsOldestDue, IsThere}
 use Rattle.gptp_world.specs.ActTarget.{IsTargetOf, IsAimOfChange}

@@ -12,7 +12,7 @@ use Rattle.gptp_system.specs.Input.{Input, PortUp}
 use Rattle.gptp_system.specs.State.{SystemState, clock}
 use Rattle.gptp_world.specs.declared.joined_link.Lane.{Lane}
 use Rattle.gptp_world.specs.declared.net.Net.{Net as Between}
-use Rattle.gptp_world.specs.declared.parts.WorldParts.{WorldParts}
+use Rattle.gptp_world.specs.declared.world_parts.WorldParts.{WorldParts}
 use Rattle.gptp_model.specs.declared.station.Station.{Station}
 use Rattle.gptp_model.specs.Act.{in_state, Calls}
 use Rattle.gptp_model.specs.Changing.{is_up_at, CallsAll}

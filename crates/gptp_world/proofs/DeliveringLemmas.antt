@@ -5,7 +5,7 @@ use Rattle.gptp_system.specs.Reach.{frame_reach}
 use Rattle.gptp_links.specs.Queue.{frame}
 use Rattle.gptp_world.specs.declared.joined_link.Lane.{Lane}
 use Rattle.gptp_world.specs.declared.net.Net.{Net as Between}
-use Rattle.gptp_world.specs.declared.parts.WorldParts.{WorldParts}
+use Rattle.gptp_world.specs.declared.world_parts.WorldParts.{WorldParts}
 use Rattle.gptp_model.specs.Act.{TakesFrame}
 use Rattle.gptp_model.specs.World.{WorldState, world_queue}
 use Rattle.gptp_world.specs.JoinedLink.{channel_of, join_of}

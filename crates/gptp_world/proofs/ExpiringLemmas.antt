@@ -10,7 +10,7 @@ use Rattle.gptp_system.specs.State.{SystemState}
 use Rattle.gptp_system.specs.Steps.{IsTimerOf}
 use Rattle.gptp_model.specs.declared.item.Item.TheVariants.{Expiry}
 use Rattle.gptp_world.specs.declared.net.Net.{Net as Between}
-use Rattle.gptp_world.specs.declared.parts.WorldParts.{WorldParts}
+use Rattle.gptp_world.specs.declared.world_parts.WorldParts.{WorldParts}
 use Rattle.gptp_model.specs.Act.{Calls}
 use Rattle.gptp_world.specs.ActTarget.{IsTimerDue}
 use Rattle.gptp_model.specs.Item.{timer_port}

@@ -21,7 +21,7 @@ use Rattle.gptp_world.specs.declared.joined_link.Lane.{Lane}
 use Rattle.gptp_world.specs.declared.net.Net.{Net as Between}
 use Rattle.gptp_scenario.specs.declared.network.SystemSpec.{SystemSpec}
 use Rattle.gptp_scenario.specs.declared.network.LinkSpec.{LinkSpec}
-use Rattle.gptp_world.specs.declared.parts.WorldParts.{WorldParts}
+use Rattle.gptp_world.specs.declared.world_parts.WorldParts.{WorldParts}
 use Rattle.gptp_model.specs.declared.station.Station.{Station}
 use Rattle.gptp_model.specs.Agrees.{Agrees}
 use Rattle.gptp_model.specs.Ahead.{IsOnTime, IsWorldOnTime}

@@ -1,12 +1,12 @@
 -- What an act is about is the same at a later time.
 use Rattle.std.proofs.Common.{ℕ, ◌≤◌}
-use Rattle.gptp_world.specs.declared.target.ActTarget.{ActTarget}
-use Rattle.gptp_world.specs.declared.target.ActTarget.TheVariants as aims
+use Rattle.gptp_world.specs.declared.act_target.ActTarget.{ActTarget}
+use Rattle.gptp_world.specs.declared.act_target.ActTarget.TheVariants as aims
 use Rattle.gptp_scenario.specs.declared.change.Act.{Act}
 use Rattle.gptp_scenario.specs.declared.change.Act.TheVariants.{Deliver, Expire, Change as Changing}
 use Rattle.gptp_scenario.specs.declared.change.Change.{Change}
 use Rattle.gptp_scenario.specs.declared.change.Change.TheVariants as changes
-use Rattle.gptp_world.specs.declared.parts.WorldParts.{WorldParts}
+use Rattle.gptp_world.specs.declared.world_parts.WorldParts.{WorldParts}
 use Rattle.gptp_model.specs.Acts.{at}
 use Rattle.gptp_world.specs.ActTarget.{IsTargetOf, IsAimOfChange}
 use Rattle.gptp_system.specs.declared.reach.Reach.{Reach}

@@ -16,8 +16,8 @@ use Rattle.gptp_system.specs.Reach.{frame_reach, timer_reach}
 use Rattle.gptp_system.specs.State.{clock}
 use Rattle.gptp_system.specs.Steps.{IsUp}
 use Rattle.gptp_vector.specs.declared.port.PortId.{PortId}
-use Rattle.gptp_world.specs.declared.target.ActTarget.{ActTarget}
-use Rattle.gptp_world.specs.declared.target.ActTarget.TheVariants as aims
+use Rattle.gptp_world.specs.declared.act_target.ActTarget.{ActTarget}
+use Rattle.gptp_world.specs.declared.act_target.ActTarget.TheVariants as aims
 use Rattle.gptp_world.specs.declared.joined_link.JoinedLink.{JoinedLink}
 use Rattle.gptp_world.specs.declared.joined_link.Lane.{Lane}
 use Rattle.gptp_scenario.specs.declared.change.Act.{Act}
@@ -27,7 +27,7 @@ use Rattle.gptp_scenario.specs.declared.change.Change.TheVariants as changes
 use Rattle.gptp_model.specs.declared.done.Done.{Done}
 use Rattle.gptp_model.specs.declared.done.Done.TheVariants.{Quiet}
 use Rattle.gptp_world.specs.declared.net.Net.{Net as Between}
-use Rattle.gptp_world.specs.declared.parts.WorldParts.{WorldParts}
+use Rattle.gptp_world.specs.declared.world_parts.WorldParts.{WorldParts}
 use Rattle.gptp_model.specs.declared.station.Station.{Station}
 use Rattle.gptp_model.specs.Acts.{Acts, AtPlace, Changes, IsOldestDue, TellsHearing}
 use Rattle.gptp_scenario.specs.Allowed.{IsFitAct}

@@ -23,7 +23,7 @@ use Rattle.gptp_model.proofs.SoundLemmas.{acts_sound, later_sound}
 use Rattle.gptp_invariants.specs.WorldEncodableLaws.{SetsAnOctet}
 use Rattle.gptp_invariants.specs.SyncTimedClaim.{WorldInvariant}
 use Rattle.gptp_invariants.proofs.SyncExactLemmas.{all_begins, all_kept}
-use Rattle.gptp_world.specs.declared.parts.WorldParts.{WorldParts}
+use Rattle.gptp_world.specs.declared.world_parts.WorldParts.{WorldParts}
 use Rattle.gptp_world.specs.WorldCore.{SystemsStarted}
 use Rattle.gptp_world.specs.WorldParts.{world_of}
 use Rattle.gptp_world.proofs.InitialLemmas.{initial_sound}

@@ -9,7 +9,7 @@ use Rattle.gptp_system.specs.Input.{PortUp, Priority}
 use Rattle.gptp_system.specs.State.{clock}
 use Rattle.gptp_system.proofs.StartLemmas.{length-new_ports}
 use Rattle.gptp_world.specs.declared.net.Net.{Net as Between}
-use Rattle.gptp_world.specs.declared.parts.WorldParts.{WorldParts}
+use Rattle.gptp_world.specs.declared.world_parts.WorldParts.{WorldParts}
 use Rattle.gptp_model.specs.declared.station.Station.{Station}
 use Rattle.gptp_model.specs.Changing.{failed, fresh, is_up_at, with_setup, with_station, CallsAll}
 use Rattle.gptp_world.specs.Net.{OnlyEntries}

@@ -16,10 +16,10 @@ use Rattle.gptp_system.specs.TimersChanged.{IsTouchedOf, Touches}
 use Rattle.gptp_world.specs.declared.joined_link.Lane.{Lane}
 use Rattle.gptp_model.specs.declared.item.Item.TheVariants.{Expiry, Arrival}
 use Rattle.gptp_world.specs.declared.net.Net.{Net as Between}
-use Rattle.gptp_world.specs.declared.parts.WorldParts.{WorldParts}
+use Rattle.gptp_world.specs.declared.world_parts.WorldParts.{WorldParts}
 use Rattle.gptp_model.specs.declared.station.Station.{Station}
-use Rattle.gptp_system.specs.declared.touched.TimersChanged.{TimersChanged}
-use Rattle.gptp_system.specs.declared.touched.TimersChanged.TheVariants as touches
+use Rattle.gptp_system.specs.declared.timers_changed.TimersChanged.{TimersChanged}
+use Rattle.gptp_system.specs.declared.timers_changed.TimersChanged.TheVariants as touches
 use Rattle.gptp_model.specs.Act.{in_state, set_timers, TakesFrame}
 use Rattle.gptp_model.specs.Agrees.{Agrees}
 use Rattle.gptp_model.specs.Item.{same_item}

@@ -7,7 +7,7 @@ use Rattle.gptp_system.specs.State.{SystemState}
 use Rattle.gptp_system.specs.Steps.{HasPortNumber}
 use Rattle.gptp_model.specs.declared.item.Item.{Item}
 use Rattle.gptp_model.specs.declared.item.Item.TheVariants.{Expiry, Arrival}
-use Rattle.gptp_world.specs.declared.parts.WorldParts.{WorldParts}
+use Rattle.gptp_world.specs.declared.world_parts.WorldParts.{WorldParts}
 use Rattle.gptp_model.specs.declared.station.Station.{Station}
 use Rattle.gptp_model.specs.Acts.{AtSystem}
 use Rattle.gptp_model.specs.Agrees.{Agrees}

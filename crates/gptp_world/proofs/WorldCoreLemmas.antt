@@ -7,7 +7,7 @@ use Rattle.gptp_links.specs.Fate.{Draw}
 use Rattle.gptp_links.proofs.DrawLemmas as draws
 use Rattle.gptp_system.specs.Input.{Input}
 use Rattle.gptp_scenario.specs.declared.change.Act.{Act}
-use Rattle.gptp_world.specs.declared.parts.WorldParts.{WorldParts}
+use Rattle.gptp_world.specs.declared.world_parts.WorldParts.{WorldParts}
 use Rattle.gptp_model.specs.Acts.{at, IsReadyAct}
 use Rattle.gptp_model.specs.Changing.{fresh, CallsAll, Starts, StartsAll}
 use Rattle.gptp_world.specs.WorldCore.{SystemsStarted}

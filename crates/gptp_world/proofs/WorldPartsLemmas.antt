@@ -29,7 +29,7 @@ use Rattle.gptp_setup.specs.declared.timer.Timer.TheVariants as timers
 use Rattle.gptp_system.specs.Steps.{IsTimerOf}
 use Rattle.gptp_system.proofs.ReachLemmas.{steps_reach}
 use Rattle.gptp_system.proofs.TimelyLemmas.{timely_timer}
-use Rattle.gptp_world.specs.declared.parts.WorldParts.{WorldParts}
+use Rattle.gptp_world.specs.declared.world_parts.WorldParts.{WorldParts}
 use Rattle.gptp_world.specs.WorldParts.{clock_at_place, for_left, Called, CallUses, CarriesOut, GiveUses, HasRoomToCall, HasRoomToGive, HasRoomWithin, HasStepped, IsLiveAt, IsStage, IsTimelyAt}
 use Rattle.gptp_model.specs.World.{timers_from}
 use Rattle.gptp_world.proofs.NeedLemmas.{covered, nothing_with, uses_less, Covers}

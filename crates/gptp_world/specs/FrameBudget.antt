@@ -5,11 +5,11 @@ use Rattle.gptp_system.specs.Reach.{frame_reach, timer_reach}
 use Rattle.gptp_setup.specs.declared.timer.Timer.{Timer}
 use Rattle.gptp_vector.specs.declared.port.PortId.{PortId}
 use Rattle.gptp_model.specs.declared.station.Station.{Station}
-use Rattle.gptp_world.specs.declared.target.ActTarget.{ActTarget}
-use Rattle.gptp_world.specs.declared.target.ActTarget.TheVariants as aims
+use Rattle.gptp_world.specs.declared.act_target.ActTarget.{ActTarget}
+use Rattle.gptp_world.specs.declared.act_target.ActTarget.TheVariants as aims
 use Rattle.gptp_world.specs.declared.joined_link.Lane.{Lane}
 use Rattle.gptp_world.specs.declared.net.Net.{Net as Between}
-use Rattle.gptp_world.specs.declared.parts.WorldParts.{WorldParts}
+use Rattle.gptp_world.specs.declared.world_parts.WorldParts.{WorldParts}
 use Rattle.gptp_world.specs.JoinedLink.{HasRoomOn}
 use Rattle.gptp_world.specs.Directory.{direction_end, BeginsAt, Join}
 use Rattle.gptp_world.specs.Net.{IsOldest}

@@ -6,7 +6,7 @@ use Rattle.gptp_links.specs.Fate.{Draw, Draws}
 use Rattle.gptp_system.specs.Input.{PortUp, Priority}
 use Rattle.gptp_setup.specs.Intervals.{AreParams}
 use Rattle.gptp_system.specs.State.{SystemState, clock}
-use Rattle.gptp_world.specs.declared.parts.WorldParts.{WorldParts}
+use Rattle.gptp_world.specs.declared.world_parts.WorldParts.{WorldParts}
 use Rattle.gptp_model.specs.declared.station.Station.{Station}
 use Rattle.gptp_model.specs.Act.{all_timers}
 use Rattle.gptp_model.specs.Changing.{is_up_at, with_setup, with_station, CallsAll, CallsIfLive, Starts}

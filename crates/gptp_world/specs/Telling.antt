@@ -4,7 +4,7 @@ use Rattle.gptp_links.specs.declared.bounds.Bounds.{Bounds}
 use Rattle.gptp_links.specs.Fate.{Draw, Draws}
 use Rattle.gptp_system.specs.Input.{Input, PortUp, PortDown}
 use Rattle.gptp_vector.specs.declared.port.PortId.{PortId}
-use Rattle.gptp_world.specs.declared.parts.WorldParts.{WorldParts}
+use Rattle.gptp_world.specs.declared.world_parts.WorldParts.{WorldParts}
 use Rattle.gptp_world.specs.declared.telling.End.{End}
 use Rattle.gptp_model.specs.Changing.{CallsIfLive, ComesUpIf, GoesDownIf}
 use Rattle.gptp_world.specs.Directory.{DirectoryState, Join}

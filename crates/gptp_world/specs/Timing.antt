@@ -3,11 +3,11 @@ use Rattle.std.specs.Prelude.{◌≡◌, ℕ, ◌+◌, Bool, false, List, [], �
 use Rattle.gptp_system.specs.declared.port.Port.{Port}
 use Rattle.gptp_setup.specs.declared.timer.Timer.{Timer}
 use Rattle.gptp_setup.specs.declared.timer.Timer.TheVariants as timers
-use Rattle.gptp_system.specs.declared.touched.TimersChanged.{TimersChanged}
+use Rattle.gptp_system.specs.declared.timers_changed.TimersChanged.{TimersChanged}
 use Rattle.gptp_system.specs.Input.{Input}
 use Rattle.gptp_system.specs.TimersChanged.{holds, is_always_touched, IsTouchedOf}
 use Rattle.gptp_model.specs.declared.item.Item.TheVariants.{Expiry}
-use Rattle.gptp_world.specs.declared.parts.WorldParts.{WorldParts}
+use Rattle.gptp_world.specs.declared.world_parts.WorldParts.{WorldParts}
 use Rattle.gptp_model.specs.declared.station.Station.{Station}
 use Rattle.gptp_model.specs.Pending.{Entry, timer_time, times_of_item}
 use Rattle.gptp_model.specs.World.{station_due}

@@ -5,7 +5,7 @@ use Rattle.gptp_vector.specs.declared.port.PortId.{PortId}
 use Rattle.gptp_model.specs.World.{Channel}
 use Rattle.gptp_invariants.specs.WorldStanding.{channel_is_used, standing_link, live_stations, used_channels}
 use Rattle.gptp_invariants.specs.ChoiceView.{port_identity_number}
-use Rattle.gptp_world.specs.declared.parts.WorldParts.{WorldParts}
+use Rattle.gptp_world.specs.declared.world_parts.WorldParts.{WorldParts}
 use Rattle.gptp_world.specs.JoinedLink.{channel_of}
 
 -- a link as a snapshot has it, by its two ports, that of its end a first

@@ -15,7 +15,7 @@ use Rattle.gptp_world.specs.declared.joined_link.Lane.{Lane}
 use Rattle.gptp_model.specs.declared.item.Item.{Item}
 use Rattle.gptp_model.specs.declared.item.Item.TheVariants.{Expiry, Arrival}
 use Rattle.gptp_world.specs.declared.net.Net.{Net as Between}
-use Rattle.gptp_world.specs.declared.parts.WorldParts.{WorldParts}
+use Rattle.gptp_world.specs.declared.world_parts.WorldParts.{WorldParts}
 use Rattle.gptp_model.specs.declared.station.Station.{Station}
 use Rattle.gptp_model.specs.Act.{in_state, Calls}
 use Rattle.gptp_world.specs.Directory.{BeginsAt}

@@ -3,9 +3,9 @@
 ghost use Rattle.std.specs.Prelude.{◌≡◌};
 ghost use Rattle.gptp_world.specs.ActTarget.{aim_of};
 
+use crate::act_target::ActTarget;
 use crate::joined_link::Lane;
 use crate::observer::Observer;
-use crate::target::ActTarget;
 use crate::views::act_of;
 use crate::world::World;
 use crate::world_core::WorldCore;

@@ -2,8 +2,8 @@
 
 ghost use Rattle.gptp_invariants.specs.WorldEncodableLaws.{SetsAnOctet};
 
-use crate::parts::WorldParts;
-use crate::target::ActTarget;
+use crate::act_target::ActTarget;
+use crate::world_parts::WorldParts;
 use gptp_model::{Act, Change, Refused, Timed};
 
 /// A priority1 that a change sets is an octet, and so is each that it injects.

@@ -4,7 +4,7 @@ ghost use Rattle.std.specs.Prelude.{◌≡◌, ◌≤◌};
 
 use crate::frame_budget::FrameBudget;
 use crate::joined_link::Lane;
-use crate::parts::WorldParts;
+use crate::world_parts::WorldParts;
 use gptp_links::Fate;
 use gptp_system::{Answer, Input, Reach};
 use gptp_vector::PortId;

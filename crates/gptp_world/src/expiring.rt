@@ -2,7 +2,7 @@
 
 use crate::frame_budget::FrameBudget;
 use crate::net::Net;
-use crate::parts::WorldParts;
+use crate::world_parts::WorldParts;
 use gptp_links::Fate;
 use gptp_system::{Input, Timer};
 use std::alloc::AllocError;

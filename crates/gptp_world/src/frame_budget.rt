@@ -4,7 +4,7 @@ ghost use Rattle.std.specs.Prelude.{◌≡◌, true, false, IfOk, slice_set};
 ghost use Rattle.gptp_world.specs.FrameBudget.{DrawsTwo, HasNoCredit};
 
 use crate::net::Net;
-use crate::parts::WorldParts;
+use crate::world_parts::WorldParts;
 use gptp_system::Reach;
 use std::alloc::{AllocError, Global};
 use std::marker::Model;

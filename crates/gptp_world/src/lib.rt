@@ -6,6 +6,7 @@
 //! lines about it (`specs/Observing.antt`).
 #![tactic(auto)]
 
+mod act_target;
 mod advancing;
 mod arriving;
 mod buffers;
@@ -22,7 +23,6 @@ mod net;
 mod no_observer;
 mod observer;
 mod octets;
-mod parts;
 mod pending;
 mod pending_index;
 mod performing;
@@ -30,13 +30,13 @@ mod pool;
 mod room;
 mod sending;
 mod starting;
-mod target;
 mod telling;
 mod timing;
 mod used;
 mod views;
 mod world;
 mod world_core;
+mod world_parts;
 
 pub use gptp_model::{Act, Change, Done, Network, NetworkFault, Octets, Params, Refused, Timed};
 pub use observer::Observer;

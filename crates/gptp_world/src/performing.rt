@@ -3,11 +3,11 @@
 ghost use Rattle.std.specs.Prelude.{◌≡◌, ◌≤◌, length};
 ghost use Rattle.gptp_world.specs.Performing.{octets_of};
 
+use crate::act_target::ActTarget;
 use crate::delivering::Reached;
 use crate::frame_budget::FrameBudget;
 use crate::joined_link::Lane;
-use crate::parts::WorldParts;
-use crate::target::ActTarget;
+use crate::world_parts::WorldParts;
 use gptp_links::{Bounds, Fate};
 use gptp_model::{Act, Change, Done};
 use std::alloc::AllocError;
@@ -32,7 +32,7 @@ fn octets_of(act: &Act) -> &[u8]
 impl WorldParts {
     ghost use Rattle.std.specs.Prelude.{◌≡◌, ◌<◌, ◌≤◌, [], length, true, false};
     ghost use Rattle.gptp_links.specs.Bounds.{Fit};
-    ghost use Rattle.gptp_world.specs.declared.target.ActTarget.TheVariants.{LinkDown, LinkUp, LinkSet, Fail, Recover};
+    ghost use Rattle.gptp_world.specs.declared.act_target.ActTarget.TheVariants.{LinkDown, LinkUp, LinkSet, Fail, Recover};
     ghost use Rattle.gptp_scenario.specs.declared.change.Act.TheVariants.{Deliver};
     ghost use Rattle.gptp_model.specs.Acts.{AtPlace, IsOldestDue};
     ghost use Rattle.gptp_model.specs.Agrees.{Agrees};

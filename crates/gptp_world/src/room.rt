@@ -6,7 +6,7 @@ ghost use Rattle.gptp_world.specs.Room.{HasRoomBothWays, KeepsRoomOn};
 
 use crate::joined_link::{JoinedLink, Lane};
 use crate::net::Net;
-use crate::parts::WorldParts;
+use crate::world_parts::WorldParts;
 use std::alloc::AllocError;
 
 /// Makes room for so many more frames in each direction of a link. Refused where there is no memory for them. No frame

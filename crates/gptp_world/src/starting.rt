@@ -1,6 +1,6 @@
 //! Systems of a world that start, fail, or get another priority1.
 
-use crate::parts::WorldParts;
+use crate::world_parts::WorldParts;
 use gptp_links::Fate;
 use gptp_system::{Input, System};
 

@@ -7,7 +7,7 @@ ghost use Rattle.gptp_world.specs.Telling.{link_input, AreEndsOf, IsEndAt};
 
 use crate::directory::Directory;
 use crate::joined_link::Lane;
-use crate::parts::WorldParts;
+use crate::world_parts::WorldParts;
 use gptp_links::{Direction, Fate};
 use gptp_system::Input;
 use std::alloc::AllocError;

@@ -4,8 +4,8 @@ ghost use Rattle.std.specs.Prelude.{◌≡◌, ◌<◌, ◌++◌, length, map, o
 ghost use Rattle.gptp_invariants.specs.WorldStanding.{snapshot_of};
 
 use crate::joined_link::Lane;
-use crate::parts::WorldParts;
 use crate::world_core::WorldCore;
+use crate::world_parts::WorldParts;
 use gptp_links::Direction;
 use gptp_vector::PortId;
 use std::alloc::{AllocError, Global};

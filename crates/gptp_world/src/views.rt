@@ -8,8 +8,8 @@ ghost use Rattle.gptp_world.specs.WorldParts.{world_of, IsStage};
 ghost use Rattle.gptp_world.specs.WorldParts.{IsPlacedItem};
 ghost use Rattle.gptp_model.specs.Views.{IsActOf};
 
-use crate::parts::WorldParts;
 use crate::world_core::WorldCore;
+use crate::world_parts::WorldParts;
 use gptp_model::{Act, Item, Timed};
 use gptp_roles::Role;
 use gptp_system::System;

@@ -4,10 +4,10 @@ ghost use Rattle.std.specs.Prelude.{◌≡◌, ◌<◌, length, OnOk};
 ghost use Rattle.gptp_world.specs.Starting.{Started};
 ghost use Rattle.gptp_world.specs.WorldCore.{IsFounded, SystemsStarted};
 
+use crate::act_target::ActTarget;
 use crate::checking::sets_an_octet;
 use crate::frame_budget::FrameBudget;
-use crate::parts::WorldParts;
-use crate::target::ActTarget;
+use crate::world_parts::WorldParts;
 use gptp_links::Fate;
 use gptp_model::{Done, Network, Refused, Timed};
 use std::alloc::{AllocError, Global};

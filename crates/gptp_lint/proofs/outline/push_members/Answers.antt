@@ -5,7 +5,7 @@ use Rattle.std.proofs.lemmas.Option.{slice_get-get_or}
 use Rattle.gptp_lists.proofs.MappedLemmas.{taken}
 use Rattle.gptp_outline.specs.Inline.{keys_view}
 use Rattle.gptp_lint.specs.Outline.{entries_view, keys_at, numbered}
-use Rattle.gptp_lint.specs.declared.place.Place.TheVariants.{SystemSpec}
+use Rattle.gptp_lint.specs.declared.place.Place.TheVariants.{Member}
 use Rattle.gptp_lint.proofs.OutlineLemmas.{numbered_more, two_pieces}
 use Rattle.gptp_lint.proofs.outline.push_members.Goals as goal
 
@@ -24,9 +24,9 @@ loop-keys-preserved c =
       omega (arith, c.loop-keys.invariant.0),
       two_pieces (entries_view c.args.entries.now) (entries_view c.loop-keys.entries)
           (entries_view c.push_keys.new.entries) (numbered section 0 front)
-          (keys_at (SystemSpec section c.loop-keys.number) (keys_view keys)) c.loop-keys.invariant.1 pushed
+          (keys_at (Member section c.loop-keys.number) (keys_view keys)) c.loop-keys.invariant.1 pushed
           ∙ ap (λ more. entries_view c.args.entries.now ++ more)
-          (ap (λ m. numbered section 0 front ++ keys_at (SystemSpec section m) (keys_view keys)) (sym count)
+          (ap (λ m. numbered section 0 front ++ keys_at (Member section m) (keys_view keys)) (sym count)
           ∙ sym (numbered_more section 0 front (keys_view keys))
           ∙ ap (numbered section 0)
           (sym (ap (map keys_view) (taken xs i keys there) ∙ map-append keys_view (take i xs) (keys ∷ [])))),

@@ -5,7 +5,7 @@ use Rattle.std.specs.List.{AllByRecursion, flat_map}
 use Rattle.gptp_lint.specs.LintText.{calm_time_line, found_lines, late_lines, long_line, lossy_line, other_lines}
 use Rattle.gptp_lint.specs.Outline.{OutlineState, header_line, outline_of_text}
 use Rattle.gptp_lint.specs.Unread.{unread_line}
-use Rattle.gptp_lint.specs.declared.place.Place.TheVariants.{SystemSpec}
+use Rattle.gptp_lint.specs.declared.place.Place.TheVariants.{Member}
 use Rattle.gptp_lint.specs.declared.place.Section.TheVariants.{Link}
 use Rattle.gptp_lint.specs.declared.trouble.Long.{Long}
 use Rattle.gptp_lint.specs.declared.trouble.Lossy.{Lossy}
@@ -25,7 +25,7 @@ returns c =
     let outline_is = c.in_ok-source.ensures.outline in
     let links_are : c.in_ok-source.source.outline.links.items ≡ (outline_of_text input).links =
     ap (λ (o : OutlineState). o.links) outline_is in
-    let header : ℕ → Option ℕ = λ link. header_line input (SystemSpec Link link) in
+    let header : ℕ → Option ℕ = λ link. header_line input (Member Link link) in
     let long : Long → List ℕ = λ l. long_line c.args.threshold (header l.link) l in
     let lossy : Lossy → List ℕ = λ l. lossy_line (header l.link) l in
     let mid = five_kinds old (string_bytes c.write_unread.new.text) (string_bytes c.write_longs.new.text)
