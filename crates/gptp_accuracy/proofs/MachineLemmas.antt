@@ -1,7 +1,10 @@
 -- What the machine numbers of src/sums.rt come to.
-use Rattle.std.proofs.Common.{◌≡◌, ℕ, suc, ◌+◌, ◌-◌, ◌*◌, ◌≤◌, ℤ, pos, neg_ℤ, ◌+ℤ◌, ◌-ℤ◌, ◌*ℤ◌, ◌≤ℤ◌, unsigned_abs, to_z, of_z, refl, sym, ap, subst, ◌∙◌, arith}
-use Rattle.std.specs.Int.{Width, w8, w32, w64, w128, int_div_euclid}
+use Rattle.std.proofs.Common.{◌≡◌, ℕ, suc, ◌+◌, ◌-◌, ◌*◌, ◌<◌, ◌≤◌, ℤ, pos, neg_ℤ, ◌+ℤ◌, ◌-ℤ◌, ◌*ℤ◌, ◌≤ℤ◌, unsigned_abs, to_z, of_z, refl, sym, ap, subst, ◌∙◌, arith}
+use Rattle.std.specs.Prelude.{min}
+use Rattle.std.specs.Int.{Width, w8, w32, w64, w128, div_ceil, int_div_euclid}
+use Rattle.std.proofs.lemmas.Grind.{div_ceil_times}
 use Rattle.std.proofs.lemmas.Int.{ints, to_z-of_z}
+use Rattle.std.proofs.Math.Nat.{div-eq_of_lt-le}
 use Rattle.gptp_scaled.specs.Counts.{IsClockRate}
 use Rattle.gptp_scaled.specs.Floor.{floor_div}
 use Rattle.gptp_scaled.specs.Rate.{IsNeighborRate, unit, rate_of}
@@ -50,12 +53,22 @@ quotient_back a b x y u q h k ex ey eu eq =
     let is : q ≡ f = rw (clock, own, one, gain, product) at eq in
     ap (back w128) is ∙ to_z-of_z w128 f (omega (arith, ints, gain_low a b h k, gain_high a b h k))
 
+-- the quotient of `rate_error`, rounded up
+ceil_is : (x d quotient : ℕ) → 0 < d → x ≤ quotient * d → quotient * d < x + d → quotient ≡ ceil_div x d
+ceil_is x d quotient some reached passed =
+    sym (div-eq_of_lt-le d (omega (arith, some, passed)) (omega (arith, some, reached)))
+
+pub rounded_up : (x d : ℕ) → 0 < d → div_ceil x d ≡ ceil_div x d
+rounded_up x d some =
+    let times = div_ceil_times x d some in ceil_is x d (div_ceil x d) some times.0 times.1
+
 -- the sum of `rates_error`
 pub unlike_back : (s : Sums) (rate true : ℤ) (unlike : ℕ) → SumsAreWithin 511 s → rate ≡ back w64 s.rate
     → true ≡ floor_div ((pos (clock_rate (back w32 s.root_drift)) -ℤ pos (clock_rate (back w32 s.drift))) *ℤ unit)
     (pos (clock_rate (back w32 s.drift)))
     → neg_ℤ (pos 450000000) ≤ℤ true → true ≤ℤ pos 450000000
-    → unlike ≡ unsigned_abs (back w128 (back w128 rate -ℤ back w128 true)) → s.rate_error + unlike ≡ rates_error_of s
+    → unlike ≡ unsigned_abs (back w128 (back w128 rate -ℤ back w128 true))
+    → min (s.rate_error + unlike) 2587332284 ≡ rates_error_of s
 unlike_back s rate true unlike within e f low high g =
     let summed : rate ≡ s.rate =
     e ∙ to_z-of_z w64 s.rate (omega (arith, ints, within.rate_low, within.rate_high)) in
@@ -70,14 +83,14 @@ unlike_back s rate true unlike within e f low high g =
     let true_is : true
     ≡ floor_div ((pos (clock_rate s.root_drift) -ℤ pos (clock_rate s.drift)) *ℤ unit) (pos (clock_rate s.drift)) =
     rw (root, own) at f in
-    ap (λ n. s.rate_error + n) (is ∙ ap (λ z. unsigned_abs (s.rate -ℤ z)) true_is)
+    ap (λ n. min (s.rate_error + n) 2587332284) (is ∙ ap (λ z. unsigned_abs (s.rate -ℤ z)) true_is)
 
 -- what `behind` is made of
 pub record IsMade (p : Params) (s : Sums) (l : WayLink) (interval rate_error hop rates wait : ℕ)
     (steady rate : ℤ) : Type 0
   where
     pub interval_is : interval ≡ interval_of (back w8 p.pdelay)
-    pub rate_error_is : rate_error ≡ ceil_div (2202000000000 * (l.most - l.least)) interval + 4
+    pub rate_error_is : rate_error ≡ min (ceil_div (2202000000000 * (l.most - l.least)) interval) 879609302 + 4
     pub steady_is : steady ≡ rate_of (pos (clock_rate (back w32 s.drift))) (pos (clock_rate (back w32 l.drift)))
     pub near : IsNeighborRate steady
     pub rate_is : rate ≡ back w32 steady
@@ -125,15 +138,15 @@ module _ (p : Params) (s : Sums) (l : WayLink) (interval rate_error hop rates wa
         jitter = refl;
         rate_error =
             ap (λ n. s.rate_error + n) (made.rate_error_is
-            ∙ ap (λ n. ceil_div (2202000000000 * (l.most - l.least)) n + 4) interval_back);
+            ∙ ap (λ n. min (ceil_div (2202000000000 * (l.most - l.least)) n) 879609302 + 4) interval_back);
         rate = rate_back ∙ ap (λ z. s.rate +ℤ z) (rw (own, next) at made.steady_is);
         error = ap (λ n. s.error + n + wait) made.hop_is
             ∙ ap (λ n. s.error + hop_error (l.most - l.least) l.most p.turnaround + n) (made.wait_is
             ∙ ap (λ n. ceil_div ((p.residence + s.jitter + l.most) * n) 33550000) made.rates_is);
       }
 
-  pub given_within : (links : ℕ) → SumsAreWithin links s → rate_error ≤ 600000000000000 → hop ≤ 2000000000000000
-      → wait ≤ 400000000000000000000 → SumsAreWithin (suc links) given
+  pub given_within : (links : ℕ) → SumsAreWithin links s → rate_error ≤ 879609306 → hop ≤ 2000000000000000
+      → wait ≤ 3000000000000 → SumsAreWithin (suc links) given
   given_within links so_far most few long =
       stay_within links s given so_far rate_error hop wait steady (drift_back s.root_drift within.root_drift)
       (subst IsDrift (sym (drift_back l.drift link.drift)) link.drift) (omega (arith, link.short)) refl most rate_back

@@ -1,5 +1,6 @@
 -- The sums of a way that is one link longer.
 use Rattle.std.proofs.Common.{◌≡◌, ℕ, zero, suc, ◌+◌, ◌-◌, ◌*◌, ◌≤◌, ℤ, pos, negsuc, ◌+ℤ◌, ◌-ℤ◌, ◌*ℤ◌, ◌≤ℤ◌, neg_ℤ, unsigned_abs, length, refl, sym, ap, subst, ◌∙◌, arith}
+use Rattle.std.specs.Prelude.{min}
 use Rattle.std.proofs.lemmas.Int.{ints}
 use Rattle.std.proofs.Math.Nat.{zero-div}
 use Rattle.gptp_scaled.specs.Floor.{floor_div}
@@ -60,7 +61,7 @@ pub record IsBehind (p : Params) (s : Sums) (l : WayLink) (t : Sums) : Type 0 wh
   pub drift : t.drift ≡ l.drift
   pub jitter : t.jitter ≡ l.most - l.least
   pub rate_error : t.rate_error
-      ≡ s.rate_error + (ceil_div (2202000000000 * (l.most - l.least)) (interval_of p.pdelay) + 4)
+      ≡ s.rate_error + (min (ceil_div (2202000000000 * (l.most - l.least)) (interval_of p.pdelay)) 879609302 + 4)
   pub rate : t.rate ≡ s.rate +ℤ rate_of (pos (clock_rate s.drift)) (pos (clock_rate l.drift))
   pub error : t.error ≡ s.error + hop_error (l.most - l.least) l.most p.turnaround
       + ceil_div ((p.residence + s.jitter + l.most) * rates_error_of s) 33550000
@@ -82,16 +83,17 @@ module _ (p : Params) (w : Way) (l : WayLink) (s : Sums) (timed : IsTimedBy p w)
       ∙ ap (hop_error (l.most - l.least) l.most) timed.turnaround
 
   rate_error_is : total_below (length (longer w l).links) (rate_error_at (longer w l))
-      ≡ s.rate_error + (ceil_div (2202000000000 * (l.most - l.least)) (interval_of p.pdelay) + 4)
+      ≡ s.rate_error + (min (ceil_div (2202000000000 * (l.most - l.least)) (interval_of p.pdelay)) 879609302 + 4)
   rate_error_is =
       let split = ap (λ n. total_below n (rate_error_at (longer w l))) (longer_length w l) in
       let before : total_below (length w.links) (rate_error_at (longer w l)) ≡ s.rate_error =
       total_same (length w.links) (rate_error_at (longer w l)) (rate_error_at w) (rate_error_same w l)
       ∙ sym sums.rate_error in
       let here : rate_error_at (longer w l) (length w.links)
-      ≡ ceil_div (2202000000000 * (l.most - l.least)) (interval_of p.pdelay) + 4 =
-      ap (λ (k : WayLink). ceil_div (2202000000000 * (k.most - k.least)) w.interval + 4) (longer_last w l)
-      ∙ ap (λ i. ceil_div (2202000000000 * (l.most - l.least)) i + 4) timed.interval in
+      ≡ min (ceil_div (2202000000000 * (l.most - l.least)) (interval_of p.pdelay)) 879609302 + 4 =
+      ap (λ (k : WayLink). min (ceil_div (2202000000000 * (k.most - k.least)) w.interval) 879609302 + 4)
+      (longer_last w l)
+      ∙ ap (λ i. min (ceil_div (2202000000000 * (l.most - l.least)) i) 879609302 + 4) timed.interval in
       split ∙ ap (λ n. n + rate_error_at (longer w l) (length w.links)) before ∙ ap (λ n. s.rate_error + n) here
 
   steady_is : steady_rate_at (longer w l) (length w.links)
@@ -114,6 +116,7 @@ module _ (p : Params) (w : Way) (l : WayLink) (s : Sums) (timed : IsTimedBy p w)
   rates_error_is i e =
       let of_rate : ℕ → ℕ → ℤ → ℕ = λ root own rate.
       unsigned_abs (rate -ℤ floor_div ((pos root -ℤ pos own) *ℤ unit) (pos own)) in
+      let cut : ℕ → ℕ = λ n. min n 2587332284 in
       let root : clock_rate s.root_drift ≡ clock_at w 0 = ap clock_rate sums.root_drift in
       let own : clock_rate s.drift ≡ clock_at w (suc i) =
       ap clock_rate sums.drift ∙ ap (λ n. clock_at w n) e in
@@ -121,10 +124,9 @@ module _ (p : Params) (w : Way) (l : WayLink) (s : Sums) (timed : IsTimedBy p w)
       sums.rate ∙ ap (λ n. sum_below n (steady_rate_at w)) e in
       let jitters : s.rate_error ≡ total_below (suc i) (rate_error_at w) =
       sums.rate_error ∙ ap (λ n. total_below n (rate_error_at w)) e in
-      ap (λ n. s.rate_error + of_rate n (clock_rate s.drift) s.rate) root
-      ∙ ap (λ n. s.rate_error + of_rate (clock_at w 0) n s.rate) own
-      ∙ ap (λ z. s.rate_error + of_rate (clock_at w 0) (clock_at w (suc i)) z) rate
-      ∙ ap (λ n. n + of_rate (clock_at w 0) (clock_at w (suc i)) (sum_below (suc i) (steady_rate_at w))) jitters
+      ap (λ n. cut (s.rate_error + n)) (ap (λ n. of_rate n (clock_rate s.drift) s.rate) root
+      ∙ ap (λ n. of_rate (clock_at w 0) n s.rate) own ∙ ap (of_rate (clock_at w 0) (clock_at w (suc i))) rate)
+      ∙ ap (λ n. cut (n + of_rate (clock_at w 0) (clock_at w (suc i)) (sum_below (suc i) (steady_rate_at w)))) jitters
 
   -- at the root there is none
   pub no_rates_error : length w.links ≡ 0 → rates_error_of s ≡ 0
@@ -133,11 +135,13 @@ module _ (p : Params) (w : Way) (l : WayLink) (s : Sums) (timed : IsTimedBy p w)
       let rate : s.rate ≡ pos 0 = sums.rate ∙ ap (λ n. sum_below n (steady_rate_at w)) e in
       let same : s.root_drift ≡ s.drift = sums.root_drift ∙ sym (sums.drift ∙ ap (drift_at w) e) in
       let own = clock_rate s.drift in
-      ap (λ n. n + unsigned_abs (s.rate -ℤ floor_div ((pos (clock_rate s.root_drift) -ℤ pos own) *ℤ unit) (pos own)))
-      jitters
-      ∙ ap (λ z. 0 + unsigned_abs (z -ℤ floor_div ((pos (clock_rate s.root_drift) -ℤ pos own) *ℤ unit) (pos own))) rate
-      ∙ ap (λ d. 0 + unsigned_abs (pos 0 -ℤ floor_div ((pos (clock_rate d) -ℤ pos own) *ℤ unit) (pos own))) same
-      ∙ ap (λ z. 0 + unsigned_abs (pos 0 -ℤ z)) (no_gain own)
+      let of_rate : ℤ → ℕ → ℕ = λ rate root. unsigned_abs (rate -ℤ floor_div ((pos root -ℤ pos own) *ℤ unit) (pos own))
+      in
+      let none : of_rate s.rate (clock_rate s.root_drift) ≡ 0 =
+      ap (λ z. of_rate z (clock_rate s.root_drift)) rate ∙ ap (λ d. of_rate (pos 0) (clock_rate d)) same
+      ∙ ap (λ z. unsigned_abs (pos 0 -ℤ z)) (no_gain own) in
+      ap (λ n. min (n + of_rate s.rate (clock_rate s.root_drift)) 2587332284) jitters
+      ∙ ap (λ n. min (0 + n) 2587332284) none
 
   error_is : (n : ℕ) → length w.links ≡ n → time_error (longer w l)
       ≡ s.error + hop_error (l.most - l.least) l.most p.turnaround
@@ -203,9 +207,9 @@ module _ (p : Params) (w : Way) (l : WayLink) (s : Sums) (timed : IsTimedBy p w)
 -- sums within the limits stay so after a link within them
 module _ (links : ℕ) (s t : Sums) (within : SumsAreWithin links s) where
   pub stay_within : (rate_error hop wait : ℕ) (rate : ℤ) → t.root_drift ≡ s.root_drift → IsDrift t.drift
-      → t.jitter ≤ 16000000000 → t.rate_error ≡ s.rate_error + rate_error → rate_error ≤ 600000000000000
+      → t.jitter ≤ 16000000000 → t.rate_error ≡ s.rate_error + rate_error → rate_error ≤ 879609306
       → t.rate ≡ s.rate +ℤ rate → IsNeighborRate rate → t.error ≡ s.error + hop + wait → hop ≤ 2000000000000000
-      → wait ≤ 400000000000000000000 → SumsAreWithin (suc links) t
+      → wait ≤ 3000000000000 → SumsAreWithin (suc links) t
   stay_within rate_error hop wait rate root drift jitter e most f near g few long = record {
     root_drift = subst IsDrift (sym root) within.root_drift;
     drift = drift;

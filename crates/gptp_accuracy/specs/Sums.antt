@@ -1,5 +1,5 @@
 -- What is summed up on a way, and how large it can be.
-use Rattle.std.specs.Prelude.{◌≡◌, ℕ, ◌+◌, ◌*◌, ◌-◌, ◌≤◌, neg_ℤ, pos, ◌-ℤ◌, ◌*ℤ◌, ◌≤ℤ◌, unsigned_abs, length}
+use Rattle.std.specs.Prelude.{◌≡◌, ℕ, min, ◌+◌, ◌*◌, ◌-◌, ◌≤◌, neg_ℤ, pos, ◌-ℤ◌, ◌*ℤ◌, ◌≤ℤ◌, unsigned_abs, length}
 use Rattle.gptp_scaled.specs.Floor.{floor_div}
 use Rattle.gptp_scaled.specs.Rate.{unit}
 use Rattle.gptp_pdelay.specs.Clock.{IsDrift}
@@ -37,27 +37,27 @@ pub record IsLinkWithin (l : WayLink) : Type 0 where
   pub short : l.most ≤ 16000000000
   pub drift : IsDrift l.drift
 
--- the error of the rate so far, in units of 2^-41
+-- the error of the rate so far, in units of 2^-41; no rate of 32 bits misses that of two clocks by more than this
 abbrev pub rates_error_of : Sums → ℕ
 rates_error_of s =
     let root = pos (clock_rate s.root_drift) in
     let own = pos (clock_rate s.drift) in
-    s.rate_error + unsigned_abs (s.rate -ℤ floor_div ((root -ℤ own) *ℤ unit) own)
+    min (s.rate_error + unsigned_abs (s.rate -ℤ floor_div ((root -ℤ own) *ℤ unit) own)) 2587332284
 
 -- what the error of a reading at the end of the way follows from
 abbrev pub terms_of : Sums → ReadingTerms
 terms_of s = record { error = s.error; jitter = s.jitter; rates_error = rates_error_of s }
 
--- Sums over so many links within the limits: each has a rate error below 6 * 10^14, a neighbour rate within 200 parts
--- in a million and a time error below 5 * 10^20.
+-- Sums over so many links within the limits: each has a rate error of 879609306 at most, a neighbour rate within 200
+-- parts in a million and a time error of 3 * 10^15 at most.
 pub record SumsAreWithin (links : ℕ) (s : Sums) : Type 0 where
   pub root_drift : IsDrift s.root_drift
   pub drift : IsDrift s.drift
   pub jitter : s.jitter ≤ 16000000000
-  pub rate_error : s.rate_error ≤ links * 600000000000000
+  pub rate_error : s.rate_error ≤ links * 879609306
   pub rate_low : neg_ℤ (pos (links * 439804651)) ≤ℤ s.rate
   pub rate_high : s.rate ≤ℤ pos (links * 439804651)
-  pub error : s.error ≤ links * 500000000000000000000
+  pub error : s.error ≤ links * 3000000000000000
 
 -- the sums of a way with so many links and these times, all within the limits
 pub record AreSummed (links : ℕ) (p : Params) (w : Way) (s : Sums) : Type 0 where

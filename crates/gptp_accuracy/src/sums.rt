@@ -1,6 +1,6 @@
 //! What is summed up on the way from a root to a system.
 
-ghost use Rattle.std.specs.Prelude.{◌≡◌, ◌+◌, ◌*◌, ◌-◌, ◌<◌, ◌≤◌, ℤ, pos, neg_ℤ, ◌-ℤ◌, ◌*ℤ◌, ◌≤ℤ◌};
+ghost use Rattle.std.specs.Prelude.{◌≡◌, min, ◌+◌, ◌*◌, ◌-◌, ◌<◌, ◌≤◌, ℤ, pos, neg_ℤ, ◌-ℤ◌, ◌*ℤ◌, ◌≤ℤ◌};
 ghost use Rattle.gptp_scaled.specs.Floor.{floor_div};
 ghost use Rattle.gptp_scaled.specs.Rate.{IsNeighborRate, rate_of, unit};
 ghost use Rattle.gptp_pdelay.specs.Clock.{IsDrift};
@@ -14,6 +14,13 @@ use gptp_setup::interval_of;
 
 /// What stands for 1 in a rate, 2^41.
 const UNIT: i64 = 1 << 41;
+
+/// The most that the jitter of a link makes of its neighbour rate, in units of 2^-41. The measured rate and the one
+/// without jitter are both held at 200 parts in a million.
+const MAX_RATE_ERROR: u128 = 879_609_302;
+
+/// The most that a rate of 32 bits misses that of two clocks by, in units of 2^-41.
+const MAX_RATES_ERROR: u128 = 2_587_332_284;
 
 /// A link of a way: its least and its greatest delay, in ns, and the drift of the clock after it, in units of 2^-41.
 #[derive(Clone, Copy, Debug)]
@@ -85,10 +92,11 @@ fn true_rate(clock: i32, own: i32) -> i128
 fn rate_error(jitter: u64, interval: u64) -> u128
     requires jitter { jitter ≤ 16000000000 }
     requires interval { 62500000 ≤ interval }
-    ensures error { result ≡ ceil_div (2202000000000 * jitter) interval + 4 }
-    ensures bound { result ≤ 600000000000000 }
+    ensures error { result ≡ min (ceil_div (2202000000000 * jitter) interval) 879609302 + 4 }
+    ensures bound { result ≤ 879609306 }
 {
-    (2_202_000_000_000 * u128::from(jitter)).div_ceil(u128::from(interval)) + 4
+    let error = (2_202_000_000_000 * u128::from(jitter)).div_ceil(u128::from(interval));
+    error.min(MAX_RATE_ERROR) + 4
 }
 
 /// What a link adds to the time error, in units of 2^-16 ns.
@@ -105,9 +113,9 @@ fn link_error(jitter: u64, most: u64, turnaround: u64) -> u128
 /// What a time adds in which the rate has this error, in units of 2^-16 ns.
 fn wait_error(time: u64, rates_error: u128) -> u128
     requires time { time ≤ 33000000000 }
-    requires rates_error { rates_error ≤ 400000000000000000 }
+    requires rates_error { rates_error ≤ 2587332284 }
     ensures error { result ≡ ceil_div (time * rates_error) 33550000 }
-    ensures bound { result ≤ 400000000000000000000 }
+    ensures bound { result ≤ 3000000000000 }
 {
     (u128::from(time) * rates_error).div_ceil(33_550_000)
 }
@@ -140,10 +148,10 @@ impl Sums {
     pub fn rates_error(&self) -> u128
         requires { SumsAreWithin 511 self.now }
         ensures error { result ≡ rates_error_of self.now }
-        ensures bound { result ≤ 400000000000000000 }
+        ensures bound { result ≤ 2587332284 }
     {
         let unlike = i128::from(self.rate) - true_rate(self.root_drift, self.drift);
-        self.rate_error + unlike.unsigned_abs()
+        (self.rate_error + unlike.unsigned_abs()).min(MAX_RATES_ERROR)
     }
 
     /// The sums after one link more.

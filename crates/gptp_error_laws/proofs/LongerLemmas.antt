@@ -1,4 +1,5 @@
 use Rattle.std.proofs.Common.{◌≡◌, ℕ, zero, suc, ◌+◌, ◌-◌, ◌*◌, ◌<◌, ◌≤◌, ℤ, pos, ◌+ℤ◌, ◌-ℤ◌, ◌*ℤ◌, unsigned_abs, [], ◌∷◌, length, inl, inr, ap, ◌∙◌, sym, subst, refl, arith}
+use Rattle.std.specs.Prelude.{min}
 use Rattle.std.proofs.lemmas.Bool.{cases_lt}
 use Rattle.std.proofs.lemmas.List.{get_or_append_left, length-append}
 use Rattle.std.proofs.Math.Seq.{get_or-append_seam}
@@ -43,7 +44,8 @@ steady_same w l i h =
 pub rate_error_same : (w : Way) (l : WayLink) (i : ℕ) → i < length w.links
     → rate_error_at (longer w l) i ≡ rate_error_at w i
 rate_error_same w l i h =
-    ap (λ (k : WayLink). ceil_div (2202000000000 * (k.most - k.least)) w.interval + 4) (link_same w l i h)
+    ap (λ (k : WayLink). min (ceil_div (2202000000000 * (k.most - k.least)) w.interval) 879609302 + 4)
+    (link_same w l i h)
 
 hop_same : (w : Way) (l : WayLink) (i : ℕ) → i < length w.links → hop_error_at (longer w l) i ≡ hop_error_at w i
 hop_same w l i h = ap (λ (k : WayLink). hop_error (k.most - k.least) k.most w.turnaround) (link_same w l i h)
@@ -67,7 +69,8 @@ rates_same w l i h =
     let totals = total_same (suc i) (rate_error_at (longer w l)) (rate_error_at w)
     (λ j k. rate_error_same w l j (omega (arith, h, k))) in
     let missed = unlike_same w l i h in
-    ap (λ n. n + unlike_at (longer w l) i) totals ∙ ap (λ n. total_below (suc i) (rate_error_at w) + n) missed
+    ap (λ n. min (n + unlike_at (longer w l) i) 2587332284) totals
+    ∙ ap (λ n. min (total_below (suc i) (rate_error_at w) + n) 2587332284) missed
 
 wait_same : (w : Way) (l : WayLink) (i : ℕ) → suc i < length w.links → wait_error_at (longer w l) i ≡ wait_error_at w i
 wait_same w l i h =

@@ -12,10 +12,11 @@ use Rattle.gptp_correction.specs.declared.correction.Hop.{Hop}
 use Rattle.gptp_correction.specs.Sum.{sum_below}
 use Rattle.gptp_correction.specs.Carry.{added_at, carry_of, hop_at, link_time_at, neighbour_at, rate_at, residence_at, CarryFits}
 use Rattle.gptp_correction.proofs.CarryLemmas.{carry_of-last}
-use Rattle.gptp_error_laws.specs.TimeError.{Way, clock_at, drift_at, hop_error_at, jitter_at, link_at, rate_error_at, rates_error_at, steady_rate_at, time_error, time_error_at, total_below, wait_error_at}
+use Rattle.gptp_error_laws.specs.TimeError.{Way, clock_at, drift_at, hop_error_at, jitter_at, link_at, rate_error_at, rates_error_at, steady_rate_at, time_error, time_error_at, total_below, unlike_at, wait_error_at}
 use Rattle.gptp_error_laws.specs.HopLaws.{IsOverLink, IsRateBehind, IsRateWithin}
 use Rattle.gptp_error_laws.specs.WayLaws.{CarryIsWithin, GoesOver, IsDocumented, OffsetOfWayIsWithin, TimeErrorGoesByHops, shown_at}
 use Rattle.gptp_error_laws.proofs.HopLemmas.{added_within, received_within}
+use Rattle.gptp_error_laws.proofs.CutLemmas.{neighbours_are_near, told_rate_is_within}
 
 -- a quotient rounded up is enough
 pub ceil_reaches : (x d : ℕ) → 0 < d → x ≤ ceil_div x d * d
@@ -35,10 +36,26 @@ measured_at w hops phase sent came k g i h =
     (omega (arith, g.carried_long i h, g.carried_short i h)) k.waits k.long
     (ceil_reaches (2202000000000 * jitter_at w i) w.interval (omega (arith, k.long))) (g.measured i h)
 
+-- and this rate is limited
+limited_at : (w : Way) (hops : List Hop) (phase sent came : ℕ → ℕ) → GoesOver w hops phase sent came → (i : ℕ)
+    → i < length hops → IsNeighborRate (neighbour_at hops i)
+limited_at w hops phase sent came g i h =
+    bounded (shown_at w phase (suc i)) (shown_at w phase i) (neighbour_at hops i) (g.measured i h)
+  where
+    bounded : (mine yours : ℕ → ℤ) (rate : ℤ) → let l = link_at w i in
+        AreMeasured l.least l.most w.turnaround w.interval mine yours rate (hop_at hops i).delay → IsNeighborRate rate
+    bounded mine yours rate a =
+        rw a.rate_is (rate_is_bounded (yours (a.later.heard + w.turnaround) -ℤ yours (a.earlier.heard + w.turnaround))
+        (mine a.later.came -ℤ mine a.earlier.came))
+
+-- so is the one without jitter
+pub steady_is_limited : (w : Way) (i : ℕ) → IsNeighborRate (steady_rate_at w i)
+steady_is_limited w i = rate_is_bounded (pos (clock_at w i)) (pos (clock_at w (suc i)))
+
 -- the rates so far are nearer to those without jitter than their errors add up to, one unit a link
-record AreNearer (n total : ℕ) (x y : ℤ) : Type 0 where
-  low : (y +ℤ pos n) ≤ℤ (x +ℤ pos total)
-  high : (x +ℤ pos n) ≤ℤ (y +ℤ pos total)
+pub record AreNearer (n total : ℕ) (x y : ℤ) : Type 0 where
+  pub low : (y +ℤ pos n) ≤ℤ (x +ℤ pos total)
+  pub high : (x +ℤ pos n) ≤ℤ (y +ℤ pos total)
 
 rates_nearer : (w : Way) (hops : List Hop) (phase sent came : ℕ → ℕ) → IsDocumented w → GoesOver w hops phase sent
     came →
@@ -47,7 +64,9 @@ rates_nearer : (w : Way) (hops : List Hop) (phase sent came : ℕ → ℕ) → I
 rates_nearer w hops phase sent came k g zero h = record { low = omega (arith, ints); high = omega (arith, ints) }
 rates_nearer w hops phase sent came k g (suc n) h =
     let before = rates_nearer w hops phase sent came k g n (omega (arith, h)) in
-    let here = (measured_at w hops phase sent came k g n (omega (arith, h))).rate_within in
+    let here = neighbours_are_near (ceil_div (2202000000000 * jitter_at w n) w.interval) (neighbour_at hops n)
+    (steady_rate_at w n) (limited_at w hops phase sent came g n (omega (arith, h))) (steady_is_limited w n)
+    (measured_at w hops phase sent came k g n (omega (arith, h))).rate_within in
     record {
       low = omega (arith, ints, before.low, here.low);
       high = omega (arith, ints, before.high, here.high);
@@ -75,26 +94,29 @@ rate_near root own rate quotient e q high low =
     let b : own * (quotient + 1) ≤ own * (rate + e) = mul-le-mul_left own low in
     record { low = omega (arith, q.passed, b); high = omega (arith, q.reached, a) }
 
--- the rate so far, as a natural number within its error
-rate_so_far : (w : Way) (hops : List Hop) (phase sent came : ℕ → ℕ) → IsDocumented w → GoesOver w hops phase sent came →
-    (n : ℕ) → n ≤ length hops → (rate : ℕ) → unit +ℤ sum_below n (neighbour_at hops) ≡ pos rate →
-    IsRateWithin (error_before w n) (clock_at w 0) (clock_at w n) rate
-rate_so_far w hops phase sent came k g zero h rate e =
-    let f : rate ≡ 2199023255552 = omega (arith, ints, e) in
+-- The rate so far, where it has 32 bits and is so near to that without jitter, is within its error as a natural number.
+pub rate_so_far : (w : Way) → IsDocumented w → (n : ℕ) → n ≤ length w.links → (sum : ℤ)
+    → AreNearer n (total_below n (rate_error_at w)) sum (sum_below n (steady_rate_at w)) → FitsRate sum → (rate : ℕ)
+    → unit +ℤ sum ≡ pos rate → IsRateWithin (error_before w n) (clock_at w 0) (clock_at w n) rate
+rate_so_far w k zero h sum near fits rate e =
+    let f : rate ≡ 2199023255552 = omega (arith, ints, e, near.low, near.high) in
     rw f (record { low = omega arith; high = omega arith })
-rate_so_far w hops phase sent came k g (suc n) h rate e =
+rate_so_far w k (suc n) h sum near fits rate e =
     let root = clock_at w 0 in
     let own = clock_at w (suc n) in
-    let some : 0 < own =
-    omega (arith, (clock_counts.rate (drift_at w (suc n)) (k.drifts (suc n) (omega (arith, h, g.as_long)))).low) in
+    let root_rate = clock_counts.rate (drift_at w 0) (k.drifts 0 (omega arith)) in
+    let own_rate = clock_counts.rate (drift_at w (suc n)) (k.drifts (suc n) h) in
+    let some : 0 < own = omega (arith, own_rate.low) in
     let quotient = root * 2199023255552 / own in
     let q = quotient_is (root * 2199023255552) own some in
     let gain = gain_is root own quotient some q in
-    let near = rates_nearer w hops phase sent came k g (suc n) h in
     let unlike =
     size_is (sum_below (suc n) (steady_rate_at w) -ℤ floor_div ((pos root -ℤ pos own) *ℤ unit) (pos own)) in
-    rate_near root own rate quotient (rates_error_at w n) q
-    (omega (arith, ints, e, gain, near.high, unlike.high)) (omega (arith, ints, e, gain, near.low, unlike.low))
+    let error = total_below (suc n) (rate_error_at w) + unlike_at w n in
+    told_rate_is_within error root own rate root_rate own_rate (omega (arith, ints, e, fits))
+    (omega (arith, ints, e, fits))
+    (rate_near root own rate quotient error q (omega (arith, ints, e, gain, near.high, unlike.high))
+    (omega (arith, ints, e, gain, near.low, unlike.low)))
 
 -- the rate before the link at a place has 32 bits
 rate_fits : (hops : List Hop) (origin : ℤ) → CarryFits origin hops → (n : ℕ) → n < length hops →
@@ -122,17 +144,12 @@ over_link w hops phase sent came origin k g f n h =
       up_rate = clock_counts.rate (drift_at w n) (k.drifts n (omega (arith, h, g.as_long)));
       before = rate;
       before_is = e;
-      within = rate_so_far w hops phase sent came k g n (omega (arith, h)) rate e;
+      within = rate_so_far w k n (omega (arith, h, g.as_long)) (sum_below n (neighbour_at hops))
+          (rates_nearer w hops phase sent came k g n (omega (arith, h))) fits rate e;
       fits = fits;
-      near = bounded (shown_at w phase (suc n)) (shown_at w phase n) (neighbour_at hops n) (g.measured n h);
+      near = limited_at w hops phase sent came g n h;
       measured = measured.delay_within;
     }
-  where
-    bounded : (mine yours : ℕ → ℤ) (rate : ℤ) → let l = link_at w n in
-        AreMeasured l.least l.most w.turnaround w.interval mine yours rate (hop_at hops n).delay → IsNeighborRate rate
-    bounded mine yours rate a =
-        rw a.rate_is (rate_is_bounded (yours (a.later.heard + w.turnaround) -ℤ yours (a.earlier.heard + w.turnaround))
-        (mine a.later.came -ℤ mine a.earlier.came))
 
 -- and of the rate after it, where a bridge is there
 rate_behind : (w : Way) (hops : List Hop) (phase sent came : ℕ → ℕ) (origin : ℤ) → IsDocumented w →
@@ -145,8 +162,8 @@ rate_behind w hops phase sent came origin k g f n h =
     record {
       after = rate;
       after_is = e;
-      within = rate_so_far w hops phase sent came k g (suc n) (omega (arith, h))
-          rate e;
+      within = rate_so_far w k (suc n) (omega (arith, h, g.as_long)) (sum_below (suc n) (neighbour_at hops))
+          (rates_nearer w hops phase sent came k g (suc n) (omega (arith, h))) fits rate e;
     }
 
 -- the error of the time at the egress to the link at a place, in parts of 33550000 to a unit

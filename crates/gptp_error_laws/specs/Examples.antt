@@ -48,3 +48,11 @@ unequal_way = way (pos 0) (example_way_link 500 500 (pos 0) ∷ example_way_link
 abbrev pub limit_way : Way
 limit_way = way (pos 219902325) (example_way_link 500 500 (neg_ℤ (pos 219902325)) ∷ example_way_link 500 500
     (pos 219902325) ∷ []) 10000000
+
+-- Four links of 1000 to 1001000 ns. Each costs 65556 * 1000000 + 13347 + 12 = 65556013359. Its jitter would make
+-- 2202000000 of a rate, which is cut to 879609302, with 4 of rounding. So the rate is right within 879609306 at the
+-- first bridge, twice that at the second, and 2587332284 at the third, as three times that is more. The bridges cost
+-- 2002000 times that over 33550000, rounded up: 52488162, 104976324 and 154391632.
+abbrev pub jittery_way : Way
+jittery_way = way (pos 0) (example_way_link 1000 1001000 (pos 0) ∷ example_way_link 1000 1001000
+    (pos 0) ∷ example_way_link 1000 1001000 (pos 0) ∷ example_way_link 1000 1001000 (pos 0) ∷ []) 1000

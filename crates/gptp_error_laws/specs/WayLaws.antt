@@ -1,11 +1,12 @@
 -- How exact the time is that is carried over a whole way.
-use Rattle.std.specs.Prelude.{◌≡◌, ℕ, suc, ◌+◌, ◌<◌, ◌≤◌, ℤ, ◌-ℤ◌, List, [], ◌∷◌, ◌++◌, length}
+use Rattle.std.specs.Prelude.{◌≡◌, ℕ, suc, ◌+◌, ◌-◌, ◌*◌, ◌<◌, ◌≤◌, ℤ, ◌-ℤ◌, List, [], ◌∷◌, ◌++◌, length}
 use Rattle.gptp_scaled.specs.Counts.{AreWithin}
 use Rattle.gptp_pdelay.specs.Clock.{IsDrift, local_clock}
+use Rattle.gptp_pdelay.specs.GoodLink.{ceil_div}
 use Rattle.gptp_pdelay.specs.Measured.{AreMeasured}
 use Rattle.gptp_correction.specs.declared.correction.Hop.{Hop}
 use Rattle.gptp_correction.specs.Carry.{carry_of, hop_at, neighbour_at, CarryFits}
-use Rattle.gptp_error_laws.specs.TimeError.{WayLink, Way, drift_at, hop_error_at, jitter_at, link_at, time_error, time_error_at, wait_error_at}
+use Rattle.gptp_error_laws.specs.TimeError.{WayLink, Way, drift_at, hop_error_at, jitter_at, link_at, time_error, time_error_at, total_below, unlike_at, wait_error_at}
 
 -- the time error from the root down: nothing at the root; one link; and a system after a bridge adds to its parent's
 -- what its own link and the wait before that add
@@ -14,6 +15,20 @@ pub record TimeErrorGoesByHops : Type 0 where
   pub first : (w : Way) → time_error_at w 1 ≡ hop_error_at w 0
   pub next : (w : Way) (i : ℕ) →
       time_error_at w (suc (suc i)) ≡ time_error_at w (suc i) + (hop_error_at w (suc i) + wait_error_at w i)
+
+-- the error of the rate so far without its limits, those of a neighbour rate and of 32 bits
+abbrev pub uncut_rates_error_at : Way → ℕ → ℕ
+uncut_rates_error_at w i =
+    total_below (suc i) (λ j. ceil_div (2202000000000 * jitter_at w j) w.interval + 4) + unlike_at w i
+
+-- the time error with it
+abbrev pub uncut_time_error_at : Way → ℕ → ℕ
+uncut_time_error_at w h = total_below h (hop_error_at w) + total_below (h - 1) (λ i.
+    ceil_div ((w.residence + jitter_at w i + (link_at w (suc i)).most) * uncut_rates_error_at w i) 33550000)
+
+-- No time error is larger by the limits.
+abbrev pub CutsAreNoMore : Type 0
+CutsAreNoMore = (w : Way) (h : ℕ) → time_error_at w h ≤ uncut_time_error_at w h
 
 -- the way to a system after the end of this one
 abbrev pub longer : Way → WayLink → Way

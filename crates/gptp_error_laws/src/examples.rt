@@ -2,7 +2,7 @@
 
 ghost use Rattle.std.specs.Prelude.{◌≡◌};
 ghost use Rattle.gptp_error_laws.specs.ExampleSync.{GoesOverTwoLinks};
-ghost use Rattle.gptp_error_laws.specs.Examples.{limit_way, plain_way, ring_way, unequal_way};
+ghost use Rattle.gptp_error_laws.specs.Examples.{jittery_way, limit_way, plain_way, ring_way, unequal_way};
 ghost use Rattle.gptp_error_laws.specs.TimeError.{time_error, time_error_at};
 
 /// One link without jitter between two clocks without drift: rounding alone. The root itself has no error.
@@ -30,6 +30,14 @@ pub fn unequal_links()
 pub fn limit_of_neighbour_rate()
     ensures bridge { time_error_at limit_way 1 ≡ 19 }
     ensures system { time_error limit_way ≡ 13150 }
+{}
+
+/// Four links of so much jitter that the limits of rates cut it: that of neighbour rates at the first bridge, and that
+/// of rates of 32 bits at the third.
+pub fn limits_of_rates()
+    ensures two { time_error_at jittery_way 2 ≡ 131164514880 }
+    ensures three { time_error_at jittery_way 3 ≡ 196825504563 }
+    ensures four { time_error jittery_way ≡ 262535909554 }
 {}
 
 /// A Sync over two links of the ring meets all premises of the law of a whole way: it takes the least delay on each,

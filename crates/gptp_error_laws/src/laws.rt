@@ -2,7 +2,7 @@
 
 ghost use Rattle.gptp_error_laws.specs.HopLaws.{HopKeeps, LinkTimeIsAbove, LinkTimeIsBelow};
 ghost use Rattle.gptp_error_laws.specs.HopLaws.{OffsetIsWithin, StayIsAbove, StayIsBelow};
-ghost use Rattle.gptp_error_laws.specs.WayLaws.{CarryIsWithin, OffsetOfWayIsWithin};
+ghost use Rattle.gptp_error_laws.specs.WayLaws.{CarryIsWithin, CutsAreNoMore, OffsetOfWayIsWithin};
 ghost use Rattle.gptp_error_laws.specs.WayLaws.{ParentsErrorStays, TimeErrorGoesByHops};
 
 /// The time that a Sync was on a link, at the root's rate, isn't above what the root's clock counts in the greatest
@@ -42,6 +42,12 @@ pub fn offset_is_within()
 /// The time error of a system is that of its parent, what its own link adds, and what the parent's wait adds.
 pub fn time_error_goes_by_hops()
     ensures { TimeErrorGoesByHops }
+{}
+
+/// The limits of the rates make no time error larger: those of a neighbour rate, which is held at 200 parts in a
+/// million, and of a rate that is told, which has 32 bits.
+pub fn cuts_are_no_more()
+    ensures { CutsAreNoMore }
 {}
 
 /// Where a way goes on after its last system, the time errors of the systems on it stay as they are.

@@ -3,7 +3,8 @@
 //! A way is what a planner knows of it: the least and the greatest delay of each link, the drifts of the clocks, the
 //! interval between two requests, the turnaround and the residence. Over it stands one number, the time error, in units
 //! of 2^-16 ns: each link costs its jitter, and each bridge its residence times the error of the rate so far, to which
-//! each link above adds its jitter over the interval.
+//! each link above adds its jitter over the interval. Two limits of rates cut that error: a neighbour rate is held at
+//! 200 parts in a million, and a rate that is told has 32 bits.
 //!
 //! The definitions stand in `specs/`, the time error in `TimeError`. Each function of this crate is a law: it does
 //! nothing, and its contract is a theorem about the definitions. The time that is carried over the whole way is within

@@ -1,6 +1,6 @@
 -- What the second of two systems reads 100 ms after a Follow_Up, by the theorem on time at any moment.
 use Rattle.std.proofs.Common.{◌≡◌, ◌≤◌, ◌+◌, ℕ, ℤ, pos, Option, refl, sym, ap, subst, ◌∙◌, arith}
-use Rattle.gptp_error_laws.specs.TimeError.{Way}
+use Rattle.gptp_error_laws.specs.TimeError.{Way, reading_error_at}
 use Rattle.gptp_model.specs.declared.done.Done.{Done}
 use Rattle.gptp_model.specs.Sound.{IsSound}
 use Rattle.gptp_model.specs.Views.{ShowsLive}
@@ -11,7 +11,7 @@ use Rattle.gptp_graph.specs.SettledChoice.{IsBestIdentity}
 use Rattle.gptp_invariants.specs.WorldSettlingInvariant.{SettlingInvariant}
 use Rattle.gptp_links.specs.declared.bounds.Bounds.{Bounds}
 use Rattle.gptp_pdelay.specs.Clock.{local_clock}
-use Rattle.gptp_reading.specs.Reading.{IsBestsTime, IsReadingErrorOf, reading_error_at}
+use Rattle.gptp_reading.specs.Reading.{IsBestsTime, IsReadingErrorOf}
 use Rattle.gptp_reading.specs.Readings.{HeadlineOnReadings, LeavesReading, RunsReadExactly, WorldsReadExactly}
 use Rattle.gptp_scaled.specs.Counts.{AreWithin}
 use Rattle.gptp_network_tests.specs.Pair.{IsPairSince, first_member, pair_document, pair_pace, pair_snapshot, params}

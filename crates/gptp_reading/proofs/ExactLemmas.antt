@@ -11,7 +11,7 @@ use Rattle.gptp_lists.proofs.MappedLemmas.{same_there}
 use Rattle.gptp_lists.proofs.PlaceLemmas.{get-set_same}
 use Rattle.gptp_scaled.specs.Counts.{AreWithin}
 use Rattle.gptp_correction.specs.SyncIn.{together}
-use Rattle.gptp_error_laws.specs.TimeError.{Way}
+use Rattle.gptp_error_laws.specs.TimeError.{Way, reading_error_at}
 use Rattle.gptp_messages.specs.declared.follow_up.FollowUp.{FollowUp}
 use Rattle.gptp_messages.specs.declared.message.Message.TheVariants as messages
 use Rattle.gptp_messages.specs.Grammar.{Reads}
@@ -69,7 +69,7 @@ use Rattle.gptp_invariants.proofs.SyncTimeStepLemmas.{knows_on}
 use Rattle.gptp_invariants.proofs.WorldWayLemmas.{one_way}
 use Rattle.gptp_theorem.specs.Headline.{HasComeDown, WorldIsCalm, UsesFollowUp}
 use Rattle.gptp_theorem.proofs.HeadlineLemmas.{quiet_as}
-use Rattle.gptp_reading.specs.Reading.{IsBestsTime, reading, reading_error_at}
+use Rattle.gptp_reading.specs.Reading.{IsBestsTime, reading}
 use Rattle.gptp_reading.specs.Readings.{LeavesTime, WorldsHaveReadings, WorldsLeaveTime, WorldsReadExactly}
 use Rattle.gptp_reading.proofs.UsedLemmas.{IsUsedBy, has_reading, leaves_time, used_by, used_exactly}
 

@@ -22,7 +22,7 @@ use Rattle.gptp_scenario.specs.declared.change.Act.TheVariants.{Deliver, Expire,
 use Rattle.gptp_scenario.specs.declared.change.Timed.{Timed}
 use Rattle.gptp_scenario.specs.SyncWait.{step_more}
 use Rattle.gptp_system.specs.State.{SystemState, clock, local_time}
-use Rattle.gptp_error_laws.specs.TimeError.{Way, jitter_at, time_error_at}
+use Rattle.gptp_error_laws.specs.TimeError.{Way, jitter_at, rates_error_at, reading_error_at, time_error_at}
 use Rattle.gptp_model.specs.Acts.{Acts, at}
 use Rattle.gptp_model.specs.declared.done.Done.{Done}
 use Rattle.gptp_model.specs.declared.station.Station.{Station}
@@ -46,7 +46,7 @@ use Rattle.gptp_invariants.proofs.WorldSystemLemmas.{live_from}
 use Rattle.gptp_theorem.specs.Headline.{HasComeDown, WorldIsCalm, UsesFollowUp}
 use Rattle.gptp_theorem.specs.PlayedLaws.{IsPlayable}
 use Rattle.gptp_theorem.proofs.HeadlineLemmas.{quiet_as}
-use Rattle.gptp_reading.specs.Reading.{IsBestsTime, held_rates_error_at, reading, reading_error_at}
+use Rattle.gptp_reading.specs.Reading.{IsBestsTime, reading}
 use Rattle.gptp_reading.specs.Readings.{LeavesReading, RunsReadInTime}
 use Rattle.gptp_reading.proofs.AgeLemmas.{claimed_alike}
 use Rattle.gptp_reading.proofs.ExactLemmas.{worlds_have_readings}
@@ -161,9 +161,9 @@ wider error more x y less within =
 grows : (way : Way) (steps soon late : ℕ) → soon ≤ late
     → reading_error_at way steps soon ≤ reading_error_at way steps late
 grows way steps soon late less =
-    let product : (soon + jitter_at way steps) * held_rates_error_at way steps
-    ≤ (late + jitter_at way steps) * held_rates_error_at way steps =
-    mul-le-mul_right (held_rates_error_at way steps) (omega (arith, less)) in
+    let product : (soon + jitter_at way steps) * rates_error_at way steps
+    ≤ (late + jitter_at way steps) * rates_error_at way steps =
+    mul-le-mul_right (rates_error_at way steps) (omega (arith, less)) in
     adds (time_error_at way (suc steps)) _ _ (ceil_more _ _ product)
   where
     adds : (a x y : ℕ) → x ≤ y → a + x ≤ a + y

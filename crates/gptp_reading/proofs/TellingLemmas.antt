@@ -13,7 +13,7 @@ use Rattle.gptp_correction.specs.declared.sync_in.SyncInfo.{SyncInfo}
 use Rattle.gptp_correction.specs.Correction.{bridge, link_time, passage}
 use Rattle.gptp_system.specs.Syncing.{OffsetFits}
 use Rattle.gptp_pdelay_machine.specs.Lanes.{LaneFrame}
-use Rattle.gptp_error_laws.specs.TimeError.{jitter_at, time_error_at}
+use Rattle.gptp_error_laws.specs.TimeError.{jitter_at, rates_error_at, time_error_at}
 use Rattle.gptp_sync_machine.specs.Messages.{Message, Sync, FollowUp, IsOneMessage}
 use Rattle.gptp_sync_machine.specs.Right.{IsHeldAt, IsMeasuredAt, FollowUpIsRight, at_rate, info_of, most_correction_at}
 use Rattle.gptp_sync_machine.specs.RightLaws.{IsOnWay}
@@ -22,7 +22,7 @@ use Rattle.gptp_sync_machine.specs.Flows.{AreCarried, Arrival, FramesFlow}
 use Rattle.gptp_sync_machine.specs.Acts.{kept_at_ingress}
 use Rattle.gptp_sync_machine.specs.Invariant.{FollowerInvariant, IsKept}
 use Rattle.gptp_sync_machine.proofs.RightLemmas.{bridge_numbers_fit}
-use Rattle.gptp_reading.specs.Reading.{held_rates_error_at, read_after}
+use Rattle.gptp_reading.specs.Reading.{read_after}
 use Rattle.gptp_reading.proofs.WayLemmas.{later_within, reading_is_right}
 
 -- what is known was told on the way
@@ -103,7 +103,7 @@ module _ (k : FollowerSetting) (says : List ℕ → Message → Type 0) where
       → s.kept ≡ Some (kept_at_ingress source sequence ingress) → IsMeasuredAt k.way k.place rate delay
       → IsHeldAt k.way k.place told.rate rate held
       → AreWithin (33550000 * time_error_at k.way (suc k.place)
-      + held_rates_error_at k.way k.place * (later + jitter_at k.way k.place))
+      + rates_error_at k.way k.place * (later + jitter_at k.way k.place))
       (pos 33550000
       *ℤ read_after (info_of (at_rate told held) ingress) delay rate (own_clock k (s.time + later) -ℤ ingress))
       (pos 33550000 *ℤ root_clock k (s.time + later))
@@ -113,7 +113,7 @@ module _ (k : FollowerSetting) (says : List ℕ → Message → Type 0) where
       let carried = t.carried in
       let right = reading_is_right k.way k.phase k.place told t.sent t.came (s.time + later) rate delay held
       (on_way k told t.sent t.came s.time is carried t.right) measured held_at (omega (arith, carried.behind)) in
-      let wide = later_within (33550000 * time_error_at k.way (suc k.place)) (held_rates_error_at k.way k.place)
+      let wide = later_within (33550000 * time_error_at k.way (suc k.place)) (rates_error_at k.way k.place)
       (s.time + later - t.came) (later + jitter_at k.way k.place)
       (pos 33550000
       *ℤ read_after (info_of (at_rate told held) (own_clock k t.came)) delay rate
@@ -121,7 +121,7 @@ module _ (k : FollowerSetting) (says : List ℕ → Message → Type 0) where
       (pos 33550000 *ℤ root_clock k (s.time + later))
       (omega (arith, carried.long, carried.behind, carried.short)) right in
       subst (λ x. AreWithin (33550000 * time_error_at k.way (suc k.place)
-      + held_rates_error_at k.way k.place * (later + jitter_at k.way k.place))
+      + rates_error_at k.way k.place * (later + jitter_at k.way k.place))
       (pos 33550000
       *ℤ read_after (info_of (at_rate told held) x) delay rate (own_clock k (s.time + later) -ℤ x))
       (pos 33550000 *ℤ root_clock k (s.time + later))) (sym t.ingress_is) wide

@@ -24,7 +24,7 @@ use Rattle.gptp_system.specs.declared.sending.Sending.{Sending}
 use Rattle.gptp_system.specs.Input.{Frame as FrameHeard, Steps}
 use Rattle.gptp_system.specs.State.{SystemState, is_capable_at, lapse_of, local_time}
 use Rattle.gptp_system.specs.Syncing.{HearsFollowUpIf, IsOffset, OffsetFits, KnowsBy, KnowsIf, delay_at, is_slave_at, offset_of, root_rate_at, said_on, slave_delay, slave_rate}
-use Rattle.gptp_error_laws.specs.TimeError.{jitter_at, time_error_at}
+use Rattle.gptp_error_laws.specs.TimeError.{jitter_at, rates_error_at, reading_error_at, time_error_at}
 use Rattle.gptp_model.specs.declared.station.Station.{Station}
 use Rattle.gptp_model.specs.World.{WorldState, world_queue, receiver}
 use Rattle.gptp_sync_machine.specs.Follower.{FollowerSetting, from, own_clock, root_clock}
@@ -48,7 +48,7 @@ use Rattle.gptp_invariants.proofs.SyncFollowTreeLemmas.{slave_is, well_formed}
 use Rattle.gptp_invariants.proofs.SyncFollowWayLemmas.{correction_small, documented, few, long, own_time_fits, root_time_fits, short_way}
 use Rattle.gptp_invariants.proofs.SyncHeardLemmas.{heard_as}
 use Rattle.gptp_invariants.proofs.SyncTimeStepLemmas.{can_lapse}
-use Rattle.gptp_reading.specs.Reading.{held_rates_error_at, read_after, read_from, reading, reading_error_at}
+use Rattle.gptp_reading.specs.Reading.{read_after, read_from, reading}
 use Rattle.gptp_reading.specs.Readings.{LeavesTime}
 use Rattle.gptp_reading.proofs.TellingLemmas.{IsAsSent, offset_fits, reading_is_exact, told_as_sent}
 use Rattle.gptp_reading.proofs.WayLemmas.{in_units}
@@ -304,7 +304,7 @@ module _ (p : SettlingParams) (settled longest : ℕ) (w : WorldState) (is : IsS
 
   exact : (later : ℕ)
       → AreWithin (33550000 * time_error_at h.way (suc steps)
-      + held_rates_error_at h.way steps * (later + jitter_at h.way steps))
+      + rates_error_at h.way steps * (later + jitter_at h.way steps))
       (pos 33550000 *ℤ read_then (w.time + later)) (pos 33550000 *ℤ root_clock k (w.time + later))
   exact later =
       reading_is_exact k tells (follower place w f) (link_frame_view (frame w.time octets)) (map link_frame_view rest)
@@ -345,7 +345,7 @@ module _ (p : SettlingParams) (settled longest : ℕ) (w : WorldState) (is : IsS
       (local_time root.system (w.time + later))
   by_offset later root r offset is_offset =
       let t = w.time + later in
-      let whole = in_units (time_error_at h.way (suc steps)) (held_rates_error_at h.way steps)
+      let whole = in_units (time_error_at h.way (suc steps)) (rates_error_at h.way steps)
       (later + jitter_at h.way steps) (read_then t) (root_clock k t) (exact later) in
       subst (AreWithin (reading_error_at h.way steps later)
       (read_from said offset (slave_rate s') (local_time s' t))) (root_is t root r)

@@ -1,11 +1,10 @@
 -- What a system reads of the time of its root between two Follow_Ups, and how far that may be off. Times of clocks are
 -- in units of 2^-16 ns, rates in units of 2^-41, and all other times in ns.
-use Rattle.std.specs.Prelude.{◌≡◌, ◌+◌, ◌*◌, ℕ, suc, min, ℤ, ◌+ℤ◌, ◌-ℤ◌, Option}
+use Rattle.std.specs.Prelude.{◌≡◌, ℕ, suc, ℤ, ◌+ℤ◌, ◌-ℤ◌, Option}
 use Rattle.std.specs.Option.{option_and_then, option_map}
 use Rattle.gptp_graph.specs.Best.{IsBest}
 use Rattle.gptp_graph.specs.Snapshot.{System}
 use Rattle.gptp_scaled.specs.Rate.{scaled_by}
-use Rattle.gptp_pdelay.specs.GoodLink.{ceil_div}
 use Rattle.gptp_correction.specs.declared.sync_in.SyncInfo.{SyncInfo}
 use Rattle.gptp_correction.specs.Correction.{nearest_rate, sync_received}
 use Rattle.gptp_setup.specs.declared.setup.Params.{Params}

@@ -7,7 +7,7 @@ use Rattle.gptp_correction.specs.declared.correction.Relayed.{Relayed}
 use Rattle.gptp_correction.specs.declared.sync_in.SyncInfo.{SyncInfo}
 use Rattle.gptp_pdelay_machine.specs.Lanes.{LaneFrame}
 use Rattle.gptp_error_laws.specs.HopLaws.{IsOverLink, IsRateBehind}
-use Rattle.gptp_error_laws.specs.TimeError.{Way, hop_error, jitter_at, time_error_at}
+use Rattle.gptp_error_laws.specs.TimeError.{Way, hop_error, jitter_at, rates_error_at, time_error_at}
 use Rattle.gptp_error_laws.specs.WayLaws.{shown_at}
 use Rattle.gptp_sync_machine.specs.Acts.{kept_at_ingress}
 use Rattle.gptp_sync_machine.specs.Follower.{Follower, IsSetting, FollowerSetting, from, own_clock, root_clock}
@@ -15,7 +15,7 @@ use Rattle.gptp_sync_machine.specs.Invariant.{FollowerInvariant}
 use Rattle.gptp_sync_machine.specs.Messages.{Message, FollowUp, IsOneMessage}
 use Rattle.gptp_sync_machine.specs.Right.{IsHeldAt, IsMeasuredAt, at_rate, info_of}
 use Rattle.gptp_sync_machine.specs.RightLaws.{IsOnWay}
-use Rattle.gptp_reading.specs.Reading.{held_rates_error_at, read_after}
+use Rattle.gptp_reading.specs.Reading.{read_after}
 
 -- What is read so long after a Sync came over a link is the root's time then: within the link's part of the time error,
 -- the error of the rate from above times the greatest delay, and the error of the rate after the link times that span,
@@ -36,7 +36,7 @@ ReadingIsRight = (w : Way) (phase : ℕ → ℕ) (i : ℕ) (told : Relayed) (sen
     (rate delay held : ℤ)
     → IsOnWay w phase i told sent came → IsMeasuredAt w i rate delay → IsHeldAt w i told.rate rate held → came ≤ now
     → let ingress = shown_at w phase (suc i) came in
-    AreWithin (33550000 * time_error_at w (suc i) + held_rates_error_at w i * (now - came))
+    AreWithin (33550000 * time_error_at w (suc i) + rates_error_at w i * (now - came))
     (pos 33550000
     *ℤ read_after (info_of (at_rate told held) ingress) delay rate (shown_at w phase (suc i) now -ℤ ingress))
     (pos 33550000 *ℤ shown_at w phase 0 now)
@@ -54,7 +54,7 @@ ReadingIsExact says = (k : FollowerSetting) (s : Follower) (front : LaneFrame) (
     → s.kept ≡ Some (kept_at_ingress source sequence ingress) → IsMeasuredAt k.way k.place rate delay
     → IsHeldAt k.way k.place told.rate rate held
     → AreWithin (33550000 * time_error_at k.way (suc k.place)
-    + held_rates_error_at k.way k.place * (later + jitter_at k.way k.place))
+    + rates_error_at k.way k.place * (later + jitter_at k.way k.place))
     (pos 33550000
     *ℤ read_after (info_of (at_rate told held) ingress) delay rate (own_clock k (s.time + later) -ℤ ingress))
     (pos 33550000 *ℤ root_clock k (s.time + later))

@@ -2,8 +2,8 @@
 //!
 //! The theorem of gptp_theorem bounds the offset that a Follow_Up leaves, at the instant at which it comes. Here it
 //! is said of every later time what is read: between two Follow_Ups, in holdover, and while the network changes.
-//! `specs/Reading.antt` defines what is read and its error, `specs/Readings.antt` is the theorem on one page, and
-//! `specs/Age.antt` says how old what is known may be.
+//! `specs/Reading.antt` defines what is read; its error is defined in gptp_error_laws. `specs/Readings.antt` is the
+//! theorem on one page, and `specs/Age.antt` says how old what is known may be.
 //!
 //! Each function of this crate is a law: it does nothing, and its contract is a theorem about the definitions.
 #![tactic(auto)]

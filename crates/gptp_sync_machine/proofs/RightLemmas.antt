@@ -1,11 +1,11 @@
 -- What is told and known on a way, hop by hop.
-use Rattle.std.proofs.Common.{◌≡◌, ℕ, zero, suc, ◌*◌, ◌+◌, ◌-◌, ◌/◌, ◌<◌, ◌≤◌, ℤ, pos, negsuc, ◌^◌, ◌⊎◌, inl, inr, ◌+ℤ◌, ◌-ℤ◌, ◌*ℤ◌, ◌≤ℤ◌, length, ap, ◌∙◌, sym, refl, arith}
+use Rattle.std.proofs.Common.{◌≡◌, ℕ, zero, suc, ◌*◌, ◌+◌, ◌-◌, ◌<◌, ◌≤◌, ℤ, pos, negsuc, ◌^◌, ◌⊎◌, inl, inr, ◌+ℤ◌, ◌-ℤ◌, ◌≤ℤ◌, length, ap, ◌∙◌, sym, refl, arith}
+use Rattle.std.specs.Prelude.{min}
 use Rattle.std.proofs.lemmas.Int.{ints}
-use Rattle.gptp_scaled.specs.Floor.{floor_div}
 use Rattle.gptp_scaled.specs.Rate.{FitsRate, IsNeighborRate, unit}
 use Rattle.gptp_scaled.specs.Stamp.{scaled_of}
 use Rattle.gptp_scaled.specs.Counts.{AreWithin}
-use Rattle.gptp_scaled.proofs.CountLemmas.{quotient_is, gain_is, rate_is_bounded}
+use Rattle.gptp_scaled.proofs.CountLemmas.{rate_is_bounded}
 use Rattle.gptp_pdelay.specs.Clock.{IsTime}
 use Rattle.gptp_pdelay.specs.GoodLink.{ceil_div}
 use Rattle.gptp_pdelay.specs.Measured.{AreMeasured}
@@ -18,7 +18,8 @@ use Rattle.gptp_error_laws.specs.TimeError.{WayLink, Way, clock_at, drift_at, ji
 use Rattle.gptp_error_laws.specs.HopLaws.{IsOverLink, IsRateBehind, IsRateWithin}
 use Rattle.gptp_error_laws.specs.WayLaws.{IsDocumented, longer, shown_at}
 use Rattle.gptp_error_laws.proofs.HopLemmas.{hop_keeps, offset_is_within}
-use Rattle.gptp_error_laws.proofs.WayLemmas.{adds, ceil_reaches, error_before, error_behind, error_sent, link_grows, natural, rate_near, size_is, stay_grows}
+use Rattle.gptp_error_laws.proofs.CutLemmas.{neighbours_are_near}
+use Rattle.gptp_error_laws.proofs.WayLemmas.{adds, ceil_reaches, error_before, error_behind, error_sent, link_grows, natural, rate_so_far, size_is, stay_grows, steady_is_limited}
 use Rattle.gptp_error_laws.proofs.LongerLemmas.{link_same, parents_error_stays, rates_same, steady_same, sum_same, total_same}
 use Rattle.gptp_sync_machine.proofs.SizeLemmas.{IsSmall, passage_small}
 use Rattle.gptp_sync_machine.specs.Right.{IsHeldAt, IsMeasuredAt, IsModest, FollowUpIsRight, at_rate, info_of, measured_error_at, most_correction_at, sent_error_at}
@@ -82,34 +83,22 @@ measured_nearer w zero = refl
 measured_nearer w (suc n) = let before = measured_nearer w n in omega (arith, before)
 
 -- the error at the egress to a link, with the time error of the bridge there
-sent_error_is : (w : Way) (i : ℕ) → sent_error_at w i ≡ error_sent w i
+pub sent_error_is : (w : Way) (i : ℕ) → sent_error_at w i ≡ error_sent w i
 sent_error_is w zero = refl
 sent_error_is w (suc i) =
     ap (λ e. 33550000 * e + rates_error_at w i * (w.residence + jitter_at w i)) (error_behind w i)
 
 -- the rate so far, as a natural number within its error
 rate_is : (w : Way) → IsDocumented w → (n : ℕ) → n ≤ length w.links → (sum : ℤ) →
-    AreWithin (total_below n (measured_error_at w)) sum (sum_below n (steady_rate_at w)) → (rate : ℕ) →
+    AreWithin (total_below n (measured_error_at w)) sum (sum_below n (steady_rate_at w)) → FitsRate sum → (rate : ℕ) →
     unit +ℤ sum ≡ pos rate → IsRateWithin (error_before w n) (clock_at w 0) (clock_at w n) rate
-rate_is w k zero h sum near rate e =
-    let f : rate ≡ 2199023255552 = omega (arith, ints, e, near.low, near.high) in
-    rw f (record { low = omega arith; high = omega arith })
-rate_is w k (suc n) h sum near rate e =
-    let root = clock_at w 0 in
-    let own = clock_at w (suc n) in
-    let some : 0 < own = omega (arith, (clock_counts.rate (drift_at w (suc n)) (k.drifts (suc n) h)).low) in
-    let quotient = root * 2199023255552 / own in
-    let q = quotient_is (root * 2199023255552) own some in
-    let gain = gain_is root own quotient some q in
-    let errors = measured_nearer w (suc n) in
-    let unlike =
-    size_is (sum_below (suc n) (steady_rate_at w) -ℤ floor_div ((pos root -ℤ pos own) *ℤ unit) (pos own)) in
-    rate_near root own rate quotient (rates_error_at w n) q
-    (omega (arith, ints, e, gain, near.high, unlike.high, errors))
-    (omega (arith, ints, e, gain, near.low, unlike.low, errors))
+rate_is w k n h sum near fits rate e =
+    let errors = measured_nearer w n in
+    rate_so_far w k n h sum
+    (record { low = omega (arith, ints, near.low, errors); high = omega (arith, ints, near.high, errors) }) fits rate e
 
 -- what is known of the hop over the link
-over_link : (w : Way) (phase : ℕ → ℕ) (i : ℕ) (told : Relayed) (sent came : ℕ) (rate delay : ℤ) →
+pub over_link : (w : Way) (phase : ℕ → ℕ) (i : ℕ) (told : Relayed) (sent came : ℕ) (rate delay : ℤ) →
     IsOnWay w phase i told sent came → IsMeasuredAt w i rate delay → let l = link_at w i in
     IsOverLink l.least l.most w.turnaround (clock_at w 0) (clock_at w i) (error_before w i) told.rate rate delay
 over_link w phase i told sent came rate delay on measured =
@@ -123,7 +112,7 @@ over_link w phase i told sent came rate delay on measured =
       up_rate = clock_counts.rate (drift_at w i) (on.documented.drifts i (omega (arith, near)));
       before = before;
       before_is = e;
-      within = rate_is w on.documented i (omega (arith, near)) told.rate right.rate before e;
+      within = rate_is w on.documented i (omega (arith, near)) told.rate right.rate fits before e;
       fits = fits;
       near = measured.limited;
       measured = measured.delay_within;
@@ -142,7 +131,7 @@ rates_add w phase i told sent rate delay right measured =
     }
 
 -- and of the rate after it
-rate_behind : (w : Way) (phase : ℕ → ℕ) (i : ℕ) (told : Relayed) (sent came : ℕ) (rate delay : ℤ) →
+pub rate_behind : (w : Way) (phase : ℕ → ℕ) (i : ℕ) (told : Relayed) (sent came : ℕ) (rate delay : ℤ) →
     IsOnWay w phase i told sent came → IsMeasuredAt w i rate delay → FitsRate (told.rate +ℤ rate) →
     IsRateBehind (clock_at w 0) (clock_at w (suc i)) (rates_error_at w i) (told.rate +ℤ rate)
 rate_behind w phase i told sent came rate delay on measured fits =
@@ -151,11 +140,11 @@ rate_behind w phase i told sent came rate delay on measured fits =
       after = after;
       after_is = e;
       within = rate_is w on.documented (suc i) on.on_way (told.rate +ℤ rate)
-          (rates_add w phase i told sent rate delay on.right measured) after e;
+          (rates_add w phase i told sent rate delay on.right measured) fits after e;
     }
 
 -- what was told on the way, at the rate that is held
-held_on_way : (w : Way) (phase : ℕ → ℕ) (i : ℕ) (told : Relayed) (sent came : ℕ) (rate delay held : ℤ) →
+pub held_on_way : (w : Way) (phase : ℕ → ℕ) (i : ℕ) (told : Relayed) (sent came : ℕ) (rate delay held : ℤ) →
     IsOnWay w phase i told sent came → IsMeasuredAt w i rate delay → IsHeldAt w i told.rate rate held →
     IsOnWay w phase i (at_rate told held) sent came
 held_on_way w phase i told sent came rate delay held on measured at = record {
@@ -301,7 +290,8 @@ offset_is_right w phase i told sent came now rate delay held on measured at late
 measured_same : (w : Way) (l : WayLink) (i : ℕ) → i < length w.links →
     measured_error_at (longer w l) i ≡ measured_error_at w i
 measured_same w l i h =
-    ap (λ (k : WayLink). ceil_div (2202000000000 * (k.most - k.least)) w.interval + 3) (link_same w l i h)
+    ap (λ (k : WayLink). min (ceil_div (2202000000000 * (k.most - k.least)) w.interval) 879609302 + 3)
+    (link_same w l i h)
 
 -- and so does the error of what is sent over them, and over the next one
 sent_same : (w : Way) (l : WayLink) (i : ℕ) → i ≤ length w.links → sent_error_at (longer w l) i ≡ sent_error_at w i
@@ -347,9 +337,11 @@ measured_right w phase i rate delay k h order a =
     (ceil_div (2202000000000 * jitter_at w i) w.interval) (phase (suc i)) (phase i) (drift_at w (suc i)) (drift_at w i)
     rate delay (k.drifts (suc i) h) (k.drifts i (omega (arith, h))) order k.waits k.long
     (ceil_reaches (2202000000000 * jitter_at w i) w.interval (omega (arith, k.long))) a in
+    let limited = bounded (shown_at w phase (suc i)) (shown_at w phase i) a in
     record {
-      limited = bounded (shown_at w phase (suc i)) (shown_at w phase i) a;
-      rate_within = is.rate_within;
+      limited = limited;
+      rate_within = neighbours_are_near (ceil_div (2202000000000 * jitter_at w i) w.interval) rate (steady_rate_at w i)
+          limited (steady_is_limited w i) is.rate_within;
       delay_within = is.delay_within;
     }
   where

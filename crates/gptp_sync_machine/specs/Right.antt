@@ -1,5 +1,5 @@
 -- What a Follow_Up tells as it is sent, and what a port has measured, where both are as exact as the time error says.
-use Rattle.std.specs.Prelude.{◌≡◌, ◌⊎◌, ℕ, zero, suc, ◌+◌, ◌*◌, ◌≤◌, ℤ, pos, negsuc, ◌+ℤ◌, ◌*ℤ◌, ◌≤ℤ◌, unsigned_abs}
+use Rattle.std.specs.Prelude.{◌≡◌, ◌⊎◌, ℕ, zero, suc, min, ◌+◌, ◌*◌, ◌≤◌, ℤ, pos, negsuc, ◌+ℤ◌, ◌*ℤ◌, ◌≤ℤ◌, unsigned_abs}
 use Rattle.gptp_scaled.specs.Rate.{FitsRate, IsNeighborRate}
 use Rattle.gptp_scaled.specs.Stamp.{Timestamp, scaled_of}
 use Rattle.gptp_scaled.specs.Counts.{AreWithin}
@@ -11,9 +11,10 @@ use Rattle.gptp_correction.specs.Sum.{sum_below}
 use Rattle.gptp_error_laws.specs.TimeError.{Way, clock_at, jitter_at, link_at, rates_error_at, steady_rate_at, time_error_at, total_below}
 use Rattle.gptp_error_laws.specs.WayLaws.{shown_at}
 
--- how near the neighbour rate of the link at a place is measured, in units of 2^-41
+-- How near the neighbour rate of the link at a place is measured, in units of 2^-41. It is held at 200 parts in a
+-- million, and so is the one without jitter.
 abbrev pub measured_error_at : Way → ℕ → ℕ
-measured_error_at w i = ceil_div (2202000000000 * jitter_at w i) w.interval + 3
+measured_error_at w i = min (ceil_div (2202000000000 * jitter_at w i) w.interval) 879609302 + 3
 
 -- What a port has measured of the link at a place is right: the neighbour rate is near that of the two clocks, and the
 -- mean link delay lies between the least and the greatest delay of the link (IEEE 802.1AS-2020, 11.2.19.3). Shown by
