@@ -1,4 +1,7 @@
 """The files in made/ that cases name: long ones, which a few lines tell."""
+from pathlib import Path
+
+EXAMPLES = Path(__file__).resolve().parent.parent / "examples"
 
 # sections of networks: Syncs are rare; a bridge keeps a Sync for 10 ms
 RARE_SYNCS = "sync = 4\n"
@@ -54,6 +57,11 @@ def line(systems, network=RARE_SYNCS, least=500, most=500, drift=None):
 def line_that_breaks():
     """257 systems, of which the one with clock 255 fails at 10 s."""
     return f'{line(257)}[[event]]\nat = 10000000000\nkind = "fail"\nclock = "{clock(255)}"\n'
+
+
+def vehicle_with_timeout():
+    """The example, where what a Slave port holds lapses after three sync intervals without time."""
+    return (EXAMPLES / "vehicle.toml").read_text().replace("\ntimeout = 3", "\nsync_timeout = 3\ntimeout = 3", 1)
 
 
 def root(number, first_role):
@@ -124,6 +132,7 @@ def files():
         "inexact_line_of_512.toml": line(512, INEXACT, 1, 998_000_000, FASTEST),
         "drifting_line_of_31.toml": line(31, FREQUENT, 392, 400, FASTEST),
         "sure_line_of_31.toml": line(31, FREQUENT, 400, 400, -FASTEST),
+        "vehicle_with_timeout.toml": vehicle_with_timeout(),
         "right.certificate": right(),
         "step_too_many.certificate": other(far(257, 256), far(257, 257)),
         "step_too_few.certificate": other(far(256, 255), far(256, 254)),

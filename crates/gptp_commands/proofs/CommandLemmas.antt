@@ -149,8 +149,11 @@ count_in_range name default_text most default number rows low high is =
 question_in_range : (rows : List Row) (question : Question) → ReadsQuestion rows question
     → QuestionIsInRange question
 question_in_range rows (Choice until) reads = end_in_range (codes "until") 0 rows until reads
-question_in_range rows (Accuracy until max_error) reads =
-    (end_in_range (codes "until") 0 rows until reads.0, end_in_range (codes "max-error") 0 rows max_error reads.1)
+question_in_range rows (Accuracy until options) (until_is, reads) = (
+  end_in_range (codes "until") 0 rows until until_is,
+  end_in_range (codes "reads") 0 rows options.reads reads.reads,
+  end_in_range (codes "max-error") 0 rows options.max_error reads.max_error,
+)
 question_in_range rows (Explain clock until) reads = end_in_range (codes "until") 0 rows until reads.1
 question_in_range rows (Lint strict) reads = tt
 

@@ -18,6 +18,7 @@ use Rattle.gptp_certificate_text.specs.CertificateText.{certificate_lines}
 use Rattle.gptp_choice.proofs.RoleLemmas.{range_rises}
 use Rattle.gptp_explain.specs.Explained.{Explains, IsAbsent}
 use Rattle.gptp_explain.proofs.EveryLemmas.{each_is_explained}
+use Rattle.gptp_accuracy.specs.declared.options.AccuracyOptions.{AccuracyOptions}
 use Rattle.gptp_accuracy.proofs.EveryLemmas.{each_is_exact}
 use Rattle.gptp_commands.specs.declared.failure.Status.{Status}
 use Rattle.gptp_commands.specs.declared.failure.Status.TheVariants.{Done, Refused}
@@ -107,16 +108,16 @@ each_has_choice until input = each_has_text (λ d. ChoosesAt d until) input (cho
 
 -- ---- an accuracy
 
-exact : (until max_error : Option ℕ) (input : List ℕ) (d : DocumentState) → Means input d
-    → HaveText (TellsAccuracy d until max_error)
-exact until max_error input d means =
-    let (lines, exceeded, text) = each_is_exact input d (moment_of until d) max_error means in
+exact : (until : Option ℕ) (options : AccuracyOptions) (input : List ℕ) (d : DocumentState) → Means input d
+    → HaveText (TellsAccuracy d until options)
+exact until options input d means =
+    let (lines, exceeded, text) = each_is_exact input d (moment_of until d) options means in
     (lines, status_by exceeded, record { exceeded = exceeded; text = text; status_is = refl })
 
-pub each_has_accuracy : (until max_error : Option ℕ) (input : List ℕ)
-    → HasText (QuestionText (Accuracy until max_error)) input
-each_has_accuracy until max_error input =
-    each_has_text (λ d. TellsAccuracy d until max_error) input (exact until max_error input)
+pub each_has_accuracy : (until : Option ℕ) (options : AccuracyOptions) (input : List ℕ)
+    → HasText (QuestionText (Accuracy until options)) input
+each_has_accuracy until options input =
+    each_has_text (λ d. TellsAccuracy d until options) input (exact until options input)
 
 -- ---- an explanation
 

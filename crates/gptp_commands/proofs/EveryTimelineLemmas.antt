@@ -25,6 +25,7 @@ use Rattle.gptp_setup.specs.Intervals.{interval_of}
 use Rattle.gptp_setup.proofs.IntervalLemmas.{interval_most}
 use Rattle.gptp_accuracy.specs.TimeErrors.{AreTimeErrors}
 use Rattle.gptp_accuracy.specs.declared.errors.TimeErrors.{TimeErrors}
+use Rattle.gptp_accuracy.specs.declared.options.AccuracyOptions.{AccuracyOptions}
 use Rattle.gptp_accuracy.proofs.EveryLemmas.{each_is_exact}
 use Rattle.gptp_accuracy.proofs.OneLemmas.{errors_once}
 use Rattle.gptp_accuracy.proofs.WayLemmas.{one_each}
@@ -71,7 +72,7 @@ module _ (d : DocumentState) (network : IsNetwork d.network) (at to : ℕ) where
     None,
     λ u other holds.
         let same = errors_once d at t u (one_each d.network network) are other in
-        never (holds.0, same.1 ∙ holds.1, holds.2),
+        never (holds.0, same.from ∙ holds.1, holds.2),
   )
 
 -- ---- the end
@@ -133,7 +134,8 @@ module _ (input : List ℕ) (d : DocumentState) (means : Means input d) where
 
   errors_at : (at to : ℕ) → (errors : Option TimeErrors) × AreErrorsBy d at to errors
   errors_at at to =
-      let (lines, exceeded, text) = each_is_exact input d at None means in
+      let nothing : AccuracyOptions = record { reads = None; always = false; max_error = None } in
+      let (lines, exceeded, text) = each_is_exact input d at nothing means in
       errors_by d network at to text.errors text.are (holds_dec to text.errors)
 
   timeline_exists : (until seed : ℕ) (options : TimelineOptions) → until ≤ 1000000000000000

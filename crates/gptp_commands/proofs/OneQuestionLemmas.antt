@@ -8,6 +8,7 @@ use Rattle.gptp_network.proofs.MeantLemmas.{meant_document}
 use Rattle.gptp_certificate_text.specs.CertificateText.{certificate_lines}
 use Rattle.gptp_checker.proofs.LawLemmas.{one_accepted}
 use Rattle.gptp_explain.proofs.OneLemmas as explanations
+use Rattle.gptp_accuracy.specs.declared.options.AccuracyOptions.{AccuracyOptions}
 use Rattle.gptp_accuracy.proofs.OneLemmas as errors
 use Rattle.gptp_commands.specs.declared.failure.Status.{Status}
 use Rattle.gptp_commands.specs.declared.question.Question.TheVariants.{Accuracy, Choice, Explain}
@@ -39,16 +40,16 @@ one_choice until input a b s t k l =
 
 -- ---- an accuracy
 
-pub one_accuracy : (until max_error : Option ℕ) (input : List ℕ) (a b : List (List ℕ)) (s t : Status)
-    → QuestionText (Accuracy until max_error) input a s → QuestionText (Accuracy until max_error) input b t
+pub one_accuracy : (until : Option ℕ) (options : AccuracyOptions) (input : List ℕ) (a b : List (List ℕ)) (s t : Status)
+    → QuestionText (Accuracy until options) input a s → QuestionText (Accuracy until options) input b t
     → AreSame a s b t
-one_accuracy until max_error input a b s t k l =
-    one_answer (λ d. TellsAccuracy d until max_error) input tells_once a b s t k l
+one_accuracy until options input a b s t k l =
+    one_answer (λ d. TellsAccuracy d until options) input tells_once a b s t k l
   where
     tells_once : (d : DocumentState) (x y : List (List ℕ)) (u v : Status) → Means input d
-        → TellsAccuracy d until max_error x u → TellsAccuracy d until max_error y v → AreSame x u y v
+        → TellsAccuracy d until options x u → TellsAccuracy d until options y v → AreSame x u y v
     tells_once d x y u v means one other =
-        let (lines, exceeded) = errors.one_accuracy d (moment_of until d) max_error x y one.exceeded other.exceeded
+        let (lines, exceeded) = errors.one_accuracy d (moment_of until d) options x y one.exceeded other.exceeded
         (meant_document input d means).0 one.text other.text in
         (lines, one.status_is ∙ ap status_by exceeded ∙ sym other.status_is)
 

@@ -70,7 +70,7 @@ one_errors d at to None None names x y = tt
 one_errors d at to None (Some u) names x y = absurd (x u y.0 y.1)
 one_errors d at to (Some t) None names x y = absurd (y t x.0 x.1)
 one_errors d at to (Some t) (Some u) names x y =
-    let (time, from, systems) = errors_once d at t u names x.0 y.0 in (from, systems)
+    let same = errors_once d at t u names x.0 y.0 in (same.from, same.systems)
 
 -- where they aren't asked, there are none
 one_errors_if : (exact : Bool) (d : DocumentState) (at to : ℕ) (a b : Option TimeErrors) → HasOneEach d.network

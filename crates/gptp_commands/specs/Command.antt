@@ -5,6 +5,7 @@ use Rattle.std.specs.List.{AllByRecursion}
 use Rattle.clap.specs.Words.{IsAmong, Row, Text, fault_of, kind_of, subcommand_of}
 use Rattle.clap.specs.Lexer.{strip_byte}
 use Rattle.clap.specs.declared.error.Error.{Error}
+use Rattle.gptp_accuracy.specs.declared.options.AccuracyOptions.{AccuracyOptions}
 use Rattle.gptp_faults.specs.Times.{AreOptions}
 use Rattle.gptp_faults.specs.declared.options.FaultsOptions.{FaultsOptions}
 use Rattle.gptp_faults.specs.declared.options.Only.{Only}
@@ -20,7 +21,7 @@ use Rattle.gptp_commands.specs.declared.question.Question.{Question}
 use Rattle.gptp_commands.specs.declared.question.Question.TheVariants.{Accuracy, Choice, Explain, Lint}
 use Rattle.gptp_commands.specs.declared.run.RunOptions.{RunOptions}
 use Rattle.gptp_commands.specs.declared.table.Form.TheVariants.{Number}
-use Rattle.gptp_commands.specs.declared.table.rows.TheConstants.{AT, CERTIFICATE, CLOCK, FILE, FRAMES, HOLD, MAX_ERROR, MOMENT, MOMENTS, OFFSETS, ONLY, PART, PARTS, PROGRESS, RUN_UNTIL, SEED, SEEDS, STRICT, SUMMARY, TIMELINE_UNTIL, WHERE}
+use Rattle.gptp_commands.specs.declared.table.rows.TheConstants.{ALWAYS, AT, CERTIFICATE, CLOCK, FILE, FRAMES, HOLD, MAX_ERROR, MOMENT, MOMENTS, OFFSETS, ONLY, PART, PARTS, PROGRESS, READS, RUN_UNTIL, SEED, SEEDS, STRICT, SUMMARY, TIMELINE_UNTIL, WHERE}
 use Rattle.gptp_commands.specs.declared.timeline.TimelineOrder.{TimelineOrder}
 use Rattle.gptp_commands.specs.Options.{flag_of, option_number, place_value, word_of}
 use Rattle.gptp_commands.specs.Table.{Argument, CommandEntry, commands, gptp_sim, the}
@@ -97,11 +98,17 @@ pub record ReadsCheck (rows : List Row) (options : CheckOptions) : Type 0 where
 abbrev pub ReadsClock : List Row → ℕ → Type 0
 ReadsClock rows clock = clock_of_text (place_value (the CLOCK) rows) ≡ Ok clock
 
+-- the options of `accuracy`
+pub record ReadsAccuracy (rows : List Row) (options : AccuracyOptions) : Type 0 where
+  pub reads : options.reads ≡ option_number (the READS) rows
+  pub always : options.always ≡ flag_of (the ALWAYS) rows
+  pub max_error : options.max_error ≡ option_number (the MAX_ERROR) rows
+
 -- what a question asks
 abbrev pub ReadsQuestion : List Row → Question → Type 0
 ReadsQuestion rows (Choice until) = until ≡ option_number (the MOMENT) rows
-ReadsQuestion rows (Accuracy until max_error) =
-    (until ≡ option_number (the MOMENT) rows) × (max_error ≡ option_number (the MAX_ERROR) rows)
+ReadsQuestion rows (Accuracy until options) =
+    (until ≡ option_number (the MOMENT) rows) × ReadsAccuracy rows options
 ReadsQuestion rows (Explain clock until) = ReadsClock rows clock × (until ≡ option_number (the MOMENT) rows)
 ReadsQuestion rows (Lint strict) = strict ≡ flag_of (the STRICT) rows
 
@@ -153,7 +160,7 @@ WrongCases rows e = WrongKind rows e ⊎ (LacksPart rows × TellsPart rows e)
 -- the name of what is asked for
 abbrev pub question_name : Question → Text
 question_name (Choice until) = codes "choice"
-question_name (Accuracy until max_error) = codes "accuracy"
+question_name (Accuracy until options) = codes "accuracy"
 question_name (Explain clock until) = codes "explain"
 question_name (Lint strict) = codes "lint"
 
@@ -265,10 +272,14 @@ RunOptionsAreInRange options = IsEndInRange options.until × (options.seed < 2 ^
 abbrev pub LimitsAreInRange : Limits → Type 0
 LimitsAreInRange limits = (limit : Limit) → IsEndInRange (most_of limits limit)
 
+-- the numbers of the options of `accuracy` are in their ranges
+abbrev pub AccuracyOptionsAreInRange : AccuracyOptions → Type 0
+AccuracyOptionsAreInRange options = IsEndInRange options.reads × IsEndInRange options.max_error
+
 -- the numbers of a question are in their ranges
 abbrev pub QuestionIsInRange : Question → Type 0
 QuestionIsInRange (Choice until) = IsEndInRange until
-QuestionIsInRange (Accuracy until max_error) = IsEndInRange until × IsEndInRange max_error
+QuestionIsInRange (Accuracy until options) = IsEndInRange until × AccuracyOptionsAreInRange options
 QuestionIsInRange (Explain clock until) = IsEndInRange until
 QuestionIsInRange (Lint strict) = ⊤
 

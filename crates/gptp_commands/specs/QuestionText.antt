@@ -16,14 +16,14 @@ use Rattle.gptp_commands.specs.Documents.{document_limit, RefusesFault}
 -- the answer for a document, which the input spells, by what is asked
 abbrev pub AnswersQuestion : Question → List ℕ → DocumentState → List (List ℕ) → Status → Type 0
 AnswersQuestion (Choice until) input d output status = ChoosesAt d until output status
-AnswersQuestion (Accuracy until max_error) input d output status = TellsAccuracy d until max_error output status
+AnswersQuestion (Accuracy until options) input d output status = TellsAccuracy d until options output status
 AnswersQuestion (Explain clock until) input d output status = ExplainsAt d until clock output status
 AnswersQuestion (Lint strict) input d output status = TellsFindings input d strict output status
 
 -- the line of an input that is refused by this fault: `lint` also tells its place
 abbrev pub RefusesInput : Question → List ℕ → DocumentFault → List (List ℕ) → Status → Type 0
 RefusesInput (Choice until) input fault output status = RefusesFault fault output status
-RefusesInput (Accuracy until max_error) input fault output status = RefusesFault fault output status
+RefusesInput (Accuracy until options) input fault output status = RefusesFault fault output status
 RefusesInput (Explain clock until) input fault output status = RefusesFault fault output status
 RefusesInput (Lint strict) input fault output status = RefusesAtPlace input fault output status
 

@@ -10,18 +10,18 @@ ghost use Rattle.gptp_commands.specs.Output.{IsOutput};
 use crate::check::moment_of;
 use crate::failure::{SimError, Status};
 use crate::output::Output;
-use gptp_accuracy::{TimeErrors, time_errors, write_accuracy};
+use gptp_accuracy::{AccuracyOptions, TimeErrors, time_errors, write_accuracy};
 use gptp_network::Document;
 use std::alloc::Global;
 
 /// The text of time errors.
-fn show(alloc: Global, errors: &TimeErrors, max_error: Option<u64>) -> Result<Output, SimError>
-    ensures shows { IfOk result (λ o. (o.status ≡ status_by (error_is_exceeded max_error errors.now.systems.items))
-        × (o.text.items ≡ text_of (accuracy_lines max_error errors.now))) }
+fn show(alloc: Global, errors: &TimeErrors, options: AccuracyOptions) -> Result<Output, SimError>
+    ensures shows { IfOk result (λ o. (o.status ≡ status_by (error_is_exceeded options errors.now))
+        × (o.text.items ≡ text_of (accuracy_lines options errors.now))) }
     ensures memory { IfErr result (λ e. e ≡ SimError.Memory) }
 {
     let mut text = String::new(alloc);
-    let exceeded = write_accuracy(&mut text, max_error, errors)?;
+    let exceeded = write_accuracy(&mut text, options, errors)?;
     Ok(Output::of(text, Status::of_refusal(exceeded)))
 }
 
@@ -30,11 +30,11 @@ pub(crate) fn tell_accuracy(
     alloc: Global,
     document: &Document,
     until: Option<u64>,
-    max_error: Option<u64>,
+    options: AccuracyOptions,
 ) -> Result<Output, SimError>
-    ensures tells { IfOk result (IsOutput (TellsAccuracy document.now until max_error)) }
+    ensures tells { IfOk result (IsOutput (TellsAccuracy document.now until options)) }
     ensures memory { IfErr result (λ e. e ≡ SimError.Memory) }
 {
     let errors = time_errors(alloc, document, moment_of(document, until))?;
-    show(alloc, &errors, max_error)
+    show(alloc, &errors, options)
 }

@@ -4,7 +4,7 @@ ghost use Rattle.std.specs.Prelude.{◌≡◌, ◌⊎◌, ◌≤◌, Err, IfErr,
 ghost use Rattle.std.specs.Process.{exit_status as process_status};
 ghost use Rattle.clap.specs.Words.{found_of, rows_of, subcommand_name_of, subcommand_rows_of};
 ghost use Rattle.gptp_commands.specs.Command.{AsksFor, Enters, IsRead, MeansNothing, OrderIsInRange, Wrong, command_line_status};
-ghost use Rattle.gptp_commands.specs.Command.{ReadsCheck, ReadsClock, ReadsFaults, ReadsKind, ReadsLimits, ReadsRun, ReadsTimeline};
+ghost use Rattle.gptp_commands.specs.Command.{ReadsAccuracy, ReadsCheck, ReadsClock, ReadsFaults, ReadsKind, ReadsLimits, ReadsRun, ReadsTimeline};
 ghost use Rattle.gptp_commands.specs.Command.{WrongCases, WrongClock, WrongKind, kind_of_text, limit_argument};
 ghost use Rattle.gptp_commands.specs.Options.{option_number};
 ghost use Rattle.gptp_commands.specs.Version.{AsksVersion};
@@ -20,13 +20,15 @@ use crate::question::Question;
 use crate::run::RunOptions;
 use crate::source::{CountedReader, Source};
 use crate::table::rows::{
-    AT, CERTIFICATE, CLOCK, FILE, FRAMES, HOLD, MAX_ERROR, MOMENT, MOMENTS, NANOSECONDS, OFFSETS,
-    ONLY, PART, PARTS, PROGRESS, RUN_UNTIL, SEED, SEEDS, STRICT, SUMMARY, TIMELINE_UNTIL, WHERE,
+    ALWAYS, AT, CERTIFICATE, CLOCK, FILE, FRAMES, HOLD, MAX_ERROR, MOMENT, MOMENTS, NANOSECONDS,
+    OFFSETS, ONLY, PART, PARTS, PROGRESS, READS, RUN_UNTIL, SEED, SEEDS, STRICT, SUMMARY,
+    TIMELINE_UNTIL, WHERE,
 };
 use crate::timeline::TimelineOrder;
 use crate::version::is_version;
 use clap::ArgMatches;
 use clap::error::ErrorKind;
+use gptp_accuracy::AccuracyOptions;
 use gptp_faults::{FaultsOptions, Only};
 use gptp_report::sink::{CountedWriter, Sink, WriteFailed};
 use gptp_timeline::{Limit, Limits, TimelineOptions};
@@ -287,6 +289,17 @@ fn clock_in(alloc: Global, matches: &ArgMatches) -> Result<ClockId, CommandLineE
     }
 }
 
+/// What is asked of `accuracy`.
+fn accuracy_in(matches: &ArgMatches) -> AccuracyOptions
+    ensures { ReadsAccuracy (rows_of (found_of matches.now)) result }
+{
+    AccuracyOptions {
+        reads: number(matches, &READS),
+        always: flag(matches, &ALWAYS),
+        max_error: number(matches, &MAX_ERROR),
+    }
+}
+
 /// What is asked for, by the command that the parser entered.
 fn order_in(alloc: Global, matches: &ArgMatches) -> Result<Order, CommandLineError>
     ensures asks { IfOk result (Enters (subcommand_name_of matches.now) (subcommand_rows_of matches.now)) }
@@ -305,7 +318,7 @@ fn order_in(alloc: Global, matches: &ArgMatches) -> Result<Order, CommandLineErr
         })),
         Some(("accuracy", matches)) => Ok(Order::Ask(Question::Accuracy {
             until: number(matches, &MOMENT),
-            max_error: number(matches, &MAX_ERROR),
+            options: accuracy_in(matches),
         })),
         Some(("explain", matches)) => match clock_in(alloc, matches) {
             Ok(clock) => Ok(Order::Ask(Question::Explain {

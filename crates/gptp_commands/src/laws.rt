@@ -11,6 +11,7 @@ ghost use Rattle.gptp_commands.specs.Command.{IsPlain, IsRead};
 ghost use Rattle.gptp_commands.specs.CompareText.{BeginsCompare, CompareText};
 ghost use Rattle.gptp_commands.specs.Every.{HasText};
 ghost use Rattle.gptp_commands.specs.FaultsText.{FaultsText};
+ghost use Rattle.gptp_accuracy.specs.declared.options.AccuracyOptions.{AccuracyOptions};
 ghost use Rattle.gptp_faults.specs.Times.{AreOptions};
 ghost use Rattle.gptp_faults.specs.declared.options.FaultsOptions.{FaultsOptions};
 ghost use Rattle.gptp_commands.specs.QuestionText.{QuestionText};
@@ -82,9 +83,9 @@ pub fn one_choice()
 /// A document has one text of its accuracy at a time, and one status, at most.
 /// [`answer_question`](crate::question::answer_question) finds them wherever memory and the devices serve.
 pub fn one_accuracy()
-    ensures { (until max_error : Option ℕ) (input : List ℕ) (a b : List (List ℕ)) (s t : Status)
-        → QuestionText (questions.Accuracy until max_error) input a s
-        → QuestionText (questions.Accuracy until max_error) input b t → (a ≡ b) × (s ≡ t) }
+    ensures { (until : Option ℕ) (options : AccuracyOptions) (input : List ℕ) (a b : List (List ℕ)) (s t : Status)
+        → QuestionText (questions.Accuracy until options) input a s
+        → QuestionText (questions.Accuracy until options) input b t → (a ≡ b) × (s ≡ t) }
 {}
 
 /// A document has one text of what is explained of a clock at a time, and one status, at most.
@@ -117,10 +118,10 @@ pub fn every_input_has_a_choice()
     ensures { (until : Option ℕ) (input : List ℕ) → HasText (QuestionText (questions.Choice until)) input }
 {}
 
-/// Every input has a text of its accuracy, at each time and with each greatest error.
+/// Every input has a text of its accuracy, at each time and with all options.
 pub fn every_input_has_an_accuracy()
-    ensures { (until max_error : Option ℕ) (input : List ℕ)
-        → HasText (QuestionText (questions.Accuracy until max_error)) input }
+    ensures { (until : Option ℕ) (options : AccuracyOptions) (input : List ℕ)
+        → HasText (QuestionText (questions.Accuracy until options)) input }
 {}
 
 /// Every input has a text of what is explained of each clock, at each time.

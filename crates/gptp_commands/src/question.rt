@@ -17,6 +17,7 @@ use crate::lint::{refuse_at_place, tell_findings};
 use crate::output::Output;
 use crate::reading::read_whole;
 use crate::source::Source;
+use gptp_accuracy::AccuracyOptions;
 use gptp_network::{Document, DocumentFault};
 use gptp_report::sink::Sink;
 use gptp_report::write_whole;
@@ -32,11 +33,12 @@ pub enum Question {
     Choice {
         until: Option<u64>,
     },
-    /// `accuracy`: how exact the time is that each system gets, in ns. With a greatest error, in ns, at most 10^15, the
-    /// answer also says whether each system's is at most that.
+    /// `accuracy`: how exact the time is that each system gets, in ns; by its options, at most 10^15 ns each, also how
+    /// exact what it reads is some time after it got that, or at every moment, and whether each is at most a greatest
+    /// error.
     Accuracy {
         until: Option<u64>,
-        max_error: Option<u64>,
+        options: AccuracyOptions,
     },
     /// `explain`: why the live system with a clock follows whom it follows at that choice, over which systems, why each
     /// of its ports has its role, and who would be next.
@@ -63,9 +65,7 @@ fn answer_document(
 {
     match question {
         Question::Choice { until } => choose_at(alloc, document, until),
-        Question::Accuracy { until, max_error } => {
-            tell_accuracy(alloc, document, until, max_error)
-        }
+        Question::Accuracy { until, options } => tell_accuracy(alloc, document, until, options),
         Question::Explain { clock, until } => explain_at(alloc, document, until, clock),
         Question::Lint { strict } => tell_findings(alloc, document, input, strict),
     }
@@ -85,7 +85,7 @@ fn refuse_document(
         Question::Choice { until: _ } => refuse(alloc, fault),
         Question::Accuracy {
             until: _,
-            max_error: _,
+            options: _,
         } => refuse(alloc, fault),
         Question::Explain { clock: _, until: _ } => refuse(alloc, fault),
         Question::Lint { strict: _ } => refuse_at_place(alloc, input, fault),

@@ -50,7 +50,11 @@ pub(crate) mod rows {
     pub(crate) const FILE: Row = ("file", (Form::Place, &[], "FILE"), "The file that holds the certificate");
     pub(crate) const WHERE: Row = ("where", FLAG, "Write where a certificate that isn't accepted first fails");
     pub(crate) const MAX_ERROR: Row = ("max-error", NANOSECONDS,
-        "Say whether each system's error is at most this, in ns");
+        "Say whether the last number of each system's line is at most this, in ns");
+    pub(crate) const READS: Row = ("reads", NANOSECONDS,
+        "Say too by how much what each system reads is off at most so long after a receipt of time, in ns");
+    pub(crate) const ALWAYS: Row = ("always", FLAG,
+        "Say too by how much it is off at most at every moment; none where 'sync_timeout' is 0");
     pub(crate) const CLOCK: Row = ("clock", (Form::Place, &[], "CLOCK"),
         "The clock of the system that is meant, 16 hexadecimal digits");
     pub(crate) const STRICT: Row = ("strict", FLAG, "End with status 1 where there is any line but on calm");
@@ -98,7 +102,8 @@ pub(crate) mod rows {
         ("timeline", "Runs the network of a document and says what changes at which system when", TIMELINE),
         ("check", "Says whether a certificate is the choice that a network settles at", &[FILE, MOMENT, WHERE]),
         ("choice", "Writes the choice that a network settles at, as a certificate, without a run", &[MOMENT]),
-        ("accuracy", "Says how exact the time is that each system gets, without a run", &[MOMENT, MAX_ERROR]),
+        ("accuracy", "Says how exact the time is that each system gets, without a run", 
+            &[MOMENT, READS, ALWAYS, MAX_ERROR]),
         ("explain", "Says why a system follows whom it follows, without a run", &[CLOCK, MOMENT]),
         ("lint", "Says what isn't as it should be in a document, without a run", &[STRICT]),
         ("faults", "Lets each link and each system fail and come back, and says what that does to the network",
@@ -144,7 +149,8 @@ Example: gptp_sim choice < examples/ring.toml",
 Input: standard input, a document in TOML of at most 32 MiB (33,554,432 octets).
 Output: the time from which on it holds, and each system with its root, its steps from it, and by how much an
 offset may be off in the instant it comes, in ns, rounded up. Where links lose frames or are too long it is none.
-Example: gptp_sim accuracy --max-error 1000 < examples/ring.toml",
+Between two Syncs an application reads a time that ages: --reads and --always say by how much that may be off.
+Example: gptp_sim accuracy --always --max-error 1000 < examples/ring.toml",
         "explain" => "\
 Input: standard input, a document in TOML of at most 32 MiB (33,554,432 octets).
 Output: what the system with this clock follows once the network has settled and why that is better, over which

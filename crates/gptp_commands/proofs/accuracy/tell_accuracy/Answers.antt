@@ -7,9 +7,9 @@ pub returns-clause-tells : goal.returns-clause-tells
 returns-clause-tells c =
     let errors = c.in_ok-errors.errors in
     IfOk-weaker c.show.result _ _ (λ o shown. (
-      accuracy_lines c.args.max_error errors,
+      accuracy_lines c.args.options errors,
       record {
-        exceeded = error_is_exceeded c.args.max_error errors.systems.items;
+        exceeded = error_is_exceeded c.args.options errors;
         text = record {
           errors = errors;
           are = rw c.moment_of.ensures at c.in_ok-errors.ensures;
