@@ -81,9 +81,9 @@ _TEMPLATES = (
     ("port disabled", "port CLOCK PORT disabled to PEER_CLOCK PEER_PORT WHY"),
     ("rank", f"rank RANK ID{_BY}[ NEVER]"),
     # accuracy
-    ("time", "time AT calm CALM[ from FROM]"),
-    ("system bound", "system CLOCK root ROOT_ID steps STEPS error ERROR"),
-    ("system bound far", "system CLOCK root ROOT_ID far STEPS error ERROR"),
+    ("time", "time AT calm CALM[ from FROM][ age AGE]"),
+    ("system bound", "system CLOCK root ROOT_ID steps STEPS error ERROR[ reads READS][ always ALWAYS]"),
+    ("system bound far", "system CLOCK root ROOT_ID far STEPS error ERROR[ reads READS][ always ALWAYS]"),
     # refusals, of which the last is one of compare
     ("refused", "refused NUMBER NAME[ WORDS]"),
     ("refused line", "refused WORDS"),

@@ -150,7 +150,7 @@ Input: standard input, a document in TOML of at most 32 MiB (33,554,432 octets).
 Output: the time from which on it holds, and each system with its root, its steps from it, and by how much an
 offset may be off in the instant it comes, in ns, rounded up. Where links lose frames or are too long it is none.
 Between two Syncs an application reads a time that ages: --reads and --always say by how much that may be off.
-Example: gptp_sim accuracy --always --max-error 1000 < examples/ring.toml",
+Example: gptp_sim accuracy --max-error 1000 < examples/ring.toml",
         "explain" => "\
 Input: standard input, a document in TOML of at most 32 MiB (33,554,432 octets).
 Output: what the system with this clock follows once the network has settled and why that is better, over which
