@@ -14,7 +14,7 @@ use Rattle.gptp_scenario.specs.declared.change.Timed.{Timed}
 use Rattle.gptp_checker.proofs.PlaceLemmas.{AreLinesFor, lines_of_passed}
 use Rattle.gptp_error_laws.specs.TimeError.{Way, time_error}
 use Rattle.gptp_accuracy.specs.Passing.{AreNearWithin, IsDoneAt}
-use Rattle.gptp_accuracy.specs.Readings.{reading_terms}
+use Rattle.gptp_accuracy.specs.Readings.{ReadingTerms, reading_terms}
 use Rattle.gptp_accuracy.specs.Sums.{AreSummed, SumsAreWithin, terms_of}
 use Rattle.gptp_accuracy.specs.TimeErrors.{AreEntries, AreExact, HasByWay, IsEntry, IsErrorOf, IsFrom, IsReadingOf, IsSystemOf, if_promised, root_is_capable}
 use Rattle.gptp_accuracy.specs.Ways.{IsWay}
