@@ -14,7 +14,7 @@ from .refusal import Refused
 from .texts import Line
 
 # the keys in the order in which they are answered
-_ANSWERED = ("after_fault", "settle", "shared", "cut", "grandmaster")
+_ANSWERED = ("after_fault", "settle", "shared", "cut", "grandmaster", "accuracy")
 _HOW = ("kept_by", "moments", "seeds", "hold", "at")
 # the keys that are decided by what the program doesn't print yet; each is decided where the others are once it does
 _LATER = {
@@ -22,12 +22,11 @@ _LATER = {
     "time": "timeline --times",
     "apart": "timeline --times",
     "step": "timeline --times",
-    "accuracy": "accuracy --always",
     "bound": "timeline --max-bound",
     "detect": "faults --detect",
 }
 _KINDS = ("links", "systems")
-_TIMES = {"after_fault": 0, "settle": 0, "hold": 1, "at": 0}  # with the least of each, in ns
+_TIMES = {"after_fault": 0, "settle": 0, "accuracy": 0, "hold": 1, "at": 0}  # with the least of each, in ns
 _LONGEST = 10**15  # ns
 _COUNTS = {"cut": (0, 10**15), "moments": (1, 1000), "seeds": (1, 1000)}
 _AT = 60 * 10**9  # ns: by then timers that start in step have drifted apart
@@ -179,12 +178,14 @@ class _Judge:
                   if key in self._asked for word in (option, str(self._asked[key]))]
         self._timeline = ask("timeline", "--summary", *limits)
         self._choice = ask("choice")
+        error = self._asked.get("accuracy")
+        self._exact = [] if error is None else ask("accuracy", "--always", "--max-error", str(error))
         self._faults = self._tried(ask, jobs, limits) if self._asked["kept_by"] else None
         lines = []
         for key in _ANSWERED:
             if self._asked.get("shared", True) if key == "shared" else key in self._asked:
                 lines.append(getattr(self, f"_{key}")())
-        return Judgement(lines, self._faults)
+        return Judgement(lines, self._faults, None if error is None else Decimal(error))
 
     def _tried(self, ask: Ask, jobs: int, limits: list[str]) -> Faults:
         """What `faults` says, so many parts at a time."""
@@ -293,6 +294,16 @@ class _Judge:
                 if wanted is not None and (followed or line is case.down):
                     most = max(followed, key=lambda told: int(told["systems"]), default=None)
                     yield most["root_id"][12:] if most else None, wanted, self._fault(case)
+
+    def _accuracy(self) -> Verdict:
+        """By how much what a system reads may be off, in ns, at any moment once all have settled: the program decides."""
+        within = self._exact[-1].kind == "within"
+        systems = [line for line in self._exact if line.kind in ("system bound", "system bound far")]
+        unknown = next((line for line in systems if line["always"] is None), None)
+        worst = unknown or max(systems, key=lambda line: line["always"], default=None)
+        got = "none" if worst is None or unknown else in_units(worst["always"])
+        return Verdict("accuracy", within, got, in_units(self._asked["accuracy"]), "always",
+                       self._name(worst["clock"]) if worst else "")
 
     def _fault(self, case: Case) -> str:
         """Where a fault is."""
