@@ -102,7 +102,7 @@ pub(crate) mod rows {
         ("timeline", "Runs the network of a document and says what changes at which system when", TIMELINE),
         ("check", "Says whether a certificate is the choice that a network settles at", &[FILE, MOMENT, WHERE]),
         ("choice", "Writes the choice that a network settles at, as a certificate, without a run", &[MOMENT]),
-        ("accuracy", "Says how exact the time is that each system gets, without a run", 
+        ("accuracy", "Says how exact the time is that each system gets, without a run",
             &[MOMENT, READS, ALWAYS, MAX_ERROR]),
         ("explain", "Says why a system follows whom it follows, without a run", &[CLOCK, MOMENT]),
         ("lint", "Says what isn't as it should be in a document, without a run", &[STRICT]),
