@@ -151,8 +151,10 @@ question_in_range : (rows : List Row) (question : Question) → ReadsQuestion ro
 question_in_range rows (Choice until) reads = end_in_range (codes "until") 0 rows until reads
 question_in_range rows (Accuracy until options) (until_is, reads) = (
   end_in_range (codes "until") 0 rows until until_is,
-  end_in_range (codes "reads") 0 rows options.reads reads.reads,
-  end_in_range (codes "max-error") 0 rows options.max_error reads.max_error,
+  (
+    end_in_range (codes "reads") 0 rows options.reads reads.reads,
+    end_in_range (codes "max-error") 0 rows options.max_error reads.max_error,
+  ),
 )
 question_in_range rows (Explain clock until) reads = end_in_range (codes "until") 0 rows until reads.1
 question_in_range rows (Lint strict) reads = tt
