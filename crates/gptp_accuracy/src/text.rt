@@ -143,7 +143,7 @@ fn reading_always(age: Option<u64>, system: &SystemError) -> Option<u128>
     system.reading_error(age?)
 }
 
-/// The same, where it is asked for.
+/// The error of what a system reads at the greatest age of its last receipt, where it is asked for.
 fn write_always(
     text: &mut String,
     always: bool,

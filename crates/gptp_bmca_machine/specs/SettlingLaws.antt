@@ -44,7 +44,8 @@ SystemSettles says = (n : Network) (w : MachineState) (i : ℕ) (s : Station) (d
     → since n d ≤ w.time
     → HasBest n.graph s × (n.bare ≤ w.time → FollowsBest n.graph s)
 
--- So have all its ports their settled roles, or a step's time later where a neighbour is as far with the lower clock.
+-- All ports of a near system at distance d have their settled roles, once all that is held is sound and the time of
+-- each step has passed. Where a neighbour is as far and has the lower clock, it takes a step's time longer.
 abbrev pub PortsSettle : Spelling → Type 0
 PortsSettle says = (n : Network) (w : MachineState) (i : ℕ) (s : Station) (d : ℕ)
     → IsSettlingNetwork n → Calm n w → Invariant says n w

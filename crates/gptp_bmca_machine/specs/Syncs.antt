@@ -76,8 +76,8 @@ pub record IsExpected (says_sync : SaysSync) (n : Network) (stations : List Stat
   pub hears : HearsBy says_sync n stations lanes d from by
   pub soon : (by + n.syncs.span ≤ due + wait n d) ⊎ (by < since n d + wait n d)
 
--- So it is for every system with a lapse timer that follows a near one that has settled. Each step keeps it, by
--- syncs_are_expected; each world keeps it in `IsSettling` of gptp_invariants.
+-- `IsExpected` holds of every system with a lapse timer that follows a near one that has settled. Each step keeps it,
+-- by syncs_are_expected; each world keeps it in `IsSettling` of gptp_invariants.
 abbrev pub SyncsAreExpected : SaysSync → Network → MachineState → Type 0
 SyncsAreExpected says_sync n w = (i : ℕ) (s : Station) (d due : ℕ) → slice_get w.stations i ≡ Some s → s.live ≡ true
     → d < 255 → (follows : FollowsFarther n.graph s d) → since n d ≤ w.time → s.lapse ≡ Some due

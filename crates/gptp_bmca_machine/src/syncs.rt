@@ -14,8 +14,8 @@ pub fn syncs_are_expected<C: Coding>()
     ensures kept { ExpectedSyncsAreKept C.says C.says_sync }
 {}
 
-/// So nothing lapses, where the wait is below the span of lapse timers. It is at most a sync interval and, for each
-/// link of the longest path, a residence time and the largest delay.
+/// Nothing lapses at a near system, where the wait for the next Sync is below the span of lapse timers. That wait is at
+/// most a sync interval and, for each link of the longest path, a residence time and the largest delay.
 pub fn syncs_come_in_time<C: Coding>()
     ensures in_time { ExpectedSyncsComeInTime C.says C.says_sync }
     ensures bounded { WaitIsBounded }

@@ -131,7 +131,7 @@ fn start_of(line: &SystemLine, lowest: Identity) -> u16
     }
 }
 
-/// So each.
+/// For each system, by how many links it is away from one that isn't far, as far as it tells itself.
 fn list_starts(
     alloc: Global,
     lines: &[SystemLine],
@@ -162,7 +162,8 @@ fn mark(line: &mut SystemLine, lowest: Identity, links: u16)
     }
 }
 
-/// So each.
+/// The line of each system that is far, by the lowest root of its component, becomes that of a far system, so many
+/// links away from one that isn't.
 fn mark_each(lines: &mut Vec<SystemLine>, lowest: &[Identity], links: &[u16])
     requires lowest { length lowest.now ≡ length lines.old.items }
     requires links { length links.now ≡ length lines.old.items }

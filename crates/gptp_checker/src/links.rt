@@ -76,7 +76,7 @@ fn earlier(first: Option<(PortId, PortId)>, second: (PortId, PortId)) -> (PortId
     }
 }
 
-/// The same port.
+/// A copy of the port.
 fn same_port(port: &PortId) -> PortId
     ensures { result ≡ port.now }
 {

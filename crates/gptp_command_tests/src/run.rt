@@ -57,7 +57,7 @@ const ALL_FRAMES: RunOptions = RunOptions {
     certificate: false,
 };
 
-/// The same two systems, but the port of the first announces each two seconds.
+/// Two systems with a link between them. The port of the first announces each two seconds.
 const SLOWER_FIRST: &str = "version = 2
 [[system]]
 clock = \"0000000000000001\"

@@ -22,8 +22,8 @@ bridge s delay neighbour egress = record { delay = delay; neighbour = neighbour;
 abbrev pub nearest_rate : ℤ → ℤ
 nearest_rate z = int_max (negsuc 2147483647) (int_min z (pos 2147483647))
 
--- The same with another rate: the one whose sum with the neighbour's rate is held at the limits of Integer32. Where the
--- sum of the rate received is an Integer32 nothing changes (profile).
+-- What a Sync and its Follow_Up say, with another rate: the one whose sum with the neighbour's rate is held at the
+-- limits of Integer32. Where the sum of the rate received is an Integer32 nothing changes (profile).
 abbrev pub held_sum : SyncInfo → ℤ → SyncInfo
 held_sum s neighbour = record s { rate = nearest_rate (s.rate +ℤ neighbour) -ℤ neighbour }
 

@@ -39,9 +39,9 @@ pub struct SyncInfo {
 }
 
 impl SyncInfo {
-    /// The same with the rate nearest to the one received whose sum with the rate of the neighbour has 32 bits, so that
-    /// neither [`relay`](crate::relay) nor [`receipt_time`](crate::receipt_time) is refused for that sum (profile).
-    /// Where the sum has 32 bits already nothing changes.
+    /// What a Sync and its Follow_Up say, with the rate nearest to the one received whose sum with the rate of the
+    /// neighbour has 32 bits. Then neither [`relay`](crate::relay) nor [`receipt_time`](crate::receipt_time) is refused
+    /// for that sum (profile). Where the sum has 32 bits already nothing changes.
     pub fn held_sum(&self, neighbour: Rate) -> SyncInfo
         ensures held { result ≡ held_sum self.now neighbour }
         ensures fits { FitsRate (result.rate +ℤ neighbour) }

@@ -25,8 +25,8 @@ InjectsNothing change = ⊤
 abbrev pub HasEnds : DocumentState → ℕ → Lcg → Type 0
 HasEnds d until fate = (two : EndState × EndState) × EndsOf draws d until fate (Some two)
 
--- So it is with two events more that inject nothing, where the document with them can be played, and the second comes
--- after the begin of the run and no later than its end.
+-- The last two stretches of each run of the document with two events more end in some way. These events inject nothing,
+-- and the document with them can be played. The second comes after the begin of the run and no later than its end.
 abbrev pub RunsEnd : DocumentState → Type 0
 RunsEnd d = (at later until : ℕ) (change other : Change) (fate : Lcg)
     → InjectsNothing change → InjectsNothing other → IsPlayable (with_event later other (with_event at change d))

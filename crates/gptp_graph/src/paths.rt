@@ -21,8 +21,8 @@ pub fn neighbours_counted()
     ensures two { TwoNeighboursDiffer }
 {}
 
-/// So no path over a bridge with four end stations has more than three systems, and none in a ring of four more than
-/// all.
+/// No path over a bridge with four end stations has more than three systems, and none in a ring of four more than all
+/// four.
 pub fn star_is_bounded()
     ensures { ExamplesAreBounded }
 {}

@@ -71,7 +71,7 @@ impl Lane {
         self.limit - self.count
     }
 
-    /// The same frames, and room for so many more. Refused where both together would be too many to count.
+    /// The lane with its frames, and room for so many more. Refused where both together would be too many to count.
     pub(crate) fn with_room(self, room: usize) -> Result<Lane, AllocError>
         ensures { IfOk result (λ lane. lane ≡ with_limit (self.count + room) self) }
     {

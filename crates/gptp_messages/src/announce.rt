@@ -156,8 +156,9 @@ pub fn encode_announce(
     Ok(())
 }
 
-/// The same where the path is these clocks, at most 255, and one more after them: that of the sender, as a system
-/// announces what it received (IEEE 802.1AS-2020, 10.3.9.23). No clock is copied but into the octets.
+/// Appends one Announce, as [`encode_announce`] does, whose path is these clocks, at most 255, and one more after them:
+/// that of the sender, as a system announces what it received (IEEE 802.1AS-2020, 10.3.9.23). No clock is copied but
+/// into the octets.
 pub fn encode_announce_behind(
     head: &Head,
     body: &AnnounceBody,

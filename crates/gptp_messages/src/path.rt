@@ -128,7 +128,7 @@ fn has_clock(octets: &[u8], clock: ClockId) -> bool
     found
 }
 
-/// The same octets, as the spelling of their clocks.
+/// The octets unchanged: they are the spelling of their clocks.
 fn as_spelled(octets: &[u8]) -> &[u8]
     requires { length octets.now % 8 ≡ 0 }
     ensures { result.now ≡ path_octets (clocks octets.now) }

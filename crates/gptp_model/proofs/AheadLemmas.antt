@@ -222,7 +222,7 @@ module _ (place : ℕ) (input : Input) (w : WorldState) (draws : List Draw) (ans
           by (inl kept) = first_late w.time place timer w.net.pending t none kept
           by (inr later) = omega arith
 
-  -- And it leaves no more to do by now.
+  -- Where each timer of the system is pending when it is due, a call leaves no more to do by now.
   pub calls_due_by : IsSteady k.station.system → IsTimely k.station.system w.time input → AreFit w.net.channels
       → ArePending place input k.station.system w.net.pending
       → due_by w.time w'.net.pending ≤ due_by w.time w.net.pending

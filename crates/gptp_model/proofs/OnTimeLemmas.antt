@@ -92,7 +92,7 @@ module _ (place : ℕ) (timer : Timer) (w : WorldState) (draws : List Draw) (w' 
       (other_item place timer t other (same_item (Expiry place t) (Expiry place timer)) refl)
       ∙ agree t ∙ ap timer_time (station_dues t)
 
-  -- And it leaves less to do by now.
+  -- Where each timer of the system is pending when it is due, an expiry leaves less to do by now.
   pub expires_due_by : IsSteady k.station.system → AreFit w.net.channels
       → ((t : Timer) → times_of_item (Expiry place t) w.net.pending ≡ timer_time (station_due t k.station))
       → due_by w.time w'.net.pending < due_by w.time w.net.pending
@@ -163,7 +163,8 @@ module _ (link : ℕ) (direction : Direction) (octets : List ℕ) (w : WorldStat
       (no_arrival k.place t link direction)
       ∙ agree t ∙ ap timer_time (ap (station_due t) same ∙ live_due c.station t c.live)
 
-  -- And it leaves less to do by now, where what is pending agrees with the link.
+  -- Where each timer of the receiver is pending when it is due, and what is pending agrees with the link, a delivery
+  -- leaves less to do by now.
   pub delivers_due_by : IsSteady k.station.system
       → (k.station.live ≡ true → IsUp k.station.system (receiver direction k.channel).port) → AreFit w.net.channels
       → ((t : Timer) → times_of_item (Expiry k.place t) w.net.pending ≡ timer_time (station_due t k.station))

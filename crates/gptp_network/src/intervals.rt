@@ -76,7 +76,7 @@ fn intervals_in(ports: u8, values: &[Value]) -> Result<ArrayVec<i8, 16>, Documen
     }
 }
 
-/// The same interval for each port.
+/// The intervals of the ports, where each port has this one.
 fn alike(ports: u8, interval: i8) -> ArrayVec<i8, 16>
     requires { ports ≤ 16 }
     ensures { result.items ≡ replicate ports interval }

@@ -82,7 +82,7 @@ fn network_of_section(alloc: Global, section: &Table) -> Result<Network, Why>
     }
 }
 
-/// The same at its place.
+/// The network with the values of its section, with no member yet. A refusal names that section as its place.
 fn network_in(alloc: Global, section: &Table) -> Result<Network, Refusal>
     ensures network { IfOk result (λ n. read_network_in (table_view section.now) ≡ Ok n) }
     ensures refused { StopsAt (read_network_in (table_view section.now)) result }

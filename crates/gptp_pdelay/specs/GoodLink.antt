@@ -51,7 +51,7 @@ GoodLink = (most turnaround threshold : ℕ) (phase phase' : ℕ) (drift drift' 
     → ExchangeIsTimely most turnaround (local_clock phase drift) (local_clock phase' drift') t1 t2 t3 t4
     → IsWithinThreshold threshold (mean_delay rate (t4 -ℤ t1) (t3 -ℤ t2))
 
--- So on such a link each full exchange but the first since the reset shows the neighbour.
+-- On a good link each full exchange but the first since the reset shows the neighbour.
 abbrev pub GoodLinkShowsNeighbor : Type 0
 GoodLinkShowsNeighbor = (most turnaround threshold : ℕ) (phase phase' : ℕ) (drift drift' : ℤ)
     (before : Option Measurement) (request : Request) (response : Response) (t3 : ℤ)

@@ -62,8 +62,9 @@ CapabilitySettles asks replies = (k : Setting) (change interval : ℕ) (p : Pair
     → change + (k.allowed + 5) * interval ≤ p.time
     → p.asker.capable ≡ true
 
--- So it is in every run over a good link that begins just after the last change, where threshold, turnaround and
--- intervals keep their limits.
+-- In every run over a good link that begins just after the last change, the port is capable from L + 5 announce
+-- intervals after that change on. Threshold, turnaround and intervals keep their limits, and L is the number of
+-- requests that may be lost.
 abbrev pub RunsEndCapable : (List ℕ → Request → Type 0) → (List ℕ → Reply → Type 0) → Type 0
 RunsEndCapable asks replies = (k : Setting) (threshold change interval : ℕ) (p q : Pair) (run : List Pair)
     → IsGoodLink k.most k.turnaround threshold → 2 * threshold + k.turnaround < k.period → k.period ≤ interval

@@ -27,7 +27,7 @@ ExchangesAreGood = (k : Setting) (threshold : ℕ) (rate t1 t2 t3 t4 : ℤ)
     → IsGoodLink k.most k.turnaround threshold → HasLocalClocks k → IsNeighborRate rate → IsExchange k t1 t2 t3 t4
     → IsWithinThreshold threshold (mean_delay rate (t4 -ℤ t1) (t3 -ℤ t2))
 
--- So the measurement of such an exchange shows the neighbour, unless it is the first since the reset.
+-- The measurement of an exchange over a good link shows the neighbour, unless it is the first since the reset.
 abbrev pub ExchangesShowNeighbor : Type 0
 ExchangesShowNeighbor = (k : Setting) (threshold : ℕ) (before : Option Measurement) (request : Request)
     (response : Response) (t3 : ℤ)

@@ -51,7 +51,8 @@ module _ (asks : List ℕ → Request → Type 0) (replies : List ℕ → Reply 
       → change + 5 * interval ≤ m.pair.time
       → HasMeasured k least m.last
 
-  -- So it is in every run over a good link that begins just after the last change, where threshold, turnaround and
+  -- In every run over a good link that begins just after the last change, the last measurement is that of two
+  -- exchanges, one after the other, from five announce intervals after that change on. Threshold, turnaround and
   -- intervals keep their limits.
   abbrev pub RunsEndMeasured : Type 0
   RunsEndMeasured = (k : Setting) (least threshold change interval : ℕ) (m n : Meter) (run : List Meter)

@@ -42,7 +42,8 @@ module _ (asks : List ℕ → Request → Type 0) (replies : List ℕ → Reply 
       → IsOrdered k tells replies first m.pair.asker m.pair.back
       → IsOrdered k tells replies first m'.pair.asker m'.pair.back
 
-  -- So what tells finds the port capable, where it is no reply: an Announce is none.
+  -- Where what is in flight to the port is in order, what tells finds the port capable, if it is no reply. An Announce
+  -- is none.
   abbrev pub ToldIsHeard : (List ℕ → Type 0) → Type 0
   ToldIsHeard tells = (k : Setting) (first : ℕ) (m m' : Meter)
       → ((octets : List ℕ) (reply : Reply) → tells octets → replies octets reply → ⊥)

@@ -38,7 +38,8 @@ pub fn exchange_is_full<C: Coding>()
     ensures { ExchangeIsFull C.asks C.replies }
 {}
 
-/// So it is, counted from the time by which a first request is sent.
+/// One interval between requests and one exchange after the time by which a first request is sent, the port is capable,
+/// and has measured the link by two exchanges.
 pub fn capable_by<C: Coding>()
     ensures { CapableBy C.asks C.replies }
 {}

@@ -45,9 +45,10 @@ pub record HeardWithin (acts : List ActTrace) (number span time : ℕ) : Type 0 
   pub uses : UsesFollowUp number act.told.done
   pub lately : time ≤ act.told.timed.at + span
 
--- So time comes. In a network that has a syncReceiptTimeout a run of a document ends in a calm world, which had settled
--- earlier and has waited for a Sync since. Then each near system that has a Slave port, and follows a root that may be
--- grandmaster, used a Follow_Up no longer ago than such a system waits for the next Sync. What it reads is no older.
+-- Follow_Ups come in time. Let a run of a document, in a network that has a syncReceiptTimeout, end in a calm world
+-- that had settled earlier and has waited for a Sync since. Then each near system that has a Slave port, and follows a
+-- root that may be grandmaster, used a Follow_Up no longer ago than such a system waits for the next Sync. What it
+-- reads is no older.
 abbrev pub RunsHearInTime : {F : Type 0} → (Bounds → ℕ → F → Option ℕ → F → Type 0) → Type 0
 RunsHearInTime {F} answers = (d : DocumentState) (until : ℕ) (fate : F) (start w : WorldState) (acts : List ActTrace)
     (p : SettlingParams) (earlier number port : ℕ) (s : SystemState)
@@ -67,9 +68,11 @@ pub record ReadsWithin (acts : List ActTrace) (number span time error : ℕ) (sh
   pub leaves : LeavesReading number act.after act.told.done time read
   pub exact : AreWithin error read shown
 
--- So what is read is exact. Where a Sync has had the time to come down the system's way before that wait, each such
--- system has a reading as the run ends, which a Follow_Up left it no longer ago than the wait. It is within the reading
--- error for the wait of what the clock of the best shows.
+-- What is read is exact. Let a run of a document, in a network that has a syncReceiptTimeout, end in a calm world that
+-- has waited for a Sync. Take a near system that has a Slave port, and follows a root that may be grandmaster. Where a
+-- Sync has had the time to come down the system's way before that wait, it has a reading as the run ends, which a
+-- Follow_Up left it no longer ago than the wait. It is within the reading error for the wait of what the clock of the
+-- best shows.
 abbrev pub RunsReadLately : {F : Type 0} → (Bounds → ℕ → F → Option ℕ → F → Type 0) → Type 0
 RunsReadLately {F} answers = (d : DocumentState) (until : ℕ) (fate : F) (start w : WorldState) (acts : List ActTrace)
     (p : SettlingParams) (earlier steps number port error : ℕ) (s : SystemState) (shown : ℤ)

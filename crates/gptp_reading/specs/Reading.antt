@@ -25,8 +25,8 @@ abbrev pub read_after : SyncInfo → ℤ → ℤ → ℤ → ℤ
 read_after s link_delay neighbour passed =
     sync_received s link_delay neighbour +ℤ scaled_by (s.rate +ℤ neighbour) passed
 
--- The same by what a Follow_Up leaves, where the own clock shows this: the root's time as the Sync came is its ingress
--- less the offset, and the rate is the sum of the one received and the neighbour's, held at the limits of
+-- What is read from what a Follow_Up leaves, where the own clock shows this. The root's time as the Sync came is its
+-- ingress less the offset. The rate is the sum of the one received and the neighbour's, held at the limits of
 -- Integer32.
 abbrev pub read_from : SyncInfo → ℤ → ℤ → ℤ → ℤ
 read_from known offset neighbour shown =
@@ -49,7 +49,8 @@ pub record IsBestsTime (w : WorldState) (number time : ℕ) (shown : ℤ) : Type
 
 -- ---- how far that may be off
 
--- The same of a system with so many links and one more on its way, over its parent and the parents of that.
+-- How far what a system reads so long after a Follow_Up may be off. The way of the system, over its parent and the
+-- parents of that, has so many links and one more.
 pub record IsReadingErrorOf (p : Params) (w : WorldState) (number steps later error : ℕ) : Type 0 where
   pub way : Way
   pub phase : ℕ → ℕ

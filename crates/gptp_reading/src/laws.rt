@@ -15,7 +15,8 @@ pub fn reading_is_right()
     ensures { ReadingIsRight }
 {}
 
-/// So it is at each Follow_Up that a system uses which follows its parent.
+/// What is read from each Follow_Up that a system uses which follows its parent is within the time error, and the error
+/// of the rate so far times the span. To the span the jitter of the link is added.
 pub fn reading_is_exact<C: Coding>()
     ensures { ReadingIsExact C.says }
 {}

@@ -59,7 +59,7 @@ impl Default for Held {
 }
 
 impl Held {
-    /// The same held state again. Costs what a path has, not its capacity.
+    /// A copy of the held state. It costs what its path has, not the capacity of the path.
     pub fn copy(&self) -> Self
         ensures { result ≡ self.now }
     {

@@ -42,7 +42,7 @@ pub fn select(identity: &Identity, held: &mut [Held]) -> Selected
     requires placed { ArePlaced 1 held.old }
     ensures selection { IsSelection identity.now held.old result held.new }
 
-    // So the call can be made again, and the trace of the choice be asked for.
+    // By the two clauses below the call can be made again, and the trace of the choice be asked for.
     ensures placed { ArePlaced 1 held.new }
     ensures slave { SlaveReceived held.new result.slave }
 {

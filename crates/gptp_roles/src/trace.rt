@@ -18,7 +18,7 @@ pub fn trace_of(clock: ClockId, held: &[Held], selected: &Selected) -> Trace
     slave_trace(clock, held, selected.slave)
 }
 
-/// The same where the Slave port, if there is one, is known by its number.
+/// The trace of the system with this clock, where the Slave port, if there is one, is known by its number.
 pub fn slave_trace(clock: ClockId, held: &[Held], slave: Option<u8>) -> Trace
     requires { SlaveReceived held.now slave }
     ensures { result ≡ system_trace clock held.now slave }

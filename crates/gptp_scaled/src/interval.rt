@@ -43,7 +43,7 @@ impl Interval {
         self.value
     }
 
-    /// The same interval among the wider times.
+    /// The interval as one of the wider times.
     pub fn scaled(self) -> ScaledNs
         ensures { result ≡ self }
     {

@@ -95,7 +95,7 @@ impl Stamp {
         self.nanos
     }
 
-    /// The same time in units of 2^-16 ns.
+    /// The time of the stamp in units of 2^-16 ns.
     pub fn scaled(self) -> ScaledNs
         ensures { result ≡ scaled_of self }
     {

@@ -18,7 +18,7 @@ capability_span p = (p.params.lost + 5) * largest_interval p
 abbrev pub settling_span : SettlingParams → ℕ → ℕ
 settling_span p n = ((p.params.timeout + 3) * n + p.params.lost + 5) * largest_interval p
 
--- So it is with n systems where Sync has such paths to cross.
+-- How long a network with n live systems takes to settle where Sync has such paths to cross.
 abbrev pub settling_span_with : SettlingParams → SyncPaths → ℕ → ℕ
 settling_span_with p paths n = settling_span p n + n * step_more p paths
 

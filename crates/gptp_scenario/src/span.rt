@@ -24,7 +24,7 @@ fn settling_span(params: &Params, largest: i8, live: u64) -> u64
     times(intervals, interval_of(largest))
 }
 
-/// So many intervals.
+/// How long so many intervals take together.
 #[tactic(auto, using(crate::proofs::SpanLemmas::few_intervals))]
 fn times(intervals: u64, interval: u64) -> u64
     requires few { intervals ≤ 10000 }
@@ -35,7 +35,8 @@ fn times(intervals: u64, interval: u64) -> u64
     intervals * interval
 }
 
-/// So it takes where Sync has these paths to cross.
+/// How long a network of that largest announce interval takes at most to settle where Sync has these paths to cross, in
+/// ns.
 #[tactic(auto, using(crate::proofs::SpanLemmas::few_steps))]
 fn settling_span_with(params: &Params, largest: i8, paths: SyncPaths, live: u64) -> u64
     requires params { KeepParams params.now }
@@ -129,7 +130,7 @@ impl Network {
         }
     }
 
-    /// So long it takes where Sync has these paths to cross.
+    /// How long the network takes at most to settle where Sync has these paths to cross, in ns.
     pub fn settling_span_with(&self, paths: SyncPaths) -> u64
         requires few { paths.systems ≤ 512 }
         requires short { paths.delay ≤ 16000000000 }

@@ -60,7 +60,7 @@ fn far_clock(clock: ClockId, wire: &LinkSpec) -> Option<ClockId>
     }
 }
 
-/// So where the link is in use after these events.
+/// The system that a link joins to the one with this clock, where the link is in use after these events.
 fn neighbour(
     systems: &[SystemSpec],
     events: &[Timed],

@@ -19,9 +19,9 @@ pub record IsInLevels (base time slot : ℕ) : Type 0 where
 abbrev pub IsPlace : ℕ → ℕ → ℕ → Type 0
 IsPlace base time slot = IsInLevels base time slot ⊎ ((slot ≡ 2048) × (time < base))
 
--- The same by level and slot, level 0 for the most significant octet: the level is that of the highest octet in
--- which the time differs from the base, and 7 where it is the base. The slot is that octet of the time. Level 8
--- has one slot, for times below the base.
+-- Where a time stands, by level and slot, level 0 for the most significant octet: the level is that of the highest
+-- octet in which the time differs from the base, and 7 where it is the base. The slot is that octet of the time. Level
+-- 8 has one slot, for times below the base.
 abbrev pub StandsAtLevel : ℕ → ℕ → ℕ → ℕ → Type 0
 StandsAtLevel base time level slot =
     ((level ≤ 7) × (slot < 256) × IsInLevels base time ((7 - level) * 256 + slot))

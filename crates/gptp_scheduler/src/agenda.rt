@@ -145,7 +145,7 @@ impl<T: Drop> Agenda<T> {
         Some((time, number))
     }
 
-    /// The same with its item. Nothing is looked for.
+    /// The time, the number and the item of the least entry, if there is one. Nothing is looked for.
     pub fn least(&self) -> Option<(u64, u64, &T)>
         ensures first { IfSome result (λ due. IsFirst self.now.entries due.0 due.1) }
         ensures item { IfSome result (λ due. entry_at self.now.entries due.1 ≡ Some (entry due.0 due.1 due.2.now)) }

@@ -45,7 +45,8 @@ DocumentsSettleSoon {F} answers = (d : DocumentState) (until start settled : ℕ
     → IsPlayable d → Unfolds answers d until fate first ts w → SettlesSoon d until start settled → settled ≤ until
     → IsSettledAs d until w × IsSoundWorld w
 
--- So is the world after each act of a run, at the time of the act: by the events up to then, all of which are earlier.
+-- The world after each act of a run is settled at the time of the act, where the document settles by then. That is
+-- counted from the events up to then, all of which are earlier.
 abbrev pub ActsFindSettled : {F : Type 0} → (Bounds → ℕ → F → Option ℕ → F → Type 0) → Type 0
 ActsFindSettled {F} answers = (d : DocumentState) (until start settled : ℕ) (fate : F) (first w : WorldState)
     (ts : List ActTrace) (t : ActTrace)
@@ -54,8 +55,8 @@ ActsFindSettled {F} answers = (d : DocumentState) (until start settled : ℕ) (f
     → last_change (events_by t.told.timed.at d.events) < t.told.timed.at
     → IsSettledAs d t.told.timed.at t.after
 
--- And each act leaves offsets that are exact, once a Sync has had the time to come down a way since then, and an
--- announce interval has passed from the last event.
+-- Each act of a run leaves offsets that are exact, once a Sync has had the time to come down a way since the document
+-- settled by the events up to the act. It settled no sooner than an announce interval after the last event.
 abbrev pub RunsAreExactSoon : {F : Type 0} → (Bounds → ℕ → F → Option ℕ → F → Type 0) → Type 0
 RunsAreExactSoon {F} answers = (d : DocumentState) (until start settled : ℕ) (fate : F) (first w : WorldState)
     (ts : List ActTrace) (t : ActTrace)

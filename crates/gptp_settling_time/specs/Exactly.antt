@@ -50,8 +50,8 @@ SettlesBy p paths start settled =
     ⊎ ((sync_wait p.params paths < lapse_span p.params)
     × (start + pred paths.systems * step_with p paths ≤ settled))
 
--- So has a world no path of which has more than m systems, and by then an announce interval has passed since its last
--- change.
+-- A world whose ports at links are all capable from a start on, and no path of which has more than m systems, has
+-- settled by this time. By then an announce interval has passed since its last change.
 pub record IsSettledBy (p : SettlingParams) (m start settled : ℕ) (w : WorldState) : Type 0 where
   pub bounded : BoundsPaths (snapshot_of w) m
   pub settles : SettlesBy p (paths_with m w) start settled

@@ -53,7 +53,8 @@ IdlesStayNews {F} answers = (p : SettlingParams) (start time : ℕ) (change : Ch
     → WasDone answers (record { at = time; act = Changing change }) fate fate_after w w' done
     → IsNews p start w'
 
--- So a world that has settled is settled after such a change at once, and while it goes on by itself.
+-- A world that has settled is settled at once after a change that finds all as it would make it, and while it goes on
+-- by itself.
 abbrev pub IdlesStaySettled : {F : Type 0} → (Bounds → ℕ → F → Option ℕ → F → Type 0) → Type 0
 IdlesStaySettled {F} answers = (p : SettlingParams) (start time until m : ℕ) (change : Change) (told : List Told)
     (fate drawn fate_after : F) (w between w' : WorldState) (done : Done)

@@ -13,7 +13,9 @@ pub fn documents_settle_soon<F: Fate>()
     ensures acts { ActsFindSettled F.answers }
 {}
 
-/// And each act of a run leaves exact offsets, once a Sync has had the time to come down a way since then.
+/// Where a document has only gained since it began, or since it had rested, each act of a run leaves exact offsets,
+/// once a Sync has had the time to come down a way since it settled. It settled no sooner than an announce interval
+/// after the last event.
 pub fn runs_are_exact_soon<F: Fate>()
     ensures { RunsAreExactSoon F.answers }
 {}

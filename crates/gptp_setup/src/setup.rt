@@ -60,7 +60,7 @@ fn copy_intervals(intervals: &[i8]) -> ArrayVec<i8, 16>
 }
 
 impl Setup {
-    /// The same setup again. It takes no memory.
+    /// A copy of the setup. It takes no memory.
     pub fn copy(&self) -> Setup
         ensures { result ≡ self.now }
     {

@@ -55,7 +55,7 @@ module _ (says : List ℕ → Message → Type 0) where
       → let used = record info { rate = held } in
       FollowUpIsRight k'.way k'.phase k'.place (relayed used (bridge used delay rate (own_clock k s.time))) s.time
 
-  -- And its numbers fit, from a residence after what comes is right on.
+  -- The numbers of what a bridge sends on fit, from a residence after the time from which on what comes is right.
   abbrev pub ParentsNumbersFit : Type 0
   ParentsNumbersFit = (k : FollowerSetting) (s : Follower) (info : SyncInfo) (rate delay held : ℤ)
       → IsSetting k → FollowerInvariant k says s
@@ -88,7 +88,7 @@ RootTells = (k : FollowerSetting) (stamp : Timestamp) (rest sent : ℕ)
     → k.place ≡ 0 → IsSplit (root_clock k sent) stamp rest
     → FollowUpIsRight k.way k.phase k.place (root_time stamp rest) sent
 
--- So it is in every run that begins as the network becomes settled: the invariant holds of each of its states.
+-- In every run that begins as the network becomes settled, the invariant holds of each state.
 abbrev pub RunsKeepInv : (List ℕ → Message → Type 0) → Type 0
 RunsKeepInv says = (k : FollowerSetting) (s t : Follower) (run : List Follower)
     → IsSetting k → IsJustSettled k s → IsFollowerRun k says s run → In t (s ∷ run)

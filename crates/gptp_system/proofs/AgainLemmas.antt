@@ -134,7 +134,8 @@ compared_rest p a now s says r =
     says_still h (own s p) a now (subst (λ x. SaysAgain x (own s p) a) here says))
     r
 
--- So where selection is left out after such an Announce, the system has selected.
+-- A system at rest counts as having selected where selection is left out after an Announce that says again what the
+-- port received last.
 pub selects_again_or_not : (p : ℕ) (a : AnnounceView) (now : ℕ) (s s' : SystemState) (sends : List Sending)
     (again : Bool) → (again ≡ true → SaysAgain (held_at s p) (own s p) a) → Qualified a (clock s) → AreHeld s
     → IsAtRest s

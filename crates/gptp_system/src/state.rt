@@ -57,7 +57,7 @@ impl State {
     ghost use Rattle.std.specs.Prelude.{◌≡◌};
     ghost use Rattle.gptp_system.specs.Ready.{IsReady, state_of};
 
-    /// The same state again.
+    /// A copy of the state.
     pub(crate) fn copy(&self) -> State
         requires { IsReady (state_of self.now) }
         ensures { state_of result ≡ state_of self.now }

@@ -71,7 +71,7 @@ fn send_sync(port: &Port, own: PortId, log_interval: i8, outbox: &mut Outbox)
     push(outbox, sync_of(own, log_interval, port));
 }
 
-/// And its Follow_Up, which says this.
+/// A port sends the Follow_Up of its Sync, with what is told.
 fn send_follow_up(port: &Port, own: PortId, log_interval: i8, told: &Relayed, outbox: &mut Outbox)
     requires number { own.port ≤ 255 }
     requires room { array_vec_len outbox.old < 64 }
@@ -227,7 +227,8 @@ fn offset_of(info: &SyncInfo, delay: ScaledNs, rate: Rate) -> Result<ScaledNs, O
     info.ingress.checked_sub(receipt_time(info, delay, rate)?)
 }
 
-/// The same by a sum of rates held at its limits, where a number on the way fits.
+/// How far the own clock was ahead of the grandmaster's when a Sync came, by a sum of rates held at its limits; `None`
+/// where a number on the way doesn't fit.
 fn held_offset(info: &SyncInfo, delay: ScaledNs, rate: Rate) -> Option<ScaledNs>
     ensures { IsOffset (held_sum info.now rate) delay rate result }
 {

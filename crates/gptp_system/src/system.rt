@@ -62,7 +62,7 @@ impl System {
         }
     }
 
-    /// The same system again. It takes no memory, and costs what the paths have that its ports hold.
+    /// A copy of the system. It takes no memory, and costs what the paths have that its ports hold.
     pub fn copy(&self) -> System
         ensures { result ≡ self.now }
     {
@@ -166,8 +166,8 @@ impl System {
         self.state.trace()
     }
 
-    /// The same in its two parts: the path of its Slave port, at most 255 clocks and none where there is no such port,
-    /// and the own clock. No clock is copied.
+    /// The path trace that the system announces, in two parts: the path of its Slave port, at most 255 clocks and none
+    /// where there is no such port, and the own clock. No clock is copied.
     pub fn trace_parts(&self) -> (&[ClockId], ClockId)
         ensures parts { trace self.now ≡ result.0.now ++ result.1 ∷ [] }
         ensures few { length result.0.now ≤ 255 }

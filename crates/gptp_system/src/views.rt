@@ -113,7 +113,7 @@ impl State {
         slave_trace(self.identity.clock(), self.held.as_slice(), self.slave)
     }
 
-    /// The same in its two parts: the path of the Slave port, and the own clock.
+    /// The path trace that the system announces, in two parts: the path of the Slave port, and the own clock.
     pub(crate) fn trace_parts(&self) -> (&[ClockId], ClockId)
         requires { SlaveReceived (state_of self.now).held (state_of self.now).slave }
         ensures parts { trace (state_of self.now) ≡ result.0.now ++ result.1 ∷ [] }

@@ -70,7 +70,7 @@ impl Kind {
     }
 }
 
-/// The same announce interval for so many ports.
+/// The default announce interval for each of so many ports.
 fn alike(ports: u8) -> ArrayVec<i8, 16>
     requires { ports ≤ 16 }
     ensures many { length result.items ≡ ports }

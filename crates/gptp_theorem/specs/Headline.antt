@@ -57,10 +57,11 @@ HasPassed p m w =
     + (((p.params.timeout + 3) * m + p.params.lost + 5) * largest_interval p + m * step_more p (sync_paths_of w))
     ≤ w.time
 
--- So long it takes where syncReceiptTimeout is 0, with the greatest delay of a link of the snapshot: the longer of L +
--- 5 intervals, in which ports become capable, and of 2 intervals, and k intervals and that delay for each of m systems,
--- in which all that is held becomes wholly clean; then an interval, and the delay for each further system. That is
--- never longer than what is above, where anybody lives.
+-- Where syncReceiptTimeout is 0, so long is enough since the last change: the longer of two spans, then an interval,
+-- and the greatest delay of a link of the snapshot for each of m systems but one. The one span is L + 5 intervals, in
+-- which ports become capable. The other is 2 intervals, and k intervals and that delay for each of m systems, in which
+-- all that is held becomes wholly clean. k, L and the interval are those of `HasPassed`. The whole is never longer than
+-- what that asks for, where anybody lives.
 abbrev pub HasPassedAtOnce : SettlingParams → ℕ → WorldState → Type 0
 HasPassedAtOnce p m w =
     w.last_change

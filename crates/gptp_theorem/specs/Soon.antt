@@ -98,9 +98,9 @@ GainsAreSound {F} answers = (p : SettlingParams) (change : Change) (time : ℕ) 
     → WasDone answers (record { at = time; act = Changing change }) fate fate_after w w' done
     → IsSoundWorld w'
 
--- So it is again, whatever came before, in a calm world in which all systems live, once 2 announce intervals have
--- passed from its last change, k of them and the greatest delay of a link for each system of a path, and that delay
--- once more.
+-- All that is held is sound again, whatever came before, in a calm world in which all systems live. By then 2 announce
+-- intervals have passed from its last change, k of them and the greatest delay of a link for each system of a path, and
+-- that delay once more.
 abbrev pub RestsAreSound : Type 0
 RestsAreSound = (p : SettlingParams) (w : WorldState)
     → KeepsAll p w → AllLive w → WorldIsCalm p w

@@ -12,9 +12,10 @@ pub fn starts_settle<F: Fate>()
     ensures { StartsSettle F.answers }
 {}
 
-/// So is one in which a link comes up, counted from then, where all that it holds is sound and it has been left alone
-/// for L + 5 announce intervals. And so is one in which anything else is gained at any time, counted from when ports
-/// are capable by what every world keeps.
+/// A network in which a link comes up that leads to no failed system is settled as long after that as one that starts
+/// is after time 0. That is so where all that it holds is sound and it has been left alone for L + 5 announce
+/// intervals. A network in which all that is held is sound is settled after any other gain too, at any time, counted
+/// from when ports are capable by what every world keeps.
 pub fn gains_settle<F: Fate>()
     ensures link_up { LinksUpSettle F.answers }
     ensures gain { GainsSettle F.answers }

@@ -62,7 +62,7 @@ impl Identity {
         self.number >> 104 < 255
     }
 
-    /// The same identity with another priority1.
+    /// This identity with another priority1.
     pub fn with_priority1(self, priority1: u8) -> Self
         ensures { result ≡ priority1 * 2 ^ 104 + self % 2 ^ 104 }
     {
