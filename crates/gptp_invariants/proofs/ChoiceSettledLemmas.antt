@@ -78,7 +78,7 @@ plays_own slave n keep (helds.Received x) Slave (is, (r, same)) = let e = slave_
 plays_own slave n keep (helds.Received x) Passive (is, (r, same)) =
     let e = slave_is_not slave n is in rw e refl
 
--- So a port that is seen with its settled role has it. The port at place i has the number i + 1.
+-- A port that is seen with its settled role has it. The port at place i has the number i + 1.
 module _ (g : Snapshot) (station : Station) (shown : AreShown station.system)
     (seen : HasSettledRoles g (station_view station)) where
   abbrev s : SystemState

@@ -192,8 +192,8 @@ network_with p m start times w = record {
   until = λ d port. sound_from p m start times w + times.wait + d * times.lag + largest_interval p;
 }
 
--- So it is with the wait and the step that such paths ask for: without a syncReceiptTimeout no Sync is waited for, and
--- a step takes two of the largest intervals.
+-- The network that a world has which settles with the wait and the step that its paths of at most m systems ask for.
+-- Without a syncReceiptTimeout no Sync is waited for, and a step takes two of the largest intervals.
 abbrev pub network_of : SettlingParams → ℕ → ℕ → WorldState → Network
 network_of p m start w =
     network_with p m start (in_turn p (paths_with m w)) w

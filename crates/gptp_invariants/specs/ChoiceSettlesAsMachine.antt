@@ -48,8 +48,8 @@ pub record IsSettling (p : SettlingParams) (n quick : Network) (seen : MachineSt
   pub at_once : NothingLapses p.params → Invariant says_announce quick seen
   pub expected : SyncsAreExpected says_sync n seen
 
--- So it is of what that machine sees of the world, for each number that bounds how many systems a path has, where the
--- world is quiet by that number.
+-- what the machine of gptp_bmca_machine sees of the world is settling, for each number that bounds how many systems a
+-- path has, where the world is quiet by that number
 abbrev pub SettlesAsMachine : SettlingParams → WorldState → Type 0
 SettlesAsMachine p w = (m : ℕ) → BoundsPaths (snapshot_of w) m → IsQuietWith p.params (paths_with m w) w
     → IsSettling p (settling_network p m w) (quick_network p m w) (view w)

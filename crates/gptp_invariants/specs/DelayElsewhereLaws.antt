@@ -22,7 +22,8 @@ WatchSurvives = (at : LinkPlace) (gone calm : ℕ) (change : Change) (w w' : Wor
     → IsWatched gone calm at w
     → IsWatched gone calm at w'
 
--- So does every act that leaves it alone: each but such a change.
+-- An act leaves a link alone where it is no change, or a change that leaves the link alone. Every such act leaves the
+-- link watched, with the times that it had.
 abbrev pub LeavesAlone : LinkPlace → Act → WorldState → Type 0
 LeavesAlone at (Deliver link direction) w = ⊤
 LeavesAlone at (Expire number timer) w = ⊤
@@ -33,8 +34,9 @@ WatchGoesThrough = (at : LinkPlace) (gone calm : ℕ) (act : Act) (w w' : WorldS
     → IsSound w → LinkIsMeasured w → LeavesAlone at act w → Acts act w draws done w' → IsWatched gone calm at w
     → IsWatched gone calm at w'
 
--- So the port that asks is capable from three intervals between requests after its own calm on, and its neighbour rate
--- and mean link delay are those of two exchanges over the link, whatever was changed elsewhere since.
+-- From three intervals between requests after its own calm on, the port that asks on a watched link is capable. Its
+-- neighbour rate and mean link delay are then those of two exchanges over the link, whatever was changed elsewhere
+-- since.
 abbrev pub WatchedPortsStayCapable : Type 0
 WatchedPortsStayCapable = (at : LinkPlace) (gone calm : ℕ) (w : WorldState) (l : IsWatched gone calm at w)
     → calm + 3 * (link_setting at w l.link).period ≤ w.time

@@ -72,9 +72,9 @@ AllLater = (w : WorldState) (time : ℕ)
 
 -- ---- offsets
 
--- So where a Follow_Up is used by a system that follows, once a calm network has settled and the time has passed that
--- frames take down the way of the system: the offset that it leaves, if it leaves one, is within the time error of that
--- way of what its clock shows less what its root's does.
+-- Where a system that follows uses a Follow_Up, the offset that this leaves, if it leaves one, is what the clock of the
+-- system shows less what its root's does, within the time error of the system's way. That holds once a calm network has
+-- settled and the time has passed that frames take down that way.
 abbrev pub CalmOffsetsAreExact : Type 0
 CalmOffsetsAreExact = (p : SettlingParams) (m settled link : ℕ) (direction : Direction) (w : WorldState)
     (draws : List Draw)

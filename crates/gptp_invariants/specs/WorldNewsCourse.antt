@@ -65,8 +65,9 @@ BegunSettles {F} answers = (n : NetworkState) (fate begun fate_after : F) (until
     → HasSettledBy (pace_of n) m (capable_from (pace_of n) w' 0) w'
     → Settled w' × IsBoundedWorld w'
 
--- So does a network in which a link comes up that leads to no failed system, where all that is held is sound and the
--- network has been left alone before for so long that each port at a link in use is capable.
+-- A network in which a link comes up that leads to no failed system settles by the time of HasSettledBy, and what its
+-- systems state of themselves is bounded. That holds where all that is held before is sound, and the network has been
+-- left alone for so long that each port at a link in use is capable.
 abbrev pub LinkUpSettles : {F : Type 0} → (Bounds → ℕ → F → Option ℕ → F → Type 0) → Type 0
 LinkUpSettles {F} answers = (p : SettlingParams) (number port time : ℕ) (fate drawn fate_after : F) (until m : ℕ)
     (told : List Told) (done : Done) (w between w' : WorldState)
@@ -86,7 +87,8 @@ SettlesFrom p time start w =
     (start ≡ time + capability_span p)
     ⊎ (AllLive w × (start ≡ time + 2 * largest_interval p + 3 * interval_of p.params.pdelay))
 
--- So does a network after every change that takes nothing away, at any time, where all that was held was sound.
+-- After every change that takes nothing away, at any time, a network settles by the time of HasSettledBy, where all
+-- that was held was sound. What its systems state of themselves is bounded then.
 abbrev pub GainSettles : {F : Type 0} → (Bounds → ℕ → F → Option ℕ → F → Type 0) → Type 0
 GainSettles {F} answers = (p : SettlingParams) (change : Change) (time start : ℕ) (fate drawn fate_after : F)
     (until m : ℕ)

@@ -65,7 +65,8 @@ NewsWorldsSettle = (p : SettlingParams) (start m : ℕ) (w : WorldState)
     → start + largest_interval p + pred m * delay_in w ≤ w.time
     → Settled w
 
--- And where something may lapse for want of Sync, but Syncs come in time: system by system.
+-- where something may lapse for want of Sync, but Syncs come in time, the world is settled system by system: once a
+-- step has passed from the start for each further system of a path
 abbrev pub NewsWorldsSettleInTurn : Type 0
 NewsWorldsSettleInTurn = (p : SettlingParams) (start m : ℕ) (w : WorldState)
     → IsNews p start w → sync_wait p.params (paths_with m w) < lapse_span p.params → HaveQuietLinks p.params w

@@ -30,7 +30,7 @@ pub fn deliveries_are_seen()
     ensures { DeliveriesAreSeen }
 {}
 
-/// So every act of a sound and encodable world that changes nothing of the network is an act of the machine.
+/// Every act of a sound and encodable world that changes nothing of the network is an act of the machine.
 pub fn acts_are_seen()
     ensures { ActsAreSeen }
 {}

@@ -9,8 +9,8 @@ pub fn watch_survives()
     ensures acts { WatchGoesThrough }
 {}
 
-/// So its ports stay capable, and what they measured stays that of two exchanges over the link, whatever is changed
-/// elsewhere.
+/// The ports of a watched link stay capable, and what they measured stays that of two exchanges over the link, whatever
+/// is changed elsewhere.
 pub fn ports_stay_capable()
     ensures { WatchedPortsStayCapable }
 {}

@@ -22,7 +22,7 @@ pub fn links_come_up()
     ensures { LinkUpIsFirst }
 {}
 
-/// So is each link in use as a world begins.
+/// What is known of a link since its first request holds of each link in use as a world begins, from time 0 on.
 pub fn starts_are_first<F: Fate>()
     ensures { StartIsFirst F.answers }
 {}

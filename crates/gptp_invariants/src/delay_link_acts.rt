@@ -18,7 +18,7 @@ pub fn deliveries_are_acts()
     ensures { DeliveriesAreActs }
 {}
 
-/// So every act of a world but a change is one act, and leaves the link as it stands, with the same setting.
+/// Every act of a world but a change is one act at the link, and leaves it as it stands, with the same setting.
 pub fn acts_are_acts()
     ensures { ActsAreActs }
 {}

@@ -13,8 +13,8 @@ pub fn facts_begin()
     ensures { FactsBegin }
 {}
 
-/// So after a change, when that time isn't past, the link is fresh: the last request was sent by now, and what waits
-/// is answered within the turnaround.
+/// After a change a link is fresh, where the time by which what is in flight there is due isn't past: the last request
+/// was sent by now, and what waits is answered within the turnaround.
 pub fn links_are_fresh()
     ensures { LinksAreFresh }
 {}

@@ -14,8 +14,8 @@ pub fn watch_goes_on()
     ensures later { WatchGoesOn }
 {}
 
-/// So a port is capable from L + 5 announce intervals after the last change on, where L is the number of requests that
-/// may be lost, on a link that is up, loses nothing and is good, between two live stations.
+/// On a link that is up, loses nothing and is good, between two live stations, a port is capable from L + 5 announce
+/// intervals after the last change on. L is the number of requests that may be lost.
 pub fn ports_become_capable()
     ensures { WatchedPortsBecomeCapable }
 {}

@@ -10,8 +10,8 @@ pub fn used_links_are_measured()
     ensures { UsedLinksAreMeasured }
 {}
 
-/// So it is in every world of a network that has been calm for L + 5 announce intervals, where L is the number of
-/// requests that may be lost.
+/// In every world of a network that has been calm for L + 5 announce intervals, each port of a live system has measured
+/// each link of the snapshot that is at it. L is the number of requests that may be lost.
 pub fn links_are_measured()
     ensures { ClaimedMeasured }
 {}

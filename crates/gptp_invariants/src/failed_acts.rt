@@ -18,8 +18,8 @@ pub fn deliveries_are_acts()
     ensures { SilentDeliveriesAreActs }
 {}
 
-/// So every act of a world but a change is one act, and leaves the link as it stands, with the same setting; no frame
-/// comes onto it from the failed end.
+/// Every act of a world but a change is one act at the port, and leaves its link as it stands, with the same setting.
+/// No frame comes onto the link from the failed end.
 pub fn acts_are_acts()
     ensures { SilentActsAreActs }
 {}

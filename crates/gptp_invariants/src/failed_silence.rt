@@ -15,8 +15,8 @@ pub fn silence_goes_on()
     ensures later { SilenceGoesOn }
 {}
 
-/// So the port isn't capable from L + 5 announce intervals after the last change on, where L is the number of requests
-/// that may be lost, and ports ask at least as often as they announce.
+/// Where ports ask at least as often as they announce, a port whose link's other end has failed isn't capable from L +
+/// 5 announce intervals after the last change on. L is the number of requests that may be lost.
 pub fn ports_become_incapable()
     ensures { PortsBecomeIncapable }
 {}
@@ -37,8 +37,9 @@ pub fn silent_later()
     ensures later { AreSilentLater }
 {}
 
-/// So none of these ports is capable from L + 5 announce intervals after the last change on, where L is the number of
-/// requests that may be lost, and ports ask at least as often as they announce.
+/// Where ports ask at least as often as they announce, no port at all of a live system whose link's other end has
+/// failed is capable from L + 5 announce intervals after the last change on. L is the number of requests that may be
+/// lost.
 pub fn silent_ports_become_incapable()
     ensures { SilentPortsBecomeIncapable }
 {}

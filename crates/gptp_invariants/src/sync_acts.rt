@@ -28,10 +28,10 @@ pub fn syncs_are_heard()
     ensures used { FollowUpsAreUsed }
 {}
 
-/// So every act of a world that changes nothing of the network is a step of the machine of `gptp_bmca_machine` by which
-/// Syncs are told and heard, in a network that has a syncReceiptTimeout; and of each of its states, the Sync timer of a
-/// live system is due within a sync interval, its Relay timer within the residence time, and its Lapse timer runs only
-/// where its root may be grandmaster.
+/// Every act of a world that changes nothing of the network is a step of the machine of `gptp_bmca_machine` by which
+/// Syncs are told and heard, in a network that has a syncReceiptTimeout. In each of its states the Sync timer of a live
+/// system is due within a sync interval, and its Relay timer within the residence time. Its Lapse timer runs only where
+/// its root may be grandmaster.
 pub fn acts_tell_syncs()
     ensures acts { ActsTellSyncs }
     ensures timers { TimersAreSeen }

@@ -28,12 +28,13 @@ pub fn claim_is_kept<F: Fate>()
     ensures capable { ClaimIsCapable }
 {}
 
-/// So it holds of the world of a network with some parameters.
+/// The claim holds of the world of a network as it begins, with some parameters.
 pub fn claimed_begins<F: Fate>()
     ensures { ClaimedBegins F.answers }
 {}
 
-/// And it is kept, where a link is set to no delay above the announce interval of any port.
+/// Every act keeps the claim with some parameters, where it sets a link to no delay above the announce interval of any
+/// port. So does time that passes.
 pub fn claimed_is_kept<F: Fate>()
     ensures done { ClaimedKept F.answers }
     ensures time { ClaimedLater }

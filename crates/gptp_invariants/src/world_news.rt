@@ -29,12 +29,12 @@ pub fn link_up_is_news()
     ensures { LinkUpIsNews }
 {}
 
-/// So does a start: the world of a network as it begins.
+/// What is claimed of a world since news holds of the world of a network as it begins: a start is news.
 pub fn start_is_news<F: Fate>()
     ensures { StartIsNews F.answers }
 {}
 
-/// So does a system that gets a priority1 that isn't worse.
+/// What is claimed of a world since news holds once a system gets a priority1 that isn't worse.
 pub fn priority_is_news()
     ensures { PriorityIsNews }
 {}

@@ -18,7 +18,7 @@ use std::test::Fail;
 /// How many acts a stretch may have.
 const ACTS: u32 = 100_000;
 
-/// So many ns.
+/// One second, in ns.
 const SECOND: u64 = 1_000_000_000;
 
 /// How long what a system uses has been on its way for each link of it: the threshold and the residence.
@@ -33,9 +33,9 @@ const BOUNDS_OF_LINKS: [u128; 2] = [26_222_419, 52_444_891];
 struct Times {
     /// Ports are capable, where they can be: after L + 5 intervals, L being 9.
     capable: u64,
-    /// So many clocks at the end of a trace are clean: one, of those that arrive an interval later, and one more with
-    /// each turn of k + 1 intervals, k being 3; or the trace is clean as a whole. Where fewer live, it is so as a
-    /// whole.
+    /// How many clocks at the end of a trace are clean, by when it arrives; or the trace is clean as a whole. It is one
+    /// clock from one interval after ports are capable, and one more with each turn of k + 1 intervals, k being 3.
+    /// Where fewer systems live, the trace is clean as a whole.
     clean: [(usize, u64); 5],
     /// Everything has settled: after (k + 3) n + L + 5 intervals, where n systems live.
     settled: u64,

@@ -169,7 +169,8 @@ fn second_follows_sooner<F: Fate + Drop>(world: &World<F>) -> Option<(Identity, 
     world.follows(second)
 }
 
-/// So it does two announce intervals sooner, by its distance. Refused for want of memory alone.
+/// What the second system follows two announce intervals before all has settled, by its distance from the best: the
+/// first, one step away. Refused for want of memory alone.
 pub fn follow_by_distance<F: Fate + Drop>(
     alloc: Global,
     fate: F,
@@ -189,7 +190,8 @@ fn second_follows_by_paths<F: Fate + Drop>(world: &World<F>) -> Option<(Identity
     world.follows(second)
 }
 
-/// So it does by how many systems paths have; of two that is no sooner. Refused for want of memory alone.
+/// What the second system follows once all has settled, by how many systems paths have: the first. With paths of two
+/// systems that is no sooner. Refused for want of memory alone.
 pub fn follow_by_paths<F: Fate + Drop>(
     alloc: Global,
     fate: F,
@@ -477,7 +479,7 @@ pub fn worlds_of_two_are_exact<F: Fate>()
     worlds_are_exact::<F>();
 }
 
-/// So does each act of a run of their document.
+/// By the theorem each act of a run of the document of both leaves the second an offset that is exact but for rounding.
 pub fn runs_of_two_are_exact<F: Fate>()
     ensures { RunsOfTwoAreExact F.answers }
 {

@@ -14,7 +14,8 @@ pub fn worlds_of_two_read_exactly<F: Fate>()
     worlds_read_exactly::<F>();
 }
 
-/// So it is with each act of a run of their document.
+/// By the theorem the second reads, 100 ms after each act of a run of the document of both by which it uses a
+/// Follow_Up, what an exact clock shows then, within 31 units of 2^-16 ns.
 pub fn runs_of_two_read_exactly<F: Fate>()
     ensures { RunsOfTwoReadExactly F.answers }
 {

@@ -13,7 +13,8 @@ use std::test::Fail;
 const SYSTEMS: &str =
     "version = 1\n[[system]]\nclock = \"0000000000000001\"\ndrift = 219902325\n[[system]]\nclock = \"0000000000000002\"\nports = 3\nphase = 1000000\ndrift = -219902325\n[[system]]\nclock = \"0000000000000003\"\nports = 2\nphase = 2000\ndrift = 219902325\n[[system]]\nclock = \"0000000000000004\"\nports = 2\ndrift = 43980465\n";
 
-/// The same in a document of version 2, where some of their ports announce each second and some each two.
+/// The systems of [`SYSTEMS`] in a document of version 2, where some of their ports announce each second and some each
+/// two.
 const MIXED_SYSTEMS: &str =
     "version = 2\n[[system]]\nclock = \"0000000000000001\"\nannounce = [1]\ndrift = 219902325\n[[system]]\nclock = \"0000000000000002\"\nports = 3\nannounce = [0, 1, 0]\nphase = 1000000\ndrift = -219902325\n[[system]]\nclock = \"0000000000000003\"\nports = 2\nannounce = [1, 0]\nphase = 2000\ndrift = 219902325\n[[system]]\nclock = \"0000000000000004\"\nports = 2\nannounce = [0, 1]\ndrift = 43980465\n";
 

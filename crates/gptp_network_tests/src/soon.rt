@@ -40,8 +40,8 @@ fn second_follows<F: Fate + Drop>(world: &World<F>) -> Option<(Identity, u16, Op
     world.follows(ClockId::from(2))
 }
 
-/// So it follows the first 2 s after they began, whatever is drawn for frames, and not only when the settling span has
-/// passed. Refused for want of memory alone.
+/// What the second system follows 2 s after both began, whatever is drawn for frames: the first, and not only when the
+/// settling span has passed. Refused for want of memory alone.
 pub fn follow_soon<F: Fate + Drop>(
     alloc: Global,
     fate: F,
@@ -53,7 +53,7 @@ pub fn follow_soon<F: Fate + Drop>(
     Ok(second_follows(&world))
 }
 
-/// And so each act of a run of their document finds them settled from then on.
+/// From [`SOON`] on each act of a run of the document of both systems leaves them settled.
 pub fn runs_of_two_settle_soon<F: Fate>()
     ensures { RunsOfTwoSettleSoon F.answers }
 {

@@ -23,7 +23,7 @@ fn change_sets_an_octet(change: &Change)
     }
 }
 
-/// So are those of any act.
+/// A priority1 that an act sets is an octet, and so is each number that it injects.
 pub(crate) fn sets_an_octet(act: &Act)
     ensures { SetsAnOctet act.now }
 {

@@ -126,7 +126,8 @@ impl Net {
         }
     }
 
-    /// So it does where a call of the system sends at all.
+    /// Draws room for two frames at each port of the system at a place off its credit, where a call of the system sends
+    /// at all. Refused where there is no memory for it. Nothing changes but the room that there is.
     fn draw_within(
         &mut self,
         frame_budget: &mut FrameBudget,

@@ -42,7 +42,8 @@ impl Net {
         }
     }
 
-    /// So it does for each port up to this one. Nothing changes but the room that there is.
+    /// Makes room for so many more frames that each port of the system at a place sends, up to this port. Refused where
+    /// there is no memory for them. Nothing changes but the room that there is.
     pub(crate) fn make_room_at_ports(
         &mut self,
         place: usize,

@@ -128,7 +128,8 @@ impl WorldParts {
         self.make_room_for_both(a.place, b.place)
     }
 
-    /// So it does for a link that goes down, where it is up.
+    /// Makes room for one call of each of the systems at the ends of a link that goes down, where it is up. Refused
+    /// where there is no memory for it. The state of the world doesn't change.
     pub(crate) fn make_room_to_take_down(&mut self, link: usize) -> Result<(), AllocError>
         requires parts { IsWorldParts self.old }
         requires link { link < length self.old.net.cables.items }
@@ -143,7 +144,8 @@ impl WorldParts {
         }
     }
 
-    /// So it does for a link that comes up, where it is down.
+    /// Makes room for one call of each of the systems at the ends of a link that comes up, where it is down. Refused
+    /// where there is no memory for it. The state of the world doesn't change.
     pub(crate) fn make_room_to_bring_up(&mut self, link: usize) -> Result<(), AllocError>
         requires parts { IsWorldParts self.old }
         requires link { link < length self.old.net.cables.items }

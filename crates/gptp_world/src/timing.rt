@@ -43,7 +43,7 @@ impl Net {
         self.pending.set_due(place, timer, due_of(station, timer));
     }
 
-    /// So are the timers of a port.
+    /// Makes the timers of a port pending when they are due. One that doesn't run isn't pending.
     fn set_port_timers(&mut self, place: usize, station: &Station, port: u8)
         requires place { place < self.old.pending.systems }
         requires room { station.now.live ≡ true → 4 ≤ self.old.pending.room }
@@ -58,7 +58,8 @@ impl Net {
         self.set_timer(place, station, Timer::Age(port));
     }
 
-    /// So are those that time changes which comes over the Slave port.
+    /// Makes the Relay and the Lapse timer pending when they are due. Time that comes over the Slave port changes
+    /// these.
     fn set_of_time(&mut self, place: usize, station: &Station)
         requires place { place < self.old.pending.systems }
         requires room { station.now.live ≡ true → 2 ≤ self.old.pending.room }
@@ -69,7 +70,8 @@ impl Net {
         self.set_timer(place, station, Timer::Lapse);
     }
 
-    /// So are all timers of the system: of each port, by rising port, and then those of the system.
+    /// Makes all timers of the system pending when they are due: those of each port, by rising port, and then those of
+    /// the system.
     pub(crate) fn set_timers(&mut self, place: usize, station: &Station)
         requires place { place < self.old.pending.systems }
         requires few { length station.now.system.ports ≤ 16 }
@@ -86,7 +88,7 @@ impl Net {
         self.set_of_time(place, station);
     }
 
-    /// So are the timers of a port that selection can change.
+    /// Makes the timers of a port that selection can change pending when they are due.
     fn set_selected_at(&mut self, place: usize, station: &Station, port: u8)
         requires place { place < self.old.pending.systems }
         requires room { 2 ≤ self.old.pending.room }
@@ -99,7 +101,8 @@ impl Net {
         self.set_timer(place, station, Timer::Age(port));
     }
 
-    /// So are all timers of the system that selection can change: of each port, by rising port, and then its own.
+    /// Makes all timers of the system that selection can change pending when they are due: those of each port, by
+    /// rising port, and then its own.
     fn set_selected(&mut self, place: usize, station: &Station)
         requires place { place < self.old.pending.systems }
         requires few { length station.now.system.ports ≤ 16 }
@@ -115,7 +118,7 @@ impl Net {
         self.set_of_time(place, station);
     }
 
-    /// So are all timers of the system, of which all but these are pending when they are due already.
+    /// Makes all timers of the system pending when they are due, where all but the touched ones are so already.
     pub(crate) fn set_touched(&mut self, place: usize, station: &Station, touched: TimersChanged)
         requires place { place < self.old.pending.systems }
         requires few { length station.now.system.ports ≤ 16 }

@@ -43,7 +43,8 @@ pub(crate) fn port(number: u16, port: u16) -> PortId {
     }
 }
 
-/// So many systems, with clocks from 1, each with its second port linked to the first of the next; frames take 500 ns.
+/// A line of so many systems, with clocks from 1, each with its second port linked to the first of the next. Frames
+/// take 500 ns.
 pub(crate) fn line(alloc: Global, systems: u16) -> Result<Network, NetworkFault> {
     let mut network = Network::new(alloc, PARAMS)?;
     for number in 1..=systems {

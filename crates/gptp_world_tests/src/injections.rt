@@ -162,7 +162,8 @@ fn heard(done: &Done, length: usize) -> Option<(u64, Answer)> {
     }
 }
 
-/// So of the next act by [`END`] that tells of one.
+/// The number of the clock that hears the next frame of so many octets, by an act until [`END`], and what it answers;
+/// `None` where no act tells of one.
 fn next_of(world: &mut World<PcgFate>, length: usize) -> Result<Option<(u64, Answer)>, Refused> {
     for _ in 0..ACTS {
         let Some(next) = world.next() else {

@@ -22,7 +22,7 @@ pub(crate) fn clock(number: u64) -> ClockId {
     ClockId::of_octets(number.to_be_bytes())
 }
 
-/// The same two systems; each frame takes 500 to 900 ns.
+/// Two systems, clocks 1 and 2, whose first ports a link joins; each frame takes 500 to 900 ns.
 pub(crate) const SPREAD: &str =
     "version = 1\n[[system]]\nclock = \"0000000000000001\"\n[[system]]\nclock = \"0000000000000002\"\n[[link]]\na = \"0000000000000001\"\na_port = 1\nb = \"0000000000000002\"\nb_port = 1\nmin = 500\nmax = 900\n";
 

@@ -73,7 +73,7 @@ fn read(rt: &HostRuntime, text: &str) -> Result<Document, Fail> {
     Ok(Document::read(rt.alloc(), text.as_bytes())?)
 }
 
-/// So its snapshot at first.
+/// The snapshot of a document at time 0, asked for again where memory is refused.
 fn look(rt: &HostRuntime, document: &Document) -> Result<Snapshot, Fail> {
     if let Ok(snapshot) = document.snapshot(rt.alloc(), 0) {
         return Ok(snapshot);
@@ -82,7 +82,7 @@ fn look(rt: &HostRuntime, document: &Document) -> Result<Snapshot, Fail> {
     Ok(document.snapshot(rt.alloc(), 0)?)
 }
 
-/// So its world as it begins.
+/// The world of a document as it begins, asked for again where memory is refused.
 fn begin(rt: &HostRuntime, document: &Document) -> Result<World<PcgFate>, Fail> {
     let network = document.network();
     if let Ok(world) = World::new(rt.alloc(), network, PcgFate::new(0)) {
@@ -92,7 +92,7 @@ fn begin(rt: &HostRuntime, document: &Document) -> Result<World<PcgFate>, Fail> 
     Ok(World::new(rt.alloc(), network, PcgFate::new(0))?)
 }
 
-/// So the certificate of a world.
+/// The certificate of a world, asked for again where memory is refused.
 fn certify(rt: &HostRuntime, world: &World<PcgFate>) -> Result<Certificate, Fail> {
     if let Ok(certificate) = write_certificate(rt.alloc(), world) {
         return Ok(certificate);
@@ -101,7 +101,7 @@ fn certify(rt: &HostRuntime, world: &World<PcgFate>) -> Result<Certificate, Fail
     Ok(write_certificate(rt.alloc(), world)?)
 }
 
-/// So its text, and how much of it stood after a refusal.
+/// The text of a certificate, asked for again where memory is refused, and how much of it stood after a refusal.
 fn spell(rt: &HostRuntime, certificate: &Certificate) -> Result<(Vec<u8>, usize), Fail> {
     let mut text = Vec::new(rt.alloc());
     if print(certificate, &mut text).is_ok() {
@@ -113,7 +113,8 @@ fn spell(rt: &HostRuntime, certificate: &Certificate) -> Result<(Vec<u8>, usize)
     Ok((text, stood))
 }
 
-/// So one line of it: whether there is one, and whether nothing was appended at a refusal.
+/// Appends one line of a certificate, and again where memory is refused: whether there is one, and whether nothing was
+/// appended at a refusal.
 fn spell_line(
     rt: &HostRuntime,
     certificate: &Certificate,
@@ -129,7 +130,8 @@ fn spell_line(
     Ok((print_line(certificate, place, text)?, kept))
 }
 
-/// So its lines up to a place: the text, how many there are, and whether nothing was appended at a refusal.
+/// The lines of a certificate up to a place, each asked for again where memory is refused: the text, how many there
+/// are, and whether nothing was appended at a refusal.
 fn spell_lines(
     rt: &HostRuntime,
     certificate: &Certificate,
@@ -147,7 +149,7 @@ fn spell_lines(
     Ok((text, most, kept))
 }
 
-/// So the certificate of a text.
+/// The certificate of a text, asked for again where memory is refused.
 fn read_back(rt: &HostRuntime, text: &[u8]) -> Result<Certificate, Fail> {
     if let Ok(certificate) = parse(rt.alloc(), text) {
         return Ok(certificate);

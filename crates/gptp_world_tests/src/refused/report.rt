@@ -49,7 +49,7 @@ fn read(rt: &HostRuntime) -> Result<Document, Fail> {
     Ok(Document::read(rt.alloc(), TWO.as_bytes())?)
 }
 
-/// So its world as it begins.
+/// The world of the document as it begins, asked for again where memory is refused.
 fn begin(rt: &HostRuntime, document: &Document) -> Result<World<PcgFate>, Fail> {
     let network = document.network();
     if let Ok(world) = World::new(rt.alloc(), network, PcgFate::new(1)) {
@@ -59,7 +59,7 @@ fn begin(rt: &HostRuntime, document: &Document) -> Result<World<PcgFate>, Fail> 
     Ok(World::new(rt.alloc(), network, PcgFate::new(1))?)
 }
 
-/// So its report.
+/// The report of a world at [`SETTLED`], asked for again where memory is refused.
 fn report(rt: &HostRuntime, document: &Document, world: &World<PcgFate>) -> Result<String, Fail> {
     let mut text = String::new(rt.alloc());
     if write_report(&mut text, document, SETTLED, world).is_ok() {

@@ -93,7 +93,7 @@ fn build(rt: &HostRuntime) -> Result<Network, Fail> {
     Ok(two(rt.alloc())?)
 }
 
-/// So its world.
+/// The world of the network as it begins, asked for again where memory is refused.
 fn begin(rt: &HostRuntime, network: &Network) -> Result<World<PcgFate>, Fail> {
     if let Ok(world) = World::new(rt.alloc(), network, PcgFate::new(0)) {
         return Ok(world);
@@ -102,7 +102,8 @@ fn begin(rt: &HostRuntime, network: &Network) -> Result<World<PcgFate>, Fail> {
     Ok(World::new(rt.alloc(), network, PcgFate::new(0))?)
 }
 
-/// So the next act: whether it was done in the end, and a world in which it was refused was as before.
+/// Does the next act, and again where memory is refused: whether it was done in the end, and a world in which it was
+/// refused was as before.
 fn act(rt: &HostRuntime, world: &mut World<PcgFate>) -> Result<bool, Fail> {
     let before = look_at(world);
     if do_next(world) {
@@ -113,7 +114,8 @@ fn act(rt: &HostRuntime, world: &mut World<PcgFate>) -> Result<bool, Fail> {
     Ok(do_next(world) && kept)
 }
 
-/// So the way to the time at which it has settled: whether it got there, and no further where it was refused.
+/// Takes a world on to the time at which it has settled, and again where memory is refused: whether it got there, and
+/// no further where it was refused.
 fn settle(rt: &HostRuntime, world: &mut World<PcgFate>) -> Result<bool, Fail> {
     if world.advance(SETTLED).is_ok() {
         return Ok(true);
@@ -123,7 +125,7 @@ fn settle(rt: &HostRuntime, world: &mut World<PcgFate>) -> Result<bool, Fail> {
     Ok(world.advance(SETTLED).is_ok() && short)
 }
 
-/// So the octets of a frame.
+/// The octets of a frame, asked for again where memory is refused.
 fn frame(rt: &HostRuntime) -> Result<Octets, Fail> {
     if let Ok(octets) = one_octet(rt.alloc()) {
         return Ok(octets);
@@ -132,7 +134,7 @@ fn frame(rt: &HostRuntime) -> Result<Octets, Fail> {
     Ok(one_octet(rt.alloc())?)
 }
 
-/// So an injection that was refused: whether it is done now, and the world was as before.
+/// Does an injection again that was refused: whether it is done now, and the world was as before.
 fn inject_again(
     rt: &HostRuntime,
     world: &mut World<PcgFate>,
@@ -148,7 +150,8 @@ fn inject_again(
     Ok(world.carry_out(injection).is_ok() && kept)
 }
 
-/// So several injections in a row, of these octets.
+/// Injects these octets several times in a row, each time again where memory is refused: whether all was done, and a
+/// world in which one was refused was as before. After each injection it makes changes that change nothing.
 fn inject_all(rt: &HostRuntime, world: &mut World<PcgFate>, octets: Octets) -> Result<bool, Fail> {
     let injection = Timed {
         at: SETTLED,
