@@ -30,7 +30,7 @@ pub record IsQuietLink (p : Params) (channel : Channel) : Type 0 where
   pub lossless : channel.bounds.loss ≡ 0
   pub good : IsGoodLink channel.bounds.max p.turnaround p.threshold
 
--- so is each link that is up between two live systems
+-- each link that is up between two live systems loses nothing, and is short enough for the threshold
 abbrev pub HaveQuietLinks : Params → WorldState → Type 0
 HaveQuietLinks p w = (link : ℕ) (channel : Channel) → slice_get w.net.channels link ≡ Some channel
     → channel_is_used (live_stations w.stations) channel ≡ true → IsQuietLink p channel
@@ -63,7 +63,8 @@ pub record IsQuietWith (p : Params) (paths : SyncPaths) (w : WorldState) : Type 
   pub links : HaveQuietLinks p w
   pub lapses : SyncsComeInTime p paths
 
--- so a world is quiet: by its own paths
+-- a world is quiet by its own paths, as they are read off its links: each link that is up between two live systems is
+-- quiet, and nothing lapses for want of Sync
 abbrev pub IsQuietWorld : Params → WorldState → Type 0
 IsQuietWorld p w = IsQuietWith p (sync_paths_of w) w
 

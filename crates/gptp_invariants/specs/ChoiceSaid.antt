@@ -12,6 +12,6 @@ sends_at s port [] = []
 sends_at s port (x ∷ xs) =
     if same_identity (own s x.port) port then x ∷ sends_at s port xs else sends_at s port xs
 
--- and their octets
+-- the octets of the sends of one port, in their order, as the system in this state writes them
 abbrev pub said_at : SystemState → PortId → List Sending → List (List ℕ)
 said_at s port xs = map (written s) (sends_at s port xs)

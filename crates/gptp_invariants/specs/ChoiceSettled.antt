@@ -39,7 +39,8 @@ pub record IsSettledSystem (g : Snapshot) (s : SystemState) : Type 0 where
   pub parent : IsParentIfAny g (clock s) (option_map followed_link (parent s))
   pub roles : (n : ℕ) → HasPortNumber s n → IsSettledRole g (port_of (clock s) n) (graph_role (role_at s n))
 
--- so is each near live system
+-- each near live system of a world is settled: its root, steps, slave port, parent and roles are those that the
+-- snapshot gives it
 abbrev pub Settled : WorldState → Type 0
 Settled w = (place : ℕ) (station : Station) → slice_get w.stations place ≡ Some station → station.live ≡ true
     → IsNear (snapshot_of w) (clock station.system)

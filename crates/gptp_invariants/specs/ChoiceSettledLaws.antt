@@ -33,13 +33,13 @@ ActsStayWorlds = (p : SettlingParams) (act : Act) (w : WorldState) (draws : List
     → IsFitAct act → DelaysFitIntervals w act → SetsAnOctet act → Acts act w draws done w' → IsWorld p w
     → IsWorld p w'
 
--- so does time that passes, where nothing is due before it
+-- a world of a network stays one as time passes, up to a time before which nothing is due, so that it is sound then
 abbrev pub TimeStaysWorld : Type 0
 TimeStaysWorld = (p : SettlingParams) (w : WorldState) (time : ℕ)
     → w.time ≤ time → IsSound (at time w) → IsWorld p w
     → IsWorld p (at time w)
 
--- so one is left from act to act
+-- a world of a network stays one from act to act, where acts keep the limits
 abbrev pub DoneStaysWorld : {F : Type 0} → (Bounds → ℕ → F → Option ℕ → F → Type 0) → Type 0
 DoneStaysWorld {F} answers = (p : SettlingParams) (timed : Timed) (fate fate_after : F) (w w' : WorldState)
     (done : Done)
@@ -55,14 +55,14 @@ HoldsBegins = (p : SettlingParams) (w : WorldState)
     → IsWorld p w → w.time < w.last_change + largest_interval p
     → SettlesAsMachine p w
 
--- so it does after every change of the network
+-- the claim that a world settles as the machine of gptp_bmca_machine does holds after every change of the network
 abbrev pub HoldsChanged : Type 0
 HoldsChanged = (p : SettlingParams) (change : Change) (w : WorldState) (draws : List Draw) (done : Done)
     (w' : WorldState)
     → IsLog p.largest → Acts (Changing change) w draws done w' → IsWorld p w'
     → SettlesAsMachine p w'
 
--- and as the world of a network begins
+-- the claim that a world settles as the machine of gptp_bmca_machine does holds of the world of a network as it begins
 abbrev pub HoldsAtFirst : {F : Type 0} → (Bounds → ℕ → F → Option ℕ → F → Type 0) → Type 0
 HoldsAtFirst {F} answers = (n : NetworkState) (fate fate_after : F) (w : WorldState)
     → IsNetwork n → Begun answers n fate fate_after w → IsWorld (pace_of n) w
@@ -77,14 +77,16 @@ HoldsKept = (p : SettlingParams) (act : Act) (w : WorldState) (draws : List Draw
     → SettlesAsMachine p w
     → SettlesAsMachine p w'
 
--- and so does time that passes
+-- time that passes keeps the claim that a world settles as the machine of gptp_bmca_machine does, where the ports are
+-- capable before and after it
 abbrev pub HoldsLater : Type 0
 HoldsLater = (p : SettlingParams) (w : WorldState) (time : ℕ)
     → w.time ≤ time → IsWorld p w → IsWorld p (at time w) → BecomeCapable p w → BecomeCapable p (at time w)
     → SettlesAsMachine p w
     → SettlesAsMachine p (at time w)
 
--- so it is kept from act to act, where the ports are capable before the act, at its time, and after it
+-- the claim that a world settles as the machine of gptp_bmca_machine does is kept from act to act, where the ports are
+-- capable before the act, at its time, and after it
 abbrev pub HoldsDone : {F : Type 0} → (Bounds → ℕ → F → Option ℕ → F → Type 0) → Type 0
 HoldsDone {F} answers = (p : SettlingParams) (timed : Timed) (fate fate_after : F) (w w' : WorldState) (done : Done)
     → IsLog p.largest → IsFitAct timed.act → DelaysFitIntervals w timed.act → SetsAnOctet timed.act
@@ -103,7 +105,8 @@ HoldsSettledByPaths = (p : SettlingParams) (m n : ℕ) (w : WorldState)
     → w.last_change + settling_span_with p (paths_with m w) n ≤ w.time
     → Settled w
 
--- so has one that is quiet by its own paths, once the span of its live systems has
+-- a world that settles as the machine of gptp_bmca_machine does, and is quiet by its own paths, has settled once the
+-- settling span of its live systems has passed from the last change
 abbrev pub HoldsSettled : Type 0
 HoldsSettled = (p : SettlingParams) (w : WorldState)
     → IsWorld p w → IsQuietWorld p.params w → BecomeCapable p w → SettlesAsMachine p w

@@ -20,7 +20,7 @@ TracesBecomeClean = (number : ℕ) (w : WorldState) (s : SystemState)
     → SettlingInvariant w → ShowsLive number w s
     → IsCleanInTime w s
 
--- and so does what its ports hold
+-- what is held by the ports of a live system that is shown becomes clean
 abbrev pub HeldBecomesClean : Type 0
 HeldBecomesClean = (number : ℕ) (w : WorldState) (s : SystemState)
     → SettlingInvariant w → ShowsLive number w s
@@ -45,7 +45,8 @@ HeldIsNoBetter = (g : Snapshot) (number port : ℕ) (r : Reception) (best : Syst
     → (best.identity ≤ r.vector.root)
     × (r.vector.root ≡ best.identity → (d : ℕ) → IsDistance g held.from.clock d → d ≤ r.vector.steps)
 
--- and what an act delivers becomes clean
+-- each Announce that an act delivers is clean by c + 1 members of its trace, or wholly, where it was sent c turns after
+-- ports have become capable
 abbrev pub FramesBecomeClean : {F : Type 0} → (Bounds → ℕ → F → Option ℕ → F → Type 0) → Type 0
 FramesBecomeClean {F} answers = (timed : Timed) (fate fate_after : F) (w w' : WorldState) (done : Done)
     → SettlingInvariant w → WasDone answers timed fate fate_after w w' done

@@ -26,7 +26,7 @@ use Rattle.gptp_invariants.specs.WorldCalmFor.{IsCalmFor, capable_span}
 abbrev pub turn_of : SettlingParams → ℕ
 turn_of p = longest_span p + largest_interval p
 
--- so many turns after ports have become capable
+-- the span from the last change to c turns after ports have become capable
 abbrev pub turns_span : ℕ → SettlingParams → SyncPaths → ℕ → ℕ
 turns_span c p paths n = capable_span p paths n + c * turn_of p
 
@@ -59,7 +59,8 @@ announced s = record {
 abbrev pub IsTraceClean : Snapshot → ℕ → SystemState → Type 0
 IsTraceClean g c s = Clean g (suc c) (clock s) (trace s) ⊎ Whole g (clock s) (announced s)
 
--- so it is once the world has been calm for c turns after its ports have become capable
+-- the trace of a system is clean by its last c + 1 members, or wholly, once the world has been calm for c turns after
+-- its ports have become capable
 abbrev pub IsCleanInTime : WorldState → SystemState → Type 0
 IsCleanInTime w s = (c : ℕ) → IsCalmFor (turns_span c) w → IsTraceClean (snapshot_of w) c s
 
@@ -82,7 +83,8 @@ pub record IsHeldClean (g : Snapshot) (m number port : ℕ) (r : Reception) : Ty
   pub no_loop : In number r.path → ⊥
   pub good : Good g m from (heard_announce r)
 
--- so is what each port received that was sent c turns after ports have become capable
+-- Each Announce that a port of the system holds, where it was sent c turns after ports have become capable, came over
+-- the port's link. Its trace doesn't name the holder, and is clean by c + 1 members or wholly.
 abbrev pub AreHeldCleanInTime : WorldState → SystemState → Type 0
 AreHeldCleanInTime w s = (calm : IsCalmWorld w) (c n : ℕ) (r : Reception)
     → received (held_at s n) ≡ Some r → WasSentAfter c r.at w calm
@@ -97,8 +99,9 @@ pub record IsHeldWhole (g : Snapshot) (number port : ℕ) (r : Reception) : Type
   pub source : port_identity_number r.vector.source ≡ from
   pub whole : Whole g from.clock (heard_announce r)
 
--- so is all that its ports hold once the world has been calm for m turns after its ports have become capable, where no
--- path of its snapshot has more than m systems
+-- Each Announce that a port of the system holds came over the port's link, doesn't name the holder in its trace, and is
+-- wholly clean. That is so once the world has been calm for m turns after its ports have become capable, where no path
+-- of its snapshot has more than m systems.
 abbrev pub AreHeldWholeInTime : WorldState → SystemState → Type 0
 AreHeldWholeInTime w s = (m n : ℕ) (r : Reception)
     → BoundsPaths (snapshot_of w) m → IsCalmFor (turns_span m) w → received (held_at s n) ≡ Some r

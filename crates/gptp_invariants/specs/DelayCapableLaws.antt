@@ -33,7 +33,8 @@ MeasuredAtFirst {F} answers = (n : NetworkState) (fate fate_after : F) (w : Worl
     → IsSound (initial n) → Begun answers n fate fate_after w
     → LinkIsMeasured w
 
--- and stays so from act to act
+-- a world stays measured from act to act: stations are as they were set up, their timers are in time, their ports
+-- measure, and what is in flight fits
 abbrev pub MeasuredDone : {F : Type 0} → (Bounds → ℕ → F → Option ℕ → F → Type 0) → Type 0
 MeasuredDone {F} answers = (timed : Timed) (fate fate_after : F) (w w' : WorldState) (done : Done)
     → SetsAnOctet timed.act → WasDone answers timed fate fate_after w w' done → IsSound w → LinkIsMeasured w
@@ -48,7 +49,7 @@ WatchesChanged = (p : SettlingParams) (change : Change) (w : WorldState) (draws 
     → KeepPace p → Acts (Changing change) w draws done w' → IsWorld p w' → LinkIsMeasured w'
     → GoodLinksMeasure p w'
 
--- and as the world of a network begins
+-- good links in use are watched in the world of a network as it begins
 abbrev pub WatchesAtFirst : {F : Type 0} → (Bounds → ℕ → F → Option ℕ → F → Type 0) → Type 0
 WatchesAtFirst {F} answers = (n : NetworkState) (fate fate_after : F) (w : WorldState)
     → IsNetwork n → Begun answers n fate fate_after w → IsWorld (pace_of n) w → LinkIsMeasured w
@@ -62,13 +63,13 @@ WatchesKept = (p : SettlingParams) (act : Act) (w : WorldState) (draws : List Dr
     → IsNoChange act → Acts act w draws done w' → IsWorld p w → GoodLinksMeasure p w
     → GoodLinksMeasure p w'
 
--- and so does time that passes, up to when something is due
+-- good links in use stay watched as time passes, up to when something is due
 abbrev pub WatchesLater : Type 0
 WatchesLater = (p : SettlingParams) (w : WorldState) (time : ℕ)
     → w.time ≤ time → NothingBefore time w.net.pending → IsWorld p w → GoodLinksMeasure p w
     → GoodLinksMeasure p (at time w)
 
--- so it is kept from act to act, a change included
+-- good links in use stay watched from act to act, a change included
 abbrev pub WatchesDone : {F : Type 0} → (Bounds → ℕ → F → Option ℕ → F → Type 0) → Type 0
 WatchesDone {F} answers = (p : SettlingParams) (timed : Timed) (fate fate_after : F) (w w' : WorldState) (done : Done)
     → KeepPace p → IsFitAct timed.act → DelaysFitIntervals w timed.act → SetsAnOctet timed.act

@@ -18,7 +18,8 @@ pub record IsFirstAt (first : ℕ) (at : LinkPlace) (w : WorldState) : Type 0 wh
   pub inv : InvFirst (link_setting at w link) (least_delay at w link) reads_as_request reads_as_reply first
       (meter at w link)
 
--- and one interval between requests and one exchange after it are over before this time
+-- the port that asks sent its first request at this time, with nothing old in flight, and one interval between requests
+-- and one exchange after it are over before this start
 abbrev pub IsFirstBy : ℕ → ℕ → LinkPlace → WorldState → Type 0
 IsFirstBy first start at w =
     (l : IsFirstAt first at w)

@@ -31,7 +31,7 @@ FirstGoesThrough = (at : LinkPlace) (first : ℕ) (act : Act) (w w' : WorldState
     → IsSound w → LinkIsMeasured w → LeavesAlone at act w → Acts act w draws done w' → IsFirstAt first at w
     → IsFirstAt first at w'
 
--- and so does time that passes, up to when something is due
+-- time that passes, up to when something is due, keeps what is known of a link since its first request
 abbrev pub FirstGoesOn : Type 0
 FirstGoesOn = (at : LinkPlace) (first time : ℕ) (w : WorldState)
     → IsSound w → w.time ≤ time → NothingBefore time w.net.pending → IsFirstAt first at w
@@ -53,7 +53,7 @@ LinkUpIsFirst = (p : SettlingParams) (at : LinkPlace) (number port : ℕ) (w w' 
     → IsChannel (port_id number port) at.link w.net s.channel → Acts (Changing (LinkUp number port)) w draws done w'
     → IsFirstAt w.time at w'
 
--- so is every link in use as a world begins, from time 0 on
+-- what is known of a link since its first request holds of every link in use as a world begins, from time 0 on
 abbrev pub StartIsFirst : {F : Type 0} → (Bounds → ℕ → F → Option ℕ → F → Type 0) → Type 0
 StartIsFirst {F} answers = (n : NetworkState) (fate fate_after : F) (w : WorldState)
     → IsNetwork n → IsSound (initial n) → Begun answers n fate fate_after w → IsWorld (pace_of n) w

@@ -43,7 +43,8 @@ ExpiriesAreActs = (at : LinkPlace) (place : ℕ) (timer : Timer) (w w' : WorldSt
     → IsSound w → TimerRunsOut place timer w draws w'
     → IsOneAct at w w' l
 
--- so is a frame that is delivered on any link
+-- a frame that is delivered on any link of the world is, seen at this link, one act of the machine of
+-- gptp_pdelay_machine
 abbrev pub DeliveriesAreActs : Type 0
 DeliveriesAreActs = (at : LinkPlace) (link : ℕ) (direction : Direction) (octets : List ℕ) (w w' : WorldState)
     (draws : List Draw) (answer : Option Answer) (l : IsLinkOf at w)
@@ -96,7 +97,7 @@ MeasuredIsKept = (act : Act) (w w' : WorldState) (draws : List Draw) (done : Don
 abbrev pub MeasuredHoldsLater : Type 0
 MeasuredHoldsLater = (time : ℕ) (w : WorldState) → w.time ≤ time → LinkIsMeasured w → LinkIsMeasured (at_time time w)
 
--- and by the start of all systems; it holds before that
+-- the start of all systems keeps what must be known of the measuring, which holds of the world of a network before that
 abbrev pub StartsMeasured : Type 0
 StartsMeasured = (places : List ℕ) (w w' : WorldState) (draws : List Draw)
     → IsSound w → LinkIsMeasured w → StartsAll places w draws w'

@@ -57,7 +57,7 @@ response_view m =
     Response (link_identity m.head.source) (request_from m.requester m.head.sequence)
     (carried_time m.stamp m.head.correction)
 
--- and a follow-up
+-- what a follow-up says: who answers, which request, and the time that it carries
 abbrev pub follow_up_view : PdelayRespFollowUp → Reply
 follow_up_view m =
     FollowUp (link_identity m.head.source) (request_from m.requester m.head.sequence)
@@ -210,7 +210,8 @@ IsLinkOf at w = IsLinkAmong at w.net.channels w.stations
 abbrev pub link_setting : (at : LinkPlace) (w : WorldState) → IsLinkOf at w → Setting
 link_setting at w l = setting_view at.direction l.channel l.asking.station.setup l.answering.station.setup
 
--- and what it sees
+-- what the machine sees of the link: the time, the port that asks, the answer that waits at the other, and the frames
+-- in flight in both directions
 abbrev pub pair : (at : LinkPlace) (w : WorldState) → IsLinkOf at w → Pair
 pair at w l =
     pair_view w.time (interval_of l.asking.station.setup.params.pdelay) at.direction l.channel

@@ -17,6 +17,7 @@ UsedLinksAreMeasured = (p : SettlingParams) (w : WorldState)
     → w.last_change + 5 * largest_interval p ≤ w.time
     → HaveMeasuredLinks w
 
--- so where a world that keeps the claim has been calm for as long as ports take to be capable
+-- each port of a live system has measured the links of the snapshot that are at it, where the settling invariant holds
+-- and the world has been calm for as long as ports take to be capable
 abbrev pub ClaimedMeasured : Type 0
 ClaimedMeasured = (w : WorldState) → SettlingInvariant w → IsCalmFor capable_span w → HaveMeasuredLinks w

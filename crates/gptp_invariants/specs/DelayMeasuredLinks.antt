@@ -19,7 +19,8 @@ pub record HasMeasuredLink (w : WorldState) (from to : PortIdentity) (q : Port) 
   pub state : link.asking.state ≡ q
   pub measured : HasMeasured (link_setting at w link) (least_delay at w link) q.peer.last
 
--- so has each port of a live system each link of the snapshot that is at it
+-- each port of a live system has measured each link of the snapshot that is at it, by two exchanges, one after the
+-- other
 abbrev pub HaveMeasuredLinks : WorldState → Type 0
 HaveMeasuredLinks w = OfEachPort (λ itself h q. (to : PortIdentity)
     → Joins (snapshot_of w) (port_identity_number itself) to

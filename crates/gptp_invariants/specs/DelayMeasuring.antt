@@ -31,12 +31,12 @@ pub record MeasuresWithItsOwn (p : Params) (itself : PortId) (x : Part) : Type 0
   pub owes : (t : ℕ) → x.respond ≡ Some t → IsSome x.peer.waiting
   pub idle : x.pdelay ≡ None → IsIdle x
 
--- so it is with each port of a system; the port at place i has the number i + 1
+-- what each port of a system measures with is its own, and fits its timers; the port at place i has the number i + 1
 abbrev pub PortsMeasure : Params → SystemState → Type 0
 PortsMeasure p s =
     (i : ℕ) (q : Port) → slice_get s.ports i ≡ Some q → MeasuresWithItsOwn p (own s (suc i)) (measure_at q)
 
--- and with each live system
+-- what each port of each live system measures with is its own, and fits its timers
 abbrev pub AreMeasuring : Params → WorldState → Type 0
 AreMeasuring p w = (place : ℕ) (station : Station) → slice_get w.stations place ≡ Some station → station.live ≡ true
     → PortsMeasure p station.system

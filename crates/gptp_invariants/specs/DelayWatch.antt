@@ -25,7 +25,7 @@ pub record IsCapablePort (h : Held) (q : Port) : Type 0 where
   pub capable : is_capable q.peer ≡ true
   pub enabled : h ≢ Disabled
 
--- so it is with each port of a live system at which a link of the snapshot is
+-- where a link of the snapshot is at a port of a live system, that port is capable, and isn't Disabled
 abbrev pub AreUsedCapable : WorldState → Type 0
 AreUsedCapable w = OfEachPort (λ itself h q. IsLinked (snapshot_of w) (port_identity_number itself)
     → IsCapablePort h q) w

@@ -30,7 +30,7 @@ WatchIsKept = (at : LinkPlace) (gone calm : ℕ) (act : Act) (w w' : WorldState)
     → IsSound w → ((change : Change) → act ≢ Changing change) → Acts act w draws done w' → IsWatched gone calm at w
     → IsWatched gone calm at w'
 
--- and so does time that passes, up to when something is due
+-- time that passes, up to when something is due, leaves a link watched
 abbrev pub WatchGoesOn : Type 0
 WatchGoesOn = (at : LinkPlace) (gone calm time : ℕ) (w : WorldState)
     → IsSound w → w.time ≤ time → NothingBefore time w.net.pending → IsWatched gone calm at w

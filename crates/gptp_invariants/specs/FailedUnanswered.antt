@@ -28,7 +28,8 @@ pub record StandsUnanswered (at : LinkPlace) (w : WorldState) : Type 0 where
   pub asking : StationIsLiveAt at.asking (sender at.direction channel).clock w
   pub answering : IsFailedAmong at.answering (receiver at.direction channel).clock w.stations
 
--- the same with the port of the live station, which measures
+-- a link that is up stands at this place, between a port of a live station, which measures, and a station that has
+-- failed
 pub record IsUnansweredAmong (at : LinkPlace) (channels : List Channel) (stations : List Station) : Type 0 where
   pub channel : Channel
   pub here : slice_get channels at.link ≡ Some channel
@@ -43,7 +44,7 @@ IsUnansweredAt at w = IsUnansweredAmong at w.net.channels w.stations
 abbrev pub silent_setting : (at : LinkPlace) (w : WorldState) → IsUnansweredAt at w → Setting
 silent_setting at w l = setting_view at.direction l.channel l.asking.station.setup l.answering.station.setup
 
--- and what it sees: the time, and the port that asks
+-- what the machine sees of a port whose link leads to a failed station: the time, and the port that asks
 abbrev pub silent_view : (at : LinkPlace) (w : WorldState) → IsUnansweredAt at w → Unanswered
 silent_view at w l = record {
   time = w.time;

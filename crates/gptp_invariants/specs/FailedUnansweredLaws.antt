@@ -51,7 +51,7 @@ SilentExpiriesAreActs = (at : LinkPlace) (gone place : ℕ) (timer : Timer) (w w
     → IsSound w → IsOldBy gone at w l → TimerRunsOut place timer w draws w'
     → IsSeenUnanswered (λ k s s'. ActsInVain k gone s s') gone at w w' l
 
--- so is a frame that is delivered on any link
+-- a frame that is delivered on any link is one act of the machine, seen at the port whose neighbour has failed
 abbrev pub SilentDeliveriesAreActs : Type 0
 SilentDeliveriesAreActs = (at : LinkPlace) (gone link : ℕ) (direction : Direction) (octets : List ℕ) (w w' : WorldState)
     (draws : List Draw) (answer : Option Answer) (l : IsUnansweredAt at w)
@@ -73,7 +73,7 @@ SilentRequestTimersAsk = (at : LinkPlace) (gone : ℕ) (w w' : WorldState) (draw
     → TimerRunsOut at.asking (timers.Pdelay (sender at.direction l.channel).port) w draws w'
     → IsSeenUnanswered (λ k s s'. AsksInVain k s s') gone at w w' l
 
--- and a frame that is delivered to the port is an old one
+-- a frame that is delivered to the port whose neighbour has failed is an old one
 abbrev pub SilentAskersHear : Type 0
 SilentAskersHear = (at : LinkPlace) (gone : ℕ) (octets : List ℕ) (w w' : WorldState) (draws : List Draw)
     (answer : Option Answer) (l : IsUnansweredAt at w)
@@ -99,7 +99,7 @@ SilenceIsKept = (at : LinkPlace) (gone : ℕ) (p : SettlingParams) (act : Act) (
     → IsSilent gone at w
     → IsSilent gone at w'
 
--- and so does time that passes
+-- as time passes the port whose neighbour has failed stays unanswered
 abbrev pub SilenceGoesOn : Type 0
 SilenceGoesOn = (at : LinkPlace) (gone time : ℕ) (w : WorldState) → IsSilent gone at w
     → IsSilent gone at (at_time time w)
@@ -121,7 +121,7 @@ NoneStandsAnew = (at : LinkPlace) (act : Act) (w w' : WorldState) (draws : List 
     → ((change : Change) → act ≢ Changing change) → Acts act w draws done w'
     → StandsUnanswered at w' → StandsUnanswered at w
 
--- so from a change on all such ports are unanswered
+-- just after a change each port of a live station whose link is up and leads to a failed one is unanswered
 abbrev pub AreSilentAtFirst : Type 0
 AreSilentAtFirst = (p : SettlingParams) (w : WorldState) → IsSound w → LinkIsMeasured w → IsKnown p w
     → w.last_change ≡ w.time
@@ -135,12 +135,13 @@ ActsLeaveSilent = (p : SettlingParams) (act : Act) (w w' : WorldState) (draws : 
     → FailedNeighboursAreSilent p w
     → FailedNeighboursAreSilent p w'
 
--- and as time passes
+-- as time passes each port of a live station whose link is up and leads to a failed one stays unanswered
 abbrev pub AreSilentLater : Type 0
 AreSilentLater = (p : SettlingParams) (time : ℕ) (w : WorldState) → FailedNeighboursAreSilent p w
     → FailedNeighboursAreSilent p (at_time time w)
 
--- and L + 5 announce intervals after the last change none of them is capable
+-- no port of a live station whose link is up and leads to a failed one is capable from L + 5 announce intervals after
+-- the last change on, where L is the number of requests that may be lost
 abbrev pub SilentPortsBecomeIncapable : Type 0
 SilentPortsBecomeIncapable = (p : SettlingParams) (w : WorldState)
     → IsSound w → IsKnown p w → interval_of p.params.pdelay ≤ largest_interval p → FailedNeighboursAreSilent p w

@@ -42,13 +42,15 @@ TellsTime s s' sends = (i : ℕ) (q : Port) (root steps : ℕ) → slice_get s.h
     → slice_get s.ports i ≡ Some q → PortFits (own s (suc i))
     → ArePaired (port_identity_number (own s (suc i))) (said_at s' (own s (suc i)) sends)
 
--- so it is where the Sync timer of a root expires that may be grandmaster
+-- where the Sync timer of a root expires that may be grandmaster, every Master port of it sends a Sync and its
+-- Follow_Up
 abbrev pub LeadersTell : Type 0
 LeadersTell = (now : ℕ) (s s' : SystemState) (sends : List Sending) (answer : Answer)
     → is_leading s ≡ true → Steps (Expires timers.Sync) now s s' sends answer
     → TellsTime s s' sends
 
--- and where the Relay timer expires in a network in which something can lapse
+-- where the Relay timer of a system expires, in a network in which something can lapse, every Master port of it sends a
+-- Sync and its Follow_Up
 abbrev pub RelaysTell : Type 0
 RelaysTell = (now : ℕ) (s s' : SystemState) (sends : List Sending) (answer : Answer)
     → 0 < s.params.sync_timeout → IsTimely s now (Expires timers.Relay) → KnowsTime s
@@ -73,7 +75,8 @@ SyncsAreKept = (p : ℕ) (octets : List ℕ) (now : ℕ) (s s' : SystemState) (s
     → Steps (FrameHeard p octets) now s s' sends answer → TakesTime s p id.source → says_sync octets (Sync id)
     → kept_view s' ≡ Some id
 
--- and the Follow_Up of one that is kept is used at the port that is followed, in a network in which something can lapse
+-- the Follow_Up of the Sync that a system keeps is used at the port at which it takes its time, in a network in which
+-- something can lapse
 abbrev pub FollowUpsAreUsed : Type 0
 FollowUpsAreUsed = (p : ℕ) (octets : List ℕ) (now : ℕ) (s s' : SystemState) (sends : List Sending) (answer : Answer)
     (source : PortIdentity) (id : SyncId)

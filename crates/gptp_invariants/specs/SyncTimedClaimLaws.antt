@@ -38,33 +38,35 @@ CarriesBegins {F} answers = (n : NetworkState) (fate fate_after : F) (w : WorldS
     → IsNetwork n → IsSound (initial n) → Begun answers n fate fate_after w
     → CarriesWhereCalm (pace_of n) w
 
--- and stays so from act to act, a change included
+-- the claim that time is carried right wherever a world has been calm for long enough is kept from act to act, a change
+-- included
 abbrev pub CarriesKept : {F : Type 0} → (Bounds → ℕ → F → Option ℕ → F → Type 0) → Type 0
 CarriesKept {F} answers = (p : SettlingParams) (timed : Timed) (fate fate_after : F) (w w' : WorldState) (done : Done)
     → IsFitAct timed.act → DelaysFitIntervals w timed.act → SetsAnOctet timed.act
     → WasDone answers timed fate fate_after w w' done → KeepsAll p w → CarriesWhereCalm p w
     → CarriesWhereCalm p w'
 
--- and as time passes, up to when something is due
+-- the claim that time is carried right wherever a world has been calm for long enough is kept as time passes, up to
+-- when something is due
 abbrev pub CarriesLater : Type 0
 CarriesLater = (p : SettlingParams) (w : WorldState) (time : ℕ)
     → w.time ≤ time → NothingBefore time w.net.pending → KeepsAll p w → CarriesWhereCalm p w
     → CarriesWhereCalm p (at time w)
 
--- so it is with all that is claimed: it holds of the world of a network as it begins
+-- all that is claimed of every world holds of the world of a network as it begins
 abbrev pub AllBegins : {F : Type 0} → (Bounds → ℕ → F → Option ℕ → F → Type 0) → Type 0
 AllBegins {F} answers = (n : NetworkState) (fate fate_after : F) (w : WorldState)
     → IsNetwork n → IsSound (initial n) → Begun answers n fate fate_after w
     → WorldInvariant w
 
--- and is kept from act to act, a change included
+-- all that is claimed of every world is kept from act to act, a change included
 abbrev pub AllKept : {F : Type 0} → (Bounds → ℕ → F → Option ℕ → F → Type 0) → Type 0
 AllKept {F} answers = (timed : Timed) (fate fate_after : F) (w w' : WorldState) (done : Done)
     → IsFitAct timed.act → DelaysFitIntervals w timed.act → SetsAnOctet timed.act
     → WasDone answers timed fate fate_after w w' done → WorldInvariant w
     → WorldInvariant w'
 
--- and as time passes, up to when something is due
+-- all that is claimed of every world is kept as time passes, up to when something is due
 abbrev pub AllLater : Type 0
 AllLater = (w : WorldState) (time : ℕ)
     → w.time ≤ time → NothingBefore time w.net.pending → WorldInvariant w

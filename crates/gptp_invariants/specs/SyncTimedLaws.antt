@@ -53,13 +53,14 @@ ActsCarryTime = (p : SettlingParams) (settled longest : ℕ) (act : Act) (w : Wo
     → CarriesTime p.params settled longest w
     → CarriesTime p.params settled longest w'
 
--- and so does time that passes
+-- the claim on the time that is carried in a settled world is kept as time passes
 abbrev pub TimeCarriesTime : Type 0
 TimeCarriesTime = (p : SettlingParams) (settled longest : ℕ) (w : WorldState) (time : ℕ)
     → w.time ≤ time → CarriesTime p.params settled longest w
     → CarriesTime p.params settled longest (at time w)
 
--- so it is kept from act to act, where the network is settled at the time of the act and after it
+-- the claim on the time that is carried in a settled world is kept by each act that changes nothing of the network,
+-- where the network is settled at the time of the act and after it
 abbrev pub DoneCarriesTime : {F : Type 0} → (Bounds → ℕ → F → Option ℕ → F → Type 0) → Type 0
 DoneCarriesTime {F} answers = (p : SettlingParams) (settled longest : ℕ) (timed : Timed) (fate fate_after : F)
     (w w' : WorldState) (done : Done)

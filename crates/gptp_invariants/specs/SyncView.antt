@@ -16,7 +16,7 @@ use Rattle.gptp_invariants.specs.ChoiceView.{port_identity_number, says_sync}
 abbrev pub IsTimeless : List ℕ → Type 0
 IsTimeless octets = (x : SyncMessage) → says_sync octets x → ⊥
 
--- so do all of these
+-- none of these lists of octets tells time
 abbrev pub AreTimeless : List (List ℕ) → Type 0
 AreTimeless all = (octets : List ℕ) → In octets all → IsTimeless octets
 
@@ -49,7 +49,7 @@ pub record KnowsTime (s : SystemState) : Type 0 where
   pub relays : (due : ℕ) → 0 < s.params.sync_timeout → s.relay ≡ Some due → IsSome s.known
   pub lapses : (due : ℕ) → s.lapse ≡ Some due → can_lead s.root ≡ true
 
--- so it is with each live system
+-- what is said of the time that a system knows, and of its Relay and Lapse timers, is so of each live system
 abbrev pub KnowTime : WorldState → Type 0
 KnowTime w = (place : ℕ) (station : Station) → slice_get w.stations place ≡ Some station → station.live ≡ true
     → KnowsTime station.system

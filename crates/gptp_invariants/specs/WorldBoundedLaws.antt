@@ -13,13 +13,14 @@ use Rattle.gptp_invariants.specs.WorldStanding.{snapshot_of}
 abbrev pub ClaimedBounded : Type 0
 ClaimedBounded = (w : WorldState) → SettlingInvariant w → IsCalmFor settling_span_with w → IsBoundedWorld w
 
--- so it is where it has been for the settling span of m systems, and no path of its snapshot has more
+-- a world is bounded where it has been calm for the settling span of m systems, and no path of its snapshot has more
 abbrev pub ClaimedBoundedByPaths : Type 0
 ClaimedBoundedByPaths = (m : ℕ) (w : WorldState)
     → SettlingInvariant w → BoundsPaths (snapshot_of w) m → IsCalmFor (span_over m) w
     → IsBoundedWorld w
 
--- and sooner where nothing lapses
+-- where nothing lapses, a world is bounded sooner: once it has been calm for the span in which m systems settle at
+-- once, and no path of its snapshot has more
 abbrev pub ClaimedBoundedAtOnce : Type 0
 ClaimedBoundedAtOnce = (m : ℕ) (w : WorldState)
     → SettlingInvariant w → BoundsPaths (snapshot_of w) m → (calm : IsCalmFor (at_once_span m) w)

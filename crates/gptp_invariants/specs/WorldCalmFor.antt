@@ -43,6 +43,7 @@ pub record IsPortSettled (g : Snapshot) (itself : PortId) (h : Held) (q : Port) 
   pub capable : (is_capable q.peer ≡ true) ↔ IsLinked g (port_identity_number itself)
   pub disabled : (h ≡ Disabled) ↔ (is_capable q.peer ≡ false)
 
--- so is each port of a live system
+-- each port of a live system is capable exactly where a link of the snapshot is at it, and Disabled exactly where it
+-- isn't capable
 abbrev pub ArePortsSettled : WorldState → Type 0
 ArePortsSettled w = OfEachPort (IsPortSettled (snapshot_of w)) w

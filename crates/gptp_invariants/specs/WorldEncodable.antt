@@ -29,7 +29,7 @@ pub record SaysWhatFits (a : AnnounceView) : Type 0 where
   pub root : a.body.root < 2 ^ 112
   pub path : AreClocks a.path
 
--- so does each Announce that the octets read as
+-- each Announce that the octets read as says a root of fourteen octets, and a path of clocks
 abbrev pub SayWhatFits : List ℕ → Type 0
 SayWhatFits octets = (a : AnnounceView) → Reads octets (messages.Announce a) → SaysWhatFits a
 

@@ -53,7 +53,7 @@ abbrev pub OfEachFrame : (Channel → Frame → Type 0) → WorldState → Type 
 OfEachFrame So w = (link : ℕ) (direction : Direction) (channel : Channel) (f : Frame)
     → slice_get w.net.channels link ≡ Some channel → In f (world_queue direction channel) → So channel f
 
--- so it is with the largest of them
+-- no link has a delay above the largest announce interval, and each frame in flight arrives within it
 abbrev pub AreNear : SettlingParams → WorldState → Type 0
 AreNear p w = IsShort (largest_interval p) w
 

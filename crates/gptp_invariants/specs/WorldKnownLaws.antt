@@ -36,14 +36,16 @@ LaterKnown = (p : SettlingParams) (w : WorldState) (t : ℕ)
     → w.time ≤ t → IsKnown p w
     → IsKnown p (at t w)
 
--- and so does every act that sets no link to a delay above an announce interval, nor above the largest
+-- every act that sets no link to a delay above an announce interval, nor above the largest, keeps what is known of a
+-- sound world
 abbrev pub ActsKnown : Type 0
 ActsKnown = (p : SettlingParams) (act : Act) (w : WorldState) (draws : List Draw) (done : Done) (w' : WorldState)
     → IsSound w → DelayFitsInterval (largest_interval p) act → DelaysFitIntervals w act → Acts act w draws done w'
     → IsKnown p w
     → IsKnown p w'
 
--- so what is known is kept from act to act
+-- what is known of a sound world is kept from act to act, where no act sets a link to a delay above an announce
+-- interval, nor above the largest
 abbrev pub DoneKnown : {F : Type 0} → (Bounds → ℕ → F → Option ℕ → F → Type 0) → Type 0
 DoneKnown {F} answers = (p : SettlingParams) (timed : Timed) (fate fate_after : F) (w w' : WorldState) (done : Done)
     → IsSound w → DelayFitsInterval (largest_interval p) timed.act → DelaysFitIntervals w timed.act
@@ -78,7 +80,7 @@ PortsAtRest = (w : WorldState)
     → IsSound w
     → OfEachSystem (λ s. (i : ℕ) (h : Held) → slice_get s.held i ≡ Some h → IsPortAtRest s (suc i) h) w
 
--- and its systems follow themselves or a port
+-- each live system of every sound world is its own root, or follows a port
 abbrev pub SystemsFollow : Type 0
 SystemsFollow = (w : WorldState)
     → IsSound w
@@ -98,8 +100,8 @@ FramesNotLate = (w : WorldState)
     → IsSound w
     → OfEachFrame (λ channel f. w.time ≤ f.due) w
 
--- and once the largest announce interval has passed since the last change, each arrives within the greatest delay of
--- its link
+-- once the largest announce interval has passed since the last change, each frame in flight arrives now or later,
+-- within the greatest delay of its link
 abbrev pub FramesFresh : Type 0
 FramesFresh = (p : SettlingParams) (w : WorldState)
     → IsSound w → IsKnown p w → w.last_change + largest_interval p ≤ w.time

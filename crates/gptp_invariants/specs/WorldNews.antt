@@ -33,7 +33,8 @@ IsReadyBy p start at w =
     ⊎ ((gone : ℕ) × (calm : ℕ) × IsWatched gone calm at w
     × (gone < start) × (calm + 3 * interval_of p.params.pdelay ≤ start))
 
--- so is each link between two live systems that loses nothing and is good
+-- at each link that is up between two live systems, loses nothing and is good, the port that asks is capable from this
+-- time on
 abbrev pub AreReadyBy : SettlingParams → ℕ → WorldState → Type 0
 AreReadyBy p start w = (at : LinkPlace) → LinkStandsAt at w → IsReadyBy p start at w
 
@@ -57,7 +58,8 @@ at_news p w = record { slack = largest_interval p; step = delay_in w; wait = 0; 
 abbrev pub news_network : SettlingParams → ℕ → ℕ → WorldState → Network
 news_network p m start w = network_with p m start (at_news p w) w
 
--- so it is where something may lapse, system by system
+-- how settling goes after news where something may lapse for want of Sync: system by system, and all that is held is
+-- sound from the start
 abbrev pub news_in_turn : SettlingParams → SyncPaths → SettlingTimes
 news_in_turn p paths = record {
   slack = 0;

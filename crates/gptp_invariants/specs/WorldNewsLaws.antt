@@ -51,7 +51,7 @@ NewsAreKept = (p : SettlingParams) (start : ℕ) (act : Act) (w : WorldState) (d
     → IsNoChange act → SetsAnOctet act → Acts act w draws done w' → IsNews p start w
     → IsNews p start w'
 
--- and so does time that passes, up to when something is due
+-- time that passes, up to when something is due, keeps what is claimed of a world since news
 abbrev pub NewsGoOn : Type 0
 NewsGoOn = (p : SettlingParams) (start time : ℕ) (w : WorldState)
     → w.time ≤ time → NothingBefore time w.net.pending → IsNews p start w
@@ -84,7 +84,8 @@ LinkUpIsNews = (p : SettlingParams) (start number port : ℕ) (w : WorldState) (
     → Acts (Changing (LinkUp number port)) w draws done w'
     → IsNews p start w'
 
--- so is the world of a network as it begins: from one interval between requests and one exchange on
+-- what is claimed of a world since news holds of the world of a network as it begins, from one interval between
+-- requests and one exchange on
 abbrev pub StartIsNews : {F : Type 0} → (Bounds → ℕ → F → Option ℕ → F → Type 0) → Type 0
 StartIsNews {F} answers = (n : NetworkState) (fate fate_after : F) (w : WorldState) (start : ℕ)
     → IsNetwork n → IsSound (initial n) → Begun answers n fate fate_after w → IsWorld (pace_of n) w
@@ -98,7 +99,8 @@ WatchedIsReady = (p : SettlingParams) (start : ℕ) (w : WorldState)
     → w.last_change + 2 * largest_interval p + 3 * interval_of p.params.pdelay ≤ start
     → AreReadyBy p start w
 
--- so is each port beside a failed system, where it has been unanswered for long enough
+-- each port beside a failed system is silent from a time on by which it has been unanswered for long enough since the
+-- last change
 abbrev pub UnansweredIsSilent : Type 0
 UnansweredIsSilent = (p : SettlingParams) (start : ℕ) (w : WorldState)
     → FailedNeighboursAreSilent p w → w.last_change + capability_span p ≤ start → AreSilentBy p start w

@@ -39,7 +39,7 @@ ClaimKept {F} answers = (p : SettlingParams) (timed : Timed) (fate fate_after : 
     → WasDone answers timed fate fate_after w w' done → KeepsAll p w
     → KeepsAll p w'
 
--- and as time passes, up to when something is due
+-- what every world of a network with these parameters keeps is kept as time passes, up to when something is due
 abbrev pub ClaimLater : Type 0
 ClaimLater = (p : SettlingParams) (w : WorldState) (time : ℕ)
     → w.time ≤ time → NothingBefore time w.net.pending → KeepsAll p w
@@ -64,7 +64,8 @@ ClaimedKept {F} answers = (timed : Timed) (fate fate_after : F) (w w' : WorldSta
     → WasDone answers timed fate fate_after w w' done → SettlingInvariant w
     → SettlingInvariant w'
 
--- and as time passes, up to when something is due
+-- what every world of a network keeps, in words that name no parameters, is kept as time passes, up to when something
+-- is due
 abbrev pub ClaimedLater : Type 0
 ClaimedLater = (w : WorldState) (time : ℕ)
     → w.time ≤ time → NothingBefore time w.net.pending → SettlingInvariant w
@@ -81,13 +82,14 @@ ClaimedCapable = (w : WorldState) → SettlingInvariant w → IsCalmFor capable_
 abbrev pub ClaimedSettled : Type 0
 ClaimedSettled = (w : WorldState) → SettlingInvariant w → IsCalmFor settling_span_with w → Settled w
 
--- so it has where it has been for the settling span of m systems, and no path of its snapshot has more
+-- a world has settled where it has been calm for the settling span of m systems, and no path of its snapshot has more
 abbrev pub ClaimedSettledByPaths : Type 0
 ClaimedSettledByPaths = (m : ℕ) (w : WorldState)
     → SettlingInvariant w → BoundsPaths (snapshot_of w) m → IsCalmFor (span_over m) w
     → Settled w
 
--- and sooner where nothing lapses
+-- where nothing lapses, a world has settled sooner: once it has been calm for the span in which m systems settle at
+-- once, and no path of its snapshot has more
 abbrev pub ClaimedSettledAtOnce : Type 0
 ClaimedSettledAtOnce = (m : ℕ) (w : WorldState)
     → SettlingInvariant w → BoundsPaths (snapshot_of w) m → (calm : IsCalmFor (at_once_span m) w)

@@ -14,6 +14,6 @@ abbrev pub AreShort : ℕ → ℕ → List Channel → Type 0
 AreShort span time channels = (link : ℕ) (channel : Channel) → slice_get channels link ≡ Some channel
     → IsShortChannel span time channel
 
--- so it is on every link of a world
+-- on every link of a world no delay is longer than this span, and what is in flight is due within it from now
 abbrev pub IsShort : ℕ → WorldState → Type 0
 IsShort span w = AreShort span w.time w.net.channels

@@ -27,11 +27,13 @@ use Rattle.gptp_invariants.specs.ChoiceTraces.{turns_span}
 abbrev pub AreCapable : Snapshot → SystemState → Type 0
 AreCapable g s = (n : ℕ) → HasPortNumber s n → (is_capable_at s n ≡ true) ↔ IsLinked g (port_of (clock s) n)
 
--- so it is with the system, once the world has been calm for as long as ports take to become capable
+-- a port of the system is capable exactly where a link of the snapshot is at it, once the world has been calm for as
+-- long as ports take to become capable
 abbrev pub IsCapableInTime : WorldState → SystemState → Type 0
 IsCapableInTime w s = IsCalmFor capable_span w → AreCapable (snapshot_of w) s
 
--- and by then a port of the system with this clock is Disabled exactly where none is at it
+-- a port of the system with this clock is Disabled exactly where no link of the snapshot is at it, once the world has
+-- been calm for as long as ports take to become capable
 abbrev pub IsEnabledInTime : ℕ → ℕ → WorldState → Role → Type 0
 IsEnabledInTime number port w role =
     IsCalmFor capable_span w → (role ≢ Disabled) ↔ IsLinked (snapshot_of w) (port_of number port)
@@ -50,7 +52,8 @@ FollowsInTime number w root steps slave =
     IsCalmFor settling_span_with w → IsNear (snapshot_of w) number
     → IsSettledFor (snapshot_of w) number root steps slave
 
--- so it is once the world has been calm for the settling span of m systems, where no path of its snapshot has more
+-- the near system with this clock follows its component's best, at its distance and over its parent, once the world has
+-- been calm for the settling span of m systems, where no path of its snapshot has more
 abbrev pub FollowsByPaths : ℕ → WorldState → ℕ → ℕ → Option ℕ → Type 0
 FollowsByPaths number w root steps slave = (m : ℕ)
     → BoundsPaths (snapshot_of w) m → IsCalmFor (span_over m) w → IsNear (snapshot_of w) number
@@ -64,7 +67,8 @@ FollowsAtOnce number w root steps slave = (m : ℕ)
     → IsNear (snapshot_of w) number
     → IsSettledFor (snapshot_of w) number root steps slave
 
--- and by then each of its ports has its settled role
+-- a port of the near system with this clock has its settled role once the world has been calm for the settling span, of
+-- all live systems or of m, or for the sharper span where nothing lapses
 abbrev pub PlaysInTime : ℕ → ℕ → WorldState → Role → Type 0
 PlaysInTime number port w role =
     IsCalmFor settling_span_with w → IsNear (snapshot_of w) number
@@ -95,7 +99,8 @@ FollowsByDistance number w root steps slave = (m d : ℕ)
     → BoundsPaths (snapshot_of w) m → IsDistance (snapshot_of w) number d → d < 255 → IsCalmFor (distance_span m d) w
     → IsSettledFor (snapshot_of w) number root steps slave
 
--- and a step later each of its ports has its settled role
+-- a port of a near system at distance d has its settled role once the world has been calm for the span of distance d +
+-- 1, where no path of its snapshot has more than m systems
 abbrev pub PlaysByDistance : ℕ → ℕ → WorldState → Role → Type 0
 PlaysByDistance number port w role = (m d : ℕ)
     → BoundsPaths (snapshot_of w) m → IsDistance (snapshot_of w) number d → d < 255

@@ -15,7 +15,8 @@ SystemsAreCapable = (number : ℕ) (w : WorldState) (s : SystemState)
     → SettlingInvariant w → ShowsLive number w s
     → IsCapableInTime w s
 
--- and a role that is shown says so
+-- once ports have had the time to become capable, a role that is shown is Disabled exactly where no link of the
+-- snapshot is at its port
 abbrev pub RolesAreEnabled : Type 0
 RolesAreEnabled = (number port : ℕ) (w : WorldState) (role : Role)
     → SettlingInvariant w → AtSystem number w (HasRole port role)
@@ -27,7 +28,7 @@ SystemsSettle = (number root steps : ℕ) (slave : Option ℕ) (w : WorldState)
     → SettlingInvariant w → AtSystem number w (FollowsRoot root steps slave)
     → FollowsInTime number w root steps slave
 
--- and so is the role of each port that is shown
+-- the role of each port that is shown is settled in time
 abbrev pub RolesSettle : Type 0
 RolesSettle = (number port : ℕ) (w : WorldState) (role : Role)
     → SettlingInvariant w → AtSystem number w (HasRole port role)
@@ -44,7 +45,8 @@ RolesSettleByPaths = (number port : ℕ) (w : WorldState) (role : Role)
     → SettlingInvariant w → AtSystem number w (HasRole port role)
     → PlaysByPaths number port w role
 
--- and sooner yet where nothing lapses
+-- where nothing lapses, what a live system is shown to follow, and the role of each port that is shown, are settled
+-- once the world has been calm for the sharper span
 abbrev pub SystemsSettleAtOnce : Type 0
 SystemsSettleAtOnce = (number root steps : ℕ) (slave : Option ℕ) (w : WorldState)
     → SettlingInvariant w → AtSystem number w (FollowsRoot root steps slave)
@@ -55,7 +57,8 @@ RolesSettleAtOnce = (number port : ℕ) (w : WorldState) (role : Role)
     → SettlingInvariant w → AtSystem number w (HasRole port role)
     → PlaysAtOnce number port w role
 
--- and sooner still the nearer the system is to its best
+-- what a live system is shown to follow, and the role of each port that is shown, are settled within a span that is the
+-- shorter the nearer the system is to its best
 abbrev pub SystemsSettleByDistance : Type 0
 SystemsSettleByDistance = (number root steps : ℕ) (slave : Option ℕ) (w : WorldState)
     → SettlingInvariant w → AtSystem number w (FollowsRoot root steps slave)

@@ -30,11 +30,11 @@ SoundActs = (p : SettlingParams) (act : Act) (w : WorldState) (draws : List Draw
     → IsNoChange act → Acts act w draws done w' → IsWorld p w → IsSoundWorld w
     → IsSoundWorld w'
 
--- so does time that passes
+-- a world in which all that is held and in flight is sound stays so as time passes
 abbrev pub SoundLater : Type 0
 SoundLater = (w : WorldState) (time : ℕ) → IsSoundWorld w → IsSoundWorld (at time w)
 
--- and every change that takes nothing away
+-- a world in which all that is held and in flight is sound stays so with every change that takes nothing away
 abbrev pub SoundGains : Type 0
 SoundGains = (p : SettlingParams) (change : Change) (w : WorldState) (draws : List Draw) (done : Done) (w' : WorldState)
     → IsGain change w → SetsAnOctet (Changing change) → Acts (Changing change) w draws done w' → IsWorld p w

@@ -72,7 +72,7 @@ pub record JoinsTwoOf (stations : List Station) (channel : Channel) : Type 0 whe
   pub b : StationsHavePort stations channel.b
   pub apart : channel.a.clock ≢ channel.b.clock
 
--- so does each link
+-- each link of a world joins ports of two of its systems
 abbrev pub AreBetween : WorldState → Type 0
 AreBetween w = (link : ℕ) (channel : Channel) → slice_get w.net.channels link ≡ Some channel
     → JoinsTwoOf w.stations channel

@@ -26,13 +26,13 @@ StartsStayBetween = (places : List ℕ) (w : WorldState) (draws : List Draw) (w'
     → IsSound w → AreBetween w → StartsAll places w draws w'
     → AreBetween w'
 
--- and after every act
+-- after every act each link still joins ports of two systems
 abbrev pub ActsStayBetween : Type 0
 ActsStayBetween = (act : Act) (w : WorldState) (draws : List Draw) (done : Done) (w' : WorldState)
     → IsSound w → AreBetween w → Acts act w draws done w'
     → AreBetween w'
 
--- and as time passes
+-- as time passes each link still joins ports of two systems
 abbrev pub TimeStaysBetween : Type 0
 TimeStaysBetween = (w : WorldState) (time : ℕ) → AreBetween w → AreBetween (at time w)
 
@@ -48,7 +48,7 @@ ActsKeepSnapshot = (act : Act) (w : WorldState) (draws : List Draw) (done : Done
     → IsNoChange act → Acts act w draws done w'
     → snapshot_of w' ≡ snapshot_of w
 
--- and so does time that passes
+-- time that passes leaves the snapshot of a world as it is
 abbrev pub TimeKeepsSnapshot : Type 0
 TimeKeepsSnapshot = (w : WorldState) (time : ℕ) → snapshot_of (at time w) ≡ snapshot_of w
 

@@ -16,8 +16,8 @@ pub fn first_is_full()
     ensures { FirstIsFull }
 {}
 
-/// Each link that comes up is such a one, in both directions, where it loses nothing, is good and lies between two
-/// live systems.
+/// What is known of a link since its first request holds of each link that comes up, in both directions, from then on,
+/// where it loses nothing, is good and lies between two live systems.
 pub fn links_come_up()
     ensures { LinkUpIsFirst }
 {}

@@ -24,7 +24,8 @@ pub fn news_worlds_settle()
     ensures in_turn { NewsWorldsSettleInTurn }
 {}
 
-/// A link that comes up makes such a world, from when its two ends will be capable too.
+/// What is claimed of a world since news holds of one in which a link comes up, from when its two ends will be capable
+/// too.
 pub fn link_up_is_news()
     ensures { LinkUpIsNews }
 {}
@@ -60,8 +61,8 @@ pub fn news_settle_soon<F: Fate>()
     ensures gain { GainSettles F.answers }
 {}
 
-/// Every change that takes nothing away makes such a world, from when all ports are capable by what is claimed after
-/// every change.
+/// What is claimed of a world since news holds after each change that takes nothing away, from when all ports are
+/// capable by what is claimed after every change.
 pub fn gains_are_news()
     ensures { GainIsNews }
 {}
