@@ -1,8 +1,8 @@
 -- What a world shows.
-use Rattle.std.specs.Prelude.{◌≡◌, ℕ, nat_le, true, if◌then◌else◌, List, [], ◌∷◌, map, Option, Some, slice_get}
+use Rattle.std.specs.Prelude.{◌≡◌, ℕ, ℤ, nat_le, true, if◌then◌else◌, List, [], ◌∷◌, map, Option, Some, slice_get}
 use Rattle.gptp_roles.specs.declared.role.Role.{Role}
 use Rattle.gptp_system.specs.Start.{role_at}
-use Rattle.gptp_system.specs.State.{SystemState, clock}
+use Rattle.gptp_system.specs.State.{SystemState, clock, local_time}
 use Rattle.gptp_system.specs.Steps.{HasPortNumber}
 use Rattle.gptp_scenario.specs.declared.change.Act.{Act}
 use Rattle.gptp_scenario.specs.declared.change.Act.TheVariants.{Deliver, Expire}
@@ -50,6 +50,10 @@ pub record ShowsLive (number : ℕ) (w : WorldState) (s : SystemState) : Type 0 
   pub is : IsStation number place w station
   pub live : station.live ≡ true
   pub state : s ≡ station.system
+
+-- the clock of a system, live or not, shows this at a time
+abbrev pub ShowsTime : ℕ → ℤ → ℕ → Station → Type 0
+ShowsTime time shown place station = shown ≡ local_time station.system time
 
 -- a live system follows this root, so many steps away, over the port with this number
 pub record FollowsRoot (root steps : ℕ) (slave : Option ℕ) (place : ℕ) (station : Station) : Type 0 where

@@ -48,7 +48,7 @@ use Rattle.gptp_invariants.proofs.SyncFollowTreeLemmas.{slave_is, well_formed}
 use Rattle.gptp_invariants.proofs.SyncFollowWayLemmas.{correction_small, documented, few, long, own_time_fits, root_time_fits, short_way}
 use Rattle.gptp_invariants.proofs.SyncHeardLemmas.{heard_as}
 use Rattle.gptp_invariants.proofs.SyncTimeStepLemmas.{can_lapse}
-use Rattle.gptp_reading.specs.Reading.{read_after, read_from, reading}
+use Rattle.gptp_reading.specs.Reading.{read_after, reading}
 use Rattle.gptp_reading.specs.Readings.{LeavesTime}
 use Rattle.gptp_reading.proofs.TellingLemmas.{IsAsSent, offset_fits, reading_is_exact, told_as_sent}
 use Rattle.gptp_reading.proofs.WayLemmas.{in_units}
@@ -174,6 +174,12 @@ module _ (p : ℕ) (m : FollowUpFields) (octets : List ℕ) (now : ℕ) (s s' : 
 
 timeout_off : (q : Params) → q.sync_timeout ≡ 0 → has_sync_timeout q ≡ false
 timeout_off q off = rw off refl
+
+-- What is read where the own clock shows this. The root's time as the Sync came is its ingress less the offset, and the
+-- rate is the sum of the one received and the neighbour's, held at the limits of Integer32.
+abbrev read_from : SyncInfo → ℤ → ℤ → ℤ → ℤ
+read_from known offset neighbour shown =
+    (known.ingress -ℤ offset) +ℤ scaled_by (nearest_rate (known.rate +ℤ neighbour)) (shown -ℤ known.ingress)
 
 -- with an offset there is a reading
 reads_by : (info : SyncInfo) (s : SystemState) → s.known ≡ Some info → (moment : ℕ)

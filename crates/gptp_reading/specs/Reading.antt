@@ -6,10 +6,10 @@ use Rattle.gptp_graph.specs.Best.{IsBest}
 use Rattle.gptp_graph.specs.Snapshot.{System}
 use Rattle.gptp_scaled.specs.Rate.{scaled_by}
 use Rattle.gptp_correction.specs.declared.sync_in.SyncInfo.{SyncInfo}
-use Rattle.gptp_correction.specs.Correction.{nearest_rate, sync_received}
+use Rattle.gptp_correction.specs.Correction.{sync_received}
 use Rattle.gptp_setup.specs.declared.setup.Params.{Params}
+use Rattle.gptp_system.specs.Reading.{read_at, reading_by}
 use Rattle.gptp_system.specs.State.{SystemState, local_time}
-use Rattle.gptp_system.specs.Syncing.{slave_rate}
 use Rattle.gptp_error_laws.specs.TimeError.{Way, reading_error_at}
 use Rattle.gptp_model.specs.Views.{ShowsLive}
 use Rattle.gptp_model.specs.World.{WorldState}
@@ -25,18 +25,11 @@ abbrev pub read_after : SyncInfo → ℤ → ℤ → ℤ → ℤ
 read_after s link_delay neighbour passed =
     sync_received s link_delay neighbour +ℤ scaled_by (s.rate +ℤ neighbour) passed
 
--- What is read from what a Follow_Up leaves, where the own clock shows this. The root's time as the Sync came is its
--- ingress less the offset. The rate is the sum of the one received and the neighbour's, held at the limits of
--- Integer32.
-abbrev pub read_from : SyncInfo → ℤ → ℤ → ℤ → ℤ
-read_from known offset neighbour shown =
-    (known.ingress -ℤ offset) +ℤ scaled_by (nearest_rate (known.rate +ℤ neighbour)) (shown -ℤ known.ingress)
-
 -- What is read at a time by the state that a Follow_Up left: nothing where no offset is known. It is read so until the
 -- next one is used, whatever becomes of the system and of the network meanwhile: the own clock counts on.
 abbrev pub reading : SystemState → ℕ → Option ℤ
 reading s time =
-    option_and_then (λ known. option_map (λ offset. read_from known offset (slave_rate s) (local_time s time)) s.offset)
+    option_and_then (λ known. option_map (λ offset. read_at (reading_by s known offset) (local_time s time)) s.offset)
     s.known
 
 -- What the clock of the best of a system's component shows at a time. It counts on too, whatever becomes of the best.

@@ -1,10 +1,11 @@
-use Rattle.std.proofs.Common.{◌≡◌, ℕ, ◌^◌, ℤ, pos, negsuc, neg_ℤ, ◌+ℤ◌, ◌-ℤ◌, ◌*ℤ◌, ◌<ℤ◌, FitsSigned, to_z, of_z, ap, ◌∙◌, refl, arith}
+use Rattle.std.proofs.Common.{◌≡◌, ℕ, ◌^◌, ℤ, pos, negsuc, neg_ℤ, ◌+ℤ◌, ◌-ℤ◌, ◌*ℤ◌, ◌<ℤ◌, ◌*◌, ◌-◌, ◌<◌, unsigned_abs, FitsSigned, to_z, of_z, ap, ◌∙◌, refl, arith}
 use Rattle.std.specs.Int.{Width, w32, w128, int_div_euclid}
 use Rattle.std.proofs.lemmas.Int.{ints, clamps, to_z-of_z}
 use Rattle.std.proofs.Math.Nat.{div-le_self}
 use Rattle.gptp_scaled.specs.Floor.{floor_div}
 use Rattle.gptp_scaled.specs.Rate.{FitsRate, unit, clamped, scaled_by, unscaled_by, neighbor_rate_of}
 use Rattle.gptp_scaled.specs.ScaledNs.{FitsScaled}
+use Rattle.gptp_scaled.proofs.FloorLemmas.{floor_is}
 use Rattle.gptp_scaled.proofs.ProductLemmas.{IsWithin, times_within}
 use Rattle.gptp_scaled.proofs.RateLemmas.{unscaled_parts}
 use lib.Signed.{shr_z}
@@ -26,17 +27,17 @@ shift_floors : (z : ℤ) (k : ℕ) → shr_z z k ≡ floor_div z (pos k)
 shift_floors (pos a) k = refl
 shift_floors (negsuc a) k = refl
 
--- what a time x, a rate q and their product are as 128 bits, where r is q of 32 bits
-record Factors (q x r : ℤ) : Type 0 where
+-- what a span x of at most m, a rate q and their product are as 128 bits, where r is q of 32 bits
+record Factors (m : ℕ) (q x r : ℤ) : Type 0 where
   time : back w128 x ≡ x
   rate : back w128 r ≡ q
-  small : IsWithin (2 ^ 126) (x *ℤ q)
+  small : IsWithin (m * 2 ^ 31) (x *ℤ q)
   product : back w128 (x *ℤ q) ≡ x *ℤ q
 
--- they are so
-factors : (q x r : ℤ) → FitsRate q → FitsScaled x → r ≡ back w32 q → Factors q x r
-factors q x r f g e =
-    let s = times_within (2 ^ 95) (2 ^ 31) x q (omega (arith, ints)) (omega (arith, ints)) in
+-- they are so, where the product fits
+factors : (m : ℕ) (q x r : ℤ) → m < 2 ^ 96 → FitsRate q → IsWithin m x → r ≡ back w32 q → Factors m q x r
+factors m q x r few f g e =
+    let s = times_within m (2 ^ 31) x q (omega (arith, ints)) (omega (arith, ints)) in
     record {
       time = to_z-of_z w128 x (omega (arith, ints));
       rate = ap (back w128) (e ∙ to_z-of_z w32 q f) ∙ to_z-of_z w128 q (omega (arith, ints));
@@ -45,20 +46,34 @@ factors q x r f g e =
     }
 
 -- what the machine numbers of `scaled` in src/rate.rt come to
-pub scaled_back : (q x r : ℤ) → FitsRate q → FitsScaled x → r ≡ back w32 q
+pub scaled_back : (q x r : ℤ) → FitsRate q → IsWithin (2 ^ 96 - 1) x → r ≡ back w32 q
     → back w128 (back w128 x +ℤ back w128 (shr_z (back w128 (back w128 x *ℤ back w128 r)) (2 ^ 41))) ≡ scaled_by q x
 scaled_back q x r f g e =
-    let by = factors q x r f g e in
-    let floor = floor_within (2 ^ 126) (x *ℤ q) unit (omega (arith, ints)) by.small in
+    let by = factors (2 ^ 96 - 1) q x r (omega (arith, ints)) f g e in
+    let small = by.small in
+    let floor = floor_is (x *ℤ q) unit (omega (arith, ints)) in
     let shifted : back w128 (floor_div (x *ℤ q) unit)
     ≡ floor_div (x *ℤ q) unit = to_z-of_z w128 (floor_div (x *ℤ q) unit) (omega (arith, ints)) in
     let sum : back w128 (scaled_by q x) ≡ scaled_by q x = to_z-of_z w128 (scaled_by q x) (omega (arith, ints)) in
     rw (by.time, by.rate, by.product, shift_floors, shifted) sum
 
+-- and is not large
+pub scaled_small : (q x : ℤ) → FitsRate q → IsWithin (2 ^ 96 - 1) x → unsigned_abs (scaled_by q x) < 2 ^ 97
+scaled_small q x f g =
+    let small = times_within (2 ^ 96 - 1) (2 ^ 31) x q (omega (arith, ints)) (omega (arith, ints)) in
+    let floor = floor_is (x *ℤ q) unit (omega (arith, ints)) in
+    omega (arith, ints)
+
 -- s is the machine number that `unscaled` there divides out
 abbrev pub IsDivided : ℤ → ℤ → ℤ → Type 0
 IsDivided x r s =
     s ≡ int_div_euclid (back w128 (pos 0 -ℤ back w128 (back w128 x *ℤ back w128 r))) (back w128 (unit +ℤ back w128 r))
+
+-- what they are where x is a time
+time_factors : (q x r : ℤ) → FitsRate q → FitsScaled x → r ≡ back w32 q → Factors (2 ^ 95) q x r
+time_factors q x r f g e =
+    factors (2 ^ 95) q x r (omega (arith, ints)) f
+    (record { low = omega (arith, ints); high = omega (arith, ints) }) e
 
 -- what the quotient s of `unscaled` there is, where r is q of 32 bits
 record Quotient (q x s : ℤ) : Type 0 where
@@ -69,7 +84,7 @@ record Quotient (q x s : ℤ) : Type 0 where
 -- it is so
 quotient : (q x r s : ℤ) → FitsRate q → FitsScaled x → r ≡ back w32 q → IsDivided x r s → Quotient q x s
 quotient q x r s f g e h =
-    let by = factors q x r f g e in
+    let by = time_factors q x r f g e in
     let small = by.small in
     let negated : IsWithin (2 ^ 126) (pos 0 -ℤ x *ℤ q) =
     record { low = omega (arith, ints); high = omega (arith, ints) } in
@@ -85,14 +100,14 @@ pub unscaled_fits : (q x r s : ℤ) → FitsRate q → FitsScaled x → r ≡ ba
     → FitsSigned w128 (back w128 x +ℤ back w128 s)
 unscaled_fits q x r s f g e h =
     let by = quotient q x r s f g e h in
-    rw ((factors q x r f g e).time, by.held) by.fits
+    rw ((time_factors q x r f g e).time, by.held) by.fits
 
 -- and is what the contract says
 pub unscaled_back : (q x r s : ℤ) → FitsRate q → FitsScaled x → r ≡ back w32 q → IsDivided x r s
     → back w128 (back w128 x +ℤ back w128 s) ≡ unscaled_by q x
 unscaled_back q x r s f g e h =
     let by = quotient q x r s f g e h in
-    rw ((factors q x r f g e).time, by.held) (to_z-of_z w128 (x +ℤ s) by.fits ∙ ap (λ v. x +ℤ v) by.is
+    rw ((time_factors q x r f g e).time, by.held) (to_z-of_z w128 (x +ℤ s) by.fits ∙ ap (λ v. x +ℤ v) by.is
     ∙ unscaled_parts q x f)
 
 -- what the quotient s and the clamped r of `neighbor_rate` in src/rate.rt come to

@@ -1,6 +1,6 @@
 //! Rates of clocks.
 
-ghost use Rattle.std.specs.Prelude.{◌≡◌, ◌+ℤ◌, ◌-ℤ◌, ◌*ℤ◌, ◌<ℤ◌, pos, OkIff};
+ghost use Rattle.std.specs.Prelude.{◌≡◌, ◌+ℤ◌, ◌-ℤ◌, ◌*ℤ◌, ◌<ℤ◌, ◌<◌, ◌^◌, neg_ℤ, pos, unsigned_abs, OkIff};
 ghost use Rattle.gptp_scaled.specs.Rate.{FitsRate, IsNeighborRate, scaled_by, unscaled_by, neighbor_rate_of, rate_of};
 ghost use Rattle.gptp_scaled.specs.ScaledNs.{FitsScaled};
 
@@ -73,6 +73,15 @@ impl Rate {
         ScaledNs::new(scaled(self.q, time.value()))
     }
 
+    /// What passes from one time to another, times the rate, rounded down, in units of 2^-16 ns: less than 2^97 either
+    /// way.
+    pub fn scale_between(self, from: ScaledNs, to: ScaledNs) -> i128
+        ensures is { result ≡ scaled_by self (to -ℤ from) }
+        ensures small { unsigned_abs result < 2 ^ 97 }
+    {
+        scaled(self.q, to.value() - from.value())
+    }
+
     /// The time `time` divided by the rate, rounded down; refused where it does not fit.
     pub fn unscale(self, time: ScaledNs) -> Result<ScaledNs, OutOfRange>
         ensures { OkIff result (FitsScaled (unscaled_by self time)) (unscaled_by self time) }
@@ -92,10 +101,13 @@ impl Rate {
     }
 }
 
-// x (1 + q/2^41), rounded down: the product of 96 by 32 bits fits, and so the fraction is taken apart from x.
+// x (1 + q/2^41), rounded down: the product of 97 bits, which what passes between two times has, by 32 bits fits, and
+// so the fraction is taken apart from x.
 fn scaled(q: i32, x: i128) -> i128
-    requires { FitsScaled x }
-    ensures { result ≡ scaled_by q x }
+    requires low { neg_ℤ (pos (2 ^ 96)) <ℤ x }
+    requires high { x <ℤ pos (2 ^ 96) }
+    ensures is { result ≡ scaled_by q x }
+    ensures small { unsigned_abs result < 2 ^ 97 }
 {
     x + (x * i128::from(q) >> 41)
 }

@@ -20,3 +20,4 @@ pub mod Times
 pub mod Reach
 pub mod TimersChanged
 pub mod Counters
+pub mod Reading

@@ -14,6 +14,7 @@ ghost use Rattle.gptp_system.specs.Syncing.{as_received, came_from, counted_by_r
 use crate::answer::Answer;
 use crate::lapse::lapse_of;
 use crate::port::Port;
+use crate::reading::Reading;
 use crate::sending::{Body, Outbox, Sending, push};
 use crate::state::State;
 use gptp_correction::{Relayed, SyncIn, SyncInfo, receipt_time, relay};
@@ -250,6 +251,7 @@ impl State {
     ghost use Rattle.std.specs.Prelude.{◌≡◌, ◌⊎◌, ◌≤◌, [], length};
     ghost use Rattle.gptp_setup.specs.Intervals.{IsMoment};
     ghost use Rattle.gptp_setup.specs.SettlingParams.{has_sync_timeout};
+    ghost use Rattle.gptp_system.specs.Reading.{held_reading};
     ghost use Rattle.gptp_system.specs.Ready.{IsReady, state_of};
     ghost use Rattle.gptp_system.specs.Syncing.{is_followed, is_slave_at, is_leading, slave_delay, slave_rate, telling, told_by, HearsFollowUp, HearsSync, IsDropped, IsForgotten};
     ghost use Rattle.gptp_system.specs.Syncing.{OffsetIsKnown, IsRefreshed, IsRelayed, IsSentOn, IsToldAtLimits, KnowsBy, RelayExpires, SyncExpires};
@@ -423,6 +425,20 @@ impl State {
             Some(port) => rate_at(self.ports.as_slice(), port),
             None => Rate::default(),
         }
+    }
+
+    /// What is read of the root's time by the Follow_Up that was used last.
+    pub(crate) fn reading(&self) -> Option<Reading>
+        ensures { result ≡ held_reading (state_of self.now) }
+    {
+        let known = self.known?;
+        let offset = self.offset?;
+        let sum = known.rate.q().saturating_add(self.slave_rate().q());
+        Some(Reading {
+            ingress: known.ingress,
+            offset,
+            rate: Rate::new(sum),
+        })
     }
 
     /// The time that came is sent on where the numbers on the way fit.

@@ -41,6 +41,7 @@ impl System {
     ghost use Rattle.std.specs.Option.{option_and_then};
     ghost use Rattle.gptp_pdelay.specs.Peer.{delay_of};
     ghost use Rattle.gptp_system.specs.Reach.{frame_reach, timer_reach};
+    ghost use Rattle.gptp_system.specs.Reading.{held_reading};
     ghost use Rattle.gptp_system.specs.Start.{role_at, started};
     ghost use Rattle.gptp_system.specs.State.{due, is_capable_at, local_time, number, parent, trace};
     ghost use Rattle.gptp_system.specs.Steps.{Expires, HearsFrame, IsDue, HasPortNumber, IsTimerOf, IsUp};
@@ -156,6 +157,14 @@ impl System {
         ensures { result ≡ self.now.offset }
     {
         self.state.offset
+    }
+
+    /// What it reads of the root's time by the Follow_Up that it used last, as long as it knows an offset. It is read so
+    /// from that Follow_Up on until the next one is used.
+    pub fn reading(&self) -> Option<Reading>
+        ensures { result ≡ held_reading self.now }
+    {
+        self.state.reading()
     }
 
     /// The path trace that the system announces: the path of its Slave port with the own clock after it, or the own

@@ -12,17 +12,19 @@ use crate::world_core::WorldCore;
 use crate::world_parts::WorldParts;
 use gptp_model::{Act, Item, Timed};
 use gptp_roles::Role;
+use gptp_scaled::ScaledNs;
 use gptp_system::System;
 use gptp_vector::{ClockId, Identity};
 use std::alloc::Global;
 
 impl WorldCore {
-    ghost use Rattle.std.specs.Prelude.{◌≡◌, ◌≤◌, ◌↔◌, [], IfNone, IfSome, IsTrue, length, slice_get, true};
+    ghost use Rattle.std.specs.Prelude.{◌≡◌, ◌≤◌, ◌↔◌, [], ℤ, IfNone, IfSome, IsTrue, length, slice_get, true};
+    ghost use Rattle.gptp_setup.specs.Intervals.{IsMoment};
     ghost use Rattle.gptp_model.specs.Acts.{AtSystem};
     ghost use Rattle.gptp_scenario.specs.Allowed.{IsFitAct};
     ghost use Rattle.gptp_model.specs.Prompt.{DelaysFitIntervals};
     ghost use Rattle.gptp_model.specs.Sound.{IsSound};
-    ghost use Rattle.gptp_model.specs.Views.{FollowsRoot, HasPort, HasRole, IsLiveSystem, IsNextAct, ShowsLive, rising_clocks};
+    ghost use Rattle.gptp_model.specs.Views.{FollowsRoot, HasPort, HasRole, IsLiveSystem, IsNextAct, ShowsLive, ShowsTime, rising_clocks};
     ghost use Rattle.gptp_invariants.specs.WorldSettlingInvariant.{SettlingInvariant};
     ghost use Rattle.gptp_invariants.specs.WorldShown.{FollowsAtOnce, FollowsByDistance, FollowsByPaths, FollowsInTime};
     ghost use Rattle.gptp_invariants.specs.WorldShown.{IsCapableInTime, IsEnabledInTime};
@@ -109,6 +111,18 @@ impl WorldCore {
                     false => None,
                 }
             }
+            None => None,
+        }
+    }
+
+    /// What the clock of a system, live or not, shows at a time; `None` where there is no such system.
+    pub(crate) fn local(&self, clock: ClockId, t: u64) -> Option<ScaledNs>
+        requires { IsMoment t }
+        ensures some { IfSome result (λ shown. AtSystem clock self.now (ShowsTime t shown)) }
+        ensures none { IfNone result ((shown : ℤ) → AtSystem clock self.now (ShowsTime t shown) → ⊥) }
+    {
+        match self.parts.net.directory.place_of(clock) {
+            Some(place) => Some(self.parts.stations[place].system.local(t)),
             None => None,
         }
     }

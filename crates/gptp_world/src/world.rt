@@ -5,6 +5,7 @@ use crate::world_core::WorldCore;
 use gptp_links::Fate;
 use gptp_model::{Done, Network, Refused, Timed};
 use gptp_roles::Role;
+use gptp_scaled::ScaledNs;
 use gptp_system::System;
 use gptp_vector::{ClockId, Identity, PortId};
 use std::alloc::{AllocError, Global};
@@ -18,7 +19,8 @@ pub struct World<F> {
 }
 
 impl<F: Fate + Drop> World<F> {
-    ghost use Rattle.std.specs.Prelude.{◌≡◌, ◌≢◌, ◌≤◌, ◌↔◌, IsTrue, IfErr, IfNone, IfOk, IfSome, List, OnErr, OnOk, length, map, option_map, slice_get, []};
+    ghost use Rattle.std.specs.Prelude.{◌≡◌, ◌≢◌, ◌≤◌, ◌↔◌, IsTrue, IfErr, IfNone, IfOk, IfSome, List, OnErr, OnOk, length, map, option_map, slice_get, [], ℤ};
+    ghost use Rattle.gptp_setup.specs.Intervals.{IsMoment};
     ghost use Rattle.gptp_model.specs.Acts.{AtSystem, Refuses};
     ghost use Rattle.gptp_model.specs.declared.done.Refused.TheVariants.{OutOfMemory};
     ghost use Rattle.gptp_scenario.specs.Allowed.{IsFitAct};
@@ -36,7 +38,7 @@ impl<F: Fate + Drop> World<F> {
     ghost use Rattle.gptp_invariants.specs.SyncExact.{IsHeardExact};
     ghost use Rattle.gptp_invariants.specs.SyncTimedClaim.{WorldInvariant};
     ghost use Rattle.gptp_invariants.specs.ChoiceTraces.{AreHeldCleanInTime, AreHeldWholeInTime, AreHeldWholeSooner, IsCleanInTime, IsHeardClean};
-    ghost use Rattle.gptp_model.specs.Views.{FollowsRoot, HasPort, HasRole, IsLiveSystem, IsNextAct, ShowsLive, rising_clocks};
+    ghost use Rattle.gptp_model.specs.Views.{FollowsRoot, HasPort, HasRole, IsLiveSystem, IsNextAct, ShowsLive, ShowsTime, rising_clocks};
     ghost use Rattle.gptp_world.specs.Memory.{AsksForNoMemory};
     ghost use Rattle.gptp_world.specs.Used.{snapshot_link};
 
@@ -243,6 +245,16 @@ impl<F: Fate + Drop> World<F> {
         ensures timed { WorldInvariant self.now.world_core }
     {
         self.world_core.well_formed();
+    }
+
+    /// What the clock of a system, live or not, shows at the time `t`, in ns; `None` where there is no such system. A
+    /// system that has failed counts on.
+    pub fn local(&self, clock: ClockId, t: u64) -> Option<ScaledNs>
+        requires { IsMoment t }
+        ensures some { IfSome result (λ shown. AtSystem clock self.now.world_core (ShowsTime t shown)) }
+        ensures none { IfNone result ((shown : ℤ) → AtSystem clock self.now.world_core (ShowsTime t shown) → ⊥) }
+    {
+        self.world_core.local(clock, t)
     }
 
     /// Whether there is a live system with a clock.
