@@ -41,7 +41,7 @@ steps_word false = codes "steps"
 abbrev pub reading_at : SystemError → ℕ → Option ℕ
 reading_at s later = option_map (λ (r : ReadingTerms). error_after r later) s.reading
 
--- the same at the greatest age of a receipt, so at every moment; none where that age isn't known
+-- the error of what a system reads at any moment: that at the greatest age of a receipt; none where that isn't known
 abbrev pub reading_always : Option ℕ → SystemError → Option ℕ
 reading_always age s = option_and_then (reading_at s) age
 

@@ -48,7 +48,7 @@ pub record IsDone (n : NetworkState) (events : List Timed) (g : Snapshot) (sums 
     pub there : slice_get sums place ≡ Some to
     pub summed : IsSummedUp n events g clock steps to
 
--- so do those of a line's parent, which is one step nearer
+-- the sums of a line's parent, where it has one, stand at its place, and the parent is one step nearer to the root
 abbrev pub IsParentDone : NetworkState → List Timed → Snapshot → List Sums → SystemLine → Type 0
 IsParentDone n events g sums line = (l : ParentLink) → line.parent ≡ Some l
     → (steps : ℕ) × (suc steps ≡ line.steps) × IsDone n events g sums l.clock steps

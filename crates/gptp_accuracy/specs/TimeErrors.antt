@@ -61,7 +61,8 @@ IsErrorOf n events g s error = HasByWay n events g s time_error error
 abbrev pub IsReadingOf : NetworkState → List Timed → Snapshot → SystemError → Option ReadingTerms → Type 0
 IsReadingOf n events g s reading = HasByWay n events g s reading_terms reading
 
--- the same, as it is worked out
+-- what a system has by its way, as it is worked out: this, where the network is calm, the system isn't far and its root
+-- can be grandmaster; else none
 abbrev pub if_promised : {A : Type 0} → Bool → Bool → ℕ → A → Option A
 if_promised calm far root x = if calm && (not far && root_is_capable root) then Some x else None
 

@@ -17,7 +17,8 @@ pub record LaneIsClean (says : Spelling) (k : NetworkSetting) (l : Lane) : Type 
   pub anywhere : (f : AnnounceFrame) (a : Announce) (c : ℕ) → In f l.frames → says f.octets a
       → k.start + c * turn k + k.interval ≤ f.due → Good k.graph (suc c) l.from a
 
--- so was what a live system received after c turns and a delay
+-- each Announce that a live system received after c turns and a delay came over the port's link, and is clean by c + 1
+-- members or wholly
 abbrev pub StationIsClean : NetworkSetting → Station → Type 0
 StationIsClean k s = (i : ℕ) (r : Reception) (c : ℕ) → HoldsAt s i r → Late k c r.at
     → Came k.graph (suc c) s.clock (suc i) r

@@ -128,7 +128,7 @@ example_turn at =
     ∷ example_state (4 + at) (7 + at) (following (4 + at)) []
     ∷ []
 
--- so many turns
+-- this many turns, one after the other; an Announce was heard last at this time before the first of them
 abbrev pub turns : ℕ → ℕ → List MachineState
 turns at zero = []
 turns at (suc count) = example_turn at ++ turns (4 + at) count

@@ -31,7 +31,7 @@ NoLoopIsTaken says = (w w' : MachineState)
     → MachineSteps says w w' → OfEachLive HoldsNoLoop w
     → OfEachLive HoldsNoLoop w'
 
--- and that the ports of each are selected
+-- every step keeps that the ports of each live system are selected
 abbrev pub SelectionIsKept : Spelling → Type 0
 SelectionIsKept says = (w w' : MachineState)
     → MachineSteps says w w' → OfEachLive PortsAreSelected w

@@ -19,7 +19,7 @@ StandsAt w clock place = (i : ℕ) (m : Station) → slice_get w.stations i ≡ 
 abbrev pub HasSettled : Wiring → Station → Type 0
 HasSettled k s = (s.root ≡ k.root) × (s.steps ≡ k.steps)
 
--- and its port is on
+-- the teller has settled, and its port is on
 abbrev pub TellerIsReady : Wiring → Station → Port → Type 0
 TellerIsReady k s q = HasSettled k s × (q.held ≢ Disabled)
 
@@ -94,7 +94,7 @@ HearsOn says k w = (l : Lane) (f : AnnounceFrame) (fs : List AnnounceFrame) (a :
     → slice_get w.stations k.hearer_place ≡ Some s → slice_get s.ports k.hearer_port ≡ Some q
     → q.held ≢ Disabled
 
--- and stays on where it was
+-- once claims are made, the port that hears stays on in the next state where it is on in this one
 abbrev pub StaysOn : Wiring → MachineState → MachineState → Type 0
 StaysOn k w w' = (s s' : Station) (q q' : Port) → k.from ≤ w.time → slice_get w.stations k.hearer_place ≡ Some s
     → slice_get s.ports k.hearer_port ≡ Some q → slice_get w'.stations k.hearer_place ≡ Some s'

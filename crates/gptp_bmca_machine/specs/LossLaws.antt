@@ -26,7 +26,8 @@ pub record FlightFits (g : Snapshot) (l : Lane) (a : Announce) : Type 0 where
       → IsDistance g l.from.clock far → far ≤ a.steps
   pub fits : HeldFits g l.to.clock a
 
--- so does each Announce in flight to a live system of the network, and all that live systems hold
+-- each Announce in flight to a live system of the network came over a link, is its sender's, and fits whoever hears it;
+-- and all that live systems hold fits
 pub record EverythingFits (says : Spelling) (g : Snapshot) (n : Network) (w : MachineState) : Type 0 where
   pub lanes : (j : ℕ) (l : Lane) (f : AnnounceFrame) (a : Announce) → slice_get w.lanes j ≡ Some l → In f l.frames
       → says f.octets a → In l.to.clock (clocks n.graph) → FlightFits g l a

@@ -85,7 +85,7 @@ pub record IsTimed (n : Network) (d : ℕ) (p q : PortIdentity) : Type 0 where
 pub record IsSettlingNetwork (n : Network) : Type 0 where
   -- a network takes only what is well formed, and its world stays so, by stands_well
   pub graph : IsWellFormed n.graph
-  -- so many systems live, or gptp_graph reads the number off the links, by paths_bounded
+  -- no path has more systems than `reach`: as many as live, or what gptp_graph reads off the links, by paths_bounded
   pub paths : BoundsPaths n.graph n.reach
   -- No interval exceeds the largest. Where systems settle in turn, the wait for Sync, an announce interval and the
   -- largest delay are together at most `step`.

@@ -29,7 +29,8 @@ ReactionSettles says = (n n' : Network) (w w' : MachineState) (ws : List Machine
     → settled_from n' ≤ (last_state w' ws).time
     → NearHaveSettled n' (last_state w' ws)
 
--- and at rest a delay later
+-- a run after a reaction at rest is at rest again a delay after it has settled, once ports that no link is at hold
+-- nothing, where all live systems are near
 abbrev pub RestFollowsReaction : Spelling → Type 0
 RestFollowsReaction says = (n n' : Network) (w w' : MachineState) (ws : List MachineState)
     → IsSettlingNetwork n → IsSettlingNetwork n' → ReactsAtRest says n n' w w' → AllAreNear n'.graph

@@ -68,7 +68,8 @@ NewsFromRest says = (n n' : Network) (w w' : MachineState) (ws : List MachineSta
     → settled_from n' ≤ (last_state w' ws).time
     → NearHaveSettled n' (last_state w' ws)
 
--- and at rest a delay later
+-- a run after news at rest is at rest again a delay after it has settled, once ports that no link is at hold nothing,
+-- where all live systems are near
 abbrev pub RestFollowsNews : Spelling → Type 0
 RestFollowsNews says = (n n' : Network) (w w' : MachineState) (ws : List MachineState)
     → IsSettlingNetwork n → IsSettlingNetwork n' → NewsAtRest says n n' w w' → AllAreNear n'.graph

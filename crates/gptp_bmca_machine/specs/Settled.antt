@@ -25,7 +25,7 @@ pub record HasBest (g : Snapshot) (s : Station) : Type 0 where
   pub root : IsBestIdentity g s.clock s.root
   pub steps : IsDistance g s.clock s.steps
 
--- and its slave port leads to its parent
+-- the system's root is the best of its component, its steps are its distance, and its slave port leads to its parent
 pub record FollowsBest (g : Snapshot) (s : Station) : Type 0 where
   pub root : IsBestIdentity g s.clock s.root
   pub steps : IsDistance g s.clock s.steps

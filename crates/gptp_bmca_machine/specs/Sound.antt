@@ -17,6 +17,6 @@ ReceivedFits g w = (i : ℕ) (s : Station) (place : ℕ) (r : Reception)
     → slice_get w.stations i ≡ Some s → s.live ≡ true → HoldsAt s place r
     → CameFits g s.clock (suc place) r
 
--- so it is from when the network says
+-- everything that a live system received fits, from the time on that the network gives as `sound`
 abbrev pub RunIsSound : Network → MachineState → Type 0
 RunIsSound n w = n.sound ≤ w.time → ReceivedFits n.graph w

@@ -15,7 +15,7 @@ pub record IsSoundSent (g : Snapshot) (from : PortIdentity) (a : Announce) : Typ
   pub source : a.source ≡ from
   pub sound : IsWorse g from.clock a ⊎ Whole g from.clock a
 
--- so is each that is in flight on the lane
+-- each Announce in flight on the lane is a sound one of the port from which the lane leads
 abbrev pub LaneIsSound : Spelling → Snapshot → Lane → Type 0
 LaneIsSound says g l = (f : AnnounceFrame) (a : Announce) → In f l.frames → says f.octets a → IsSoundSent g l.from a
 

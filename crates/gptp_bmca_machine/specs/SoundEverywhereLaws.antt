@@ -20,7 +20,8 @@ EverywhereIsKept says = (k : NetworkSetting) (w w' : MachineState)
     → IsSoundEverywhere says k.graph w
     → IsSoundEverywhere says k.graph w'
 
--- so does each call by which the network changes, which hears nothing, where the system is one of the snapshot
+-- each call by which the network changes keeps that all is sound, where the system is one of the snapshot; such a call
+-- hears no Announce
 abbrev pub CallsAreSound : Spelling → Type 0
 CallsAreSound says = (g : Snapshot) (touch : StationTouch) (w w' : MachineState) (call : StationAnswers says touch w w')
     → IsWellFormed g → MaySay g call.s' → ((n : ℕ) (a : Announce) → touch ≡ Hear n a → ⊥) → IsSoundEverywhere says g w
@@ -36,7 +37,7 @@ NewsKeepSound says = (g g' : Snapshot) (w : MachineState)
 abbrev pub SoundIsHeld : Spelling → Type 0
 SoundIsHeld says = (g : Snapshot) (w : MachineState) → IsSoundEverywhere says g w → HeldIsSound g w
 
--- and what is in flight on the links of the snapshot is
+-- where all is sound on every lane, all that is held is sound, and all that is in flight on the links of the snapshot
 abbrev pub LinksAreSound : Spelling → Type 0
 LinksAreSound says = (g : Snapshot) (w : MachineState) → IsSoundEverywhere says g w → IsSoundOnLinks says g w
 

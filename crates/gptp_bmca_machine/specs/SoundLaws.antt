@@ -22,7 +22,8 @@ pub record IsSoundFrom (g : Snapshot) (from : PortIdentity) (a : Announce) : Typ
   pub source : a.source ≡ from
   pub sound : IsWorse g from.clock a ⊎ Whole g from.clock a
 
--- so is each Announce in flight on a link of the snapshot, and all that live systems hold
+-- each Announce in flight on a link of the snapshot, and each that a live system holds, names a root worse than the
+-- best of its sender, or is wholly clean
 pub record IsSoundOnLinks (says : Spelling) (g : Snapshot) (w : MachineState) : Type 0 where
   pub lanes : (j : ℕ) (l : Lane) (f : AnnounceFrame) (a : Announce) → slice_get w.lanes j ≡ Some l → In f l.frames
       → says f.octets a → Joins g l.from l.to → IsSoundFrom g l.from a
@@ -58,7 +59,7 @@ pub record IsWholeFrom (g : Snapshot) (from : PortIdentity) (a : Announce) : Typ
   pub source : a.source ≡ from
   pub whole : Whole g from.clock a
 
--- so is each in flight on these links, and so is all that live systems hold
+-- each Announce in flight on these links, and each that a live system holds, is wholly clean
 pub record AllIsWhole (says : Spelling) (g : Snapshot) (links : PortIdentity → PortIdentity → Type 0) (w : MachineState)
     : Type 0 where
   pub lanes : (j : ℕ) (l : Lane) (f : AnnounceFrame) (a : Announce) → slice_get w.lanes j ≡ Some l → In f l.frames
@@ -97,7 +98,8 @@ NamingIsKept says = (n : Network) (w w' : MachineState)
     → FlightNamesBest says n w
     → FlightNamesBest says n w'
 
--- so a delay after all has settled all is wholly clean, where it is sound
+-- a delay after all has settled, all that is held, or in flight on the links of the snapshot, is wholly clean, where it
+-- is sound and what was sent since names the best
 abbrev pub SettledIsWhole : Spelling → Type 0
 SettledIsWhole says = (n : Network) (w : MachineState)
     → IsSettlingNetwork n → AllAreNear n.graph → Calm n w → Invariant says n w → IsSoundOnLinks says n.graph w
@@ -120,7 +122,8 @@ NewsSettle says = (g : Snapshot) (n : Network) (w : MachineState) (ws : List Mac
     → settled_from n ≤ (last_state w ws).time
     → NearHaveSettled n (last_state w ws)
 
--- and a delay later all is wholly clean again, so that the next news may come
+-- a delay after a run since news has settled, all is wholly clean again, so that the next news may come; all live
+-- systems are near
 abbrev pub NewsBecomeWhole : Spelling → Type 0
 NewsBecomeWhole says = (g : Snapshot) (n : Network) (w : MachineState) (ws : List MachineState)
     → IsSettlingNetwork n → AllAreNear n.graph → HasNews g n.graph → AllIsWhole says g (Joins n.graph) w
@@ -151,7 +154,7 @@ pub record NothingIsHeldAtStart (says : Spelling) (n : Network) (w : MachineStat
   pub silent : (j : ℕ) (l : Lane) (f : AnnounceFrame) (a : Announce) → slice_get w.lanes j ≡ Some l → In f l.frames
       → says f.octets a → Joins n.graph l.from l.to → ⊥
 
--- so a run from a start ends settled
+-- a run from a start, at which nothing is held and no Announce is in flight, ends settled
 abbrev pub StartSettles : Spelling → Type 0
 StartSettles says = (n : Network) (w : MachineState) (ws : List MachineState)
     → IsSettlingNetwork n → NothingIsHeldAtStart says n w → IsNewsRun says n w ws

@@ -26,7 +26,7 @@ ExpectedSyncsAreKept says says_sync = (n : Network) (w w' : MachineState)
     → HaveSyncTimers n w → HaveSyncTimers n w' → SyncSteps says says_sync n w w' → SyncsAreExpected says_sync n w
     → SyncsAreExpected says_sync n w'
 
--- so nothing lapses
+-- where Syncs are expected in a prompt network, nothing lapses that a system received from a near one
 abbrev pub ExpectedSyncsComeInTime : Spelling → SaysSync → Type 0
 ExpectedSyncsComeInTime says says_sync = (n : Network) (w : MachineState)
     → IsSettlingNetwork n → IsPrompt n → Calm n w → Invariant says n w → HaveSyncTimers n w

@@ -42,7 +42,8 @@ abbrev pub IsStart : SystemLine → ℕ → ℕ → Type 0
 IsStart line lowest n =
     (IsFarBy line lowest × (n ≡ 65281)) ⊎ ((IsFarBy line lowest → ⊥) × (n ≡ 0))
 
--- so of each
+-- by how many links the system of each line is away from one that isn't far, before links are looked at: 0, or where it
+-- is far itself 65,281, which is more than there are
 pub record AreStarts (lowest : List ℕ) (lines : List SystemLine) (numbers : List ℕ) : Type 0 where
   pub long : length numbers ≡ length lines
   pub each : (i : ℕ) (line : SystemLine) → slice_get lines i ≡ Some line
@@ -64,7 +65,7 @@ abbrev pub Marks : ℕ → ℕ → SystemLine → SystemLine → Type 0
 Marks lowest n before after =
     (IsFarBy before lowest × (after ≡ far_line before lowest n)) ⊎ ((IsFarBy before lowest → ⊥) × (after ≡ before))
 
--- so at each place below this one
+-- below this place the line of each far system takes the place of what that system says; all other lines stay
 pub record LinesAreMarked (count : ℕ) (lowest numbers : List ℕ) (before after : List SystemLine) : Type 0 where
   pub long : length after ≡ length before
   pub marked : (i : ℕ) (line : SystemLine) → i < count → slice_get before i ≡ Some line

@@ -11,7 +11,7 @@ value xs i = slice_index_or xs i 0
 abbrev pub LinkTouches : List (ℕ × ℕ) → ℕ → ℕ → Type 0
 LinkTouches links i j = In (i, j) links ⊎ In (j, i) links
 
--- so many links lead from the one to the other
+-- this many links, one after the other, lead from the one place to the other
 abbrev pub Leads : List (ℕ × ℕ) → ℕ → ℕ → ℕ → Type 0
 Leads links i j zero = i ≡ j
 Leads links i j (suc k) = (m : ℕ) × LinkTouches links i m × Leads links m j k
@@ -30,7 +30,8 @@ pub record ValuesPass (step a b : ℕ) (xs ys : List ℕ) : Type 0 where
   pub from : (i : ℕ) → (value ys i ≡ value xs i)
       ⊎ ((i ≡ a) × (value ys i ≡ value xs b + step)) ⊎ ((i ≡ b) × (value ys i ≡ value xs a + step))
 
--- so they did over each link in turn
+-- values passed on over each link in turn: none rose, and at neither end of a link is more left than the other end had
+-- with the step of the link
 pub record PassRound (step : ℕ) (links : List (ℕ × ℕ)) (xs ys : List ℕ) : Type 0 where
   pub long : length ys ≡ length xs
   pub less : (i : ℕ) → value ys i ≤ value xs i

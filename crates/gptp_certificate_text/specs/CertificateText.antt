@@ -60,7 +60,7 @@ end_text = codes "end" ++ 10 ∷ []
 abbrev pub certificate_text : ℕ → List SystemLine → List ℕ
 certificate_text version lines = front_text version (entries_of lines) ++ end_text
 
--- the same, line by line
+-- the lines of a certificate: the head, the lines of each system, and the end
 abbrev pub certificate_lines : ℕ → List SystemLine → List (List ℕ)
 certificate_lines version lines = head_text version ∷ map entry_text (entries_of lines) ++ codes "end" ∷ []
 

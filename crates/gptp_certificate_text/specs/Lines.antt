@@ -22,7 +22,7 @@ use Rattle.gptp_certificate_text.specs.Forms.{FitsHere, HasForm}
 abbrev pub parent_words_of : ParentWords → forms.ParentWords
 parent_words_of words = record { own_port = words.own_port.now; clock = words.clock.now; port = words.port.now }
 
--- likewise the words of a system line
+-- the words of a system line, out of the text
 abbrev pub system_words_of : SystemWords → forms.SystemWords
 system_words_of words = record {
   clock = words.clock.now;
@@ -35,7 +35,7 @@ system_words_of words = record {
 abbrev pub far_words_of : FarWords → forms.FarWords
 far_words_of words = record { clock = words.clock.now; steps = words.steps.now; root = words.root.now }
 
--- and those of a port line
+-- the words of a port line, out of the text
 abbrev pub port_words_of : PortWords → forms.PortWords
 port_words_of words = record {
   clock = words.clock.now;

@@ -32,7 +32,7 @@ pub record FollowsParent (g : Snapshot) (lines : List SystemLine) (clock steps :
 abbrev pub LeadsFrom : List SystemLine → SystemLine → ℕ → ℕ → Type 0
 LeadsFrom lines line here there = (here ≡ line.clock) × StatesOneLess lines there line
 
--- so from one of its ends
+-- from one of its ends the link leads from the line's system to one that states one step less
 abbrev pub EndLeadsNearer : List SystemLine → SystemLine → Link → Type 0
 EndLeadsNearer lines line link =
     LeadsFrom lines line link.a.clock link.b.clock ⊎ LeadsFrom lines line link.b.clock link.a.clock
@@ -56,7 +56,7 @@ IsNoLower g lines line l n = (other : PortIdentity) (d : ℕ)
     → Joins g (port_of line.clock n) other → StatesSteps lines other.clock d → d + 1 ≡ line.steps
     → IsLower (other.clock ∷ other.port ∷ n ∷ []) (key l) → ⊥
 
--- so at all ports of the line
+-- at all ports of the line the other end of the link, where the steps there are one less, isn't before the parent's
 abbrev pub AreNoLower : Snapshot → List SystemLine → SystemLine → ParentLink → Type 0
 AreNoLower g lines line l = (port : PortLine) → In port line.ports → IsNoLower g lines line l port.number
 

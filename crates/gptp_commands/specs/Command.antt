@@ -177,7 +177,7 @@ name_of Version = codes "--version"
 abbrev pub Asks : Option (Text × List Row) → Order → Type 0
 Asks entered order = (rows : List Row) × (entered ≡ Some (name_of order, rows)) × ReadsOrder rows order
 
--- the same, but that it is `compare` where it has the name of none of the others
+-- the name, if there is one, is that of no command but `compare`, the first; such a command line asks for `compare`
 abbrev pub IsNoOther : Option Text → Type 0
 IsNoOther name = AllByRecursion (λ (e : CommandEntry). name ≢ Some e.0) (drop 1 commands)
 

@@ -20,7 +20,7 @@ abbrev pub CheckedText : Bool → Option ℕ → List ℕ → List ℕ → List 
 CheckedText true = WhereText
 CheckedText false = CheckText
 
--- the same where both inputs are known
+-- the text of `check` was written, where both its inputs are known: what was left to read, and the certificate
 abbrev pub WritesChecked : Bool → Option ℕ → Option (List ℕ) → Option (List ℕ) → Option (List ℕ) → Option (List ℕ)
     → Status → Type 0
 WritesChecked located until certificate left old new status =

@@ -80,7 +80,7 @@ pub record IsSettledRun (d : DocumentState) (options : RunOptions) (output : Lis
       → CertifiesRight options.certificate g certificate
   pub lines : output ≡ report ++ certificate
 
--- so is the run of a document that is at rest when it ends
+-- the run of a document that is at rest when it ends gives the report of a settled world
 abbrev pub SettlesInTime : DocumentState → RunOptions → List (List ℕ) → Type 0
 SettlesInTime d options output = DocumentIsAtRest d (until_of options d) → IsSettledRun d options output
 

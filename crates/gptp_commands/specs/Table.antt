@@ -17,7 +17,7 @@ Argument = Text × Form × List Text
 abbrev pub CommandEntry : Type 0
 CommandEntry = Text × List Argument
 
--- the same of rows that the code is passed
+-- an argument as the code is passed it in a row, with what help says of it
 abbrev pub PassedRow : Type 0
 PassedRow = Bor Text × (Form × Bor (List (Bor Text)) × Bor Text) × Bor Text
 
@@ -27,7 +27,7 @@ shown_argument row = (row.0.now, row.1.0, map (λ text. text.now) row.1.1.now)
 abbrev pub shown_command : Bor Text × Bor Text × Bor (List PassedRow) → CommandEntry
 shown_command row = (row.0.now, map shown_argument row.2.now)
 
--- the same of its constants
+-- a text as a constant of the code has it
 abbrev pub TextConstant : Type 0
 TextConstant = record { now : Text }
 

@@ -35,7 +35,7 @@ ActsOnce {F} answers = AnswersOnce answers →
     → Acts act w draws done v → Acts act w more said u
     → IsSameAct draws more done said v u
 
--- and so with one list of draws, whatever fate drew it
+-- one act, in one world, has one outcome with one list of draws, whatever fate drew it
 abbrev pub ActsOnceDrawn : Type 0
 ActsOnceDrawn = (act : Act) (w v u : WorldState) (draws : List Draw) (done said : Done)
     → IsNamed w → Acts act w draws done v → Acts act w draws said u
@@ -51,7 +51,7 @@ SoundIsNamed = (w : WorldState) → IsSound w → JoinTwoPorts w → IsNamed w
 abbrev pub InitialIsNamed : Type 0
 InitialIsNamed = (n : NetworkState) → IsNetwork n → IsNamed (initial n)
 
--- and after every act
+-- after every act names still mean one thing, where they did before
 abbrev pub ActsKeepNames : Type 0
 ActsKeepNames = (act : Act) (w w' : WorldState) (draws : List Draw) (done : Done)
     → IsNamed w → Acts act w draws done w'

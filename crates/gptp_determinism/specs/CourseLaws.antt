@@ -15,7 +15,7 @@ use Rattle.gptp_determinism.specs.Named.{AnswersOnce, IsNamed}
 abbrev pub NextOnce : Type 0
 NextOnce = (w : WorldState) (one other : Timed) → IsNextAct w one → IsNextAct w other → one ≡ other
 
--- the same acts, and the same told of each
+-- both lists tell of the same acts, and the same of each
 abbrev pub SameTold : List Told → List Told → Type 0
 SameTold [] [] = ⊤
 SameTold [] (u ∷ us) = ⊥
@@ -35,7 +35,7 @@ BeginsOnce {F} answers = AnswersOnce answers →
     → IsNamed (initial n) → Begun answers n fate f w → Begun answers n fate g v
     → (f ≡ g) × (w ≡ v)
 
--- and a world goes on to a time in one way
+-- a world goes on to a time in one way
 abbrev pub AdvancesOnce : {F : Type 0} → (Bounds → ℕ → F → Option ℕ → F → Type 0) → Type 0
 AdvancesOnce {F} answers = AnswersOnce answers →
     (until : ℕ) (told more : List Told) (fate f g : F) (w v u : WorldState)

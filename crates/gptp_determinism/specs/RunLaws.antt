@@ -44,6 +44,6 @@ ReportsOnce = (d : DocumentState) (until : ℕ) (w : WorldState) (lines others :
     → IsNamed w → Reports d until w lines → Reports d until w others
     → lines ≡ others
 
--- and one certificate
+-- a world has one certificate
 abbrev pub StatesOnce : Type 0
 StatesOnce = (w : WorldState) (lines others : List SystemLine) → States w lines → States w others → lines ≡ others

@@ -91,11 +91,11 @@ abbrev pub reading_error_at : Way → ℕ → ℕ → ℕ
 reading_error_at w i later =
     time_error_at w (suc i) + ceil_div ((later + jitter_at w i) * rates_error_at w i) 33550000
 
--- the same of a system so many links from the root; 0 at the root itself
+-- the error of what a system reads so many links from the root, so long after the Follow_Up; 0 at the root itself
 abbrev pub reading_error_after : Way → ℕ → ℕ → ℕ
 reading_error_after w zero later = 0
 reading_error_after w (suc i) later = reading_error_at w i later
 
--- the same at the end of the way
+-- the error of what is read at the end of the way, so long after the Follow_Up
 abbrev pub reading_error : Way → ℕ → ℕ
 reading_error w later = reading_error_after w (length w.links) later

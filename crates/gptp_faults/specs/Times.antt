@@ -37,7 +37,7 @@ pub record AreTimes (d : DocumentState) (options : FaultsOptions) (t : Times) : 
   pub seeds_are : t.seeds ≡ options.seeds
   pub behind_is : t.behind ≡ unwrap_or options.hold span
 
--- so that they are bounded
+-- the first moment, the spread and the span after the return, in ns, and the numbers of moments and seeds are bounded
 pub record TimesAreBounded (t : Times) : Type 0 where
   pub from : t.from ≤ 1000000000000000
   pub spread : t.spread ≤ 32000000000

@@ -43,7 +43,7 @@ RoutesAreNoShorter = (g : Snapshot) (b v d : ℕ) (us : List ℕ)
     → IsDistanceFrom g b v d → Route g b v us
     → d ≤ length us
 
--- so no route from the best to v is shorter than the distance of v
+-- no route from the best to v, in which systems may come again, is shorter than the distance of v
 abbrev pub RoutesFromBestAreNoShorter : Type 0
 RoutesFromBestAreNoShorter = (g : Snapshot) (v d : ℕ) (best : System) (us : List ℕ)
     → IsWellFormed g → IsBest g v best → IsDistance g v d → Route g best.clock v us

@@ -66,7 +66,7 @@ module _ (flights : ℕ → Option Flight) where
   abbrev pub next_at : ℕ → ℕ
   next_at key = option_map_or (λ (f : Flight). f.next.place) (flights key) 0
 
-  -- so many keys from this one on, each to which the one before leads
+  -- this many keys, the first of which is this one; each other is the one to which the key before it leads
   abbrev pub chain : ℕ → ℕ → List ℕ
   chain zero key = []
   chain (suc n) key = key ∷ chain n (next_at key)
@@ -110,7 +110,7 @@ module _ (flights : ℕ → Option Flight) where
     pub other_chained : DirectionIsChained other
     pub apart : AllByRecursion (λ key. AllByRecursion (λ k. k ≢ key) (keys_of one)) (keys_of other)
 
--- the same number of frames, and the same capacity
+-- the number of frames of the slab, and its capacity, are as they were
 pub record SameRoom (old new : Slab Flight) : Type 0 where
   pub len : slab_len new ≡ slab_len old
   pub capacity : new.capacity ≡ old.capacity

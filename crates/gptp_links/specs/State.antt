@@ -27,7 +27,7 @@ pub record ChangesOnly (direction : Direction) (old new : LinkState) : Type 0 wh
   pub bounds : new.bounds ≡ old.bounds
   pub up : new.up ≡ old.up
 
--- the same but for the room that there is
+-- the frames in flight, the bounds and whether the link is up stay; the room may change
 pub record SameFrames (old new : LinkState) : Type 0 where
   pub from_a : new.from_a.frames ≡ old.from_a.frames
   pub from_b : new.from_b.frames ≡ old.from_b.frames
@@ -39,7 +39,7 @@ pub record KeepsRoom (old new : LinkState) : Type 0 where
   pub from_a : old.from_a.room ≤ new.from_a.room
   pub from_b : old.from_b.room ≤ new.from_b.room
 
--- so many more frames can be sent in each direction
+-- at least this many more frames can be sent in each direction
 pub record HasRoom (more : ℕ) (link : LinkState) : Type 0 where
   pub from_a : more ≤ link.from_a.room
   pub from_b : more ≤ link.from_b.room

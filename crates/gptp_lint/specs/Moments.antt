@@ -38,7 +38,7 @@ edge_after n events w = record {
   up = (link_after events w).up;
 }
 
--- so the network stands after these events
+-- the graph has the nodes and the edges of the network as it stands after these events
 pub record Stands (n : NetworkState) (events : List Timed) (g : Graph) : Type 0 where
   pub nodes : g.nodes.items ≡ map (node_after events) n.systems
   pub edges : g.edges.items ≡ map (edge_after n events) n.links

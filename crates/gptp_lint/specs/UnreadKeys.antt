@@ -34,7 +34,8 @@ number_of Top = 0
 number_of Network = 0
 number_of (Member section number) = number
 
--- the same key at the same place
+-- the order of two keys with their places: by the part of the document, the member there, and the key; equal for the
+-- same key at the same place
 abbrev pub compare_keys : (ℕ × ℕ) × List ℕ → (ℕ × ℕ) × List ℕ → Ordering
 compare_keys a b =
     ordering_then (ordering_then (nat_cmp a.0.0 b.0.0) (nat_cmp a.0.1 b.0.1)) (slice_cmp nat_cmp a.1 b.1)

@@ -54,6 +54,6 @@ abbrev pub HasItsPorts : ℕ → WorldState → Type 0
 HasItsPorts place w = (station : Station) → slice_get w.stations place ≡ Some station
     → length station.system.ports ≡ length station.setup.intervals.items
 
--- so has every system
+-- every system has a port for each interval of its setup
 abbrev pub HaveTheirPorts : WorldState → Type 0
 HaveTheirPorts w = (place : ℕ) → HasItsPorts place w

@@ -37,7 +37,7 @@ abbrev pub ArePending : ℕ → Input → SystemState → List Entry → Type 0
 ArePending place input s es =
     (timer : Timer) → input ≢ Expires timer → times_of_item (Expiry place timer) es ≡ timer_time (due timer s)
 
--- so it is with the timers of all systems; none of one that has failed is pending
+-- each timer of all systems is pending just when it is due; none of a system that has failed is pending
 abbrev pub AllArePending : WorldState → Type 0
 AllArePending w = (place : ℕ) (station : Station) → slice_get w.stations place ≡ Some station
     → (timer : Timer) → times_of_item (Expiry place timer) w.net.pending ≡ timer_time (station_due timer station)

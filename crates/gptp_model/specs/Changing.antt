@@ -91,7 +91,7 @@ pub record Starts (place : ℕ) (w : WorldState) (draws : List Draw) (w' : World
       (record (with_station place (fresh w.time station) w) { net = all_timers place (fresh w.time station) w.net })
       draws w'
 
--- so do all systems, one after another
+-- all systems at these places start, one after another
 abbrev pub StartsAll : List ℕ → WorldState → List Draw → WorldState → Type 0
 StartsAll [] w draws w' = (draws ≡ []) × (w' ≡ w)
 StartsAll (place ∷ places) w draws w' =

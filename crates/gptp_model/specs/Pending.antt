@@ -92,7 +92,7 @@ arrival_place link FromB = link * 2 + 1
 abbrev pub arrival_room : ℕ → Direction → PendingState → ℕ
 arrival_room link direction p = slice_index_or p.rooms (arrival_place link direction) 0
 
--- so many more arrivals can be put in each direction of a link
+-- at least this many more arrivals can be put in each direction of a link
 pub record HasArrivalRoom (link more : ℕ) (p : PendingState) : Type 0 where
   pub from_a : more ≤ arrival_room link FromA p
   pub from_b : more ≤ arrival_room link FromB p

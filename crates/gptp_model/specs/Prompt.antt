@@ -14,7 +14,7 @@ abbrev pub DelaysFitIntervals : WorldState → Act → Type 0
 DelaysFitIntervals w act = (place : ℕ) (station : Station) (log : ℤ) → slice_get w.stations place ≡ Some station
     → In log station.setup.intervals.items → DelayFitsInterval (interval_of log) act
 
--- so it is in each act of a list
+-- no act of a list sets a link to a delay above the announce interval of any port of any system
 abbrev pub AllDelaysFitIntervals : WorldState → List Timed → Type 0
 AllDelaysFitIntervals w acts = (place : ℕ) (timed : Timed) → slice_get acts place ≡ Some timed
     → DelaysFitIntervals w timed.act
@@ -24,7 +24,7 @@ pub record HasPace (p : SettlingParams) (station : Station) : Type 0 where
   pub params : station.setup.params ≡ p.params
   pub largest : station.setup.largest ≡ p.largest
 
--- so do all systems
+-- all systems start with these parameters, and with this largest interval
 abbrev pub HavePace : SettlingParams → WorldState → Type 0
 HavePace p w = (place : ℕ) (station : Station) → slice_get w.stations place ≡ Some station → HasPace p station
 

@@ -67,7 +67,7 @@ pub record HasPort (port place : ℕ) (station : Station) : Type 0 where
   pub live : station.live ≡ true
   pub port_of : HasPortNumber station.system port
 
--- and it has this role
+-- a live system has a port with this number, and the port has this role
 pub record HasRole (port : ℕ) (role : Role) (place : ℕ) (station : Station) : Type 0 where
   pub live : station.live ≡ true
   pub port_of : HasPortNumber station.system port

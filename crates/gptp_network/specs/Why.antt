@@ -54,7 +54,7 @@ abbrev pub forget : {X : Type 0} → Result X Why → Result X DocumentFault
 forget (Ok x) = Ok x
 forget (Err why) = Err (fault_of why)
 
--- the same where the place is forgotten too
+-- what is left of a result where it is forgotten why and at which place
 abbrev pub forget_place : {X : Type 0} → Result X Refusal → Result X DocumentFault
 forget_place (Ok x) = Ok x
 forget_place (Err refusal) = Err (fault_of refusal.why)

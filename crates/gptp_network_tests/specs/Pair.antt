@@ -52,7 +52,7 @@ params = record {
 abbrev pub first_member : ℕ
 first_member = 0xf6f8fe436af80000000000000001
 
--- the same with clock 2
+-- priority1 246, clockClass 248, clockAccuracy 254, offsetScaledLogVariance 436a, priority2 248, and clock 2
 abbrev pub second_member : ℕ
 second_member = 0xf6f8fe436af80000000000000002
 
@@ -163,7 +163,8 @@ WorldsOfTwoAreExact {F} answers = (timed : Timed) (fate fate_after : F) (w w' : 
     → timed.at ≤ 1000000000000000 → LeavesOffset 2 offset w' done
     → AreWithin 19 offset (pos 0)
 
--- so does each act of a run of their document
+-- each act of a run of their document, from 27 s on, leaves the second an offset that is exact but for rounding, if it
+-- leaves one
 abbrev pub RunsOfTwoAreExact : {F : Type 0} → (Bounds → ℕ → F → Option ℕ → F → Type 0) → Type 0
 RunsOfTwoAreExact {F} answers = (until : ℕ) (fate : F) (start w : WorldState) (ts : List ActTrace) (t : ActTrace)
     (offset : ℤ)

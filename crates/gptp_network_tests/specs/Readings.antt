@@ -21,7 +21,8 @@ WorldsOfTwoReadExactly {F} answers = (timed : Timed) (fate fate_after : F) (w w'
     → timed.at ≤ 1000000000000000 → LeavesReading 2 w' done (timed.at + 100000000) read
     → AreWithin 31 read (local_clock 0 (pos 0) (timed.at + 100000000))
 
--- so it is by each act of a run of their document
+-- By each act of a run of their document, from 27 s on: what the second reads 100 ms later is what a clock shows that
+-- runs exactly, but for rounding and for 12 units. An error of the rate of 4 units makes these of 100 ms.
 abbrev pub RunsOfTwoReadExactly : {F : Type 0} → (Bounds → ℕ → F → Option ℕ → F → Type 0) → Type 0
 RunsOfTwoReadExactly {F} answers = (until : ℕ) (fate : F) (start w : WorldState) (ts : List ActTrace) (t : ActTrace)
     (read : ℤ)

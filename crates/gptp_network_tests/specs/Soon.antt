@@ -15,7 +15,7 @@ pub record IsPairSoon (w : WorldState) : Type 0 where
   pub at : IsPairAt 2000002501 w
   pub settled : Settled w
 
--- so each act of a run of their document leaves a settled world from then on
+-- each act of a run of their document leaves a settled world, from 2,000,002,501 ns on
 abbrev pub RunsOfTwoSettleSoon : {F : Type 0} → (Bounds → ℕ → F → Option ℕ → F → Type 0) → Type 0
 RunsOfTwoSettleSoon {F} answers = (until : ℕ) (fate : F) (start w : WorldState) (ts : List ActTrace) (t : ActTrace)
     → IsNetwork pair_network → Unfolds answers pair_document until fate start ts w → In t ts

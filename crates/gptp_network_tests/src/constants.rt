@@ -278,7 +278,7 @@ fn is_frame_clean(live: &Live<'_>, times: &Times, at: u64, frame: &[u8]) -> bool
     true
 }
 
-/// Whether what an act at a time told is so.
+/// Whether the frame of which an act at a time told is as clean as it should be, where it is an Announce.
 fn is_told_clean(live: &Live<'_>, times: &Times, at: u64, done: &Done) -> bool {
     match done {
         Done::Heard { frame, .. } => is_frame_clean(live, times, at, frame.as_slice()),

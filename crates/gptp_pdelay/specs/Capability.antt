@@ -30,7 +30,7 @@ after (HearsResponse r t4) p = after_response r t4 p
 after (HearsFollowUp f) p = after_follow_up f p
 after IntervalEnds p = after_interval p
 
--- and after many
+-- the state after these events, one after the other
 abbrev pub after_all : List Event → PeerState → PeerState
 after_all [] p = p
 after_all (e ∷ es) p = after_all es (after e p)
@@ -42,7 +42,7 @@ exchanges_after (HearsFollowUp f) p n = option_map_or (λ _. n + 1) (measured_by
 exchanges_after IntervalEnds p n = if is_open p.progress && loses_too_many p then 0 else n
 exchanges_after _ p n = n
 
--- and after many
+-- how many full exchanges have come since the reset, after these events, where n had come before them
 abbrev pub exchanges_after_all : List Event → PeerState → ℕ → ℕ
 exchanges_after_all [] p n = n
 exchanges_after_all (e ∷ es) p n = exchanges_after_all es (after e p) (exchanges_after e p n)

@@ -15,7 +15,7 @@ peer_state p = record {
   waiting = p.waiting;
 }
 
--- and the fields of a state
+-- the fields of a `Peer` that are this state
 abbrev pub fields_of : PeerState → Inside
 fields_of s = record {
   own = s.own;

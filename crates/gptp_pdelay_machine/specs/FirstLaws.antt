@@ -57,7 +57,8 @@ module _ (asks : List ℕ → Request → Type 0) (replies : List ℕ → Reply 
       → first + k.period + exchange_span k < m.pair.time
       → (m.pair.asker.capable ≡ true) × HasMeasured k least m.last
 
-  -- so it is, counted from the time by which a first request is sent
+  -- one period and one exchange after the time by which a first request is sent the port is capable, and it has
+  -- measured the link by two exchanges
   abbrev pub CapableBy : Type 0
   CapableBy = (k : Setting) (least gone by : ℕ) (m : Meter)
       → Facts k gone m.pair → AsksBy k least asks replies gone by m

@@ -23,7 +23,7 @@ module _ (k : Setting) (least : ℕ) (asks : List ℕ → Request → Type 0) (r
     pub bounds : Bounds k asks replies gone p
     pub clean : calm ≤ p.asker.asked → IsClean calm p.asker p.waits p.out p.back
 
--- the same where nothing is known of the least delay
+-- the bounds hold, and exchanges that began at `calm` or later are clean, where nothing is known of the least delay
 abbrev pub PortInvariant : Setting → (List ℕ → Request → Type 0) → (List ℕ → Reply → Type 0) → ℕ → ℕ → Pair → Type 0
 PortInvariant k asks replies gone calm p = InvFrom k 0 asks replies gone calm p
 

@@ -31,7 +31,7 @@ module _ (asks : List ℕ → Request → Type 0) (replies : List ℕ → Reply 
       → IsJustChanged k gone calm m.pair
       → MeterInv k least asks replies gone calm m
 
-  -- so the invariant of capability holds too, in which nothing is known of the least delay
+  -- from the invariant of measuring follows that of capability, in which nothing is known of the least delay
   abbrev pub MeterInvIsInv : Type 0
   MeterInvIsInv = (k : Setting) (least gone calm : ℕ) (m : Meter)
       → MeterInv k least asks replies gone calm m
@@ -43,7 +43,8 @@ module _ (asks : List ℕ → Request → Type 0) (replies : List ℕ → Reply 
       → Facts k gone m.pair → MeterInv k least asks replies gone calm m → calm + 3 * k.period ≤ m.pair.time
       → HasMeasured k least m.last
 
-  -- so it is five announce intervals after the last change, where old frames are gone after one of them
+  -- five announce intervals after the last change the last measurement is that of two exchanges, one after the other,
+  -- where old frames are gone after one such interval
   abbrev pub MeasuringSettles : Type 0
   MeasuringSettles = (k : Setting) (least change interval : ℕ) (m : Meter)
       → k.period ≤ interval → Facts k (change + interval) m.pair

@@ -24,7 +24,8 @@ module _ (asks : List ℕ → Request → Type 0) (replies : List ℕ → Reply 
   NotBeforeHoldsLater = (k : Setting) (least first : ℕ) (m m' : Meter)
       → MeterPasses m m' → IsNotBefore k least first m.pair → IsNotBefore k least first m'.pair
 
-  -- so it isn't capable before its second exchange can be complete
+  -- the port isn't capable before its second exchange can be complete: a period and the least time of an exchange after
+  -- its first request
   abbrev pub NotCapableBefore : Type 0
   NotCapableBefore = (k : Setting) (least gone first : ℕ) (m : Meter)
       → least ≤ k.most → exchange_span k < k.period → Facts k gone m.pair → InvFirst k least asks replies first m

@@ -15,7 +15,7 @@ pub record Pair : Type 0 where
   pub out : List LaneFrame
   pub back : List LaneFrame
 
--- the same at another time
+-- the pair at another time, with all else as it was
 abbrev pub pair_at_time : Pair → ℕ → Pair
 pair_at_time p time = record p { time = time }
 

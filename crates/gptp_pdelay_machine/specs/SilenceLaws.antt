@@ -37,7 +37,9 @@ SilenceSettles = (k : Setting) (change interval : ℕ) (s : Unanswered)
     → change + (k.allowed + 5) * interval ≤ s.time
     → s.asker.capable ≡ true → ⊥
 
--- so it isn't in any run that begins at the last change, with a request sent by then and as many lost as may be
+-- In any run that begins at the last change, with a request sent by then and at most L lost, L + 5 announce intervals
+-- later the port isn't capable. L is the number of requests that may be lost, and old frames are gone after one such
+-- interval.
 abbrev pub RunsInVainEndIncapable : Type 0
 RunsInVainEndIncapable = (k : Setting) (change interval : ℕ) (s t : Unanswered) (run : List Unanswered)
     → 0 < interval → k.period ≤ interval → s.asker.lost ≤ k.allowed → s.asker.asked ≤ change

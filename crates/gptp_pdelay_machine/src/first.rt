@@ -27,7 +27,7 @@ pub fn asks_by_kept<C: Coding>()
     ensures { AsksByIsKept C.asks C.replies }
 {}
 
-/// It holds as time passes.
+/// That a first request is sent by a time still holds as time passes.
 pub fn asks_by_holds_later<C: Coding>()
     ensures { AsksByHoldsLater C.asks C.replies }
 {}

@@ -34,7 +34,7 @@ HeadlineOnAge w = (p : SettlingParams) (number port due : ℕ) (s : SystemState)
     → IsNear (snapshot_of w) number → ShowsLive number w s → s.slave ≡ Some port → s.lapse ≡ Some due
     → w.time + lapse_span p.params ≤ due + sync_wait p.params (sync_paths_of w)
 
--- so it is in every world
+-- in every world of a network the Lapse timers of near systems were started as recently as `HeadlineOnAge` says
 abbrev pub WorldsAreRecent : Type 0
 WorldsAreRecent = (w : WorldState) → SettlingInvariant w → HeadlineOnAge w
 

@@ -64,7 +64,7 @@ WorldsReadExactly {F} answers = (timed : Timed) (fate fate_after : F) (w w' : Wo
     → WorldInvariant w → WasDone answers timed fate fate_after w w' done → timed.at ≤ 10 ^ 18
     → HeadlineOnReadings w timed.at w' done
 
--- and so it leaves time, wherever a Follow_Up is used by it
+-- each act in a world by which a system uses a Follow_Up leaves it time, as `LeavesTime` says
 abbrev pub WorldsLeaveTime : {F : Type 0} → (Bounds → ℕ → F → Option ℕ → F → Type 0) → Type 0
 WorldsLeaveTime {F} answers = (timed : Timed) (fate fate_after : F) (w w' : WorldState) (done : Done) (number : ℕ)
     (s : SystemState)

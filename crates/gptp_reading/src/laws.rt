@@ -10,7 +10,8 @@ pub fn reading_is_within()
     ensures { ReadingIsWithin }
 {}
 
-/// On a way it is within the time error, and the error of the rate so far times the span.
+/// What is read so long after a Sync came over a link of a way is within the time error there, and the error of the
+/// rate so far times the span.
 pub fn reading_is_right()
     ensures { ReadingIsRight }
 {}

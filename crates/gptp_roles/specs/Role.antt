@@ -57,6 +57,6 @@ abbrev pub each_from : {X : Type 0} → (ℕ → Held → X) → ℕ → List He
 each_from f port [] = []
 each_from f port (h ∷ hs) = f port h ∷ each_from f (port + 1) hs
 
--- the same for all ports of a system, which are numbered from 1
+-- a function of the number and the state of each port, for all ports of a system, which are numbered from 1
 abbrev pub each_port : {X : Type 0} → (ℕ → Held → X) → List Held → List X
 each_port f held = each_from f 1 held

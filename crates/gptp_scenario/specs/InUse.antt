@@ -35,7 +35,7 @@ abbrev pub far_clock : ℕ → LinkSpec → Option ℕ
 far_clock clock w =
     if w.a.clock == clock then Some w.b.clock else if w.b.clock == clock then Some w.a.clock else None
 
--- so where the link is in use after the events
+-- the system that the link joins to the one with this clock, where the link is in use after the events
 abbrev pub neighbour : List SystemSpec → List Timed → ℕ → LinkSpec → Option ℕ
 neighbour systems events clock w = if is_used systems events (link_after events w) then far_clock clock w else None
 

@@ -41,7 +41,7 @@ is_timed p =
 abbrev pub params_fault : Params → Option NetworkFault
 params_fault p = first_fault ((not (are_in_range p), OutOfRange) ∷ (not (is_timed p), Timing) ∷ [])
 
--- the same, as facts
+-- the parameters are in range, as facts: what `are_in_range` tests; `KeepParams` is that with what `is_timed` tests
 pub record AreInRange (p : Params) : Type 0 where
   pub params : AreParams p
   pub timeout : 3 ≤ p.timeout
@@ -55,7 +55,8 @@ pub record KeepParams (p : Params) : Type 0 where
   pub requests : interval_of p.pdelay ≤ interval_of p.announce
   pub relayed : p.residence < interval_of p.sync
 
--- so do these with the largest announce interval of a network
+-- the parameters keep their limits, and the largest announce interval of a network is in its range, with requests no
+-- rarer than announcements at it
 pub record KeepPace (p : SettlingParams) : Type 0 where
   pub params : KeepParams p.params
   pub largest : IsLog p.largest

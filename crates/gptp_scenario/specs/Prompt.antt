@@ -10,7 +10,7 @@ abbrev pub DelayFitsInterval : ℕ → Act → Type 0
 DelayFitsInterval most (Changing (LinkSet number port least greatest loss)) = greatest ≤ most
 DelayFitsInterval most act = ⊤
 
--- so it is in each act of a list
+-- no act of a list sets a link to a delay above this one, in ns
 abbrev pub ArePromptActs : ℕ → List Timed → Type 0
 ArePromptActs most acts = (place : ℕ) (timed : Timed) → slice_get acts place ≡ Some timed
     → DelayFitsInterval most timed.act

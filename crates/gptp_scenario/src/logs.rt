@@ -34,7 +34,7 @@ pub(crate) fn largest_with(found: Option<i8>, intervals: &[i8]) -> Option<i8>
     largest
 }
 
-/// The intervals, again.
+/// A copy of the intervals.
 pub(crate) fn copy_intervals(intervals: &[i8]) -> ArrayVec<i8, 16>
     requires { length intervals.now ≤ 16 }
     ensures { result.items ≡ intervals.now }

@@ -88,7 +88,7 @@ module _ {T : Type 0} where
   abbrev pub joined_before : Option Key → Option Key → ℕ → Option (Node T) → Option (Node T)
   joined_before before after k e = if leads after k then option_map (with_before before) e else e
 
-  -- the same number of entries, and the same capacity
+  -- the number of entries of the slab, and its capacity, are as they were
   pub record SameEntryRoom (old new : Slab (Node T)) : Type 0 where
     pub len : slab_len new ≡ slab_len old
     pub capacity : new.capacity ≡ old.capacity

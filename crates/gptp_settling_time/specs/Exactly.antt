@@ -103,7 +103,8 @@ LinksUpAreExact {F} answers = (p : SettlingParams) (number port time settled unt
     → WorldIsCalm p now → IsSettledBy p m (capable_from p now time) settled now
     → AreExactFrom p settled now timed.at w' done
 
--- and one in which anything else is gained, whenever that is
+-- A network in which all that is held is sound and which gains anything, at any time: each act in it that is done once
+-- it has settled leaves exact offsets.
 abbrev pub GainsAreExact : {F : Type 0} → (Bounds → ℕ → F → Option ℕ → F → Type 0) → Type 0
 GainsAreExact {F} answers = (p : SettlingParams) (change : Change) (time start settled until m : ℕ) (told : List Told)
     (timed : Timed) (fate drawn later fate_after : F) (w between now w' : WorldState) (made done : Done)

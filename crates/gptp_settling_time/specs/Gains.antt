@@ -140,7 +140,8 @@ abbrev pub AreCapableStill : NetworkState → List Timed → ℕ → Timed → �
 AreCapableStill n before start event next =
     AreCapableNext n before start event next ⊎ (ChangesNothing n before event.act × (next ≡ start))
 
--- so it is after all of these events
+-- Where ports are capable from a start on, they are so from this last time on after all of these events: each event
+-- leads from one such time to the next.
 abbrev pub AreCapableFrom : NetworkState → List Timed → ℕ → List Timed → ℕ → Type 0
 AreCapableFrom n before start [] last = last ≡ start
 AreCapableFrom n before start (event ∷ events) last =

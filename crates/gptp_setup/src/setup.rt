@@ -49,7 +49,7 @@ pub struct Setup {
     pub params: Params,
 }
 
-/// The intervals, again.
+/// A copy of the intervals.
 fn copy_intervals(intervals: &[i8]) -> ArrayVec<i8, 16>
     requires { length intervals.now ≤ 16 }
     ensures { result.items ≡ intervals.now }

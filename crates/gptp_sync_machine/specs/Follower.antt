@@ -59,6 +59,6 @@ pub record Follower : Type 0 where
   pub relay : Option ℕ
   pub lane : List LaneFrame
 
--- the same at another time
+-- the follower at another time, with all else as it was
 abbrev pub follower_at_time : Follower → ℕ → Follower
 follower_at_time s time = record s { time = time }

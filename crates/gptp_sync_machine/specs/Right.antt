@@ -61,7 +61,7 @@ follow_up_told info = record { origin = info.origin; correction = info.correctio
 abbrev pub root_time : Timestamp → ℕ → Relayed
 root_time stamp rest = record { origin = stamp; correction = pos rest; rate = pos 0 }
 
--- the same told at another rate
+-- what was told, at another rate
 abbrev pub at_rate : Relayed → ℤ → Relayed
 at_rate told rate = record told { rate = rate }
 

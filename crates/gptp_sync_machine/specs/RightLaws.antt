@@ -62,7 +62,8 @@ BridgeTellsRight = (w : Way) (phase : ℕ → ℕ) (i : ℕ) (told : Relayed) (s
     → let info = info_of (at_rate told held) (shown_at w phase (suc i) came) in
     FollowUpIsRight w phase (suc i) (relayed info (bridge info delay rate (shown_at w phase (suc i) due))) due
 
--- and all its numbers fit, where the correction may have 63 bits
+-- all numbers by which a bridge sends a Sync on fit, where it has measured the link well, keeps the Sync for at most
+-- the jitter and a residence, and the correction may have 63 bits
 abbrev pub BridgeNumbersFit : Type 0
 BridgeNumbersFit = (w : Way) (phase : ℕ → ℕ) (i : ℕ) (told : Relayed) (sent came due : ℕ) (rate delay held : ℤ)
     → IsOnWay w phase i told sent came → IsMeasuredAt w i rate delay

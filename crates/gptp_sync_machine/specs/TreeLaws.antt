@@ -18,7 +18,7 @@ abbrev pub WayExists : Type 0
 WayExists = (x : Parts) (g : Snapshot) (steps clock : ℕ) → IsWellFormed g → IsDistance g clock steps
     → (w : Way) × (phase : ℕ → ℕ) × IsWayTo x g steps clock w phase
 
--- and one alone
+-- a system has one way alone, with one phase at the root
 abbrev pub WayIsOne : Type 0
 WayIsOne = (x : Parts) (g : Snapshot) (steps clock : ℕ) (w v : Way) (phase phase' : ℕ → ℕ)
     → IsWayTo x g steps clock w phase → IsWayTo x g steps clock v phase'
@@ -56,13 +56,13 @@ pub record ArePartsOf (x : Parts) (longest : ℕ) : Type 0 where
   pub drifts : (clock : ℕ) → IsDrift (x.drift clock)
   pub short : (port : PortIdentity) → x.most port ≤ longest
 
--- so a system that isn't the best, on its way, is what the laws of followers ask for
+-- a system that isn't the best, on its way, is such a setting as the laws of followers ask for
 abbrev pub WaysAreSettings : Type 0
 WaysAreSettings = (x : Parts) (g : Snapshot) (steps clock settled longest : ℕ) (parent : PortIdentity) (w : Way)
     (phase : ℕ → ℕ) → ArePartsOf x longest → IsWayTo x g (suc steps) clock w phase
     → IsSetting (follower_of w phase steps parent settled longest)
 
--- and where its parent isn't the best either, the one follower is the parent of the other
+-- where neither a system nor its parent is the best, the parent's follower is the parent of the system's follower
 abbrev pub ParentsAreParents : Type 0
 ParentsAreParents = (x : Parts) (g : Snapshot) (steps clock settled longest : ℕ) (l : ParentLink)
     (port port' : PortIdentity) (w w' : Way) (phase phase' : ℕ → ℕ)
@@ -80,7 +80,7 @@ pub record MeasuresParent (x : Parts) (clock : ℕ) (parent : ParentLink) (k : M
   pub asking : (t : ℕ) → k.asking_clock t ≡ local_clock (x.phase clock) (x.drift clock) t
   pub answering : (t : ℕ) → k.answering_clock t ≡ local_clock (x.phase parent.clock) (x.drift parent.clock) t
 
--- so it measures the last link of its way, as `ExchangesMeasureRight` asks
+-- a system that measures its link to its parent measures the last link of its way, as `ExchangesMeasureRight` asks
 abbrev pub ParentsAreMeasured : Type 0
 ParentsAreMeasured = (x : Parts) (g : Snapshot) (steps clock longest : ℕ) (parent : ParentLink) (w : Way)
     (phase : ℕ → ℕ) (k : Measuring) → ArePartsOf x longest → IsParent g clock parent

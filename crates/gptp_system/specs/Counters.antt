@@ -33,7 +33,7 @@ pub record CountsSent (p : ℕ) (sends : List Sending) (q q' : Port) : Type 0 wh
   pub announces : q'.announces ≡ sequence_after (announces_at p sends) q.announces
   pub syncs : q'.syncs ≡ sequence_after (syncs_at p sends) q.syncs
 
--- so did every port, from the new state back to the old one; the port at place i has the number i + 1
+-- every port sent these and counted them, from the new state back to the old; the port at place i has the number i + 1
 abbrev pub AreCounted : SystemState → SystemState → List Sending → Type 0
 AreCounted s s' sends = (i : ℕ) (q' : Port) → slice_get s'.ports i ≡ Some q'
     → (q : Port) × (slice_get s.ports i ≡ Some q) × CountsSent (suc i) sends q q'

@@ -26,7 +26,7 @@ pub record IsShown (h : Held) (q : Port) : Type 0 where
   pub off : is_capable q.peer ≡ false → h ≡ helds.Disabled
   pub on : is_capable q.peer ≡ true → h ≢ helds.Disabled
 
--- so it is with every port, and each port holds something
+-- every port is Disabled exactly where it isn't asCapable, and each port holds something
 pub record AreShown (s : SystemState) : Type 0 where
   pub places : length s.held ≡ length s.ports
   pub each : (i : ℕ) (h : Held) (q : Port) → slice_get s.held i ≡ Some h → slice_get s.ports i ≡ Some q → IsShown h q

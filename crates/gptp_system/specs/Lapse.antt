@@ -13,7 +13,7 @@ use Rattle.gptp_system.specs.State.{SystemState, change}
 abbrev pub dropped : Held → Held
 dropped h = option_map_or (λ (r : Reception). helds.Aged) (received h) h
 
--- so it is at the Slave port, where there is one
+-- what the Slave port received, where there is one, is dropped; and the Lapse timer no longer runs
 abbrev pub lapsed : SystemState → SystemState
 lapsed s = record s {
   held = option_map_or (λ p. change dropped p s.held) s.slave s.held;

@@ -57,7 +57,7 @@ HeldLaw = (input : Input) (now : ℕ) (s s' : SystemState) (sends : List Sending
     → AreHeld s → Steps input now s s' sends answer
     → AreHeld s'
 
--- so selection may be made of what they hold
+-- selection may be made of what the ports hold, where what they received qualified there
 abbrev pub PlacedLaw : Type 0
 PlacedLaw = (s : SystemState) → AreHeld s → ArePlaced 1 s.held
 
@@ -83,7 +83,7 @@ ReactsLaw = (input : Input) (now : ℕ) (s s' : SystemState) (sends : List Sendi
 abbrev pub FollowsLaw : Type 0
 FollowsLaw = (s : SystemState) → AreHeld s → IsAtRest s → SystemIsRoot s ⊎ SystemFollowsPort s
 
--- so its trace may be asked for
+-- the trace of a system at rest may be asked for: the Slave port, if there is one, received something
 abbrev pub TraceLaw : Type 0
 TraceLaw = (s : SystemState) → AreHeld s → IsAtRest s → SlaveReceived s.held s.slave
 
@@ -145,7 +145,7 @@ ReachLaw = (input : Input) (now : ℕ) (s s' : SystemState) (sends : List Sendin
     → Steps input now s s' sends answer
     → SendsWithin (reach input s) (length s.ports) sends
 
--- and leaves the timers that its input can't change
+-- every step leaves the timers that its input can't change
 abbrev pub LeavesLaw : Type 0
 LeavesLaw = (input : Input) (now : ℕ) (s s' : SystemState) (sends : List Sending) (answer : Answer)
     → Steps input now s s' sends answer

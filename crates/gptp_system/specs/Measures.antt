@@ -77,7 +77,7 @@ IsPartAfter s now (Expires timers.Relay) n x x' = x' ≡ x
 IsPartAfter s now (Expires timers.Lapse) n x x' = x' ≡ x
 IsPartAfter s now (Priority value) n x x' = x' ≡ x
 
--- so it is at every place, from the new state back to the old one
+-- the part of the port at every place is what the input makes of it, from the new state back to the old one
 abbrev pub MeasuresAtEachPlace : SystemState → ℕ → Input → SystemState → Type 0
 MeasuresAtEachPlace s now input s' = (i : ℕ) (q' : Port) → slice_get s'.ports i ≡ Some q'
     → (q : Port) × (slice_get s.ports i ≡ Some q) × IsPartAfter s now input (suc i) (measure_at q) (measure_at q')

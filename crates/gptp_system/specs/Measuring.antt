@@ -51,7 +51,7 @@ Turns p step now s s' sends = TurnsIf (is_turned step (number s.ports p)) p step
 abbrev pub settled : ℕ → SystemState → SystemState
 settled p s = on_held p (λ h. held_if (is_capable_at s p)) s
 
--- so it does, and selection follows, where that has changed
+-- where a port became asCapable or stopped being so, what it holds follows from that, and selection follows
 abbrev pub SettlesIf : Bool → ℕ → ℕ → SystemState → SystemState → List Sending → Type 0
 SettlesIf true p now s s' sends = Selects now (settled p s) s' sends
 SettlesIf false p now s s' sends = Becomes s s' sends

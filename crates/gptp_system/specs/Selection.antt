@@ -20,7 +20,7 @@ all_announced now [] qs = qs
 all_announced now (f ∷ fs) [] = []
 all_announced now (f ∷ fs) (q ∷ qs) = (if f then announced_again now q else q) ∷ all_announced now fs qs
 
--- and these are their Announces, the first port having this number
+-- the Announces of the ports that are marked, the first port having this number
 abbrev pub announcements : ℕ → ℕ → ℕ → ℕ → List Bool → List Port → List Sending
 announcements clock root steps p [] qs = []
 announcements clock root steps p (f ∷ fs) [] = []

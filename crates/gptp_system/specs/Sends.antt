@@ -57,7 +57,7 @@ pdelay_response own answer stamp rest = record {
   body = bodies.PdelayResp stamp answer.requester;
 }
 
--- and the Pdelay_Resp_Follow_Up: when the response went (11.4.7)
+-- the Pdelay_Resp_Follow_Up to a request: when the response went (11.4.7)
 abbrev pub response_follow_up : PortId → Answer → Timestamp → ℕ → Sending
 response_follow_up own answer stamp rest = record {
   port = own.port;

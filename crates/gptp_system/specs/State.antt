@@ -103,7 +103,7 @@ abbrev pub announce_due : Port → Held → Option ℕ
 announce_due q (helds.Mine root steps) = Some q.announce
 announce_due q _ = None
 
--- and the Age timer on ports that received, by the interval that was heard (10.7.3.2)
+-- the Age timer runs on ports that received, by the interval that was heard (10.7.3.2)
 abbrev pub age_due : Params → ℤ → Held → Option ℕ
 age_due params largest h =
     option_map (λ (r : Reception). r.at + span_by params.timeout largest r.interval) (received h)

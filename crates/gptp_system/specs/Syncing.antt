@@ -56,7 +56,7 @@ syncs clock log_interval told p (h ∷ hs) (q ∷ qs) =
     then sync_of own log_interval q ∷ follow_up_of own log_interval told q ∷ syncs clock log_interval told (p + 1) hs qs
     else syncs clock log_interval told (p + 1) hs qs
 
--- and counts one Sync more
+-- a port counts one Sync more
 abbrev pub counting : Port → Port
 counting q = record q { syncs = next_sequence q.syncs }
 
@@ -133,7 +133,7 @@ pub record IsOff (s s' : SystemState) (sends : List Sending) (answer : Answer) :
   pub becomes : Becomes s s' sends
   pub answer_is : answer ≡ answers.Disabled
 
--- and of one that is for nobody here
+-- what is made of a Sync or a Follow_Up that is for nobody here
 pub record IsIgnored (s s' : SystemState) (sends : List Sending) (answer : Answer) : Type 0 where
   pub becomes : Becomes s s' sends
   pub answer_is : answer ≡ answers.Ignored

@@ -17,8 +17,9 @@ pub record IsPortInTime (params : Params) (now : ℕ) (h : Held) (q : Port) : Ty
   pub pdelay : (t : ℕ) → q.pdelay ≡ Some t → t ≤ now + interval_of params.pdelay
   pub respond : (t : ℕ) → q.respond ≡ Some t → t ≤ now + params.turnaround
 
--- so do all ports; the system tells time within one interval, sends on what it received within one residence, and waits
--- for time that comes within syncReceiptTimeout intervals
+-- All ports announce, ask and answer in time, and what they received came before now. The system tells time within one
+-- interval, sends on what it received within one residence, and waits for time that comes within syncReceiptTimeout
+-- intervals.
 pub record IsInTime (s : SystemState) (now : ℕ) : Type 0 where
   pub each : (i : ℕ) (h : Held) (q : Port) → slice_get s.held i ≡ Some h → slice_get s.ports i ≡ Some q
       → IsPortInTime s.params now h q

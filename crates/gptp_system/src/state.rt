@@ -31,7 +31,7 @@ pub struct State {
     pub(crate) held: ArrayVec<Held, 16>,
 }
 
-/// What the ports hold, again.
+/// A copy of what the ports hold.
 fn copy_held(held: &[Held]) -> ArrayVec<Held, 16>
     requires { length held.now ≤ 16 }
     ensures { result.items ≡ held.now }
@@ -43,7 +43,7 @@ fn copy_held(held: &[Held]) -> ArrayVec<Held, 16>
     copies
 }
 
-/// The ports, again.
+/// A copy of the ports.
 fn copy_ports(ports: &[Port]) -> ArrayVec<Port, 16>
     requires { length ports.now ≤ 16 }
     ensures { result.items ≡ ports.now }

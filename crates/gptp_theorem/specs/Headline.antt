@@ -126,7 +126,7 @@ UsesFollowUp number Quiet = ⊥
 UsesFollowUp number (Heard clock port answer frame) =
     (clock ≡ number) × (answer ≡ Some answers.Used) × ((m : FollowUp) × Reads frame.items (messages.FollowUp m))
 
--- and that left it this offset
+-- by an act of which this is told, the system with this clock used a Follow_Up that left it this offset
 pub record LeavesOffset (number : ℕ) (offset : ℤ) (w' : WorldState) (done : Done) : Type 0 where
   pub uses : UsesFollowUp number done
   pub system : SystemState

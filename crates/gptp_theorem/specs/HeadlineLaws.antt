@@ -39,8 +39,8 @@ WorldsSettleBySystems = (w : WorldState) → SettlingInvariant w → HeadlineByS
 abbrev pub WorldsSettleByNeighbours : Type 0
 WorldsSettleByNeighbours = (w : WorldState) → SettlingInvariant w → HeadlineByNeighbours w
 
--- and its systems always have the parameters of one network, and none of their ports an announce interval above its
--- largest
+-- the systems of a world always have the parameters of one network, and none of their ports an announce interval above
+-- its largest
 abbrev pub WorldsAreOfANetwork : Type 0
 WorldsAreOfANetwork = (w : WorldState) → SettlingInvariant w → (p : SettlingParams) × HavePace p w × AreSet p w
 
@@ -50,7 +50,8 @@ WorldsAreExact {F} answers = (timed : Timed) (fate fate_after : F) (w w' : World
     → WorldInvariant w → WasDone answers timed fate fate_after w w' done → timed.at ≤ 10 ^ 18
     → HeadlineOnTime w timed.at w' done
 
--- so does each act of a run of a document, whatever is drawn for the frames meanwhile
+-- each act of a run of a document leaves exact offsets, whatever is drawn for the frames meanwhile, as long as clocks
+-- can show the time
 abbrev pub RunsAreExact : {F : Type 0} → (Bounds → ℕ → F → Option ℕ → F → Type 0) → Type 0
 RunsAreExact {F} answers = (d : DocumentState) (until : ℕ) (fate : F) (start w : WorldState) (ts : List ActTrace)
     (t : ActTrace) → IsPlayable d → until ≤ 10 ^ 18 → Unfolds answers d until fate start ts w → In t ts

@@ -57,7 +57,7 @@ PlayedStands {F} answers = (d : DocumentState) (until : ℕ) (fate : F) (told : 
     → IsNetwork d.network → AllByRecursion IsMade (events_by until d.events) → PlaysRun answers d until fate told w
     → IsReached d until w
 
--- and keeps what every world keeps
+-- the world that a document leads to by a time keeps what every world keeps
 abbrev pub PlayedClaimed : {F : Type 0} → (Bounds → ℕ → F → Option ℕ → F → Type 0) → Type 0
 PlayedClaimed {F} answers = (d : DocumentState) (until : ℕ) (fate : F) (told : List Told) (w : WorldState)
     → IsPlayable d → PlaysRun answers d until fate told w

@@ -28,7 +28,7 @@ ActsStand = (n : NetworkState) (events : List Timed) (act : Act) (w : WorldState
     → IsNoChange act → Acts act w draws done w' → StandsAsPlanned n events w
     → StandsAsPlanned n events w'
 
--- and so does time that passes
+-- time that passes leaves a world as its network stands after these events
 abbrev pub TimeStands : Type 0
 TimeStands = (n : NetworkState) (events : List Timed) (w : WorldState) (time : ℕ)
     → StandsAsPlanned n events w

@@ -77,19 +77,19 @@ GainsSettle {F} answers = (p : SettlingParams) (change : Change) (time start : �
 
 -- ---- what is held is sound
 
--- as a network begins
+-- all that a world holds is sound as a network begins
 abbrev pub StartsAreSound : {F : Type 0} → (Bounds → ℕ → F → Option ℕ → F → Type 0) → Type 0
 StartsAreSound {F} answers = (n : NetworkState) (fate begun : F) (w : WorldState)
     → IsNetwork n → Begun answers n fate begun w
     → IsSoundWorld w
 
--- while it goes on by itself
+-- all that a world holds stays sound while it goes on by itself
 abbrev pub SoundGoesOn : {F : Type 0} → (Bounds → ℕ → F → Option ℕ → F → Type 0) → Type 0
 SoundGoesOn {F} answers = (p : SettlingParams) (until : ℕ) (told : List Told) (fate fate_after : F) (w w' : WorldState)
     → KeepsAll p w → IsSoundWorld w → Advanced answers until told fate fate_after w w'
     → IsSoundWorld w'
 
--- and through a gain
+-- all that a world holds stays sound through a gain
 abbrev pub GainsAreSound : {F : Type 0} → (Bounds → ℕ → F → Option ℕ → F → Type 0) → Type 0
 GainsAreSound {F} answers = (p : SettlingParams) (change : Change) (time : ℕ) (fate fate_after : F) (w w' : WorldState)
     (done : Done)

@@ -23,7 +23,7 @@ end_in names since p = record {
   roots = roots_of (map (λ name. shown name p.after) names);
 }
 
--- so did several, one after another
+-- how several stretches ended that passed one after another, where each system had been waiting since then
 abbrev pub ends_in : List ℕ → (ℕ → Option ℕ) → List StretchTrace → List EndState
 ends_in names since [] = []
 ends_in names since (p ∷ ps) = end_in names since p ∷ ends_in names (waits p.acts since) ps
@@ -65,7 +65,7 @@ kept_after limits e kept = record {
   last = Some e;
 }
 
--- and with several
+-- what is kept with several stretches more, which passed one after another
 abbrev pub all_kept : Limits → List ℕ → (ℕ → Option ℕ) → List StretchTrace → StretchesSoFar → StretchesSoFar
 all_kept limits names since [] kept = kept
 all_kept limits names since (p ∷ ps) kept =

@@ -60,7 +60,7 @@ amount_in s Without = Some s.counts.without
 amount_in s Roots = Some s.counts.roots
 amount_in s Alone = Some s.counts.alone
 
--- so many units are given, there is an amount, and it is above
+-- a limit of so many units is given, there is an amount, and it is above that limit
 abbrev pub is_above : Option ℕ → ℕ → Option ℕ → Bool
 is_above None unit amount = false
 is_above (Some most) unit None = false

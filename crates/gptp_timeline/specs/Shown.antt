@@ -38,7 +38,7 @@ shown name w = option_map shown_of (live_system name w)
 abbrev pub same_slave : Option ℕ → Option ℕ → Bool
 same_slave = option_eq nat_eq
 
--- the same root, steps and Slave port
+-- what is shown of two systems has the same root, steps and Slave port
 abbrev pub same_way : Shown → Shown → Bool
 same_way a b = a.root == b.root && (a.steps == b.steps && same_slave a.slave b.slave)
 
@@ -46,7 +46,7 @@ same_way a b = a.root == b.root && (a.steps == b.steps && same_slave a.slave b.s
 abbrev pub same_choice : Option Shown → Option Shown → Bool
 same_choice = option_eq same_way
 
--- and so are its ports
+-- what is shown of two systems has the same root, steps and Slave port, and the same ports
 abbrev pub same_way_and_roles : Shown → Shown → Bool
 same_way_and_roles a b = same_way a b && same_ports a.ports b.ports
 

@@ -61,7 +61,7 @@ act_lines options names t =
     unless options.summary (event_lines (at_of t) t.told.timed.act ++ all_changes names t)
     ++ unless (not options.offsets) (offset_lines t (received_by t.told.done))
 
--- so are all systems as they start
+-- the lines of all systems as they start, at time 0; none in a summary
 abbrev pub start_lines : TimelineOptions → List ℕ → WorldState → List (List ℕ)
 start_lines options names w =
     unless options.summary (flat_map (λ name. change_lines 0 name None (shown name w)) names)
@@ -81,7 +81,7 @@ timeline_accuracy_lines ts (Some t) = accuracy_at t.from ts t.systems.items
 abbrev pub exact_time : Option TimeErrors → Option ℕ
 exact_time errors = option_and_then (λ (t : TimeErrors). t.from) errors
 
--- the same lines, by what an observer keeps
+-- the lines of how exact systems were from a time on, by what an observer keeps; none without such a time
 abbrev pub kept_accuracy_at : Option ℕ → List Watched → List SystemError → List (List ℕ)
 kept_accuracy_at None kept systems = []
 kept_accuracy_at (Some from) kept systems = flat_map (system_accuracy from (error_among kept)) systems

@@ -42,7 +42,7 @@ module _ (nodes : ℕ → Option Node) where
   abbrev pub next_number_at : ℕ → ℕ
   next_number_at place = option_map_or (λ (n : Node). n.next) (nodes place) 0
 
-  -- so many places from this one on, each to which the one before leads
+  -- this many places, the first of which is this one; each other is the one to which the place before it leads
   abbrev pub places : ℕ → ℕ → List ℕ
   places zero place = []
   places (suc n) place = place ∷ places n (next_number_at place)
@@ -68,7 +68,7 @@ module _ (nodes : ℕ → Option Node) where
   ChainsAreApart one other =
       AllByRecursion (λ place. AllByRecursion (λ p. p ≢ place) (chain_places one)) (chain_places other)
 
--- the same number of nodes, and the same capacity
+-- the number of nodes of the slab, and its capacity, are as they were
 pub record SameNodeRoom (old new : Slab Node) : Type 0 where
   pub len : slab_len new ≡ slab_len old
   pub capacity : new.capacity ≡ old.capacity

@@ -27,7 +27,7 @@ pub record HeardAt {F : Type 0} (answers : Bounds → ℕ → F → Option ℕ �
   pub drawn : Draws answers fate draws fate_after
   pub hears : Hears place port octets (world_of parts) draws answer (world_of stage_after)
 
--- the same of the port at which a lane ends
+-- where the system at which a lane ends is live, the link of its port there is up
 abbrev pub MayHear : Lane → WorldParts → Type 0
 MayHear lane parts = (join : Join) (place : ℕ) → slice_get parts.net.directory.joins lane.link ≡ Some join
     → slice_get parts.net.directory.clocks place ≡ Some (direction_end lane.direction join).clock

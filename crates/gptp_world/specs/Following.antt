@@ -22,7 +22,8 @@ pub record Follows {F O : Type 0} (answers : Bounds → ℕ → F → Option ℕ
   pub passes : Passes answers until ts fate fate_after w w'
   pub observed : Observed tells ts o o_after So
 
--- so it went on to a time
+-- The world went on to a time: each act was the next that was pending then, nothing is left that is due by that time,
+-- and this is so of the text that an observer told of the acts.
 pub record PassesSeen {F O : Type 0} (answers : Bounds → ℕ → F → Option ℕ → F → Type 0)
     (tells : Told → WorldState → O → O → List (List ℕ) → Type 0) (until : ℕ) (fate fate_after : F) (w w' : WorldState)
     (o o_after : O) (So : List ℕ → Type 0) : Type 0 where

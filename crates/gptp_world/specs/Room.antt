@@ -41,7 +41,7 @@ abbrev pub repeated : ℕ → Need → Need
 repeated zero need = no_room
 repeated (suc count) need = both need (repeated count need)
 
--- so many timers are set
+-- the room that it takes to set this many timers
 abbrev pub for_timers : ℕ → Need
 for_timers count = record {
   entries = count;
@@ -123,7 +123,7 @@ abbrev pub HasRoomFrom : ℕ → PortId → Between → Type 0
 HasRoomFrom more port net =
     (lane : Lane) → BeginsAt net.directory.joins port lane → HasRoomOn more lane net.cables.items
 
--- so has each port of the system at a place, up to this one
+-- a lane that begins at a port of the system at a place, up to this port, has room for so many more frames
 abbrev pub HasRoomAtPorts : ℕ → ℕ → ℕ → Between → Type 0
 HasRoomAtPorts more place ports net = (clock p : ℕ) → slice_get net.directory.clocks place ≡ Some clock → 1 ≤ p
     → p ≤ ports

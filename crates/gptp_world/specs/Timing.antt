@@ -25,12 +25,13 @@ AreSetBut otherwise place station es =
     (timer : Timer) → otherwise timer ≡ false
     → times_of_item (Expiry place timer) es ≡ timer_time (station_due timer station)
 
--- so is each of the system at a place
+-- each timer of the system at a place is pending when it is due, those aside that may be otherwise
 abbrev pub AreSetAt : (Timer → Bool) → ℕ → WorldParts → Type 0
 AreSetAt otherwise place parts = (station : Station) → slice_get parts.stations.items place ≡ Some station
     → AreSetBut otherwise place station parts.net.pending.entries
 
--- so it is before a step by this input, but for the timers that count as touched in any case
+-- before a step by this input each timer of the system at a place is pending when it is due, those aside that count as
+-- touched in any case
 abbrev pub AreSetFor : Input → ℕ → WorldParts → Type 0
 AreSetFor input place parts = AreSetAt (is_always_touched input) place parts
 

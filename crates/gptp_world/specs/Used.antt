@@ -16,7 +16,7 @@ snapshot_link ports = record { a = port_identity_number ports.0; b = port_identi
 abbrev pub used : List System → Channel → Option Link
 used systems channel = if channel_is_used systems channel then Some (standing_link channel) else None
 
--- so in a list
+-- the link as a list of one, where it is used; no link where it isn't
 abbrev pub used_if : List System → Channel → List Link
 used_if systems channel = if channel_is_used systems channel then standing_link channel ∷ [] else []
 

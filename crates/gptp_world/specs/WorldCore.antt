@@ -23,7 +23,7 @@ pub record IsWorldCore (frame_budget : List ℕ) (parts : WorldParts) : Type 0 w
   pub claimed : WorldInvariant (world_of parts)
   pub covered : IsCovered frame_budget parts.net
 
--- so many systems started, one after another
+-- the systems at the first places, as many as this, started one after another
 pub record SystemsStarted {F : Type 0} (answers : Bounds → ℕ → F → Option ℕ → F → Type 0) (count : ℕ)
     (fate fate_after : F)
     (parts stage_after : WorldParts) : Type 0 where

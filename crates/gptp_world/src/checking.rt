@@ -6,7 +6,7 @@ use crate::act_target::ActTarget;
 use crate::world_parts::WorldParts;
 use gptp_model::{Act, Change, Refused, Timed};
 
-/// A priority1 that a change sets is an octet, and so is each that it injects.
+/// A priority1 that a change sets is below 256, and so is each octet that a change injects.
 fn change_sets_an_octet(change: &Change)
     ensures { SetsAnOctet (Act.Change change.now) }
 {
