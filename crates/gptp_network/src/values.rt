@@ -39,14 +39,7 @@ fn natural_in(key: Natural, number: i64) -> Result<u64, Why>
     ensures least { IfOk result (λ n. key.1 ≤ n) }
     ensures bound { IfOk result (λ n. n ≤ key.2) }
 {
-    if number < 0 {
-        Err(Why::Natural {
-            key: key.0,
-            value: number,
-            least: key.1,
-            most: key.2,
-        })
-    } else if key.1 <= number as u64 && number as u64 <= key.2 {
+    if 0 <= number && key.1 <= number as u64 && number as u64 <= key.2 {
         Ok(number as u64)
     } else {
         Err(Why::Natural {
