@@ -76,14 +76,14 @@ runs_read answers theorem until fate start w ts t read early unfolds member k al
     t.after t.told.done read
     (theorem pair_document until fate start w ts t (playable k.network) (omega (arith, early)) unfolds member) left
 
--- what a system reads by what it gives for that, where it used a Follow_Up
+-- where a system used a Follow_Up, what it gives for its reading is what it reads by
 pub left : (w : WorldState) (done : Done) (s : SystemState) (time : ℕ) (r : Reading) → UsesFollowUp 2 done
     → ShowsLive 2 w s → HeldIsRead → held_reading s ≡ Some r
     → LeavesReading 2 w done time (read_at r (local_time s time))
 left w done s time r uses shows law held =
     record { uses = uses; system = s; shows = shows; is = law s time r held }
 
--- so what the second reads 100 ms after an act is what a clock shows that runs exactly
+-- what the second reads 100 ms after an act is what a clock shows that runs exactly, but for rounding and its rate
 pub second_is_read : {F : Type 0} (answers : Bounds → ℕ → F → Option ℕ → F → Type 0) (timed : Timed)
     (fate fate_after : F) (w w' : WorldState) (done : Done) (read : ℤ) (later : ℕ) → WorldsOfTwoReadExactly answers
     → IsPairSince 27000000000 w → WorldInvariant w → WasDone answers timed fate fate_after w w' done
