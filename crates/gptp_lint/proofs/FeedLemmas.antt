@@ -293,5 +293,5 @@ told text t (Err r) =
     (refusal r (header_line text place) (meant_at t (outline_of_text text) place r.why)).has_no_feed
 
 pub in_one_line : (text tail : List ℕ) → TellsPlace text tail → HasNoFeed tail
-in_one_line text tail (inl (none, n, within, is)) = subst HasNoFeed (sym is) (no_toml (take n text)).has_no_feed
+in_one_line text tail (inl (none, (n, within, is))) = subst HasNoFeed (sym is) (no_toml (take n text)).has_no_feed
 in_one_line text tail (inr (t, parses, is)) = subst HasNoFeed (sym is) (told text t (read_document t))

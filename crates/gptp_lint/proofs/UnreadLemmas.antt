@@ -3,7 +3,6 @@ use Rattle.std.proofs.Common.{◌≡◌, ◌++◌, ◌+◌, ◌∷◌, ◌||◌,
 use Rattle.std.specs.Borrow.{Bor}
 use Rattle.std.specs.List.{AllByRecursion, list_any}
 use Rattle.std.proofs.lemmas.List.{map-append}
-use Rattle.std.proofs.lemmas.List.Elements.{filter-append}
 use Rattle.std.proofs.lemmas.List.Folds.{list_any-append}
 use Rattle.std.proofs.lemmas.List.Sums.{fold_push}
 use Rattle.toml.specs.Data.{Members}
@@ -14,7 +13,8 @@ use Rattle.gptp_lint.specs.Keys.{is_known, keys_read}
 use Rattle.gptp_lint.specs.Outline.{OutlineState, PlacedKey, entry_view, outline_of_text}
 use Rattle.gptp_lint.specs.UnreadKeys.{AppendsUnread, first_unread, found_view, in_part, is_same, of_part, unread_keys, unread_line, unread_of, with_key}
 use Rattle.gptp_lint.specs.declared.outline.Entry.{Entry}
-use Rattle.gptp_lint.proofs.TextLemmas.{joined, one_more}
+use Rattle.gptp_lint.proofs.KeyLemmas.{passed_more}
+use Rattle.gptp_lint.proofs.TextLemmas.{joined}
 
 -- ---- which keys
 
@@ -60,9 +60,7 @@ pub part_more : (part : ℕ) (xs : List (Bor Entry)) (i : ℕ) (x : Bor Entry) �
     ≡ of_part part (found_view (take i xs))
     ++ (if in_part part (entry_view x.now) then entry_view x.now ∷ [] else [])
 part_more part xs i x there =
-    ap (λ ys. of_part part (found_view ys)) (taken xs i x there)
-    ∙ ap (of_part part) (map-append (λ (e : Bor Entry). entry_view e.now) (take i xs) (x ∷ []))
-    ∙ filter-append (in_part part) (found_view (take i xs)) (entry_view x.now ∷ [])
+    passed_more (λ (e : Bor Entry). entry_view e.now) (in_part part) xs i x there
 
 -- ---- their lines
 

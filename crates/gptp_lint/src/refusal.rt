@@ -7,7 +7,7 @@ ghost use Rattle.gptp_network.specs.ReadDocument.{read_document};
 ghost use Rattle.gptp_outline.specs.Rows.{table_of};
 ghost use Rattle.gptp_lint.specs.LintText.{refused_line};
 ghost use Rattle.gptp_lint.specs.Outline.{entry_view, outline_state};
-ghost use Rattle.gptp_lint.specs.Refusal.{TellsPlace, meant_at, no_toml_words, refusal_tail, refusal_words, unread_at};
+ghost use Rattle.gptp_lint.specs.Refusal.{TellsPlace, is_unread_at, meant_at, no_toml_words, refusal_tail, refusal_words, unread_at};
 
 use crate::ending::end_of;
 use crate::keys::{is_known, keys_at};
@@ -30,7 +30,14 @@ fn tell_no_toml(alloc: Global, input: &[u8], count: usize) -> Result<String, All
     Ok(tail)
 }
 
-/// Puts a key of a text after others, if it is at a place and isn't among those that are read there.
+/// Whether a key of a text is at a place and isn't among those that are read there.
+fn is_unread_at(read: &[&str], place: Place, entry: &Entry) -> bool
+    ensures { result ≡ is_unread_at (map (λ key. key.now) read.now) place (entry_view entry.now) }
+{
+    is_at(entry.place, place) && !is_known(read, &entry.key)
+}
+
+/// Puts a key of a text after others, if it is such.
 fn push_unread_at<'a>(
     unread: &mut Vec<&'a [u8]>,
     read: &[&str],
@@ -40,7 +47,7 @@ fn push_unread_at<'a>(
     ensures { OnOk result (map (λ key. key.now) unread.new.items ≡ map (λ key. key.now) unread.old.items
         ++ unread_at (map (λ key. key.now) read.now) place (entry_view entry.now ∷ [])) }
 {
-    if is_at(entry.place, place) && !is_known(read, &entry.key) {
+    if is_unread_at(read, place, entry) {
         unread.push(entry.key.as_slice())?;
     }
     Ok(())
