@@ -1,7 +1,7 @@
 -- Keys that aren't read, and their lines, one after another.
-use Rattle.std.proofs.Common.{◌≡◌, ◌++◌, ◌+◌, ◌∷◌, ◌||◌, ◌⊎◌, ℕ, Bool, true, false, cond, List, [], Option, Some, None, Contains, IfSome, IsSomeAnd, append-nil, if◌then◌else◌, map, slice_get, take, inl, inr, refl, subst, sym, ap, ap₂, ◌∙◌}
+use Rattle.std.proofs.Common.{◌≡◌, ◌++◌, ◌+◌, ◌∷◌, ◌||◌, ℕ, Bool, true, false, cond, List, [], Option, Some, if◌then◌else◌, map, slice_get, take, refl, sym, ap, ◌∙◌}
 use Rattle.std.specs.Borrow.{Bor}
-use Rattle.std.specs.List.{AllByRecursion, list_any}
+use Rattle.std.specs.List.{list_any}
 use Rattle.std.proofs.lemmas.List.{map-append}
 use Rattle.std.proofs.lemmas.List.Folds.{list_any-append}
 use Rattle.std.proofs.lemmas.List.Sums.{fold_push}
