@@ -62,13 +62,16 @@ module _ (text : List ℕ) (i octet : ℕ) (below : i < length text) (is : octet
       }
 
   pub after_octet : (line column next : ℕ) (test : Bool) → is_feed octet ≡ false → begins_character octet ≡ test
-      → next ≡ column + (if test then 1 else 0) → EndsAt (take i text) line column → EndsAt (take (i + 1) text) line next
+      → next ≡ column + (if test then 1 else 0) → EndsAt (take i text) line column
+      → EndsAt (take (i + 1) text) line next
   after_octet line column next test none begins is_next before =
       let more = length_more in
       let line_fits = before.line_fits in
       record {
         line_is = before.line_is ∙ omega (arith, feeds_more false none);
-        column_is = is_next ∙ ap (λ n. n + (if test then 1 else 0)) before.column_is ∙ sym (column_more test none begins);
+        column_is = is_next
+            ∙ ap (λ n. n + (if test then 1 else 0)) before.column_is
+            ∙ sym (column_more test none begins);
         line_fits = omega arith;
         column_fits = by test is_next;
       }

@@ -62,7 +62,8 @@ refusal_tail input t (Err refusal) =
 
 -- what follows the fault of a text that is no TOML: the line and the column in which a front of it ends
 abbrev pub no_toml_words : List ℕ → List ℕ
-no_toml_words front = codes " text line " ++ decimal (line_at_end front) ++ codes " column " ++ decimal (column_at_end front)
+no_toml_words front =
+    codes " text line " ++ decimal (line_at_end front) ++ codes " column " ++ decimal (column_at_end front)
 
 -- What follows the fault of a text. How long the front is after which it is no TOML is left open: the parser promises
 -- only that its place is in the text.

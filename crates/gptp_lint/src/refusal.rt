@@ -37,7 +37,7 @@ fn is_unread_at(read: &[&str], place: Place, entry: &Entry) -> bool
     is_at(entry.place, place) && !is_known(read, &entry.key)
 }
 
-/// Puts a key of a text after others, if it is such.
+/// Puts a key of a text after others, if it is at a place and isn't among those that are read there.
 fn push_unread_at<'a>(
     unread: &mut Vec<&'a [u8]>,
     read: &[&str],
@@ -97,7 +97,8 @@ fn write_words(
     line: Option<usize>,
     near: Option<&[u8]>,
 ) -> Result<String, AllocError>
-    ensures { IfOk result (λ tail. string_bytes tail ≡ refusal_words refusal.now line (option_map (λ key. key.now) near.entry)) }
+    ensures { IfOk result (λ tail. string_bytes tail
+        ≡ refusal_words refusal.now line (option_map (λ key. key.now) near.entry)) }
 {
     let mut tail = String::new(alloc);
     let place = PlaceWords {
@@ -121,7 +122,8 @@ fn tell_refusal(
     refusal: &Refusal,
 ) -> Result<String, AllocError>
     requires { table_of input.now ≡ Some (table_view document.now) }
-    ensures { IfOk result (λ tail. string_bytes tail ≡ refusal_tail input.now (table_view document.now) (Err refusal.now)) }
+    ensures { IfOk result (λ tail. string_bytes tail
+        ≡ refusal_tail input.now (table_view document.now) (Err refusal.now)) }
 {
     let outline = outline_of(alloc, input)?;
     let place = Place::of(refusal.place);
