@@ -1,14 +1,21 @@
 -- What is kept and told of one system that is looked at after an act, by its state.
-use Rattle.std.proofs.Common.{◌≡◌, ℕ, Bool, true, false, not, List, [], ◌∷◌, ◌++◌, Option, Some, None, if◌then◌else◌, option_map, slice_get, refl, sym, ap, ◌∙◌, append-nil}
+use Rattle.std.proofs.Common.{◌≡◌, ℕ, Bool, true, false, not, List, [], ◌∷◌, ◌++◌, Option, Some, None, if◌then◌else◌, option_map, slice_get, length, refl, sym, ap, ◌∙◌, append-nil}
+use Rattle.std.proofs.lemmas.List.{length-set}
 use Rattle.gptp_model.specs.World.{WorldState}
 use Rattle.gptp_system.specs.State.{SystemState}
 use Rattle.gptp_words.specs.Lines.{text_of}
 use Rattle.gptp_timeline.specs.Changes.{change_lines}
 use Rattle.gptp_timeline.specs.Shown.{live_system, shown_of}
-use Rattle.gptp_timeline.specs.Watch.{lines_at, one_lines, own_look, placed_lines, receipt_lines_if, receipt_lines_of, see_at, see_one, see_placed, see_receipt_if, see_receipt_of, taken, unless, WatchState}
+use Rattle.gptp_timeline.specs.Watch.{lines_at, one_lines, own_look, placed_lines, receipt_lines_if, receipt_lines_of, see_at, see_one, see_placed, see_receipt_if, see_receipt_of, taken, unless, watched_after, WatchState}
+use Rattle.gptp_timeline.specs.declared.shown.Shown.{Shown}
 use Rattle.gptp_timeline.specs.declared.watched.ActView.{ActView}
 use Rattle.gptp_timeline.specs.declared.watched.Watched.{Watched}
 use Rattle.gptp_timeline.proofs.LineLemmas.{lines_on}
+
+-- as many systems are kept
+pub taken_count : (look : ActView) (place : ℕ) (x : Watched) (after : Option Shown) (o : WatchState)
+    → length (taken look place x after o).systems ≡ length o.systems
+taken_count look place x after o = length-set o.systems place (watched_after look after x)
 
 module _ (look : ActView) (w : WorldState) (place : ℕ) (x : Watched) (o : WatchState)
     (there : slice_get o.systems place ≡ Some x) (live : Option SystemState) (is : live_system x.clock w ≡ live) where
