@@ -5,8 +5,7 @@ use Rattle.std.specs.List.{range_with_len}
 use Rattle.std.specs.Option.{option_map_or}
 use Rattle.std.proofs.lemmas.Bool.Decides.{nat_tests}
 use Rattle.std.proofs.lemmas.Option.{same_Some, slice_get-map}
-use Rattle.gptp_model.specs.Act.{in_state, Calls, Hears, TimerRunsOut}
-use Rattle.gptp_model.specs.Acts.{Acts, AtSystem, Delivery}
+use Rattle.gptp_model.specs.Act.{in_state, Calls, Hears}
 use Rattle.gptp_model.specs.World.{WorldState, receiver}
 use Rattle.gptp_model.specs.declared.done.Done.{Done}
 use Rattle.gptp_model.specs.declared.done.Done.TheVariants.{Heard, Quiet}
@@ -14,7 +13,6 @@ use Rattle.gptp_model.specs.declared.station.Station.{Station}
 use Rattle.gptp_model.proofs.SteadyLemmas.{same_clock}
 use Rattle.gptp_links.specs.Fate.{Draw}
 use Rattle.gptp_links.specs.declared.link.Direction.{Direction}
-use Rattle.gptp_messages.specs.Grammar.{Reads}
 use Rattle.gptp_messages.specs.Head.{message_type}
 use Rattle.gptp_messages.specs.declared.head.Head.{Head}
 use Rattle.gptp_messages.specs.declared.message.Message.{Message}
@@ -23,32 +21,30 @@ use Rattle.gptp_messages.specs.declared.peer_delay.PdelayResp.{PdelayResp}
 use Rattle.gptp_pdelay.specs.Peer.{PeerState, after_response, answered_by, is_capable}
 use Rattle.gptp_pdelay.specs.declared.progress.Progress.{Progress}
 use Rattle.gptp_roles.specs.declared.role.Role.{Role}
-use Rattle.gptp_scenario.specs.declared.change.Act.{Act}
 use Rattle.gptp_scenario.specs.declared.change.Act.TheVariants.{Deliver, Expire}
 use Rattle.gptp_setup.specs.declared.timer.Timer.{Timer}
 use Rattle.gptp_setup.specs.declared.timer.Timer.TheVariants as timers
 use Rattle.gptp_setup.specs.SettlingParams.{has_sync_timeout}
-use Rattle.gptp_system.specs.Announcing.{announced_at, AnnounceExpires}
+use Rattle.gptp_system.specs.Announcing.{announced_at}
 use Rattle.gptp_system.specs.Input.{Input, Frame as FrameHeard, Expires as TimerExpires, Steps}
-use Rattle.gptp_system.specs.Measuring.{answering_done, owes, responded, HearsRequest, HearsResponse, RespondExpires}
+use Rattle.gptp_system.specs.Measuring.{answering_done, owes, responded, HearsRequest, HearsResponse}
 use Rattle.gptp_system.specs.Selection.{announced_again}
 use Rattle.gptp_system.specs.Start.{role_at}
 use Rattle.gptp_system.specs.State.{SystemState, change, change_at, clock, is_capable_at, local_time, number, on_port, with_peer}
 use Rattle.gptp_system.specs.Steps.{HearsFrame, HearsMessage}
-use Rattle.gptp_system.specs.Syncing.{is_followed, is_leading, restarted, telling, timer_stopped, HearsSync, HearsSyncIf, KeepsIf, RelaysBy, RelaysIf, RelayExpires, SyncExpires, SyncsIf}
+use Rattle.gptp_system.specs.Syncing.{is_followed, is_leading, restarted, telling, timer_stopped, HearsSync, HearsSyncIf, KeepsIf, RelaysBy, RelaysIf, SyncsIf}
 use Rattle.gptp_system.specs.declared.answer.Answer.{Answer}
 use Rattle.gptp_system.specs.declared.answer.Answer.TheVariants as answers
 use Rattle.gptp_system.specs.declared.port.Port.{Port}
 use Rattle.gptp_system.specs.declared.sending.Sending.{Sending}
 use Rattle.gptp_system.proofs.PortLemmas.{counted-map}
 use Rattle.gptp_system.proofs.TypeLemmas.{type_is, type_number}
-use Rattle.gptp_timeline.specs.Leaving.{AllStays, FrameLeaves, LeavesAll, TimerLeaves, TypeLeaves}
+use Rattle.gptp_timeline.specs.Leaving.{FrameLeaves, LeavesAll, TimerLeaves, TypeLeaves}
 use Rattle.gptp_timeline.specs.Ports.{shown_port, shown_ports}
 use Rattle.gptp_timeline.specs.Receipts.{is_follow_up, received_by, receiver_clock}
 use Rattle.gptp_timeline.specs.Shown.{live_among, shown, shown_of}
 use Rattle.gptp_timeline.specs.declared.ports.ShownPort.{ShownPort}
 use Rattle.gptp_timeline.specs.declared.shown.Shown.{Shown}
-use Rattle.gptp_timeline.proofs.HeardLemmas.{receiver_is}
 
 -- ---- what is shown of a system
 
@@ -70,7 +66,8 @@ capable_number : (qs : List Port) (p : ℕ)
     → option_map_or (λ (q : Port). is_capable q.peer) (number qs p) false
     ≡ option_map_or (λ c. c) (number (map capable qs) p) false
 capable_number qs zero = refl
-capable_number qs (suc i) = sym (ap (λ c. option_map_or (λ c. c) c false) (slice_get-map capable qs i) ∙ one (slice_get qs i))
+capable_number qs (suc i) =
+    sym (ap (λ c. option_map_or (λ c. c) c false) (slice_get-map capable qs i) ∙ one (slice_get qs i))
   where
     one : (q : Option Port) → option_map_or (λ c. c) (option_map capable q) false
         ≡ option_map_or (λ (q : Port). is_capable q.peer) q false
@@ -288,7 +285,8 @@ calls_leave place input w draws answer w' leaves calls name =
     (same_clock input w.time calls.station.system calls.after calls.sends answer calls.steps) refl
     (leaves calls.station.system calls.after calls.sends calls.steps)
 
-pub expiry_leaves : (number : ℕ) (timer : Timer) (done : Done) → TimerLeaves timer → LeavesAll (Expire number timer) done
+pub expiry_leaves : (number : ℕ) (timer : Timer) (done : Done) → TimerLeaves timer
+    → LeavesAll (Expire number timer) done
 expiry_leaves number timer done leaves = record {
   is_other = refl;
   stays = λ w w' draws (quiet, at). record {

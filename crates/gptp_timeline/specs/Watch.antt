@@ -1,6 +1,6 @@
 -- What the code keeps of a stretch that passes: what an observer keeps and tells of an act, by what it kept before and
 -- the world after the act. Contracts of private functions alone cite this, but for `WatchState` and `unless`.
-use Rattle.std.specs.Prelude.{◌≡◌, ◌⊎◌, ℕ, ◌+◌, ◌==◌, ◌&&◌, ◌||◌, nat_le, nat_lt, not, Bool, true, false, if◌then◌else◌, List, [], ◌∷◌, ◌++◌, length, map, Option, Some, None, is_none, is_some, slice_get, slice_set, ℤ, unsigned_abs}
+use Rattle.std.specs.Prelude.{◌≡◌, ◌⊎◌, ℕ, ◌+◌, ◌==◌, nat_le, nat_lt, not, Bool, true, false, if◌then◌else◌, List, [], ◌∷◌, ◌++◌, length, map, Option, Some, None, is_some, slice_get, slice_set, ℤ, unsigned_abs}
 use Rattle.std.specs.List.{range_with_len}
 use Rattle.std.specs.Option.{option_map, option_map_or}
 use Rattle.gptp_model.specs.Advancing.{Told}

@@ -18,8 +18,8 @@ fn timer_leaves(timer: Timer) -> bool
     }
 }
 
-/// Whether a frame of a messageType leaves what is shown of the system that hears it as it was, whatever that is, and is
-/// no Follow_Up.
+/// Whether a frame of a messageType leaves what is shown of the system that hears it as it was, whatever that is, and
+/// is no Follow_Up.
 fn type_leaves(number: u8) -> bool
     ensures { result ≡ true → TypeLeaves number }
 {

@@ -280,7 +280,8 @@ impl Watch {
     fn shows_at(&self, place: usize, system: &System) -> bool
         requires place { place < length self.now.systems }
         requires few { length system.now.ports ≤ 16 }
-        ensures { result ≡ true → (x : Watched) → slice_get self.now.systems place ≡ Some x → Some (shown_of system.now) ≡ x.shown }
+        ensures { result ≡ true → (x : Watched) → slice_get self.now.systems place ≡ Some x
+            → Some (shown_of system.now) ≡ x.shown }
     {
         match &self.systems[place].shown {
             Some(last) => shows(system, last),
@@ -320,7 +321,8 @@ impl Watch {
         ensures sees { OnOk result ((x : Watched) → slice_get self.old.systems place ≡ Some x
             → self.new ≡ taken look place x (Some (shown_of system.now)) self.old) }
         ensures tells { OnOk result ((x : Watched) → slice_get self.old.systems place ≡ Some x → string_bytes text.new
-            ≡ string_bytes text.old ++ text_of (unless self.old.summary (change_lines look.at x.clock x.shown (Some (shown_of system.now))))) }
+            ≡ string_bytes text.old ++ text_of (unless self.old.summary
+            (change_lines look.at x.clock x.shown (Some (shown_of system.now))))) }
     {
         if self.shows_at(place, system) {
             self.take_same(look, place);
@@ -461,7 +463,8 @@ impl Watch {
         requires place { place < length self.old.systems }
         ensures sees { OnOk result (self.new ≡ see_receipt_of at world.now.world_core place (Some system.now) self.old) }
         ensures tells { OnOk result (string_bytes text.new
-            ≡ string_bytes text.old ++ text_of (unless (not self.old.offsets) (receipt_lines_of at world.now.world_core clock (Some system.now)))) }
+            ≡ string_bytes text.old ++ text_of (unless (not self.old.offsets)
+            (receipt_lines_of at world.now.world_core clock (Some system.now)))) }
     {
         let error = error_of(at, system, world);
         self.write_offset_if(text, at, clock, system.offset(), error)?;

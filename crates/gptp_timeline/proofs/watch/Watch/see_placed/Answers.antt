@@ -1,4 +1,4 @@
-use Rattle.std.proofs.Common.{◌<◌, Some, None, length, sym, subst, ap, ◌∙◌}
+use Rattle.std.proofs.Common.{◌<◌, Some, length, sym, subst, ap, ◌∙◌}
 use Rattle.std.specs.Prelude.{string_bytes}
 use Rattle.std.proofs.lemmas.Result.{on_ok_weaker}
 use Rattle.gptp_timeline.specs.Shown.{shown_of}
@@ -12,8 +12,10 @@ pub see_receipt_if-requires-clause-place : goal.see_receipt_if-requires-clause-p
 see_receipt_if-requires-clause-place g c =
     let o = c.args.self.now in let place = c.args.place in
     let (x, there) = at_place o.systems place c.requires.place in
-    subst (λ n. place < n) (sym (ap (λ (v : WatchState). length v.systems) (c.in_ok-see_live-in-Some.ensures.sees x there)
-    ∙ taken_count (own_look c.args.at c.args.received) place x (Some (shown_of c.in-Some.system.now)) o)) c.requires.place
+    let seen = c.in_ok-see_live-in-Some.ensures.sees x there in
+    subst (λ n. place < n) (sym (ap (λ (v : WatchState). length v.systems) seen
+    ∙ taken_count (own_look c.args.at c.args.received) place x (Some (shown_of c.in-Some.system.now)) o))
+    c.requires.place
 
 pub returns-in_ok-see_live-in-Some-clause-sees : goal.returns-in_ok-see_live-in-Some-clause-sees
 returns-in_ok-see_live-in-Some-clause-sees g c =
