@@ -1,5 +1,5 @@
 -- What an observer keeps and tells is what is defined over the acts: as systems start, and stretch by stretch.
-use Rattle.std.proofs.Common.{◌≡◌, ℕ, Bool, false, List, [], ◌∷◌, ◌++◌, map, Option, Some, None, option_map, refl, sym, ap, subst, ◌∙◌, append_assoc, append-nil}
+use Rattle.std.proofs.Common.{◌≡◌, ℕ, Bool, false, List, [], ◌∷◌, ◌++◌, map, Option, Some, None, option_map, inl, inr, refl, sym, ap, subst, ◌∙◌, append_assoc, append-nil}
 use Rattle.std.specs.List.{filter_map, flat_map}
 use Rattle.std.proofs.lemmas.List.Folds.{flat_map-map}
 use Rattle.gptp_model.specs.declared.station.Station.{Station}
@@ -25,7 +25,7 @@ use Rattle.gptp_timeline.specs.Shown.{is_expecting, live_among, shown, shown_of}
 use Rattle.gptp_timeline.specs.Stretch.{at_of, counted, ended, error_from, roots_of, shown_of_all, under_way, waits}
 use Rattle.gptp_timeline.specs.StretchText.{after_line, ended_stretch, error_among, system_accuracy, wait_of}
 use Rattle.gptp_timeline.specs.Timeline.{StretchTrace, accuracy_at, timeline_accuracy_lines, act_lines, end_lines, ended_of, exact_time, is_begun, kept_accuracy, kept_accuracy_at, none_waits, start_lines, stretch_of}
-use Rattle.gptp_timeline.specs.Watch.{WatchState, watch_begun, event_look, lines_all, see_act, see_all, seen_lines, tells_changes, unless, unseen, without_error}
+use Rattle.gptp_timeline.specs.Watch.{WatchState, watch_begun, event_look, lines_all, see_act, see_all, seen_lines, tells_changes, TellsSeen, unless, unseen, without_error}
 use Rattle.gptp_timeline.specs.declared.counts.Counts.{Counts}
 use Rattle.gptp_timeline.specs.declared.measures.Greatest.{Greatest}
 use Rattle.gptp_timeline.specs.declared.measures.Measures.{Measures}
@@ -44,6 +44,7 @@ use Rattle.gptp_timeline.proofs.MeasureLemmas.{greatest_both}
 use Rattle.gptp_timeline.proofs.NameLemmas.{acts_named, AreNamed, first_names, same_named}
 use Rattle.gptp_timeline.proofs.StandLemmas.{kept, map_same, Stands}
 use Rattle.gptp_timeline.proofs.StepLemmas.{errors_next, measured_by, restand, Tracks}
+use Rattle.gptp_timeline.proofs.StillLemmas.{stays_seen}
 use Rattle.gptp_timeline.proofs.TrackLemmas.{all_seen_lines, unless_each}
 
 -- ---- what is kept
@@ -224,6 +225,18 @@ module _ (options : TimelineOptions) (names : List ℕ) (since : ℕ → Option 
           stepped.1,
         )
 
+    -- an act that wasn't looked at is as if it had been
+    was_seen : (ts : List ActTrace) (t : ActTrace) (o between : WatchState) (lines : List (List ℕ))
+        → Observes options names since from ts t.before o → IsDone t → tells_changes t.told t.after o between lines
+        → TellsSeen t.told t.after o between lines
+    was_seen ts t o between lines observes done (inl seen) = seen
+    was_seen ts t o between lines observes done (inr (leaves, is, none)) =
+        let stays = leaves.stays (at (at_of t) t.before) t.after done.draws done.acts in
+        let (kept, told) = stays_seen options.summary options.offsets from names since
+        (λ name. error_from name from ts) ts t o observes.tracks stays.same t.told.timed.act t.told.done
+        leaves.is_other stays.nobody in
+        (is ∙ sym kept, none ∙ sym told)
+
     -- after several
     chained : (us ts : List ActTrace) (w w' : WorldState) (before after : List Station) (o o_after : WatchState)
         (lines : List (List ℕ)) → before ≡ w.stations → Chain us before after → w'.stations ≡ after
@@ -235,9 +248,11 @@ module _ (options : TimelineOptions) (names : List ℕ) (since : ℕ → Option 
           (moved ts w w' o (end ∙ sym same ∙ start) observes)),
       none,
     )
-    chained (t ∷ us) ts w w' before after o o_after lines start (first, done, rest) end
-        (between, one, others, (is, told), tells, are) observes =
-        let step = act_step ts t o (moved ts w t.before o (first ∙ start) observes) done in
+    chained (t ∷ us) ts w w' begun after o o_after lines start (first, done, rest) end
+        (between, one, others, tells_one, tells, are) observes =
+        let before = moved ts w t.before o (first ∙ start) observes in
+        let (is, told) = was_seen ts t o between one before done tells_one in
+        let step = act_step ts t o before done in
         let next = chained us (ts ++ t ∷ []) t.after w' t.after.stations after between o_after others refl rest end
         tells
         (subst (Observes options names since from (ts ++ t ∷ []) t.after) (sym is) step.0) in (

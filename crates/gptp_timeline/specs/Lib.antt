@@ -12,6 +12,7 @@ pub mod Roots
 pub mod StretchText
 pub mod Limits
 pub mod End
+pub mod Leaving
 pub mod Watch
 pub mod Timeline
 pub mod Ends

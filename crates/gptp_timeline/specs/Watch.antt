@@ -1,6 +1,6 @@
 -- What the code keeps of a stretch that passes: what an observer keeps and tells of an act, by what it kept before and
 -- the world after the act. Contracts of private functions alone cite this, but for `WatchState` and `unless`.
-use Rattle.std.specs.Prelude.{◌≡◌, ℕ, ◌+◌, ◌==◌, ◌&&◌, ◌||◌, nat_le, nat_lt, not, Bool, true, false, if◌then◌else◌, List, [], ◌∷◌, ◌++◌, length, map, Option, Some, None, is_none, is_some, slice_get, slice_set, ℤ, unsigned_abs}
+use Rattle.std.specs.Prelude.{◌≡◌, ◌⊎◌, ℕ, ◌+◌, ◌==◌, nat_le, nat_lt, not, Bool, true, false, if◌then◌else◌, List, [], ◌∷◌, ◌++◌, length, map, Option, Some, None, is_some, slice_get, slice_set, ℤ, unsigned_abs}
 use Rattle.std.specs.List.{range_with_len}
 use Rattle.std.specs.Option.{option_map, option_map_or}
 use Rattle.gptp_model.specs.Advancing.{Told}
@@ -13,6 +13,7 @@ use Rattle.gptp_scenario.specs.declared.change.Act.TheVariants.{Change as Changi
 use Rattle.gptp_system.specs.State.{SystemState}
 use Rattle.gptp_timeline.specs.Changes.{change_lines}
 use Rattle.gptp_timeline.specs.EventLine.{event_line}
+use Rattle.gptp_timeline.specs.Leaving.{LeavesAll}
 use Rattle.gptp_timeline.specs.Measures.{better_if, ended_by, last_if, one_at, since_after}
 use Rattle.gptp_timeline.specs.Receipts.{offset_error, offset_line, received_by}
 use Rattle.gptp_timeline.specs.Shown.{is_expecting, live_system, same_choice, same_roles, shown}
@@ -27,11 +28,6 @@ use Rattle.gptp_timeline.specs.declared.watched.Watched.{Watched}
 
 abbrev pub since_behind : ActView → Watched → Option Shown → Option ℕ
 since_behind look x after = since_after look.at look.received (is_expecting x.shown) (is_expecting after) x.since
-
--- an act that leaves a system as it is neither begins nor ends a wait of it: none is received, and it goes on to expect
--- time where it waits
-abbrev pub leaves_wait : ActView → Watched → Bool
-leaves_wait look x = not look.received && (is_none x.since || is_expecting x.shown)
 
 abbrev pub wait_behind : ActView → Watched → Option Shown → Option Greatest
 wait_behind look x after =
@@ -48,11 +44,6 @@ measures_after look x after m = record {
 
 abbrev pub watched_after : ActView → Option Shown → Watched → Watched
 watched_after look after x = record x { shown = after; since = since_behind look x after }
-
--- an act leaves all that is kept of it as it was
-pub record StaysSo (look : ActView) (w : WorldState) (x : Watched) : Type 0 where
-  pub shown_so : shown x.clock w ≡ x.shown
-  pub waits_so : leaves_wait look x ≡ true
 
 -- the greater of two amounts, where the second counts
 abbrev pub greater : Option ℕ → ℕ → Option ℕ
@@ -235,11 +226,19 @@ seen_lines at (Expire clock timer) done w o = watched_lines at w clock false o
 seen_lines at (Changing change) done w o =
     unless o.summary (event_line at change ∷ []) ++ lines_all (event_look at) w o
 
--- what the observer keeps and tells of an act
-abbrev pub tells_changes : Told → WorldState → WatchState → WatchState → List (List ℕ) → Type 0
-tells_changes told w o o_after lines =
+-- it is looked at what an act left
+abbrev pub TellsSeen : Told → WorldState → WatchState → WatchState → List (List ℕ) → Type 0
+TellsSeen told w o o_after lines =
     (o_after ≡ see_act told.timed.at told.timed.act told.done w o)
     × (lines ≡ seen_lines told.timed.at told.timed.act told.done w o)
+
+-- it isn't, where the act leaves all that is shown as it was
+abbrev pub TellsNone : Told → WatchState → WatchState → List (List ℕ) → Type 0
+TellsNone told o o_after lines = LeavesAll told.timed.act told.done × (o_after ≡ o) × (lines ≡ [])
+
+-- what the observer keeps and tells of an act
+abbrev pub tells_changes : Told → WorldState → WatchState → WatchState → List (List ℕ) → Type 0
+tells_changes told w o o_after lines = TellsSeen told w o o_after lines ⊎ TellsNone told o o_after lines
 
 -- clocks rise
 abbrev pub WatchedRise : List Watched → Type 0

@@ -15,6 +15,7 @@ mod end;
 mod ends;
 mod event_line;
 mod laws;
+mod leaving;
 mod limits;
 mod measures;
 mod null_sink;

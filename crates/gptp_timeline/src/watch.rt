@@ -4,26 +4,29 @@ ghost use Rattle.std.specs.Prelude.{◌≡◌, ◌≤◌, ◌<◌, ◌+◌, ◌+
 ghost use Rattle.gptp_model.specs.Views.{rising_clocks};
 ghost use Rattle.gptp_words.specs.Lines.{text_of};
 ghost use Rattle.gptp_timeline.specs.Measures.{one_at};
-ghost use Rattle.gptp_timeline.specs.Shown.{live_system, shown};
-ghost use Rattle.gptp_timeline.specs.Watch.{counts_from, receipt_lines_of, unseen, without_error};
+ghost use Rattle.gptp_timeline.specs.Watch.{counts_from, unseen, without_error};
 
 use crate::changes::write_changes;
 use crate::event_line::write_event;
+use crate::leaving::leaves_all;
 use crate::measures::{Greatest, Measures, NOTHING, better_if};
 use crate::receipts::{error_of, received_by, write_offset};
 use crate::shown::{Shown, shown_of, shows};
-use crate::watched::{ActView, Watched, error_after, leaves_wait, measures_after, since_behind};
+use crate::watched::{ActView, Watched, error_after, measures_after, since_behind, wait_behind};
 use gptp_links::Fate;
 use gptp_report::sink::Sink;
 use gptp_report::{Cut, Observer, write_whole};
+use gptp_scaled::ScaledNs;
 use gptp_scenario::Change;
+use gptp_system::System;
 use gptp_vector::ClockId;
 use gptp_world::{Act, Done, Timed, World};
 use std::alloc::{AllocError, Global};
 use std::marker::Model;
 
 /// An observer that writes a line for each event, for each system and port that an act left another, and for each
-/// receipt of time, where they are asked for, and measures what became of a stretch. It is seen as what it keeps.
+/// receipt of time, where they are asked for, and measures what became of a stretch. It passes over acts that leave all
+/// that is shown as it was. It is seen as what it keeps.
 #[derive(Drop)]
 pub(crate) struct Watch {
     // Whether events and changes are left out.
@@ -54,29 +57,6 @@ impl Model for Watch {
     } };
 
     ghost invariant = { λ w. WatchedRise w.systems.items };
-}
-
-/// What the system with a clock shows, where it is live.
-fn shown_in<F: Fate + Drop>(world: &World<F>, clock: ClockId) -> Option<Shown>
-    ensures { result ≡ shown clock world.now.world_core }
-{
-    world.well_formed();
-    match world.system(clock) {
-        Some(system) => Some(shown_of(system)),
-        None => None,
-    }
-}
-
-/// Whether the system with a clock shows this, or doesn't live as nothing is shown.
-fn shows_in<F: Fate + Drop>(world: &World<F>, clock: ClockId, last: &Option<Shown>) -> bool
-    ensures { result ≡ true → shown clock world.now.world_core ≡ last.now }
-{
-    world.well_formed();
-    match (world.system(clock), last) {
-        (Some(system), Some(last)) => shows(system, last),
-        (None, None) => true,
-        _ => false,
-    }
 }
 
 /// What is kept of a system that hasn't started.
@@ -160,12 +140,14 @@ fn clear_errors(systems: &mut Vec<Watched>)
 }
 
 impl Watch {
-    ghost use Rattle.std.specs.Prelude.{◌≡◌, ◌≤◌, ◌<◌, ◌++◌, ◌∷◌, [], None, false, true, IfOk, IfSome, OnOk, length, map, slice_get, Some, string_bytes};
+    ghost use Rattle.std.specs.Prelude.{◌≡◌, ◌≤◌, ◌<◌, ◌++◌, ◌∷◌, [], None, false, true, not, if◌then◌else◌, IfOk, IfSome, OnOk, length, map, slice_get, Some, string_bytes};
     ghost use Rattle.gptp_model.specs.Views.{rising_clocks};
     ghost use Rattle.gptp_words.specs.Lines.{text_of};
     ghost use Rattle.gptp_timeline.specs.Changes.{change_lines};
     ghost use Rattle.gptp_timeline.specs.EventLine.{event_line};
-    ghost use Rattle.gptp_timeline.specs.Watch.{WatchedRise, StaysSo, watch_begun, delivery_lines, event_look, lines_all, lines_at, nothing, place_of, placed_lines, receipt_lines, receipt_lines_if, see_act, see_all, see_at, see_delivery, see_placed, see_receipt, see_receipt_if, see_system, seen_lines, watched_lines, take_error, taken, unless, unseen};
+    ghost use Rattle.gptp_timeline.specs.Receipts.{offset_line};
+    ghost use Rattle.gptp_timeline.specs.Shown.{shown_of};
+    ghost use Rattle.gptp_timeline.specs.Watch.{WatchedRise, watch_begun, delivery_lines, event_look, lines_all, lines_at, nothing, place_of, placed_lines, receipt_lines_of, see_act, see_all, see_at, see_delivery, see_placed, see_receipt_of, see_system, seen_lines, watched_lines, take_error, taken, unless, unseen};
     ghost use Rattle.gptp_timeline.specs.declared.watched.Watched.{Watched};
 
     /// An observer of a world whose systems start, before it has seen that.
@@ -229,10 +211,19 @@ impl Watch {
     fn place_of(&self, clock: ClockId) -> Option<usize>
         ensures is { result ≡ place_of clock self.now }
         ensures within { IfSome result (λ place. place < length self.now.systems) }
+        ensures named { IfSome result (λ place. (x : Watched) → slice_get self.now.systems place ≡ Some x → x.clock ≡ clock) }
     {
         self.systems
             .binary_search_by_key(&clock, |system| system.clock)
             .ok()
+    }
+
+    /// The clock of the system at a place.
+    fn clock_at(&self, place: usize) -> ClockId
+        requires { place < length self.now.systems }
+        ensures { (x : Watched) → slice_get self.now.systems place ≡ Some x → result ≡ x.clock }
+    {
+        self.systems[place].clock
     }
 
     /// Appends the lines of a system that is left as `after`, where they are asked for.
@@ -273,32 +264,71 @@ impl Watch {
         };
     }
 
-    /// Whether an act leaves all that is kept of the system at a place as it was.
-    fn stays_at<F: Fate + Drop>(&self, world: &World<F>, look: ActView, place: usize) -> bool
-        requires { place < length self.now.systems }
-        ensures { result ≡ true → (x : Watched) → slice_get self.now.systems place ≡ Some x → StaysSo look world.now.world_core x }
+    /// An act left what is shown of the system at a place as it was.
+    fn take_same(&mut self, look: ActView, place: usize)
+        requires { place < length self.old.systems }
+        ensures { (x : Watched) → slice_get self.old.systems place ≡ Some x → self.new ≡ taken look place x x.shown self.old }
     {
         let system = &self.systems[place];
-        leaves_wait(look, system) && shows_in(world, system.clock, &system.shown)
+        let wait = wait_behind(look, system, &system.shown);
+        let since = since_behind(look, system, &system.shown);
+        self.measures.holdover = better_if(self.measures.holdover, wait);
+        self.systems[place].since = since;
     }
 
-    /// Takes up what an act leaves of the system at a place.
-    fn see_anew<F: Fate + Drop>(
+    /// Whether a live system shows what was last shown of the system at a place.
+    fn shows_at(&self, place: usize, system: &System) -> bool
+        requires place { place < length self.now.systems }
+        requires few { length system.now.ports ≤ 16 }
+        ensures { result ≡ true → (x : Watched) → slice_get self.now.systems place ≡ Some x
+            → Some (shown_of system.now) ≡ x.shown }
+    {
+        match &self.systems[place].shown {
+            Some(last) => shows(system, last),
+            None => false,
+        }
+    }
+
+    /// The system at a place is left as `after` by an act.
+    fn see_left(
         &mut self,
         text: &mut String,
-        world: &World<F>,
         look: ActView,
         place: usize,
+        after: Option<Shown>,
     ) -> Result<(), AllocError>
         requires { place < length self.old.systems }
-        ensures sees { OnOk result (self.new ≡ see_at look world.now.world_core place self.old) }
-        ensures tells { OnOk result (string_bytes text.new
-            ≡ string_bytes text.old ++ text_of (lines_at look world.now.world_core place self.old)) }
+        ensures sees { OnOk result ((x : Watched) → slice_get self.old.systems place ≡ Some x
+            → self.new ≡ taken look place x after self.old) }
+        ensures tells { OnOk result ((x : Watched) → slice_get self.old.systems place ≡ Some x → string_bytes text.new
+            ≡ string_bytes text.old ++ text_of (unless self.old.summary (change_lines look.at x.clock x.shown after))) }
     {
-        let after = shown_in(world, self.systems[place].clock);
         self.write_changes_at(text, look.at, place, &after)?;
         self.take(look, place, after);
         Ok(())
+    }
+
+    /// The system at a place is live after an act.
+    fn see_live(
+        &mut self,
+        text: &mut String,
+        look: ActView,
+        place: usize,
+        system: &System,
+    ) -> Result<(), AllocError>
+        requires place { place < length self.old.systems }
+        requires few { length system.now.ports ≤ 16 }
+        ensures sees { OnOk result ((x : Watched) → slice_get self.old.systems place ≡ Some x
+            → self.new ≡ taken look place x (Some (shown_of system.now)) self.old) }
+        ensures tells { OnOk result ((x : Watched) → slice_get self.old.systems place ≡ Some x → string_bytes text.new
+            ≡ string_bytes text.old ++ text_of (unless self.old.summary
+            (change_lines look.at x.clock x.shown (Some (shown_of system.now))))) }
+    {
+        if self.shows_at(place, system) {
+            self.take_same(look, place);
+            return Ok(());
+        }
+        self.see_left(text, look, place, Some(shown_of(system)))
     }
 
     /// Looks at the system at a place after an act.
@@ -314,9 +344,10 @@ impl Watch {
         ensures tells { OnOk result (string_bytes text.new
             ≡ string_bytes text.old ++ text_of (lines_at look world.now.world_core place self.old)) }
     {
-        match self.stays_at(world, look, place) {
-            true => Ok(()),
-            false => self.see_anew(text, world, look, place),
+        world.well_formed();
+        match world.system(self.clock_at(place)) {
+            Some(system) => self.see_live(text, look, place, system),
+            None => self.see_left(text, look, place, None),
         }
     }
 
@@ -400,44 +431,25 @@ impl Watch {
         self.systems[place].error = error_after(counts, most, amount_of(error));
     }
 
-    /// Appends the line of the receipt of a system, where it is asked for.
-    fn write_offset_if<F: Fate + Drop>(
+    /// Appends the line of a receipt with that offset and error, where it is asked for.
+    fn write_offset_if(
         &self,
         text: &mut String,
-        world: &World<F>,
         at: u64,
         clock: ClockId,
+        offset: Option<ScaledNs>,
+        error: Option<i128>,
     ) -> Result<(), AllocError>
-        requires { at ≤ 1000000000000000 }
         ensures { OnOk result (string_bytes text.new
-            ≡ string_bytes text.old ++ text_of (receipt_lines at world.now.world_core clock self.now)) }
+            ≡ string_bytes text.old ++ text_of (unless (not self.now.offsets) (offset_line at clock offset error ∷ []))) }
     {
         match self.offsets {
-            true => write_receipt(text, world, at, clock),
+            true => write_offset(text, at, clock, offset, error),
             false => Ok(()),
         }
     }
 
-    /// The receipt of the system at a place is measured.
-    fn measure_receipt<F: Fate + Drop>(
-        &mut self,
-        world: &World<F>,
-        at: u64,
-        clock: ClockId,
-        place: usize,
-    )
-        requires moment { at ≤ 1000000000000000 }
-        requires place { place < length self.old.systems }
-        ensures { self.new ≡ see_receipt at world.now.world_core clock place self.old }
-    {
-        world.well_formed();
-        if let Some(system) = world.system(clock) {
-            let error = error_of(at, system, world);
-            self.take_error(at, place, error);
-        }
-    }
-
-    /// Sees the receipt of time of the system at a place.
+    /// Sees the receipt of time of a live system, which is that at a place.
     fn see_receipt<F: Fate + Drop>(
         &mut self,
         text: &mut String,
@@ -445,19 +457,22 @@ impl Watch {
         at: u64,
         clock: ClockId,
         place: usize,
+        system: &System,
     ) -> Result<(), AllocError>
         requires moment { at ≤ 1000000000000000 }
         requires place { place < length self.old.systems }
-        ensures sees { OnOk result (self.new ≡ see_receipt at world.now.world_core clock place self.old) }
+        ensures sees { OnOk result (self.new ≡ see_receipt_of at world.now.world_core place (Some system.now) self.old) }
         ensures tells { OnOk result (string_bytes text.new
-            ≡ string_bytes text.old ++ text_of (receipt_lines at world.now.world_core clock self.old)) }
+            ≡ string_bytes text.old ++ text_of (unless (not self.old.offsets)
+            (receipt_lines_of at world.now.world_core clock (Some system.now)))) }
     {
-        self.write_offset_if(text, world, at, clock)?;
-        self.measure_receipt(world, at, clock, place);
+        let error = error_of(at, system, world);
+        self.write_offset_if(text, at, clock, system.offset(), error)?;
+        self.take_error(at, place, error);
         Ok(())
     }
 
-    /// Sees the receipt of time of the system at a place, where time was received.
+    /// Sees the receipt of time of a live system, which is that at a place, where time was received.
     fn see_receipt_if<F: Fate + Drop>(
         &mut self,
         text: &mut String,
@@ -466,20 +481,23 @@ impl Watch {
         at: u64,
         clock: ClockId,
         place: usize,
+        system: &System,
     ) -> Result<(), AllocError>
         requires moment { at ≤ 1000000000000000 }
         requires place { place < length self.old.systems }
-        ensures sees { OnOk result (self.new ≡ see_receipt_if received at world.now.world_core clock place self.old) }
+        ensures sees { OnOk result (self.new
+            ≡ (if received then see_receipt_of at world.now.world_core place (Some system.now) self.old else self.old)) }
         ensures tells { OnOk result (string_bytes text.new
-            ≡ string_bytes text.old ++ text_of (receipt_lines_if received at world.now.world_core clock self.old)) }
+            ≡ string_bytes text.old ++ text_of (if received then
+            unless (not self.old.offsets) (receipt_lines_of at world.now.world_core clock (Some system.now)) else [])) }
     {
         match received {
-            true => self.see_receipt(text, world, at, clock, place),
+            true => self.see_receipt(text, world, at, clock, place, system),
             false => Ok(()),
         }
     }
 
-    /// Sees a delivery or an expiry at the system at a place.
+    /// Sees a delivery or an expiry at the system with a clock, which is that at a place.
     fn see_placed<F: Fate + Drop>(
         &mut self,
         text: &mut String,
@@ -491,6 +509,7 @@ impl Watch {
     ) -> Result<(), AllocError>
         requires moment { at ≤ 1000000000000000 }
         requires place { place < length self.old.systems }
+        requires named { (x : Watched) → slice_get self.old.systems place ≡ Some x → x.clock ≡ clock }
         ensures sees { OnOk result (self.new ≡ see_placed at world.now.world_core clock received (Some place) self.old) }
         ensures tells { OnOk result (string_bytes text.new
             ≡ string_bytes text.old ++ text_of (placed_lines at world.now.world_core clock received (Some place) self.old)) }
@@ -500,8 +519,14 @@ impl Watch {
             by_event: false,
             received,
         };
-        self.see_at(text, world, look, place)?;
-        self.see_receipt_if(text, world, received, at, clock, place)
+        world.well_formed();
+        match world.system(clock) {
+            Some(system) => {
+                self.see_live(text, look, place, system)?;
+                self.see_receipt_if(text, world, received, at, clock, place, system)
+            }
+            None => self.see_left(text, look, place, None),
+        }
     }
 
     /// Sees a delivery or an expiry at the system with a clock, by which it received time or didn't.
@@ -567,30 +592,6 @@ impl Watch {
     }
 }
 
-/// Appends the line of the receipt of a system, where it is live.
-fn write_receipt<F: Fate + Drop>(
-    text: &mut String,
-    world: &World<F>,
-    at: u64,
-    clock: ClockId,
-) -> Result<(), AllocError>
-    requires { at ≤ 1000000000000000 }
-    ensures { OnOk result (string_bytes text.new
-        ≡ string_bytes text.old ++ text_of (receipt_lines_of at world.now.world_core clock (live_system clock world.now.world_core))) }
-{
-    world.well_formed();
-    match world.system(clock) {
-        Some(system) => write_offset(
-            text,
-            at,
-            clock,
-            system.offset(),
-            error_of(at, system, world),
-        ),
-        None => Ok(()),
-    }
-}
-
 impl Observer for Watch {
     ghost use Rattle.gptp_timeline.specs.Watch.{tells_changes};
 
@@ -604,6 +605,9 @@ impl Observer for Watch {
         done: &Done,
         sink: &mut K,
     ) -> Result<(), Cut> {
+        if leaves_all(&timed.act, done) {
+            return Ok(());
+        }
         let mut text = String::new(alloc);
         self.see(&mut text, world, timed, done)?;
         write_whole(sink, text.as_bytes())?;
