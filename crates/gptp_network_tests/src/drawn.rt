@@ -130,7 +130,11 @@ fn go_on<F: Fate + Drop>(world: &mut World<F>, time: u64) -> Result<(), NetworkF
 }
 
 /// Their world at a time.
-pub(crate) fn pair_at<F: Fate + Drop>(alloc: Global, fate: F, time: u64) -> Result<World<F>, NetworkFault>
+pub(crate) fn pair_at<F: Fate + Drop>(
+    alloc: Global,
+    fate: F,
+    time: u64,
+) -> Result<World<F>, NetworkFault>
     requires moment { time ≤ 1000000000000000 }
     ensures { IfOk result (λ world. IsPairAt time world.world_core) }
 {

@@ -22,14 +22,14 @@ loop-octet-preserved c =
     let before = c.loop-octet.invariant in
     let below = c.loop-octet-test.true in
     elim c.if-octet-eq10.branch [
-      then-octet-eq10 w ↦
+      | then-octet-eq10 w ↦
           rw (w.line-is, w.column-is)
           (after_feed text i octet below refl line column (rw w.if-octet-eq10.true refl) before)
-    | else-octet-eq10+then-begins_character w ↦
+      | else-octet-eq10+then-begins_character w ↦
           rw (w.line-is, w.column-is)
           (after_octet text i octet below refl line column (column + 1) true (no_feed octet w.if-octet-eq10.false)
           (sym w.if-begins_character.ensures) refl before)
-    | else-octet-eq10+else-begins_character w ↦
+      | else-octet-eq10+else-begins_character w ↦
           rw (w.line-is, w.column-is)
           (after_octet text i octet below refl line column column false (no_feed octet w.if-octet-eq10.false)
           (sym w.if-begins_character.ensures) (omega arith) before)

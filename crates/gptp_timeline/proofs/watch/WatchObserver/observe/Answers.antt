@@ -23,9 +23,14 @@ returns-in_err-write_whole-clause-some g c =
     let o = c.args.self.now in let lines = seen_lines t.at t.act d w o in
     let old = g.K.Sink.written c.args.sink.now in let new = g.K.Sink.written c.write_whole.new.sink in
     let text : c.as_bytes.result.now ≡ text_of lines =
-    c.as_bytes.ensures.value ∙ c.in_ok-see.ensures.tells ∙ ap (λ s. s ++ text_of lines) c.new-text.ensures.bytes in
-    (see_act t.at t.act d w o, (lines, inl (refl, refl),
-    subst (AppendsSome old new) text (front_of old new c.as_bytes.result.now c.in_err-write_whole.ensures.front)))
+    c.as_bytes.ensures.value ∙ c.in_ok-see.ensures.tells ∙ ap (λ s. s ++ text_of lines) c.new-text.ensures.bytes in (
+      see_act t.at t.act d w o,
+      (
+        lines,
+        inl (refl, refl),
+        subst (AppendsSome old new) text (front_of old new c.as_bytes.result.now c.in_err-write_whole.ensures.front),
+      ),
+    )
 
 pub returns-clause-some : goal.returns-clause-some
 returns-clause-some g c =
@@ -33,6 +38,11 @@ returns-clause-some g c =
     let o = c.args.self.now in let lines = seen_lines t.at t.act d w o in
     let old = g.K.Sink.written c.args.sink.now in let new = g.K.Sink.written c.write_whole.new.sink in
     let text : c.as_bytes.result.now ≡ text_of lines =
-    c.as_bytes.ensures.value ∙ c.in_ok-see.ensures.tells ∙ ap (λ s. s ++ text_of lines) c.new-text.ensures.bytes in
-    (see_act t.at t.act d w o, (lines, inl (refl, refl),
-    subst (AppendsSome old new) text (all_of old new c.as_bytes.result.now c.in_ok-write_whole.ensures.whole)))
+    c.as_bytes.ensures.value ∙ c.in_ok-see.ensures.tells ∙ ap (λ s. s ++ text_of lines) c.new-text.ensures.bytes in (
+      see_act t.at t.act d w o,
+      (
+        lines,
+        inl (refl, refl),
+        subst (AppendsSome old new) text (all_of old new c.as_bytes.result.now c.in_ok-write_whole.ensures.whole),
+      ),
+    )
