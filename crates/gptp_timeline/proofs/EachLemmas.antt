@@ -4,7 +4,6 @@ use Rattle.std.specs.List.{range_with_len}
 use Rattle.std.proofs.lemmas.List.{length-set}
 use Rattle.gptp_words.specs.Lines.{text_of}
 use Rattle.gptp_model.specs.World.{WorldState}
-use Rattle.gptp_timeline.specs.Shown.{shown}
 use Rattle.gptp_timeline.specs.Watch.{lines_at, lines_each, measures_after, see_all, see_at, see_each, see_one, watched_after, WatchState, left_at}
 use Rattle.gptp_timeline.specs.declared.measures.Measures.{Measures}
 use Rattle.gptp_timeline.specs.declared.watched.ActView.{ActView}

@@ -1,5 +1,5 @@
 -- What is kept and told of one system that is looked at after an act, by its state.
-use Rattle.std.proofs.Common.{◌≡◌, ℕ, Bool, true, false, not, List, [], ◌++◌, Option, Some, None, if◌then◌else◌, option_map, slice_get, length, refl, sym, ap, ◌∙◌, append-nil}
+use Rattle.std.proofs.Common.{◌≡◌, ℕ, Bool, true, false, not, List, [], ◌++◌, Option, Some, None, if◌then◌else◌, slice_get, length, refl, sym, ap, ◌∙◌, append-nil}
 use Rattle.std.proofs.lemmas.List.{length-set}
 use Rattle.gptp_model.specs.World.{WorldState}
 use Rattle.gptp_system.specs.State.{SystemState}
