@@ -416,5 +416,5 @@ follow_up_leaves link direction clock port answer frame w draws w' d late name =
     let (clock_is, port_is, told, octets_are) = d.told in
     left_alone (live_system name w') (live_system name w)
     (hears_leaves but_known d.delivers.place (receiver direction d.delivers.channel).port d.octets _ draws d.answer w'
-    (λ s s' sends heard k. hears_late_frame (receiver direction d.delivers.channel).port w.time s s' sends heard d.octets
-    (subst (λ os. is_follow_up os ≡ true) octets_are late) k) d.delivers.hears name)
+    (λ s s' sends heard. hears_late_frame (receiver direction d.delivers.channel).port w.time s s' sends heard d.octets
+    (subst (λ os. is_follow_up os ≡ true) octets_are late)) d.delivers.hears name)

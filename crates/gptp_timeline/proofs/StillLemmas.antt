@@ -201,7 +201,8 @@ module _ (summary offsets : Bool) (from : Option ℕ) (names : List ℕ) (begun 
           → (see_at (view true) t.after place o ≡ see_at (view false) t.after place o)
           × (lines_at (view true) t.after place o ≡ lines_at (view false) t.after place o)
       by None none = (
-        ap (λ y. see_one (view true) t.after place y o) none ∙ sym (ap (λ y. see_one (view false) t.after place y o) none),
+        ap (λ y. see_one (view true) t.after place y o) none
+            ∙ sym (ap (λ y. see_one (view false) t.after place y o) none),
         ap (λ y. unless o.summary (one_lines (view true) t.after y)) none
             ∙ sym (ap (λ y. unless o.summary (one_lines (view false) t.after y)) none),
       )
@@ -223,7 +224,8 @@ module _ (summary offsets : Bool) (from : Option ℕ) (names : List ℕ) (begun 
   alone_same true leaves = by (place_of clock o)
     where
       by : (p : Option ℕ)
-          → (see_placed (at_of t) t.after clock received true p o ≡ see_placed (at_of t) t.after clock received false p o)
+          → (see_placed (at_of t) t.after clock received true p o
+          ≡ see_placed (at_of t) t.after clock received false p o)
           × (placed_lines (at_of t) t.after clock received true p o
           ≡ placed_lines (at_of t) t.after clock received false p o)
       by None = (refl, refl)

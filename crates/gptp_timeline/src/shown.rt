@@ -82,7 +82,8 @@ fn shows_known(system: &System, shown: &Shown) -> bool
 pub(crate) fn shows_left(known_alone: bool, system: &System, shown: &Shown) -> bool
     requires { length system.now.ports ≤ 16 }
     ensures same { result ≡ true → left_by known_alone (Some system.now) (Some shown.now) ≡ Some shown.now }
-    ensures other { result ≡ false → left_by known_alone (Some system.now) (Some shown.now) ≡ Some (shown_of system.now) }
+    ensures other { result ≡ false
+        → left_by known_alone (Some system.now) (Some shown.now) ≡ Some (shown_of system.now) }
 {
     match known_alone {
         true => shows_known(system, shown),

@@ -26,9 +26,9 @@ returns-in_ok-see_live-in-Some-clause-sees g c =
     let (x, there) = at_place o.systems c.args.place c.requires.place in
     let live = live_shown c.args.clock w s c.well_formed-2.ensures.sound.wired.clocks c.in-Some.ensures.some in
     on_ok_weaker c.see_receipt_if.result
-    (sees_placed c.args.at w c.args.clock c.args.received c.args.known_alone c.args.place x o there (c.requires.named x there) s live
-    c.see_live.new.self (c.in_ok-see_live-in-Some.ensures.sees x there) c.see_receipt_if.new.self)
-    c.see_receipt_if.ensures.sees
+    (sees_placed c.args.at w c.args.clock c.args.received c.args.known_alone c.args.place x o there
+    (c.requires.named x there) s live c.see_live.new.self (c.in_ok-see_live-in-Some.ensures.sees x there)
+    c.see_receipt_if.new.self) c.see_receipt_if.ensures.sees
 
 pub returns-in_ok-see_live-in-Some-clause-tells : goal.returns-in_ok-see_live-in-Some-clause-tells
 returns-in_ok-see_live-in-Some-clause-tells g c =
@@ -36,9 +36,9 @@ returns-in_ok-see_live-in-Some-clause-tells g c =
     let (x, there) = at_place o.systems c.args.place c.requires.place in
     let live = live_shown c.args.clock w s c.well_formed-2.ensures.sound.wired.clocks c.in-Some.ensures.some in
     on_ok_weaker c.see_receipt_if.result
-    (tells_placed c.args.at w c.args.clock c.args.received c.args.known_alone c.args.place x o there (c.requires.named x there) s live
-    c.see_live.new.self (c.in_ok-see_live-in-Some.ensures.sees x there) (string_bytes c.args.text.now)
-    (string_bytes c.see_live.new.text) (string_bytes c.see_receipt_if.new.text)
+    (tells_placed c.args.at w c.args.clock c.args.received c.args.known_alone c.args.place x o there
+    (c.requires.named x there) s live c.see_live.new.self (c.in_ok-see_live-in-Some.ensures.sees x there)
+    (string_bytes c.args.text.now) (string_bytes c.see_live.new.text) (string_bytes c.see_receipt_if.new.text)
     (c.in_ok-see_live-in-Some.ensures.tells x there))
     c.see_receipt_if.ensures.tells
 
@@ -47,8 +47,8 @@ returns-in-None-clause-sees g c =
     let o = c.args.self.now in let w = c.args.world.now.world_core in
     let (x, there) = at_place o.systems c.args.place c.requires.place in
     on_ok_weaker c.see_left.result
-    (λ seen. sees_none_placed c.args.at w c.args.clock c.args.received c.args.known_alone c.args.place x o there (c.requires.named x there)
-    (none_shown c.args.clock w c.in-None.ensures.none) c.see_left.new.self (seen x there
+    (λ seen. sees_none_placed c.args.at w c.args.clock c.args.received c.args.known_alone c.args.place x o there
+    (c.requires.named x there) (none_shown c.args.clock w c.in-None.ensures.none) c.see_left.new.self (seen x there
     ∙ ap (λ s. taken (own_look c.args.at c.args.received c.args.known_alone) c.args.place x s o)
     (sym (left_none c.args.known_alone x.shown)))) c.see_left.ensures.sees
 

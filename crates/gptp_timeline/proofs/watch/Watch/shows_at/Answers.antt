@@ -16,7 +16,8 @@ returns-in-Some-clause-same c = λ same x is.
     let here = subst (λ (o : WatchState). slice_get o.systems place ≡ Some x) (sym c.self.view_is) is in
     let one : z ≡ x = same_Some z x (sym there ∙ here) in
     subst (λ (y : Watched). left_by c.args.known_alone (Some s) y.shown ≡ y.shown) one
-    (subst (λ last. left_by c.args.known_alone (Some s) last ≡ last) (sym c.in-Some.is) (c.shows_left.ensures.same same))
+    (subst (λ last. left_by c.args.known_alone (Some s) last ≡ last) (sym c.in-Some.is)
+    (c.shows_left.ensures.same same))
 
 pub returns-in-Some-clause-other : goal.returns-in-Some-clause-other
 returns-in-Some-clause-other c = λ other x is.
