@@ -6,6 +6,7 @@ use Rattle.std.specs.Option.{option_map_or}
 use Rattle.std.proofs.lemmas.Bool.Decides.{nat_tests}
 use Rattle.std.proofs.lemmas.Option.{same_Some, slice_get-map}
 use Rattle.gptp_model.specs.Act.{in_state, Calls, Hears}
+use Rattle.gptp_model.specs.Acts.{Delivery}
 use Rattle.gptp_model.specs.World.{WorldState, receiver}
 use Rattle.gptp_model.specs.declared.done.Done.{Done}
 use Rattle.gptp_model.specs.declared.done.Done.TheVariants.{Heard, Quiet}
@@ -32,17 +33,19 @@ use Rattle.gptp_system.specs.Selection.{announced_again}
 use Rattle.gptp_system.specs.Start.{role_at}
 use Rattle.gptp_system.specs.State.{SystemState, change, change_at, clock, is_capable_at, local_time, number, on_port, with_peer}
 use Rattle.gptp_system.specs.Steps.{HearsFrame, HearsMessage}
-use Rattle.gptp_system.specs.Syncing.{is_followed, is_leading, restarted, telling, timer_stopped, HearsSync, HearsSyncIf, KeepsIf, RelaysBy, RelaysIf, SyncsIf}
+use Rattle.gptp_system.specs.Syncing.{is_followed, is_leading, restarted, telling, timer_stopped, HearsSync, HearsSyncIf, KeepsIf, RelaysBy, RelaysIf, SyncsIf, delay_at, root_rate_at, said_on, HearsFollowUp, HearsFollowUpIf, KnowsBy, KnowsIf}
 use Rattle.gptp_system.specs.declared.answer.Answer.{Answer}
 use Rattle.gptp_system.specs.declared.answer.Answer.TheVariants as answers
 use Rattle.gptp_system.specs.declared.port.Port.{Port}
 use Rattle.gptp_system.specs.declared.sending.Sending.{Sending}
 use Rattle.gptp_system.proofs.PortLemmas.{counted-map}
 use Rattle.gptp_system.proofs.TypeLemmas.{type_is, type_number}
-use Rattle.gptp_timeline.specs.Leaving.{FrameLeaves, LeavesAll, TimerLeaves, TypeLeaves}
-use Rattle.gptp_timeline.specs.Ports.{shown_port, shown_ports}
+use Rattle.gptp_messages.specs.declared.follow_up.FollowUp.{FollowUp}
+use Rattle.gptp_timeline.proofs.SameLemmas.{same_truth}
+use Rattle.gptp_timeline.specs.Leaving.{FrameLeaves, LeavesAll, TimerLeaves, TypeLeaves, left_known}
+use Rattle.gptp_timeline.specs.Ports.{shown_port, shown_ports, same_bool}
 use Rattle.gptp_timeline.specs.Receipts.{is_follow_up, received_by, receiver_clock}
-use Rattle.gptp_timeline.specs.Shown.{live_among, shown, shown_of}
+use Rattle.gptp_timeline.specs.Shown.{live_among, shown, shown_of, live_system}
 use Rattle.gptp_timeline.specs.declared.ports.ShownPort.{ShownPort}
 use Rattle.gptp_timeline.specs.declared.shown.Shown.{Shown}
 
@@ -174,6 +177,10 @@ relay_leaves now s s' sends k = by s.known k
 
 -- ---- frames
 
+-- what is shown of a system but whether its offset is known
+abbrev but_known : SystemState → Shown
+but_known s = record (shown_of s) { known = false }
+
 module _ (p now : ℕ) (s s' : SystemState) (sends : List Sending) (answer : Answer) where
   hears_sync : (head : Head) → HearsSync p head now s s' sends answer → shown_of s' ≡ shown_of s
   hears_sync head k = by (is_capable_at s p) k
@@ -214,6 +221,44 @@ module _ (p now : ℕ) (s s' : SystemState) (sends : List Sending) (answer : Ans
   hears_message (messages.PdelayRespFollowUp m) quiet k = absurd cc
   hears_message (messages.Announce a) quiet k = absurd cc
 
+  -- a Follow_Up
+  hears_follow_up : (m : FollowUp) → HearsFollowUp p m now s s' sends answer → but_known s' ≡ but_known s
+  hears_follow_up m k = by (is_capable_at s p) k
+    where
+      became_known : (u : SystemState) → s' ≡ u → but_known u ≡ but_known s → but_known s' ≡ but_known s
+      became_known u is same = ap but_known is ∙ same
+
+      knows : (held : Bool) (info : _) → KnowsBy held info (delay_at s p) (root_rate_at s p) now s s' sends answer
+          → but_known s' ≡ but_known s
+      knows true info k = became_known _ k.becomes.state refl
+      knows false info (inl k) = became_known _ k.becomes.state refl
+      knows false info (inr k) = became_known _ k.becomes.state refl
+
+      said : (info : Option _) → KnowsIf info (delay_at s p) (root_rate_at s p) now s s' sends answer
+          → but_known s' ≡ but_known s
+      said None k = ap but_known k.becomes.state
+      said (Some info) k = knows (has_sync_timeout s.params) info k
+
+      by : (on : Bool) → HearsFollowUpIf on p m now s s' sends answer → but_known s' ≡ but_known s
+      by false k = ap but_known k.becomes.state
+      by true k = said (said_on p m s) k
+
+  hears_late : (m : Message) → type_number m == 8 ≡ true → HearsMessage p m now s s' sends answer
+      → but_known s' ≡ but_known s
+  hears_late (messages.Sync head) late k = absurd cc
+  hears_late (messages.PdelayReq head) late k = absurd cc
+  hears_late (messages.PdelayResp m) late k = absurd cc
+  hears_late (messages.FollowUp m) late k = hears_follow_up m k
+  hears_late (messages.PdelayRespFollowUp m) late k = absurd cc
+  hears_late (messages.Announce a) late k = absurd cc
+
+  hears_late_frame : (octets : List ℕ) → is_follow_up octets ≡ true → HearsFrame p octets now s s' sends answer
+      → but_known s' ≡ but_known s
+  hears_late_frame [] late k = absurd cc
+  hears_late_frame (octet ∷ octets) late (inl k) =
+      hears_late k.message (subst (λ n. n == 8 ≡ true) (type_is (octet ∷ octets) k.message k.reads) late) k.hears
+  hears_late_frame (octet ∷ octets) late (inr k) = ap but_known k.becomes.state
+
   hears_frame : (octets : List ℕ) → IsQuiet (message_type octets) → HearsFrame p octets now s s' sends answer
       → shown_of s' ≡ shown_of s
   hears_frame octets quiet (inl k) =
@@ -238,71 +283,77 @@ first_leaves (o ∷ os) octet first leaves = leaves o os (ap (λ n. n % 16) (sam
 
 -- ---- acts
 
--- one station becomes another of which the same is shown
-abbrev first_of : Bool → Bool → Shown → Option Shown → Option Shown
+-- one station becomes another of which this is the same
+abbrev first_of : {X : Type 0} → Bool → Bool → X → Option X → Option X
 first_of named live one others = if named then (if live then Some one else None) else others
 
-first_shown : (name : ℕ) (s : Station) (ss : List Station)
-    → option_map shown_of (live_among name (s ∷ ss))
-    ≡ first_of (clock s.system == name) s.live (shown_of s.system) (option_map shown_of (live_among name ss))
-first_shown name s ss = by (clock s.system == name) s.live
-  where
-    by : (named live : Bool)
-        → option_map shown_of (if named then (if live then Some s.system else None) else live_among name ss)
-        ≡ first_of named live (shown_of s.system) (option_map shown_of (live_among name ss))
-    by true true = refl
-    by true false = refl
-    by false live = refl
+module _ {X : Type 0} (f : SystemState → X) where
+  first_is : (name : ℕ) (s : Station) (ss : List Station)
+      → option_map f (live_among name (s ∷ ss))
+      ≡ first_of (clock s.system == name) s.live (f s.system) (option_map f (live_among name ss))
+  first_is name s ss = by (clock s.system == name) s.live
+    where
+      by : (named live : Bool)
+          → option_map f (if named then (if live then Some s.system else None) else live_among name ss)
+          ≡ first_of named live (f s.system) (option_map f (live_among name ss))
+      by true true = refl
+      by true false = refl
+      by false live = refl
 
-station_leaves : (name place : ℕ) (stations : List Station) (old new : Station)
-    → slice_get stations place ≡ Some old → clock new.system ≡ clock old.system → new.live ≡ old.live
-    → shown_of new.system ≡ shown_of old.system
-    → option_map shown_of (live_among name (slice_set stations place new))
-    ≡ option_map shown_of (live_among name stations)
-station_leaves name place [] old new there named live same = absurd cc
-station_leaves name zero (s ∷ ss) old new there named live same =
-    let is : old ≡ s = sym (same_Some s old there) in
-    let others = option_map shown_of (live_among name ss) in
-    first_shown name new ss
-    ∙ ap (λ c. first_of (c == name) new.live (shown_of new.system) others) named
-    ∙ ap (λ l. first_of (clock old.system == name) l (shown_of new.system) others) live
-    ∙ ap (λ x. first_of (clock old.system == name) old.live x others) same
-    ∙ ap (λ (x : Station). first_of (clock x.system == name) x.live (shown_of x.system) others) is
-    ∙ sym (first_shown name s ss)
-station_leaves name (suc place) (s ∷ ss) old new there named live same =
-    first_shown name s (slice_set ss place new)
-    ∙ ap (first_of (clock s.system == name) s.live (shown_of s.system))
-    (station_leaves name place ss old new there named live same)
-    ∙ sym (first_shown name s ss)
+  station_leaves : (name place : ℕ) (stations : List Station) (old new : Station)
+      → slice_get stations place ≡ Some old → clock new.system ≡ clock old.system → new.live ≡ old.live
+      → f new.system ≡ f old.system
+      → option_map f (live_among name (slice_set stations place new)) ≡ option_map f (live_among name stations)
+  station_leaves name place [] old new there named live same = absurd cc
+  station_leaves name zero (s ∷ ss) old new there named live same =
+      let is : old ≡ s = sym (same_Some s old there) in
+      let others = option_map f (live_among name ss) in
+      first_is name new ss
+      ∙ ap (λ c. first_of (c == name) new.live (f new.system) others) named
+      ∙ ap (λ l. first_of (clock old.system == name) l (f new.system) others) live
+      ∙ ap (λ x. first_of (clock old.system == name) old.live x others) same
+      ∙ ap (λ (x : Station). first_of (clock x.system == name) x.live (f x.system) others) is
+      ∙ sym (first_is name s ss)
+  station_leaves name (suc place) (s ∷ ss) old new there named live same =
+      first_is name s (slice_set ss place new)
+      ∙ ap (first_of (clock s.system == name) s.live (f s.system))
+      (station_leaves name place ss old new there named live same)
+      ∙ sym (first_is name s ss)
 
--- a call by which what is shown of its system stays
-calls_leave : (place : ℕ) (input : Input) (w : WorldState) (draws : List Draw) (answer : Answer) (w' : WorldState)
-    → ((s s' : SystemState) (sends : List Sending) → Steps input w.time s s' sends answer → shown_of s' ≡ shown_of s)
-    → Calls place input w draws answer w' → (name : ℕ) → shown name w' ≡ shown name w
-calls_leave place input w draws answer w' leaves calls name =
-    ap (shown name) calls.is
-    ∙ station_leaves name place w.stations calls.station (in_state calls.after calls.station) calls.here
-    (same_clock input w.time calls.station.system calls.after calls.sends answer calls.steps) refl
-    (leaves calls.station.system calls.after calls.sends calls.steps)
+  -- a call by which this stays of its system
+  calls_leave : (place : ℕ) (input : Input) (w : WorldState) (draws : List Draw) (answer : Answer) (w' : WorldState)
+      → ((s s' : SystemState) (sends : List Sending) → Steps input w.time s s' sends answer → f s' ≡ f s)
+      → Calls place input w draws answer w' → (name : ℕ)
+      → option_map f (live_system name w') ≡ option_map f (live_system name w)
+  calls_leave place input w draws answer w' leaves calls name =
+      ap (λ v. option_map f (live_system name v)) calls.is
+      ∙ station_leaves name place w.stations calls.station (in_state calls.after calls.station) calls.here
+      (same_clock input w.time calls.station.system calls.after calls.sends answer calls.steps) refl
+      (leaves calls.station.system calls.after calls.sends calls.steps)
+
+  -- a frame by which it does
+  hears_leaves : (place port : ℕ) (octets : List ℕ) (w : WorldState) (draws : List Draw) (answer : Option Answer)
+      (w' : WorldState)
+      → ((s s' : SystemState) (sends : List Sending) (told : Answer)
+      → HearsFrame port octets w.time s s' sends told → f s' ≡ f s)
+      → Hears place port octets w draws answer w' → (name : ℕ)
+      → option_map f (live_system name w') ≡ option_map f (live_system name w)
+  hears_leaves place port octets w draws None w' leaves (failed, none, is) name =
+      ap (λ v. option_map f (live_system name v)) is
+  hears_leaves place port octets w draws (Some answer) w' leaves calls name =
+      calls_leave place (FrameHeard port octets) w draws answer w'
+      (λ s s' sends steps. leaves s s' sends answer steps) calls name
 
 pub expiry_leaves : (number : ℕ) (timer : Timer) (done : Done) → TimerLeaves timer
     → LeavesAll (Expire number timer) done
 expiry_leaves number timer done leaves = record {
   is_other = refl;
   stays = λ w w' draws (quiet, at). record {
-    same = λ name. calls_leave at.place (TimerExpires timer) _ draws at.so.answer w'
+    same = λ name. calls_leave shown_of at.place (TimerExpires timer) _ draws at.so.answer w'
         (λ s s' sends steps. leaves w.time s s' sends steps) at.so.calls name;
     nobody = ap received_by quiet;
   };
 }
-
-hears_leaves : (place port : ℕ) (octets : List ℕ) (w : WorldState) (draws : List Draw) (answer : Option Answer)
-    (w' : WorldState) → FrameLeaves octets → Hears place port octets w draws answer w' → (name : ℕ)
-    → shown name w' ≡ shown name w
-hears_leaves place port octets w draws None w' leaves (failed, none, is) name = ap (shown name) is
-hears_leaves place port octets w draws (Some answer) w' leaves calls name =
-    calls_leave place (FrameHeard port octets) w draws answer w'
-    (λ s s' sends steps. leaves.same port w.time s s' sends answer steps) calls name
 
 -- nobody receives time by what is no Follow_Up
 none_receives : (clock : ℕ) (answer : Option Answer) (octets : List ℕ) → is_follow_up octets ≡ false
@@ -332,8 +383,38 @@ delivery_leaves link direction (Heard clock port answer frame) leaves = record {
   is_other = refl;
   stays = λ w w' draws d. record {
     same = λ name. let (clock_is, port_is, told, octets_are) = d.told in
-        hears_leaves d.delivers.place (receiver direction d.delivers.channel).port d.octets _ draws d.answer w'
-        (subst FrameLeaves octets_are leaves) d.delivers.hears name;
+        hears_leaves shown_of d.delivers.place (receiver direction d.delivers.channel).port d.octets _ draws d.answer w'
+        ((subst FrameLeaves octets_are leaves).same (receiver direction d.delivers.channel).port w.time)
+        d.delivers.hears name;
     nobody = none_receives clock answer frame.items leaves.other;
   };
 }
+
+-- ---- a Follow_Up
+
+left_alone : (live before : Option SystemState) → option_map but_known live ≡ option_map but_known before
+    → left_known live (option_map shown_of before) ≡ option_map shown_of live
+left_alone None before same = refl
+left_alone (Some s) None same = refl
+left_alone (Some s) (Some r) same = by (same_bool (is_some s.offset) (is_some r.offset)) refl
+  where
+    by : (t : Bool) → same_bool (is_some s.offset) (is_some r.offset) ≡ t
+        → (if t then Some (shown_of r) else Some (shown_of s)) ≡ Some (shown_of s)
+    by false test = refl
+    by true test =
+        let rest : but_known s ≡ but_known r = same_Some (but_known s) (but_known r) same in
+        let known = same_truth (is_some s.offset) (is_some r.offset) test in
+        ap (λ (x : Shown). Some (record x { known = is_some r.offset })) (sym rest)
+        ∙ ap (λ (k : Bool). Some (record (shown_of s) { known = k })) (sym known)
+
+-- it leaves nothing another but whether the offset of the system is known that hears it
+pub follow_up_leaves : (link : ℕ) (direction : Direction) (clock port : ℕ) (answer : Option Answer) (frame : _)
+    (w : WorldState) (draws : List Draw) (w' : WorldState)
+    → Delivery link direction (Heard clock port answer frame) w draws w' → is_follow_up frame.items ≡ true → (name : ℕ)
+    → left_known (live_system name w') (shown name w) ≡ shown name w'
+follow_up_leaves link direction clock port answer frame w draws w' d late name =
+    let (clock_is, port_is, told, octets_are) = d.told in
+    left_alone (live_system name w') (live_system name w)
+    (hears_leaves but_known d.delivers.place (receiver direction d.delivers.channel).port d.octets _ draws d.answer w'
+    (λ s s' sends heard. hears_late_frame (receiver direction d.delivers.channel).port w.time s s' sends heard d.octets
+    (subst (λ os. is_follow_up os ≡ true) octets_are late)) d.delivers.hears name)

@@ -1,6 +1,7 @@
 -- What the code keeps of acts that leave what is shown of systems as it was: contracts of private functions alone cite
 -- this.
-use Rattle.std.specs.Prelude.{◌≡◌, ℕ, ◌%◌, false, List, ◌∷◌, None}
+use Rattle.std.specs.Prelude.{◌≡◌, ℕ, ◌%◌, Bool, true, false, if◌then◌else◌, List, ◌∷◌, Option, Some, None, is_some}
+use Rattle.std.specs.Option.{option_map}
 use Rattle.gptp_model.specs.Acts.{Acts}
 use Rattle.gptp_model.specs.World.{WorldState}
 use Rattle.gptp_model.specs.declared.done.Done.{Done}
@@ -11,9 +12,27 @@ use Rattle.gptp_system.specs.State.{SystemState}
 use Rattle.gptp_system.specs.Steps.{Expires, HearsFrame}
 use Rattle.gptp_system.specs.declared.answer.Answer.{Answer}
 use Rattle.gptp_system.specs.declared.sending.Sending.{Sending}
+use Rattle.gptp_timeline.specs.Ports.{same_bool}
 use Rattle.gptp_timeline.specs.Receipts.{is_follow_up, received_by}
 use Rattle.gptp_timeline.specs.Shown.{shown, shown_of}
 use Rattle.gptp_timeline.specs.Stretch.{is_change}
+use Rattle.gptp_timeline.specs.declared.shown.Shown.{Shown}
+
+-- ---- but for whether the offset is known
+
+-- What is left of it by an act that can leave nothing another but whether the offset is known: as before, where that is
+-- so.
+abbrev pub left_known : Option SystemState → Option Shown → Option Shown
+left_known None before = None
+left_known (Some s) None = Some (shown_of s)
+left_known (Some s) (Some x) = if same_bool (is_some s.offset) x.known then Some x else Some (shown_of s)
+
+-- by such an act, or by another
+abbrev pub left_by : Bool → Option SystemState → Option Shown → Option Shown
+left_by true live before = left_known live before
+left_by false live before = option_map shown_of live
+
+-- ---- in all
 
 -- an expiry of this timer does so at its system
 abbrev pub TimerLeaves : Timer → Type 0

@@ -10,8 +10,8 @@ use crate::changes::write_changes;
 use crate::event_line::write_event;
 use crate::leaving::leaves_all;
 use crate::measures::{Greatest, Measures, NOTHING, better_if};
-use crate::receipts::{error_of, received_by, write_offset};
-use crate::shown::{Shown, shown_of, shows};
+use crate::receipts::{error_of, is_follow_up, received_by, write_offset};
+use crate::shown::{Shown, shown_of, shows_left};
 use crate::watched::{ActView, Watched, error_after, measures_after, since_behind, wait_behind};
 use gptp_links::Fate;
 use gptp_report::sink::Sink;
@@ -146,6 +146,7 @@ impl Watch {
     ghost use Rattle.gptp_timeline.specs.Changes.{change_lines};
     ghost use Rattle.gptp_timeline.specs.EventLine.{event_line};
     ghost use Rattle.gptp_timeline.specs.Receipts.{offset_line};
+    ghost use Rattle.gptp_timeline.specs.Leaving.{left_by};
     ghost use Rattle.gptp_timeline.specs.Shown.{shown_of};
     ghost use Rattle.gptp_timeline.specs.Watch.{WatchedRise, watch_begun, delivery_lines, event_look, lines_all, lines_at, nothing, place_of, placed_lines, receipt_lines_of, see_act, see_all, see_at, see_delivery, see_placed, see_receipt_of, see_system, seen_lines, watched_lines, take_error, taken, unless, unseen};
     ghost use Rattle.gptp_timeline.specs.declared.watched.Watched.{Watched};
@@ -277,14 +278,16 @@ impl Watch {
     }
 
     /// Whether a live system shows what was last shown of the system at a place.
-    fn shows_at(&self, place: usize, system: &System) -> bool
+    fn shows_at(&self, known_alone: bool, place: usize, system: &System) -> bool
         requires place { place < length self.now.systems }
         requires few { length system.now.ports ≤ 16 }
-        ensures { result ≡ true → (x : Watched) → slice_get self.now.systems place ≡ Some x
-            → Some (shown_of system.now) ≡ x.shown }
+        ensures same { result ≡ true → (x : Watched) → slice_get self.now.systems place ≡ Some x
+            → left_by known_alone (Some system.now) x.shown ≡ x.shown }
+        ensures other { result ≡ false → (x : Watched) → slice_get self.now.systems place ≡ Some x
+            → left_by known_alone (Some system.now) x.shown ≡ Some (shown_of system.now) }
     {
         match &self.systems[place].shown {
-            Some(last) => shows(system, last),
+            Some(last) => shows_left(known_alone, system, last),
             None => false,
         }
     }
@@ -319,12 +322,12 @@ impl Watch {
         requires place { place < length self.old.systems }
         requires few { length system.now.ports ≤ 16 }
         ensures sees { OnOk result ((x : Watched) → slice_get self.old.systems place ≡ Some x
-            → self.new ≡ taken look place x (Some (shown_of system.now)) self.old) }
+            → self.new ≡ taken look place x (left_by look.known_alone (Some system.now) x.shown) self.old) }
         ensures tells { OnOk result ((x : Watched) → slice_get self.old.systems place ≡ Some x → string_bytes text.new
             ≡ string_bytes text.old ++ text_of (unless self.old.summary
-            (change_lines look.at x.clock x.shown (Some (shown_of system.now))))) }
+            (change_lines look.at x.clock x.shown (left_by look.known_alone (Some system.now) x.shown)))) }
     {
-        if self.shows_at(place, system) {
+        if self.shows_at(look.known_alone, place, system) {
             self.take_same(look, place);
             return Ok(());
         }
@@ -382,6 +385,7 @@ impl Watch {
             at: 0,
             by_event: true,
             received: false,
+            known_alone: false,
         };
         self.see_all(text, world, look)
     }
@@ -415,6 +419,7 @@ impl Watch {
             at,
             by_event: true,
             received: false,
+            known_alone: false,
         };
         self.see_all(text, world, look)
     }
@@ -505,19 +510,21 @@ impl Watch {
         at: u64,
         clock: ClockId,
         received: bool,
+        known_alone: bool,
         place: usize,
     ) -> Result<(), AllocError>
         requires moment { at ≤ 1000000000000000 }
         requires place { place < length self.old.systems }
         requires named { (x : Watched) → slice_get self.old.systems place ≡ Some x → x.clock ≡ clock }
-        ensures sees { OnOk result (self.new ≡ see_placed at world.now.world_core clock received (Some place) self.old) }
+        ensures sees { OnOk result (self.new ≡ see_placed at world.now.world_core clock received known_alone (Some place) self.old) }
         ensures tells { OnOk result (string_bytes text.new
-            ≡ string_bytes text.old ++ text_of (placed_lines at world.now.world_core clock received (Some place) self.old)) }
+            ≡ string_bytes text.old ++ text_of (placed_lines at world.now.world_core clock received known_alone (Some place) self.old)) }
     {
         let look = ActView {
             at,
             by_event: false,
             received,
+            known_alone,
         };
         world.well_formed();
         match world.system(clock) {
@@ -537,14 +544,15 @@ impl Watch {
         at: u64,
         clock: ClockId,
         received: bool,
+        known_alone: bool,
     ) -> Result<(), AllocError>
         requires { at ≤ 1000000000000000 }
-        ensures sees { OnOk result (self.new ≡ see_system at world.now.world_core clock received self.old) }
+        ensures sees { OnOk result (self.new ≡ see_system at world.now.world_core clock received known_alone self.old) }
         ensures tells { OnOk result (string_bytes text.new
-            ≡ string_bytes text.old ++ text_of (watched_lines at world.now.world_core clock received self.old)) }
+            ≡ string_bytes text.old ++ text_of (watched_lines at world.now.world_core clock received known_alone self.old)) }
     {
         match self.place_of(clock) {
-            Some(place) => self.see_placed(text, world, at, clock, received, place),
+            Some(place) => self.see_placed(text, world, at, clock, received, known_alone, place),
             None => Ok(()),
         }
     }
@@ -565,7 +573,10 @@ impl Watch {
         let received = received_by(done).is_some();
         match done {
             Done::Quiet => Ok(()),
-            Done::Heard { clock, .. } => self.see_system(text, world, at, *clock, received),
+            Done::Heard { clock, frame, .. } => {
+                let known_alone = is_follow_up(frame.as_slice());
+                self.see_system(text, world, at, *clock, received, known_alone)
+            }
         }
     }
 
@@ -585,7 +596,7 @@ impl Watch {
         match &timed.act {
             Act::Change(change) => self.see_event(text, world, timed.at, change),
             Act::Expire { clock, timer: _ } => {
-                self.see_system(text, world, timed.at, *clock, false)
+                self.see_system(text, world, timed.at, *clock, false, false)
             }
             Act::Deliver { .. } => self.see_delivery(text, world, timed.at, done),
         }

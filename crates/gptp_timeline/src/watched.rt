@@ -17,6 +17,8 @@ pub(crate) struct ActView {
     pub by_event: bool,
     /// Whether the system received time by it.
     pub received: bool,
+    /// Whether it can have left nothing of the system another but whether its offset is known.
+    pub known_alone: bool,
 }
 
 /// What is kept of a system.

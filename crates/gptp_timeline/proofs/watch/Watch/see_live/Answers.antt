@@ -11,7 +11,7 @@ pub returns-then-shows_at-clause-sees : goal.returns-then-shows_at-clause-sees
 returns-then-shows_at-clause-sees c = λ x there.
     c.take_same.ensures x there
     ∙ ap (λ s. taken c.args.look c.args.place x s c.args.self.now)
-    (sym (c.shows_at.ensures c.if-shows_at.true x there))
+    (sym (c.shows_at.ensures.same c.if-shows_at.true x there))
 
 pub returns-then-shows_at-clause-tells : goal.returns-then-shows_at-clause-tells
 returns-then-shows_at-clause-tells c = λ x there.
@@ -20,4 +20,4 @@ returns-then-shows_at-clause-tells c = λ x there.
     ∙ ap (λ lines. text ++ text_of lines) (sym (none_left o.summary))
     ∙ ap (λ lines. text ++ text_of (unless o.summary lines)) (sym (no_change_lines at x.clock x.shown))
     ∙ ap (λ s. text ++ text_of (unless o.summary (change_lines at x.clock x.shown s)))
-    (sym (c.shows_at.ensures c.if-shows_at.true x there))
+    (sym (c.shows_at.ensures.same c.if-shows_at.true x there))
