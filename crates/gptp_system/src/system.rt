@@ -159,8 +159,8 @@ impl System {
         self.state.offset
     }
 
-    /// What it reads of the root's time by the Follow_Up that it used last, as long as it knows an offset. It is read so
-    /// from that Follow_Up on until the next one is used.
+    /// What it reads of the root's time by the Follow_Up that it used last, where an offset is known. It is read so from
+    /// that Follow_Up on until the next one is used.
     pub fn reading(&self) -> Option<Reading>
         ensures { result ≡ held_reading self.now }
     {
