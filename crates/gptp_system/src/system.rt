@@ -3,6 +3,7 @@
 use crate::answer::Answer;
 use crate::input::{Input, Stepped};
 use crate::reach::{Reach, frame_reach};
+use crate::reading::Reading;
 use crate::sending::Outbox;
 use crate::state::State;
 use gptp_roles::Role;
