@@ -57,6 +57,7 @@ pub(crate) mod rows {
         "Say too by how much it is off at most at every moment; none where 'sync_timeout' is 0");
     pub(crate) const CLOCK: Row = ("clock", (Form::Place, &[], "CLOCK"),
         "The clock of the system that is meant, 16 hexadecimal digits");
+    pub(crate) const TIMES: Row = ("times", FLAG, "Tell what systems read of time");
     pub(crate) const STRICT: Row = ("strict", FLAG, "End with status 1 where there is any line but on calm");
     pub(crate) const SEEDS: Row = ("seeds", (Form::Number(1, 1000), &["1"], "N"),
         "With how many seeds each case is tried; where nothing is lost it hardly matters");
@@ -81,6 +82,12 @@ pub(crate) mod rows {
         ("max-without", MANY, "Say whether where a stretch ends at most so many systems go without time"),
         ("max-roots", MANY, "Say whether at most so many roots are followed there by two systems or more"),
         ("max-alone", MANY, "Say whether at most so many systems follow a root there that no other does"),
+        TIMES,
+        ("max-time", NANOSECONDS, "Say whether what each system reads is always off by at most this, in ns"),
+        ("max-apart", NANOSECONDS, "Say whether no two systems ever read further apart than this, in ns"),
+        ("max-step", NANOSECONDS, "Say whether no system's time ever jumps by more than this, in ns"),
+        ("max-first", NANOSECONDS,
+            "Say whether in each stretch each system has its time within this, in ns"),
     ];
 
     /// The arguments of `faults`.

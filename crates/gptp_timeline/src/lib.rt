@@ -19,10 +19,13 @@ mod limits;
 mod measures;
 mod null_sink;
 mod ports;
+mod readings;
 mod receipts;
 mod shown;
+mod sources;
 mod stretch;
 mod timeline;
+mod times;
 mod watch;
 mod watched;
 

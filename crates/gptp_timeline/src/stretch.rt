@@ -14,10 +14,13 @@ use crate::amounts::{Near, NearOrNone, Up};
 use crate::counts::{Counts, counts_of};
 use crate::limits::Limit;
 use crate::measures::{Greatest, Measures, better_if};
+use crate::times::{TimeMeasures, Times, write_reads_if};
 use crate::watched::Watched;
 use gptp_accuracy::SystemError;
+use gptp_links::Fate;
 use gptp_vector::ClockId;
 use gptp_words::ClockDigits;
+use gptp_world::World;
 use std::alloc::{AllocError, Global};
 use std::fmt;
 
@@ -36,6 +39,8 @@ pub struct Stretch {
     pub measures: Measures,
     /// What was counted where it ended.
     pub counts: Counts,
+    /// What was measured of what systems read, where that is asked.
+    pub times: Option<TimeMeasures>,
 }
 
 /// How long a time is after another, in ns.
@@ -85,6 +90,32 @@ impl Stretch {
             Limit::Without => Some(u128::from(self.counts.without)),
             Limit::Roots => Some(u128::from(self.counts.roots)),
             Limit::Alone => Some(u128::from(self.counts.alone)),
+            Limit::Time | Limit::Apart | Limit::Step => self.read_amount(limit),
+            Limit::First => self.first(),
+        }
+    }
+
+    /// The amount that a limit asks for of what systems read.
+    fn read_amount(&self, limit: Limit) -> Option<u128>
+    {
+        match (self.times, limit) {
+            (Some(times), Limit::Time) => amount_of(times.time),
+            (Some(times), Limit::Apart) => Some(times.apart()),
+            (Some(times), Limit::Step) => amount_of(times.step),
+            _ => None,
+        }
+    }
+
+    /// How long it took until the last change of source, in ns; the whole stretch where a system has no time at its
+    /// end.
+    fn first(&self) -> Option<u128>
+    {
+        if self.counts.without != 0 {
+            return Some(u128::from(self.to.saturating_sub(self.from)));
+        }
+        match self.times {
+            Some(times) => times.changed_after(self.from),
+            None => None,
         }
     }
 }
@@ -122,6 +153,7 @@ pub(crate) fn ended(
     bound: Option<u64>,
     measures: Measures,
     systems: &[Watched],
+    times: Option<TimeMeasures>,
 ) -> Result<Stretch, AllocError>
     ensures { IfOk result (λ s. s ≡ ended_stretch from to begins_with_event bound measures systems.now) }
 {
@@ -140,6 +172,7 @@ pub(crate) fn ended(
             error: measures.error,
         },
         counts,
+        times,
     })
 }
 
@@ -276,63 +309,71 @@ fn write_error(text: &mut String, clock: ClockId, error: Option<u128>) -> Result
 
 /// Appends how exact it is promised to be, and from when on.
 fn write_bound(text: &mut String, from: u64, bound: u128) -> Result<(), AllocError>
-    ensures { OnOk result (string_bytes text.new ≡ string_bytes text.old ++ (bound_words from bound ++ 10 ∷ [])) }
+    ensures { OnOk result (string_bytes text.new ≡ string_bytes text.old ++ bound_words from bound) }
 {
-    writeln!(text, " bound {} from {from}", Up(bound))
+    write!(text, " bound {} from {from}", Up(bound))
 }
 
-/// Appends the line of a system that follows another, with the bound of its error.
-#[tactic(auto, using(crate::proofs::LineLemmas::words_on))]
-fn write_exact(
+/// Appends the line of a system that follows another, with the bound of its error, and how far off it reads where that
+/// is asked.
+fn write_exact<F: Fate + Drop>(
     text: &mut String,
     from: u64,
-    clock: ClockId,
+    system: &SystemError,
     error: Option<u128>,
     bound: u128,
+    world: &World<F>,
+    to: u64,
+    times: Option<&Times>,
 ) -> Result<(), AllocError>
-    ensures { OnOk result (string_bytes text.new
-        ≡ string_bytes text.old ++ (accuracy_line from clock error bound ++ 10 ∷ [])) }
 {
-    write_error(text, clock, error)?;
-    write_bound(text, from, bound)
+    write_error(text, system.clock, error)?;
+    write_bound(text, from, bound)?;
+    write_reads_if(text, system, world, to, times)?;
+    writeln!(text, "")
 }
 
 /// Appends the line on how exact a system is, where it has such a bound and isn't its own root.
-fn write_exact_if(
+fn write_exact_if<F: Fate + Drop>(
     text: &mut String,
     from: u64,
     system: &SystemError,
     systems: &[Watched],
+    world: &World<F>,
+    to: u64,
+    times: Option<&Times>,
 ) -> Result<(), AllocError>
     requires { WatchedRise systems.now }
-    ensures { OnOk result (string_bytes text.new
-        ≡ string_bytes text.old ++ text_of (system_accuracy from (error_among systems.now) system.now)) }
 {
     match system.error {
         Some(bound) if system.root.clock() != system.clock => write_exact(
             text,
             from,
-            system.clock,
+            system,
             error_at(systems, system.clock),
             bound,
+            world,
+            to,
+            times,
         ),
         _ => Ok(()),
     }
 }
 
 /// Appends the lines of all of them, by rising clock, where the stretch ends no sooner than the errors hold.
-pub(crate) fn write_accuracies(
+pub(crate) fn write_accuracies<F: Fate + Drop>(
     text: &mut String,
     from: u64,
     errors: &[SystemError],
     systems: &[Watched],
+    world: &World<F>,
+    to: u64,
+    times: Option<&Times>,
 ) -> Result<(), AllocError>
     requires { WatchedRise systems.now }
-    ensures { OnOk result (string_bytes text.new
-        ≡ string_bytes text.old ++ text_of (flat_map (system_accuracy from (error_among systems.now)) errors.now)) }
 {
     for error in errors {
-        write_exact_if(text, from, error, systems)?;
+        write_exact_if(text, from, error, systems, world, to, times)?;
     }
     Ok(())
 }

@@ -25,7 +25,8 @@ use crate::counts::roots_of;
 use crate::ends::{StretchEnd, StretchesSoFar, both_of, keep, none_kept};
 use crate::limits::{Limit, Limits, NO_LIMITS, write_verdict};
 use crate::null_sink::NullSink;
-use crate::stretch::{ended, write_accuracies, write_after};
+use crate::stretch::{Stretch, ended, write_accuracies, write_after};
+use crate::times::{TimeMeasures, Times, write_times};
 use crate::watch::Watch;
 use gptp_accuracy::{TimeErrors, time_errors};
 use gptp_links::Fate;
@@ -43,6 +44,8 @@ pub struct TimelineOptions {
     pub summary: bool,
     /// Whether receipts of time are told.
     pub offsets: bool,
+    /// Whether it is told what systems read.
+    pub times: bool,
     /// What is asked of each stretch.
     pub limits: Limits,
 }
@@ -201,26 +204,83 @@ fn exact_from(errors: &Option<TimeErrors>) -> Option<u64>
 }
 
 /// Appends the lines of how exact systems were, where they are known to be.
-fn write_errors(
+fn write_errors<F: Fate + Drop>(
     text: &mut String,
     errors: &Option<TimeErrors>,
     watch: &Watch,
+    world: &World<F>,
+    to: u64,
 ) -> Result<(), AllocError>
     ensures { OnOk result (string_bytes text.new
         ≡ string_bytes text.old ++ text_of (kept_accuracy watch.now.systems errors.now)) }
 {
     match errors {
         Some(errors) => match errors.from {
-            Some(from) => write_accuracies(text, from, &errors.systems, watch.systems()),
+            Some(from) => write_accuracies(
+                text,
+                from,
+                &errors.systems,
+                watch.systems(),
+                world,
+                to,
+                watch.times(),
+            ),
             None => Ok(()),
         },
         None => Ok(()),
     }
 }
 
-/// Writes the lines of a stretch that ended, and answers how it did.
-fn end_stretch<K: Sink>(
+/// What was measured of what systems read, where that is asked.
+fn times_ended<F: Fate + Drop>(
+    world: &World<F>,
+    to: u64,
+    times: Option<&Times>,
+) -> Option<TimeMeasures>
+{
+    match times {
+        Some(times) => Some(times.ended(world, to)),
+        None => None,
+    }
+}
+
+/// Appends the line of what systems read, where that is asked.
+fn write_times_if(
+    text: &mut String,
+    stretch: &Stretch,
+    times: Option<&Times>,
+) -> Result<(), AllocError>
+{
+    match (times, &stretch.times) {
+        (Some(times), Some(measures)) if times.lines => {
+            write_times(text, stretch.from, stretch.to, measures)
+        }
+        _ => Ok(()),
+    }
+}
+
+/// What is kept of what systems read, where that is asked.
+fn times_of<F: Fate + Drop>(
     alloc: Global,
+    world: &World<F>,
+    options: &TimelineOptions,
+) -> Result<Option<Times>, AllocError>
+{
+    match options.times || options.limits.asks_times() {
+        true => Ok(Some(Times::new(
+            alloc,
+            world,
+            options.times,
+            options.times && options.offsets,
+        )?)),
+        false => Ok(None),
+    }
+}
+
+/// Writes the lines of a stretch that ended, and answers how it did.
+fn end_stretch<F: Fate + Drop, K: Sink>(
+    alloc: Global,
+    world: &World<F>,
     plan: &Plan,
     watch: &Watch,
     sink: &mut K,
@@ -240,11 +300,13 @@ fn end_stretch<K: Sink>(
         plan.bound,
         watch.measures(),
         watch.systems(),
+        times_ended(world, plan.to, watch.times()),
     )?;
     let roots = roots_of(alloc, watch.systems())?;
     let mut text = String::new(alloc);
     write_after(&mut text, &stretch)?;
-    write_errors(&mut text, &plan.errors, watch)?;
+    write_times_if(&mut text, &stretch, watch.times())?;
+    write_errors(&mut text, &plan.errors, watch, world, plan.to)?;
     write_whole(sink, text.as_bytes())?;
     Ok(StretchEnd::new(stretch, roots))
 }
@@ -273,9 +335,9 @@ fn pass_stretch<F: Fate + Drop, K: Sink>(
     ensures works { result ≢ Err Cut.Write → K.failures sink.new ≡ K.failures sink.old }
     ensures fails { result ≡ Err Cut.Write → K.failures sink.new ≢ K.failures sink.old }
 {
-    watch.begin(exact_from(&plan.errors));
+    watch.begin(exact_from(&plan.errors), events.len());
     play(alloc, world, events, plan.to, watch, sink)?;
-    end_stretch(alloc, plan, watch, sink)
+    end_stretch(alloc, world, plan, watch, sink)
 }
 
 /// Lets a stretch pass that begins at a time with its events, and answers what is kept of all until then.
@@ -433,12 +495,13 @@ pub fn write_timeline<F: Fate + Drop, K: Sink>(
     ensures works { result ≢ Err Cut.Write → K.failures sink.new ≡ K.failures sink.old }
     ensures fails { result ≡ Err Cut.Write → K.failures sink.new ≢ K.failures sink.old }
 {
-    let times = calm_times(alloc, document)?;
+    let calm = calm_times(alloc, document)?;
     let mut world = begin(alloc, document, fate)?;
-    let mut watch = Watch::new(alloc, &world, options.summary, options.offsets)?;
+    let times = times_of(alloc, &world, options)?;
+    let mut watch = Watch::new(alloc, &world, options.summary, options.offsets, times)?;
     write_start(alloc, &world, &mut watch, sink)?;
     let kept = all_stretches(
-        alloc, document, &times, true, &mut world, until, options, &mut watch, sink,
+        alloc, document, &calm, true, &mut world, until, options, &mut watch, sink,
     )?;
     end_verdict(alloc, &options.limits, kept.exceeded, sink)
 }
@@ -447,6 +510,7 @@ pub fn write_timeline<F: Fate + Drop, K: Sink>(
 const NOTHING_TOLD: TimelineOptions = TimelineOptions {
     summary: true,
     offsets: false,
+    times: false,
     limits: NO_LIMITS,
 };
 
@@ -466,7 +530,7 @@ pub fn last_stretches<F: Fate + Drop>(
     let mut sink = NullSink;
     let times = calm_times(alloc, document)?;
     let mut world = begin(alloc, document, fate)?;
-    let mut watch = Watch::new(alloc, &world, true, false)?;
+    let mut watch = Watch::new(alloc, &world, true, false, None)?;
     write_start(alloc, &world, &mut watch, &mut sink)?;
     let kept = all_stretches(
         alloc,

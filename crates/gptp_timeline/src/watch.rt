@@ -12,6 +12,7 @@ use crate::event_line::write_event;
 use crate::measures::{Greatest, Measures, NOTHING, better_if};
 use crate::receipts::{error_of, received_by, write_offset};
 use crate::shown::{Shown, shown_of, shows};
+use crate::times::Times;
 use crate::watched::{ActView, Watched, error_after, leaves_wait, measures_after, since_behind};
 use gptp_links::Fate;
 use gptp_report::sink::Sink;
@@ -36,6 +37,8 @@ pub(crate) struct Watch {
     systems: Vec<Watched>,
     // What is measured in this stretch so far.
     measures: Measures,
+    // What systems read, where that is asked.
+    times: Option<Times>,
 }
 
 impl Model for Watch {
@@ -174,6 +177,7 @@ impl Watch {
         world: &World<F>,
         summary: bool,
         offsets: bool,
+        times: Option<Times>,
     ) -> Result<Self, AllocError>
         ensures { IfOk result (λ w. w ≡ record {
           summary = summary;
@@ -191,6 +195,7 @@ impl Watch {
             exact_from: None,
             systems,
             measures: NOTHING,
+            times,
         })
     }
 
@@ -210,12 +215,36 @@ impl Watch {
     }
 
     /// A stretch begins, in which the receipts of each system count by themselves from a time on.
-    pub(crate) fn begin(&mut self, exact_from: Option<u64>)
+    pub(crate) fn begin(&mut self, exact_from: Option<u64>, events: usize)
         ensures { self.new ≡ watch_begun exact_from self.old }
     {
         self.exact_from = exact_from;
         self.measures = NOTHING;
         clear_errors(&mut self.systems);
+        if let Some(times) = &mut self.times {
+            times.begin(exact_from, events);
+        }
+    }
+
+    /// What systems read, where that is asked.
+    pub(crate) fn times(&self) -> Option<&Times>
+    {
+        self.times.as_ref()
+    }
+
+    /// Sees what an act does to what systems read.
+    fn see_times<F: Fate + Drop>(
+        &mut self,
+        text: &mut String,
+        world: &World<F>,
+        timed: &Timed,
+        done: &Done,
+    ) -> Result<(), AllocError>
+    {
+        match &mut self.times {
+            Some(times) => times.see(text, world, timed, done),
+            None => Ok(()),
+        }
     }
 
     /// How many systems there are.
@@ -606,6 +635,7 @@ impl Observer for Watch {
     ) -> Result<(), Cut> {
         let mut text = String::new(alloc);
         self.see(&mut text, world, timed, done)?;
+        self.see_times(&mut text, world, timed, done)?;
         write_whole(sink, text.as_bytes())?;
         Ok(())
     }
