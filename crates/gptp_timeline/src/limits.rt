@@ -2,7 +2,7 @@
 
 ghost use Rattle.std.specs.Prelude.{◌≡◌, ◌<◌, ◌++◌, ◌∷◌, [], IfOk, OnOk, is_some, string_bytes};
 ghost use Rattle.gptp_words.specs.Lines.{text_of};
-ghost use Rattle.gptp_timeline.specs.Limits.{amount_in, earlier, exceeded_after, exceeds, first_exceeded, is_above, is_asked, is_exceeded, is_some_given, most_of, option_name, limit_number, unit_of, verdict_line, verdict_lines};
+ghost use Rattle.gptp_timeline.specs.Limits.{amount_in, asks_times, earlier, exceeded_after, exceeds, first_exceeded, is_above, is_asked, is_exceeded, is_some_given, most_of, option_name, limit_number, unit_of, verdict_line, verdict_lines};
 
 use crate::stretch::Stretch;
 use std::alloc::AllocError;
@@ -127,6 +127,7 @@ impl Limits {
 
     /// Whether any limit is given that asks for what systems read.
     pub(crate) fn asks_times(&self) -> bool
+        ensures { result ≡ asks_times self.now }
     {
         self.most_of(Limit::Time).is_some()
             || self.most_of(Limit::Apart).is_some()

@@ -1,10 +1,10 @@
 //! What systems read of time, and by what.
 
-ghost use Rattle.std.specs.Prelude.{◌≡◌, ◌≤◌, ◌<◌, ◌^◌, ◌-ℤ◌, IfSome, not, option_map, option_map_or, unsigned_abs};
+ghost use Rattle.std.specs.Prelude.{◌≡◌, ◌≤◌, ◌<◌, ◌^◌, IfSome, Some, false, length, option_and_then, option_map_or, unsigned_abs};
 ghost use Rattle.std.specs.List.{list_any};
-ghost use Rattle.gptp_timeline.specs.Measures.{one_at};
-ghost use Rattle.gptp_timeline.specs.Readings.{by_receipt, by_takeover, changes_source, clock_time, failed_by, is_master, is_sending, new_reading, own_reading, read_by, reading_among, reading_error, reading_put, reads_own, received_reading, step_in, step_of};
+ghost use Rattle.gptp_timeline.specs.Readings.{by_expiry, by_receipt, by_takeover, changes_source, clock_time, failed_by, is_master, is_sending, new_reading, own_reading, read_by, reading_among, reading_error, put_reading, reads_own, received_reading, step_in, step_of};
 ghost use Rattle.gptp_timeline.specs.Shown.{live_system};
+ghost use Rattle.gptp_timeline.specs.TimeWatch.{ReadingsRise};
 
 use crate::measures::Greatest;
 use crate::ports::{ShownPort, ports_of};
@@ -170,6 +170,7 @@ fn sends<F: Fate + Drop>(world: &World<F>, clock: ClockId) -> bool
 
 /// What the live system with a clock reads time by where a Follow_Up was used.
 fn received_in<F: Fate + Drop>(world: &World<F>, clock: ClockId) -> Option<KeptReading>
+    ensures { result ≡ option_and_then received_reading (live_system clock world.now.world_core) }
 {
     world.well_formed();
     match world.system(clock) {
@@ -178,8 +179,10 @@ fn received_in<F: Fate + Drop>(world: &World<F>, clock: ClockId) -> Option<KeptR
     }
 }
 
-/// What is kept of the system with a clock, by rising clock.
+/// What the system with a clock reads time by, if it has time.
 pub(crate) fn reading_among(systems: &[SystemReading], clock: ClockId) -> Option<KeptReading>
+    requires { ReadingsRise systems.now }
+    ensures { result ≡ reading_among systems.now clock }
 {
     match systems.binary_search_by_key(&clock, |system| system.clock) {
         Ok(place) => systems[place].reading,
@@ -187,23 +190,38 @@ pub(crate) fn reading_among(systems: &[SystemReading], clock: ClockId) -> Option
     }
 }
 
-/// The reading that a receipt gives to the system with a clock.
+/// The system with a clock gets a reading by a receipt.
+fn receipt_of<F: Fate + Drop>(
+    world: &World<F>,
+    systems: &[SystemReading],
+    clock: ClockId,
+) -> Option<NewReading>
+    requires { ReadingsRise systems.now }
+    ensures { result ≡ by_receipt world.now.world_core systems.now (Some clock) }
+{
+    let before = reading_among(systems, clock);
+    match received_in(world, clock) {
+        Some(after) => Some(NewReading {
+            clock,
+            before,
+            after,
+            received: true,
+        }),
+        None => None,
+    }
+}
+
+/// The reading that a system gets by a receipt, if there is one.
 fn by_receipt<F: Fate + Drop>(
     world: &World<F>,
     systems: &[SystemReading],
     receiver: Option<ClockId>,
 ) -> Option<NewReading>
+    requires { ReadingsRise systems.now }
+    ensures { result ≡ by_receipt world.now.world_core systems.now receiver }
 {
     match receiver {
-        Some(clock) => match received_in(world, clock) {
-            Some(after) => Some(NewReading {
-                clock,
-                before: reading_among(systems, clock),
-                after,
-                received: true,
-            }),
-            None => None,
-        },
+        Some(clock) => receipt_of(world, systems, clock),
         None => None,
     }
 }
@@ -214,6 +232,8 @@ fn by_takeover<F: Fate + Drop>(
     systems: &[SystemReading],
     clock: ClockId,
 ) -> Option<NewReading>
+    requires { ReadingsRise systems.now }
+    ensures { result ≡ by_takeover world.now.world_core systems.now clock }
 {
     let before = reading_among(systems, clock);
     if reads_own(before) || !sends(world, clock) {
@@ -227,6 +247,22 @@ fn by_takeover<F: Fate + Drop>(
     })
 }
 
+/// The reading that a system gets of which a timer expired, if it took over by that.
+fn by_expiry<F: Fate + Drop>(
+    world: &World<F>,
+    systems: &[SystemReading],
+    clock: ClockId,
+    timer: Timer,
+) -> Option<NewReading>
+    requires { ReadingsRise systems.now }
+    ensures { result ≡ by_expiry world.now.world_core systems.now clock timer }
+{
+    match timer {
+        Timer::Sync => by_takeover(world, systems, clock),
+        _ => None,
+    }
+}
+
 /// The reading that a system gets by an act, if one does.
 pub(crate) fn new_reading<F: Fate + Drop>(
     world: &World<F>,
@@ -234,17 +270,19 @@ pub(crate) fn new_reading<F: Fate + Drop>(
     act: &Act,
     done: &Done,
 ) -> Option<NewReading>
+    requires { ReadingsRise systems.now }
+    ensures { result ≡ new_reading act.now done.now world.now.world_core systems.now }
 {
     match act {
         Act::Deliver { .. } => by_receipt(world, systems, received_by(done)),
-        Act::Expire { clock, timer: Timer::Sync } => by_takeover(world, systems, *clock),
-        Act::Expire { .. } => None,
+        Act::Expire { clock, timer } => by_expiry(world, systems, *clock, *timer),
         Act::Change(_) => None,
     }
 }
 
 /// The system that an act makes fail.
 pub(crate) fn failed_by(act: &Act) -> Option<ClockId>
+    ensures { result ≡ failed_by act.now }
 {
     match act {
         Act::Change(Change::Fail { clock }) => Some(*clock),
@@ -252,11 +290,19 @@ pub(crate) fn failed_by(act: &Act) -> Option<ClockId>
     }
 }
 
-/// The system with a clock reads time by this from then on.
-pub(crate) fn put_reading(systems: &mut [SystemReading], clock: ClockId, reading: Option<KeptReading>)
+/// The system with a clock reads time by this from then on, or has no time.
+pub(crate) fn put_reading(
+    systems: &mut Vec<SystemReading>,
+    clock: ClockId,
+    reading: Option<KeptReading>,
+)
+    requires { ReadingsRise systems.old.items }
+    ensures { systems.new.items ≡ put_reading clock reading systems.old.items }
 {
     match systems.binary_search_by_key(&clock, |system| system.clock) {
-        Ok(place) => systems[place].reading = reading,
+        Ok(place) => {
+            systems[place].reading = reading;
+        }
         Err(_) => {}
     }
 }

@@ -17,16 +17,18 @@ ghost use Rattle.gptp_words.specs.Lines.{text_of};
 ghost use Rattle.gptp_topology.specs.Times.{AreCalmTimes};
 ghost use Rattle.gptp_timeline.specs.LastTwo.{EndsOf, all_kept, end_of, kept_after, none_kept};
 ghost use Rattle.gptp_timeline.specs.Limits.{is_exceeded, verdict_lines};
-ghost use Rattle.gptp_timeline.specs.Passing.{StretchBreaksOff, StretchIsSeen, StopsSeen, first_time, watch_at_start};
-ghost use Rattle.gptp_timeline.specs.Timeline.{AllPass, AreErrorsBy, AreErrorsIf, BeginsTimeline, IsTimelinePlan, StretchTrace, SomePass, TimelineOf, act_lines, all_lines, end_lines, exact_time, is_begun, kept_accuracy, later_than, none_waits, now_of};
+ghost use Rattle.gptp_timeline.specs.Passing.{StretchBreaksOff, StretchIsSeen, StopsSeen, first_time, times_before, watch_at_start, watch_before};
+ghost use Rattle.gptp_timeline.specs.Timeline.{AllPass, AreErrorsBy, AreErrorsIf, BeginsTimeline, IsTimelinePlan, StretchTrace, SomePass, TimelineOf, all_lines, asks_lines, end_lines, exact_time, is_begun, kept_accuracy, later_than, line_of_times, none_carried, now_of, reads_kept, times_ended, tracks};
 ghost use Rattle.gptp_timeline.specs.Watch.{event_look, lines_all, see_all};
 
 use crate::counts::roots_of;
 use crate::ends::{StretchEnd, StretchesSoFar, both_of, keep, none_kept};
 use crate::limits::{Limit, Limits, NO_LIMITS, write_verdict};
+use crate::looks::TimeMeasures;
 use crate::null_sink::NullSink;
 use crate::stretch::{Stretch, ended, write_accuracies, write_after};
-use crate::times::{TimeMeasures, Times, write_times};
+use crate::time_lines::write_times;
+use crate::time_watch::TimeWatch;
 use crate::watch::Watch;
 use gptp_accuracy::{TimeErrors, time_errors};
 use gptp_links::Fate;
@@ -203,26 +205,27 @@ fn exact_from(errors: &Option<TimeErrors>) -> Option<u64>
     }
 }
 
-/// Appends the lines of how exact systems were, where they are known to be.
+/// Appends the lines of how exact systems were in a stretch that ends at a time, where they are known to be.
 fn write_errors<F: Fate + Drop>(
     text: &mut String,
-    errors: &Option<TimeErrors>,
-    watch: &Watch,
     world: &World<F>,
     to: u64,
+    errors: &Option<TimeErrors>,
+    watch: &Watch,
 ) -> Result<(), AllocError>
+    requires { to ≤ 1000000000000000 }
     ensures { OnOk result (string_bytes text.new
-        ≡ string_bytes text.old ++ text_of (kept_accuracy watch.now.systems errors.now)) }
+        ≡ string_bytes text.old ++ text_of (kept_accuracy (reads_kept to world.now.world_core watch.now.times) watch.now.systems errors.now)) }
 {
     match errors {
         Some(errors) => match errors.from {
             Some(from) => write_accuracies(
                 text,
+                world,
                 from,
+                to,
                 &errors.systems,
                 watch.systems(),
-                world,
-                to,
                 watch.times(),
             ),
             None => Ok(()),
@@ -231,12 +234,14 @@ fn write_errors<F: Fate + Drop>(
     }
 }
 
-/// What was measured of what systems read, where that is asked.
+/// What was measured of what systems read in a stretch that ends at a time, where that is asked.
 fn times_ended<F: Fate + Drop>(
     world: &World<F>,
     to: u64,
-    times: Option<&Times>,
+    times: &Option<TimeWatch>,
 ) -> Option<TimeMeasures>
+    requires { to ≤ 1000000000000000 }
+    ensures { result ≡ times_ended to world.now.world_core times.now }
 {
     match times {
         Some(times) => Some(times.ended(world, to)),
@@ -244,40 +249,65 @@ fn times_ended<F: Fate + Drop>(
     }
 }
 
-/// Appends the line of what systems read, where that is asked.
-fn write_times_if(
-    text: &mut String,
-    stretch: &Stretch,
-    times: Option<&Times>,
-) -> Result<(), AllocError>
+/// Whether the line of what systems read is asked for.
+fn asks_lines(times: &Option<TimeWatch>) -> bool
+    ensures { result ≡ asks_lines times.now }
 {
-    match (times, &stretch.times) {
-        (Some(times), Some(measures)) if times.lines => {
-            write_times(text, stretch.from, stretch.to, measures)
-        }
-        _ => Ok(()),
+    match times {
+        Some(times) => times.lines(),
+        None => false,
     }
 }
 
-/// What is kept of what systems read, where that is asked.
-fn times_of<F: Fate + Drop>(
+/// Appends the line of what systems read, where it is asked for.
+fn write_times_if(
+    text: &mut String,
+    asked: bool,
+    stretch: &Stretch,
+    measures: Option<TimeMeasures>,
+) -> Result<(), AllocError>
+    ensures { OnOk result (string_bytes text.new
+        ≡ string_bytes text.old ++ text_of (line_of_times asked stretch.now measures)) }
+{
+    match measures {
+        Some(measures) => match asked {
+            true => write_times(text, stretch.from, stretch.to, &measures),
+            false => Ok(()),
+        },
+        None => Ok(()),
+    }
+}
+
+/// What is kept of what systems read before they start, where that is asked.
+fn times_before<F: Fate + Drop>(
     alloc: Global,
     world: &World<F>,
     options: &TimelineOptions,
-) -> Result<Option<Times>, AllocError>
+) -> Result<Option<TimeWatch>, AllocError>
+    ensures { IfOk result (λ times. times ≡ times_before options.now world.now.world_core) }
 {
     match options.times || options.limits.asks_times() {
-        true => Ok(Some(Times::new(
-            alloc,
-            world,
-            options.times,
-            options.times && options.offsets,
-        )?)),
+        true => {
+            let told = options.times && options.offsets;
+            Ok(Some(TimeWatch::new(alloc, world, options.times, told)?))
+        }
         false => Ok(None),
     }
 }
 
-/// Writes the lines of a stretch that ended, and answers how it did.
+/// An observer of a world whose systems start, before it has seen that.
+fn watch_before<F: Fate + Drop>(
+    alloc: Global,
+    world: &World<F>,
+    options: &TimelineOptions,
+) -> Result<Watch, AllocError>
+    ensures { IfOk result (λ watch. watch ≡ watch_before options.now world.now.world_core) }
+{
+    let times = times_before(alloc, world, options)?;
+    Watch::new(alloc, world, options.summary, options.offsets, times)
+}
+
+/// Writes the lines of a stretch that ended in a world, and answers how it did.
 fn end_stretch<F: Fate + Drop, K: Sink>(
     alloc: Global,
     world: &World<F>,
@@ -285,13 +315,15 @@ fn end_stretch<F: Fate + Drop, K: Sink>(
     watch: &Watch,
     sink: &mut K,
 ) -> Result<StretchEnd, Cut>
-    ensures some { AppendsSome (K.written sink.old) (K.written sink.new) (text_of (end_lines plan.now watch.now)) }
-    ensures end { IfOk result (λ end. end ≡ end_of plan.now watch.now) }
+    requires { plan.now.to ≤ 1000000000000000 }
+    ensures some { AppendsSome (K.written sink.old) (K.written sink.new) (text_of (end_lines plan.now world.now.world_core watch.now)) }
+    ensures end { IfOk result (λ end. end ≡ end_of plan.now world.now.world_core watch.now) }
     ensures whole { OnOk result
-        (Appends (K.written sink.old) (K.written sink.new) (text_of (end_lines plan.now watch.now))) }
+        (Appends (K.written sink.old) (K.written sink.new) (text_of (end_lines plan.now world.now.world_core watch.now))) }
     ensures works { result ≢ Err Cut.Write → K.failures sink.new ≡ K.failures sink.old }
     ensures fails { result ≡ Err Cut.Write → K.failures sink.new ≢ K.failures sink.old }
 {
+    let times = times_ended(world, plan.to, watch.times());
     let stretch = ended(
         alloc,
         plan.from,
@@ -300,13 +332,13 @@ fn end_stretch<F: Fate + Drop, K: Sink>(
         plan.bound,
         watch.measures(),
         watch.systems(),
-        times_ended(world, plan.to, watch.times()),
+        times,
     )?;
     let roots = roots_of(alloc, watch.systems())?;
     let mut text = String::new(alloc);
     write_after(&mut text, &stretch)?;
-    write_times_if(&mut text, &stretch, watch.times())?;
-    write_errors(&mut text, &plan.errors, watch, world, plan.to)?;
+    write_times_if(&mut text, asks_lines(watch.times()), &stretch, times)?;
+    write_errors(&mut text, world, plan.to, &plan.errors, watch)?;
     write_whole(sink, text.as_bytes())?;
     Ok(StretchEnd::new(stretch, roots))
 }
@@ -327,8 +359,8 @@ fn pass_stretch<F: Fate + Drop, K: Sink>(
     ensures passed { IfOk result (λ end. (told : List (List ℕ))
         × StretchIsSeen F.answers plan.now events.now world.old.fate world.new.fate world.old.world_core world.new.world_core
         watch.old watch.new told
-        × (end ≡ end_of plan.now watch.new)
-        × Appends (K.written sink.old) (K.written sink.new) (text_of (told ++ end_lines plan.now watch.new))) }
+        × (end ≡ end_of plan.now world.new.world_core watch.new)
+        × Appends (K.written sink.old) (K.written sink.new) (text_of (told ++ end_lines plan.now world.new.world_core watch.new))) }
     ensures broken { OnErr result ((lines : List (List ℕ))
         × StretchBreaksOff F.answers plan.now events.now world.old.fate world.old.world_core watch.old lines
         × AppendsSome (K.written sink.old) (K.written sink.new) (text_of lines)) }
@@ -364,8 +396,8 @@ fn next_stretch<F: Fate + Drop, K: Sink>(
         × IsTimelinePlan exact document.now from to (is_begun events.now) plan
         × StretchIsSeen F.answers plan events.now world.old.fate world.new.fate world.old.world_core world.new.world_core
         watch.old watch.new told
-        × (kept ≡ kept_after limits.now (end_of plan watch.new) before)
-        × Appends (K.written sink.old) (K.written sink.new) (text_of (told ++ end_lines plan watch.new))) }
+        × (kept ≡ kept_after limits.now (end_of plan world.new.world_core watch.new) before)
+        × Appends (K.written sink.old) (K.written sink.new) (text_of (told ++ end_lines plan world.new.world_core watch.new))) }
     ensures broken { OnErr result ((lines : List (List ℕ))
         × StopsSeen F.answers exact document.now from to events.now world.old.fate world.old.world_core watch.old lines
         × AppendsSome (K.written sink.old) (K.written sink.new) (text_of lines)) }
@@ -398,15 +430,17 @@ fn all_stretches<F: Fate + Drop, K: Sink>(
     ensures passed { IfOk result (λ kept. (passages : List StretchTrace)
         × AllPass F.answers exact document.now until 0 (events_by until document.now.events) world.old.fate world.new.fate
         world.old.world_core world.new.world_core passages
-        × (kept ≡ all_kept options.now.limits (rising_clocks world.old.world_core) none_waits passages none_kept)
+        × (kept ≡ all_kept options.now.limits (rising_clocks world.old.world_core)
+        (none_carried (tracks options.now) (rising_clocks world.old.world_core)) passages none_kept)
         × Appends (K.written sink.old) (K.written sink.new)
-        (text_of (all_lines options.now (rising_clocks world.old.world_core) none_waits passages))) }
+        (text_of (all_lines options.now (rising_clocks world.old.world_core)
+        (none_carried (tracks options.now) (rising_clocks world.old.world_core)) passages []))) }
     ensures broken { OnErr result ((passages : List StretchTrace) × (acts : List ActTrace)
         × SomePass F.answers exact document.now until 0 (events_by until document.now.events) world.old.fate world.old.world_core
         passages acts
         × AppendsSome (K.written sink.old) (K.written sink.new)
-        (text_of (all_lines options.now (rising_clocks world.old.world_core) none_waits passages
-        ++ flat_map (act_lines options.now (rising_clocks world.old.world_core)) acts))) }
+        (text_of (all_lines options.now (rising_clocks world.old.world_core)
+        (none_carried (tracks options.now) (rising_clocks world.old.world_core)) passages acts))) }
     ensures works { result ≢ Err Cut.Write → K.failures sink.new ≡ K.failures sink.old }
     ensures fails { result ≡ Err Cut.Write → K.failures sink.new ≢ K.failures sink.old }
 {
@@ -497,8 +531,7 @@ pub fn write_timeline<F: Fate + Drop, K: Sink>(
 {
     let calm = calm_times(alloc, document)?;
     let mut world = begin(alloc, document, fate)?;
-    let times = times_of(alloc, &world, options)?;
-    let mut watch = Watch::new(alloc, &world, options.summary, options.offsets, times)?;
+    let mut watch = watch_before(alloc, &world, options)?;
     write_start(alloc, &world, &mut watch, sink)?;
     let kept = all_stretches(
         alloc, document, &calm, true, &mut world, until, options, &mut watch, sink,
@@ -530,7 +563,7 @@ pub fn last_stretches<F: Fate + Drop>(
     let mut sink = NullSink;
     let times = calm_times(alloc, document)?;
     let mut world = begin(alloc, document, fate)?;
-    let mut watch = Watch::new(alloc, &world, true, false, None)?;
+    let mut watch = watch_before(alloc, &world, &NOTHING_TOLD)?;
     write_start(alloc, &world, &mut watch, &mut sink)?;
     let kept = all_stretches(
         alloc,

@@ -5,14 +5,15 @@ ghost use Rattle.gptp_model.specs.Views.{rising_clocks};
 ghost use Rattle.gptp_words.specs.Lines.{text_of};
 ghost use Rattle.gptp_timeline.specs.Measures.{one_at};
 ghost use Rattle.gptp_timeline.specs.Shown.{live_system, shown};
-ghost use Rattle.gptp_timeline.specs.Watch.{counts_from, receipt_lines_of, unseen, without_error};
+ghost use Rattle.gptp_timeline.specs.TimeWatch.{times_after, times_begun};
+ghost use Rattle.gptp_timeline.specs.Watch.{counts_from, receipt_lines_of, times_lines_if, unseen, without_error};
 
 use crate::changes::write_changes;
 use crate::event_line::write_event;
 use crate::measures::{Greatest, Measures, NOTHING, better_if};
 use crate::receipts::{error_of, received_by, write_offset};
 use crate::shown::{Shown, shown_of, shows};
-use crate::times::Times;
+use crate::time_watch::TimeWatch;
 use crate::watched::{ActView, Watched, error_after, leaves_wait, measures_after, since_behind};
 use gptp_links::Fate;
 use gptp_report::sink::Sink;
@@ -38,7 +39,7 @@ pub(crate) struct Watch {
     // What is measured in this stretch so far.
     measures: Measures,
     // What systems read, where that is asked.
-    times: Option<Times>,
+    times: Option<TimeWatch>,
 }
 
 impl Model for Watch {
@@ -54,6 +55,7 @@ impl Model for Watch {
       exact_from = w.exact_from;
       systems = w.systems.items;
       measures = w.measures;
+      times = w.times;
     } };
 
     ghost invariant = { λ w. WatchedRise w.systems.items };
@@ -162,13 +164,43 @@ fn clear_errors(systems: &mut Vec<Watched>)
     }
 }
 
+/// A stretch begins in the account, where there is one.
+fn begin_times(times: &mut Option<TimeWatch>, exact_from: Option<u64>, events: usize)
+    ensures { times.new ≡ option_map (times_begun exact_from events) times.old }
+{
+    match times {
+        Some(times) => times.begin(exact_from, events),
+        None => {}
+    }
+}
+
+/// The account sees an act that was done, where there is one.
+fn see_times<F: Fate + Drop>(
+    times: &mut Option<TimeWatch>,
+    text: &mut String,
+    world: &World<F>,
+    timed: &Timed,
+    done: &Done,
+) -> Result<(), AllocError>
+    requires { timed.now.at ≤ 1000000000000000 }
+    ensures sees { OnOk result (times.new
+        ≡ option_map (times_after timed.now.at timed.now.act done.now world.now.world_core) times.old) }
+    ensures tells { OnOk result (string_bytes text.new
+        ≡ string_bytes text.old ++ text_of (times_lines_if timed.now.at timed.now.act done.now world.now.world_core times.old)) }
+{
+    match times {
+        Some(times) => times.see(text, world, timed, done),
+        None => Ok(()),
+    }
+}
+
 impl Watch {
     ghost use Rattle.std.specs.Prelude.{◌≡◌, ◌≤◌, ◌<◌, ◌++◌, ◌∷◌, [], None, false, true, IfOk, IfSome, OnOk, length, map, slice_get, Some, string_bytes};
     ghost use Rattle.gptp_model.specs.Views.{rising_clocks};
     ghost use Rattle.gptp_words.specs.Lines.{text_of};
     ghost use Rattle.gptp_timeline.specs.Changes.{change_lines};
     ghost use Rattle.gptp_timeline.specs.EventLine.{event_line};
-    ghost use Rattle.gptp_timeline.specs.Watch.{WatchedRise, StaysSo, watch_begun, delivery_lines, event_look, lines_all, lines_at, nothing, place_of, placed_lines, receipt_lines, receipt_lines_if, see_act, see_all, see_at, see_delivery, see_placed, see_receipt, see_receipt_if, see_system, seen_lines, watched_lines, take_error, taken, unless, unseen};
+    ghost use Rattle.gptp_timeline.specs.Watch.{WatchedRise, StaysSo, watch_begun, delivery_lines, event_look, lines_all, lines_at, nothing, place_of, placed_lines, receipt_lines, receipt_lines_if, see_act, see_all, see_at, see_delivery, see_placed, see_receipt, see_receipt_if, see_system, see_times, seen_lines, times_lines_if, watched_lines, take_error, taken, unless, unseen};
     ghost use Rattle.gptp_timeline.specs.declared.watched.Watched.{Watched};
 
     /// An observer of a world whose systems start, before it has seen that.
@@ -177,7 +209,7 @@ impl Watch {
         world: &World<F>,
         summary: bool,
         offsets: bool,
-        times: Option<Times>,
+        times: Option<TimeWatch>,
     ) -> Result<Self, AllocError>
         ensures { IfOk result (λ w. w ≡ record {
           summary = summary;
@@ -185,6 +217,7 @@ impl Watch {
           exact_from = None;
           systems = map unseen (rising_clocks world.now.world_core);
           measures = nothing;
+          times = times;
         }) }
     {
         world.well_formed();
@@ -216,20 +249,19 @@ impl Watch {
 
     /// A stretch begins, in which the receipts of each system count by themselves from a time on.
     pub(crate) fn begin(&mut self, exact_from: Option<u64>, events: usize)
-        ensures { self.new ≡ watch_begun exact_from self.old }
+        ensures { self.new ≡ watch_begun exact_from events self.old }
     {
         self.exact_from = exact_from;
         self.measures = NOTHING;
         clear_errors(&mut self.systems);
-        if let Some(times) = &mut self.times {
-            times.begin(exact_from, events);
-        }
+        begin_times(&mut self.times, exact_from, events);
     }
 
     /// What systems read, where that is asked.
-    pub(crate) fn times(&self) -> Option<&Times>
+    pub(crate) fn times(&self) -> &Option<TimeWatch>
+        ensures { result.now ≡ self.now.times }
     {
-        self.times.as_ref()
+        &self.times
     }
 
     /// Sees what an act does to what systems read.
@@ -240,11 +272,12 @@ impl Watch {
         timed: &Timed,
         done: &Done,
     ) -> Result<(), AllocError>
+        requires { timed.now.at ≤ 1000000000000000 }
+        ensures sees { OnOk result (self.new ≡ see_times timed.now.at timed.now.act done.now world.now.world_core self.old) }
+        ensures tells { OnOk result (string_bytes text.new
+            ≡ string_bytes text.old ++ text_of (times_lines_if timed.now.at timed.now.act done.now world.now.world_core self.old.times)) }
     {
-        match &mut self.times {
-            Some(times) => times.see(text, world, timed, done),
-            None => Ok(()),
-        }
+        see_times(&mut self.times, text, world, timed, done)
     }
 
     /// How many systems there are.

@@ -1,0 +1,130 @@
+//! The lines of what systems read.
+
+ghost use Rattle.std.specs.Prelude.{◌≡◌, ◌≤◌, ◌++◌, ◌∷◌, [], OnOk, string_bytes};
+ghost use Rattle.gptp_words.specs.Lines.{text_of};
+ghost use Rattle.gptp_timeline.specs.TimeLines.{apart_words, first_words, reading_line, reads_words, sources_words, times_line};
+
+use crate::amounts::{Near, NearOrNone, SignedOrNone, UpOrNone};
+use crate::exact_reads::ExactReads;
+use crate::looks::{TimeMeasures, error_before};
+use crate::measures::Greatest;
+use crate::readings::{NewReading, reading_error, step_of};
+use crate::sources::Difference;
+use crate::stretch::Worst;
+use gptp_accuracy::SystemError;
+use gptp_links::Fate;
+use gptp_words::ClockDigits;
+use gptp_world::World;
+use std::alloc::AllocError;
+use std::fmt;
+
+/// The sources whose times differ the most.
+#[derive(Clone, Copy)]
+struct Sources(Option<Difference>);
+
+impl fmt::Display for Sources {
+    ghost use Rattle.std.specs.Prelude.{Some};
+    ghost use Rattle.gptp_timeline.specs.TimeLines.{sources_words};
+
+    ghost output = { λ sources. Some (sources_words sources.0) };
+
+    fn fmt<W: fmt::Write>(&self, f: &mut fmt::Formatter<W>) -> fmt::Result {
+        match self.0 {
+            Some(difference) => write!(
+                f,
+                " {} {}",
+                ClockDigits(difference.ahead()),
+                ClockDigits(difference.behind())
+            ),
+            None => f.write_str(" none none"),
+        }
+    }
+}
+
+/// How long after a time the last change of source was, with its system.
+#[derive(Clone, Copy)]
+struct First(u64, Option<Greatest>);
+
+impl fmt::Display for First {
+    ghost use Rattle.std.specs.Prelude.{Some};
+    ghost use Rattle.gptp_timeline.specs.TimeLines.{first_words};
+
+    ghost output = { λ first. Some (first_words first.0 first.1) };
+
+    fn fmt<W: fmt::Write>(&self, f: &mut fmt::Formatter<W>) -> fmt::Result {
+        match self.1 {
+            Some(changed) => write!(
+                f,
+                "{} {}",
+                changed.amount.saturating_sub(u128::from(self.0)),
+                ClockDigits(changed.clock)
+            ),
+            None => f.write_str("none none"),
+        }
+    }
+}
+
+/// Appends the line of what was measured in a stretch of what systems read.
+pub(crate) fn write_times(
+    text: &mut String,
+    from: u64,
+    to: u64,
+    measures: &TimeMeasures,
+) -> Result<(), AllocError>
+    ensures { OnOk result (string_bytes text.new
+        ≡ string_bytes text.old ++ (times_line from to measures.now ++ 10 ∷ [])) }
+{
+    writeln!(
+        text,
+        "times {from} to {to} time {} apart {}{} step {} first {}",
+        Worst(measures.time),
+        Near(measures.apart()),
+        Sources(measures.sources),
+        Worst(measures.step),
+        First(from, measures.changed)
+    )
+}
+
+/// Appends the line of a reading that a system got.
+pub(crate) fn write_reading<F: Fate + Drop>(
+    text: &mut String,
+    world: &World<F>,
+    at: u64,
+    new: NewReading,
+) -> Result<(), AllocError>
+    requires { at ≤ 1000000000000000 }
+    ensures { OnOk result (string_bytes text.new
+        ≡ string_bytes text.old ++ (reading_line at world.now.world_core new ++ 10 ∷ [])) }
+{
+    let before = error_before(world, at, new);
+    let after = reading_error(world, at, new.clock, new.after);
+    let step = step_of(world, at, new);
+    writeln!(
+        text,
+        "reading {at} {} from {} before {} after {} step {}",
+        ClockDigits(new.clock),
+        ClockDigits(new.after.source),
+        SignedOrNone(before),
+        SignedOrNone(after),
+        SignedOrNone(step)
+    )
+}
+
+/// Appends how far off a system read, and how far it may be.
+pub(crate) fn write_reads(
+    text: &mut String,
+    system: &SystemError,
+    reads: Option<ExactReads>,
+) -> Result<(), AllocError>
+    ensures { OnOk result (string_bytes text.new ≡ string_bytes text.old ++ reads_words system.now reads) }
+{
+    match reads {
+        Some(reads) => write!(
+            text,
+            " reads {} bound {}",
+            NearOrNone(reads.worst),
+            UpOrNone(system.reading_error(reads.longest))
+        ),
+        None => write!(text, " reads none bound none"),
+    }
+}
