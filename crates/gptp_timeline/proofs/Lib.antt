@@ -24,6 +24,7 @@ pub mod ChainStepLemmas
 pub mod StretchesSoFarLemmas
 pub mod PassLemmas
 pub mod NameLemmas
+mod AccountLemmas
 pub mod ObservedLemmas
 pub mod TimelineLemmas
 pub mod UnfoldLemmas

@@ -1,5 +1,6 @@
-use Rattle.std.proofs.Common.{ap, ◌∙◌}
+use Rattle.std.proofs.Common.{ap, ◌∙◌, false}
 use Rattle.gptp_model.specs.Views.{rising_clocks}
+use Rattle.gptp_timeline.specs.Timeline.{none_carried}
 use Rattle.gptp_timeline.specs.Watch.{event_look, see_all}
 use Rattle.gptp_timeline.proofs.StretchesSoFarLemmas.{last_two_are, no_limits}
 use Rattle.gptp_timeline.proofs.timeline.last_stretches.Goals as goal
@@ -23,5 +24,6 @@ returns-clause-ends g c =
       after = c.all_stretches.new.world.world_core;
       pass = passed.1;
       are = c.both_of.ensures
-          ∙ last_two_are no_limits (rising_clocks c.in_ok-world.world.world_core) passed.0 c.in_ok-kept.kept passed.2;
+          ∙ last_two_are no_limits (rising_clocks c.in_ok-world.world.world_core) passed.0
+          (none_carried false (rising_clocks c.in_ok-world.world.world_core)) c.in_ok-kept.kept passed.2;
     }
