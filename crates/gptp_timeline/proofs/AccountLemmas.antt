@@ -10,28 +10,24 @@ use Rattle.gptp_scenario.specs.declared.change.Act.TheVariants.{Change as Changi
 use Rattle.gptp_system.specs.State.{SystemState}
 use Rattle.gptp_world.specs.Transitions.{ActTrace}
 use Rattle.gptp_timeline.specs.ExactReads.{reads_by, reads_over, reads_with, unread, without_reads}
-use Rattle.gptp_timeline.specs.Extremes.{extremes_from, ExtremesState, Look}
-use Rattle.gptp_timeline.specs.Looks.{events_left, left_behind, listed, look_amount, looked_all, looked_both, looked_in, looked_over, LookedAt, measured_times, measured_with, nothing_looked, nothing_read}
-use Rattle.gptp_timeline.specs.Measures.{greatest_from}
+use Rattle.gptp_timeline.specs.Looks.{events_left, left_behind, looked_all, looked_in, looked_over, measured_times, measured_with, nothing_looked, nothing_read}
 use Rattle.gptp_timeline.specs.Passing.{times_before}
 use Rattle.gptp_timeline.specs.Readings.{new_in, no_reading, read_after, readings_after}
 use Rattle.gptp_timeline.specs.Receipts.{offset_error, received_by}
 use Rattle.gptp_timeline.specs.Shown.{live_system}
-use Rattle.gptp_timeline.specs.Sources.{DifferenceState, widest_from}
 use Rattle.gptp_timeline.specs.Stretch.{at_of}
 use Rattle.gptp_timeline.specs.TimeWatch.{TimeState, times_after, times_begun}
 use Rattle.gptp_timeline.specs.Timeline.{asks_lines, exact_time, line_of_times, none_carried, reads_if, reads_kept, StretchTrace, stretch_reading_lines, times_ended, tracks}
 use Rattle.gptp_timeline.specs.Watch.{see_act, see_at, see_delivery, see_each, see_one, see_placed, see_receipt_if, see_receipt_of, see_system, take_error, times_lines_if, WatchState}
 use Rattle.gptp_timeline.specs.declared.exact_reads.SystemReads.{SystemReads}
 use Rattle.gptp_timeline.specs.declared.looks.TimeMeasures.{TimeMeasures}
-use Rattle.gptp_timeline.specs.declared.measures.Greatest.{Greatest}
 use Rattle.gptp_timeline.specs.declared.readings.NewReading.{NewReading}
 use Rattle.gptp_timeline.specs.declared.readings.SystemReading.{SystemReading}
 use Rattle.gptp_timeline.specs.declared.stretch.Stretch.{Stretch}
 use Rattle.gptp_timeline.specs.declared.timeline.TimelineOptions.{TimelineOptions}
 use Rattle.gptp_timeline.specs.declared.watched.ActView.{ActView}
 use Rattle.gptp_timeline.specs.declared.watched.Watched.{Watched}
-use Rattle.gptp_timeline.proofs.MeasureLemmas.{greatest_both}
+use Rattle.gptp_timeline.proofs.LookLemmas.{measured_both}
 
 -- ---- nothing else that an observer does touches it
 
@@ -100,41 +96,6 @@ account options from names events ts rs = record {
 abbrev pub account_if : TimelineOptions → Option ℕ → List ℕ → ℕ → List ActTrace → Option (List SystemReading)
     → Option TimeState
 account_if options from names events ts readings = option_map (account options from names events ts) readings
-
--- ---- what is measured of one list and another behind it
-
-map_both : (xs ys : List Look) → map look_amount (xs ++ ys) ≡ map look_amount xs ++ map look_amount ys
-map_both [] ys = refl
-map_both (x ∷ xs) ys = ap (λ rest. look_amount x ∷ rest) (map_both xs ys)
-
-extremes_both : (e : Option ExtremesState) (xs ys : List Look)
-    → extremes_from e (xs ++ ys) ≡ extremes_from (extremes_from e xs) ys
-extremes_both e [] ys = refl
-extremes_both e (x ∷ xs) ys = extremes_both _ xs ys
-
-widest_both : (d : Option DifferenceState) (xs ys : List DifferenceState)
-    → widest_from d (xs ++ ys) ≡ widest_from (widest_from d xs) ys
-widest_both d [] ys = refl
-widest_both d (x ∷ xs) ys = widest_both _ xs ys
-
-pub measured_both : (a b : LookedAt) (m : TimeMeasures)
-    → measured_with (looked_both a b) m ≡ measured_with b (measured_with a m)
-measured_both a b m =
-    let time : greatest_from m.time (map look_amount (a.errors ++ b.errors))
-    ≡ greatest_from (greatest_from m.time (map look_amount a.errors)) (map look_amount b.errors) =
-    ap (greatest_from m.time) (map_both a.errors b.errors)
-    ∙ greatest_both m.time (map look_amount a.errors) (map look_amount b.errors) in
-    let errors = extremes_both m.errors a.errors b.errors in
-    let sources = widest_both m.sources a.differences b.differences in
-    let step = greatest_both m.step a.steps b.steps in
-    let changed = greatest_both m.changed a.changes b.changes in
-    λ i. record {
-      time = time i;
-      errors = errors i;
-      sources = sources i;
-      step = step i;
-      changed = changed i;
-    }
 
 -- ---- one act more
 

@@ -24,6 +24,9 @@ pub mod ChainStepLemmas
 pub mod StretchesSoFarLemmas
 pub mod PassLemmas
 pub mod NameLemmas
+mod ClockLemmas
+mod LookLemmas
+mod PutLemmas
 mod AccountLemmas
 pub mod ObservedLemmas
 pub mod TimelineLemmas

@@ -77,20 +77,18 @@ module _ (plan : Plan) (w : WorldState) (o : WatchState) (s : Stretch) (m : Meas
 
   -- the lines where a stretch ends
   pub end_text : (asked : Bool) (empty one two after octets : List ℕ) → asked ≡ asks_lines o.times → empty ≡ []
-      → one ≡ empty ++ (after_line s ++ 10 ∷ []) → two ≡ one ++ text_of (line_of_times asked s times)
+      → one ≡ empty ++ (after_line s ++ 10 ∷ []) → two ≡ one ++ text_of (line_of_times asked s s.times)
       → after ≡ two ++ text_of (kept_accuracy (reads_kept plan.to w o.times) o.systems plan.errors) → octets ≡ after
       → octets ≡ text_of (end_lines plan w o)
   end_text asked empty one two after octets asks none line times_line rest same =
       let exact = kept_accuracy (reads_kept plan.to w o.times) o.systems plan.errors in
-      let behind : after ≡ one ++ text_of (line_of_times asked s times ++ exact) =
-      lines_on one two after (line_of_times asked s times) exact times_line rest in
+      let behind : after ≡ one ++ text_of (line_of_times asked s s.times ++ exact) =
+      lines_on one two after (line_of_times asked s s.times) exact times_line rest in
       appended_text empty after octets (text_of (end_lines plan w o)) none
-      (line_on empty one after (after_line s) (line_of_times asked s times ++ exact) line behind
-      ∙ ap (λ t. empty ++ text_of (after_line t ∷ (line_of_times asked t times ++ exact))) stretch_is
+      (line_on empty one after (after_line s) (line_of_times asked s s.times ++ exact) line behind
+      ∙ ap (λ (t : Stretch). empty ++ text_of (after_line t ∷ (line_of_times asked t t.times ++ exact))) stretch_is
       ∙ ap (λ a. empty ++ text_of (after_line (ended_of plan w o)
-      ∷ (line_of_times a (ended_of plan w o) times ++ exact))) asks
-      ∙ ap (λ read. empty ++ text_of (after_line (ended_of plan w o)
-      ∷ (line_of_times (asks_lines o.times) (ended_of plan w o) read ++ exact))) read) same
+      ∷ (line_of_times a (ended_of plan w o) (ended_of plan w o).times ++ exact))) asks) same
 
 -- ---- the acts of a stretch
 

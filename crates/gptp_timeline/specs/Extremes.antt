@@ -10,11 +10,17 @@ pub record ExtremesState : Type 0 where
   pub least : ℤ
   pub most : ℤ
 
+abbrev pub lesser : ℤ → ℤ → ℤ
+lesser best error = if int_lt error best then error else best
+
+abbrev pub greater : ℤ → ℤ → ℤ
+greater best error = if int_lt best error then error else best
+
 abbrev pub extremes_with : Option ExtremesState → ℤ → ExtremesState
 extremes_with None error = record { least = error; most = error }
 extremes_with (Some e) error = record {
-  least = if int_lt error e.least then error else e.least;
-  most = if int_lt e.most error then error else e.most;
+  least = lesser e.least error;
+  most = greater e.most error;
 }
 
 abbrev pub extremes_from : Option ExtremesState → List Look → Option ExtremesState

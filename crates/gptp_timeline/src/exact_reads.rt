@@ -99,8 +99,8 @@ fn reads_next(
 }
 
 /// Whether a reading comes by a receipt that counts by itself.
-fn counts_new(from: Option<u64>, at: u64, new: NewReading) -> bool
-    ensures { result ≡ counts_new from at new }
+fn counts_new(from: Option<u64>, at: u64, new: &NewReading) -> bool
+    ensures { result ≡ counts_new from at new.now }
 {
     match from {
         Some(from) => new.received && from <= at,
@@ -113,18 +113,19 @@ fn reads_behind<F: Fate + Drop>(
     world: &World<F>,
     from: Option<u64>,
     at: u64,
-    new: NewReading,
+    new: &NewReading,
     reads: Option<ExactReads>,
 ) -> Option<ExactReads>
     requires { at ≤ 1000000000000000 }
-    ensures { result ≡ reads_next (counts_new from at new) at (option_map unsigned_abs (error_before at world.now.world_core new))
-        (option_map unsigned_abs (reading_error at world.now.world_core new.clock new.after)) reads }
+    ensures { result ≡ reads_next (counts_new from at new.now) at
+        (option_map unsigned_abs (error_before at world.now.world_core new.now))
+        (option_map unsigned_abs (reading_error at world.now.world_core new.now.clock new.now.after)) reads }
 {
     reads_next(
         counts_new(from, at, new),
         at,
         amount_of(error_before(world, at, new)),
-        amount_of(reading_error(world, at, new.clock, new.after)),
+        amount_of(reading_error(world, at, new.clock, &new.after)),
         reads,
     )
 }
@@ -135,11 +136,11 @@ pub(crate) fn take_reads<F: Fate + Drop>(
     world: &World<F>,
     from: Option<u64>,
     at: u64,
-    new: NewReading,
+    new: &NewReading,
 )
     requires moment { at ≤ 1000000000000000 }
     requires rise { ReadsRise systems.old.items }
-    ensures { systems.new.items ≡ map (reads_with from at world.now.world_core new) systems.old.items }
+    ensures { systems.new.items ≡ map (reads_with from at world.now.world_core new.now) systems.old.items }
 {
     let clock = new.clock;
     match systems.binary_search_by_key(&clock, |system| system.clock) {

@@ -1,7 +1,7 @@
 //! The least and the greatest of several errors.
 
 ghost use Rattle.std.specs.Prelude.{◌≡◌, ◌<◌, ◌^◌, unsigned_abs};
-ghost use Rattle.gptp_timeline.specs.Extremes.{extremes_with};
+ghost use Rattle.gptp_timeline.specs.Extremes.{extremes_with, greater, lesser};
 
 use std::marker::Model;
 
@@ -22,6 +22,20 @@ impl Model for Extremes {
     ghost invariant = { λ e. AreSmallErrors (record { least = e.least; most = e.most }) };
 
     ghost inverse = { λ e. record { least = e.least; most = e.most } };
+}
+
+/// The lesser of two errors.
+fn lesser(best: i128, error: i128) -> i128
+    ensures { result ≡ lesser best error }
+{
+    if error < best { error } else { best }
+}
+
+/// The greater of two errors.
+fn greater(best: i128, error: i128) -> i128
+    ensures { result ≡ greater best error }
+{
+    if best < error { error } else { best }
 }
 
 impl Extremes {
@@ -53,8 +67,8 @@ impl Extremes {
         ensures { result ≡ extremes_with (Some self) error }
     {
         Extremes {
-            least: if error < self.least { error } else { self.least },
-            most: if self.most < error { error } else { self.most },
+            least: lesser(self.least, error),
+            most: greater(self.most, error),
         }
     }
 }

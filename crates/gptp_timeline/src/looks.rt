@@ -2,6 +2,7 @@
 
 ghost use Rattle.std.specs.Prelude.{◌≡◌, ◌≤◌, ◌<◌, ◌^◌, [], IfSome, unsigned_abs};
 ghost use Rattle.gptp_timeline.specs.Looks.{apart, apart_errors, apart_sources, change_if, changed_after, error_before, error_in, listed, looked_all, looked_difference, looked_each, looked_error, looked_new, looked_step, measured_with, nothing_read, told_if};
+ghost use Rattle.gptp_timeline.specs.Readings.{changes_source};
 
 use crate::extremes::{Extremes, extremes_with};
 use crate::measures::{Greatest, better, better_if};
@@ -125,7 +126,7 @@ pub(crate) fn error_by<F: Fate + Drop>(
     ensures is { result ≡ error_in at world.now.world_core system.now }
     ensures small { IfSome result (λ e. unsigned_abs e < 2 ^ 100) }
 {
-    match system.reading {
+    match &system.reading {
         Some(kept) => reading_error(world, at, system.clock, kept),
         None => None,
     }
@@ -182,21 +183,21 @@ pub(crate) fn told_if<F: Fate + Drop>(
 pub(crate) fn error_before<F: Fate + Drop>(
     world: &World<F>,
     at: u64,
-    new: NewReading,
+    new: &NewReading,
 ) -> Option<i128>
     requires { at ≤ 1000000000000000 }
-    ensures is { result ≡ error_before at world.now.world_core new }
+    ensures is { result ≡ error_before at world.now.world_core new.now }
     ensures small { IfSome result (λ e. unsigned_abs e < 2 ^ 100) }
 {
-    match new.before {
+    match &new.before {
         Some(kept) => reading_error(world, at, new.clock, kept),
         None => None,
     }
 }
 
 /// When a system changed its source, if it did.
-fn change_of(new: NewReading, at: u64) -> Option<Greatest>
-    ensures { listed result ≡ change_if (changes_source new) new.clock at }
+fn change_of(new: &NewReading, at: u64) -> Option<Greatest>
+    ensures { listed result ≡ change_if (changes_source new.now) new.now.clock at }
 {
     match changes_source(new) {
         true => Some(Greatest {
@@ -229,15 +230,15 @@ pub(crate) fn look_at_new<F: Fate + Drop>(
     measures: TimeMeasures,
     world: &World<F>,
     at: u64,
-    new: NewReading,
+    new: &NewReading,
     before: Option<Difference>,
     after: Option<Difference>,
 ) -> TimeMeasures
     requires { at ≤ 1000000000000000 }
-    ensures { result ≡ measured_with (looked_new at world.now.world_core new before after) measures }
+    ensures { result ≡ measured_with (looked_new at world.now.world_core new.now before after) measures }
 {
     let measures = with_look(measures, new.clock, error_before(world, at, new));
-    let measures = with_look(measures, new.clock, reading_error(world, at, new.clock, new.after));
+    let measures = with_look(measures, new.clock, reading_error(world, at, new.clock, &new.after));
     let measures = with_difference(measures, before);
     let measures = with_difference(measures, after);
     with_step(measures, step_in(world, at, new), change_of(new, at))

@@ -1,7 +1,9 @@
 //! What systems read of time, and by what.
 
-ghost use Rattle.std.specs.Prelude.{◌≡◌, ◌≤◌, ◌<◌, ◌^◌, IfSome, Some, false, length, option_and_then, option_map_or, unsigned_abs};
+ghost use Rattle.std.specs.Prelude.{◌≡◌, ◌≤◌, ◌<◌, ◌^◌, ◌-ℤ◌, IfSome, Some, false, length, unsigned_abs};
 ghost use Rattle.std.specs.List.{list_any};
+ghost use Rattle.std.specs.Option.{option_and_then, option_map_or};
+ghost use Rattle.gptp_system.specs.Reading.{read_at};
 ghost use Rattle.gptp_timeline.specs.Readings.{by_expiry, by_receipt, by_takeover, changes_source, clock_time, failed_by, is_master, is_sending, new_reading, own_reading, read_by, reading_among, reading_error, put_reading, reads_own, received_reading, step_in, step_of};
 ghost use Rattle.gptp_timeline.specs.Shown.{live_system};
 ghost use Rattle.gptp_timeline.specs.TimeWatch.{ReadingsRise};
@@ -61,13 +63,22 @@ pub(crate) fn clock_time<F: Fate + Drop>(
     world.local(clock, at)
 }
 
-/// What is read where the own clock shows this, in units of 2^-16 ns.
-pub(crate) fn read_by(kept: KeptReading, shown: ScaledNs) -> i128
-    ensures is { result ≡ read_by kept shown }
+/// What is read by what a Follow_Up left, where the own clock shows this, in units of 2^-16 ns.
+fn received_at(reading: &Reading, shown: ScaledNs) -> i128
+    ensures is { result ≡ read_at reading.now shown }
     ensures small { unsigned_abs result < 2 ^ 99 }
 {
-    match kept.received {
-        Some(reading) => reading.at(shown),
+    let received = reading.ingress.value() - reading.offset.value();
+    received + reading.rate.scale_between(reading.ingress, shown)
+}
+
+/// What is read where the own clock shows this, in units of 2^-16 ns.
+pub(crate) fn read_by(kept: &KeptReading, shown: ScaledNs) -> i128
+    ensures is { result ≡ read_by kept.now shown }
+    ensures small { unsigned_abs result < 2 ^ 99 }
+{
+    match &kept.received {
+        Some(reading) => received_at(reading, shown),
         None => shown.value(),
     }
 }
@@ -77,18 +88,18 @@ pub(crate) fn reading_error<F: Fate + Drop>(
     world: &World<F>,
     at: u64,
     clock: ClockId,
-    kept: KeptReading,
+    kept: &KeptReading,
 ) -> Option<i128>
     requires { at ≤ 1000000000000000 }
-    ensures is { result ≡ reading_error at world.now.world_core clock kept }
+    ensures is { result ≡ reading_error at world.now.world_core clock kept.now }
     ensures small { IfSome result (λ e. unsigned_abs e < 2 ^ 100) }
 {
-    match (
-        clock_time(world, clock, at),
-        clock_time(world, kept.source, at),
-    ) {
-        (Some(shown), Some(time)) => Some(read_by(kept, shown) - time.value()),
-        _ => None,
+    match clock_time(world, clock, at) {
+        Some(shown) => match clock_time(world, kept.source, at) {
+            Some(time) => Some(read_by(kept, shown) - time.value()),
+            None => None,
+        },
+        None => None,
     }
 }
 
@@ -117,8 +128,8 @@ fn own_reading(clock: ClockId) -> KeptReading
 }
 
 /// Whether a system took over, and received no time since.
-fn reads_own(kept: Option<KeptReading>) -> bool
-    ensures { result ≡ reads_own kept }
+fn reads_own(kept: &Option<KeptReading>) -> bool
+    ensures { result ≡ reads_own kept.now }
 {
     match kept {
         Some(kept) => kept.received.is_none(),
@@ -236,7 +247,7 @@ fn by_takeover<F: Fate + Drop>(
     ensures { result ≡ by_takeover world.now.world_core systems.now clock }
 {
     let before = reading_among(systems, clock);
-    if reads_own(before) || !sends(world, clock) {
+    if reads_own(&before) || !sends(world, clock) {
         return None;
     }
     Some(NewReading {
@@ -308,31 +319,49 @@ pub(crate) fn put_reading(
 }
 
 /// Whether a system that gets a reading has another source than before, or had no time.
-pub(crate) fn changes_source(new: NewReading) -> bool
-    ensures { result ≡ changes_source new }
+pub(crate) fn changes_source(new: &NewReading) -> bool
+    ensures { result ≡ changes_source new.now }
 {
-    match new.before {
-        Some(before) => before.source != new.after.source,
+    let source = new.after.source;
+    match &new.before {
+        Some(before) => {
+            let other = before.source;
+            other != source
+        }
         None => true,
     }
 }
 
+/// By how much more is read by a reading than by another, where the own clock shows this, in units of 2^-16 ns.
+fn step_between(before: &KeptReading, after: &KeptReading, shown: ScaledNs) -> i128
+    ensures { result ≡ read_by after.now shown -ℤ read_by before.now shown }
+{
+    read_by(after, shown) - read_by(before, shown)
+}
+
 /// By how much more a system reads by the new reading than by the one before, in units of 2^-16 ns; none where it had
 /// no time.
-pub(crate) fn step_of<F: Fate + Drop>(world: &World<F>, at: u64, new: NewReading) -> Option<i128>
+pub(crate) fn step_of<F: Fate + Drop>(world: &World<F>, at: u64, new: &NewReading) -> Option<i128>
     requires { at ≤ 1000000000000000 }
-    ensures { result ≡ step_of at world.now.world_core new }
+    ensures { result ≡ step_of at world.now.world_core new.now }
 {
-    match (new.before, clock_time(world, new.clock, at)) {
-        (Some(before), Some(shown)) => Some(read_by(new.after, shown) - read_by(before, shown)),
-        _ => None,
+    match &new.before {
+        Some(before) => match clock_time(world, new.clock, at) {
+            Some(shown) => Some(step_between(before, &new.after, shown)),
+            None => None,
+        },
+        None => None,
     }
 }
 
 /// That without its sign, with the system.
-pub(crate) fn step_in<F: Fate + Drop>(world: &World<F>, at: u64, new: NewReading) -> Option<Greatest>
+pub(crate) fn step_in<F: Fate + Drop>(
+    world: &World<F>,
+    at: u64,
+    new: &NewReading,
+) -> Option<Greatest>
     requires { at ≤ 1000000000000000 }
-    ensures { result ≡ step_in at world.now.world_core new }
+    ensures { result ≡ step_in at world.now.world_core new.now }
 {
     match step_of(world, at, new) {
         Some(step) => Some(Greatest {

@@ -77,39 +77,39 @@ impl Difference {
 }
 
 /// Whether the time of a source is the less.
-fn is_less(a: SourceTime, b: SourceTime) -> bool
-    ensures { result ≡ int_lt a.time b.time }
+fn is_less(a: &SourceTime, b: &SourceTime) -> bool
+    ensures { result ≡ int_lt a.now.time b.now.time }
 {
     a.time.value() < b.time.value()
 }
 
 /// Of two sources that whose time is the greater, of equal times that with the lower clock.
-fn further_ahead(best: SourceTime, one: SourceTime) -> SourceTime
-    ensures { result ≡ further_ahead best one }
+fn further_ahead(best: &SourceTime, one: &SourceTime) -> SourceTime
+    ensures { result ≡ further_ahead best.now one.now }
 {
     if is_less(best, one) {
-        one
+        *one
     } else if is_less(one, best) {
-        best
+        *best
     } else if one.clock < best.clock {
-        one
+        *one
     } else {
-        best
+        *best
     }
 }
 
 /// Of two sources that whose time is the less, of equal times that with the lower clock.
-fn further_behind(best: SourceTime, one: SourceTime) -> SourceTime
-    ensures { result ≡ further_behind best one }
+fn further_behind(best: &SourceTime, one: &SourceTime) -> SourceTime
+    ensures { result ≡ further_behind best.now one.now }
 {
     if is_less(one, best) {
-        one
+        *one
     } else if is_less(best, one) {
-        best
+        *best
     } else if one.clock < best.clock {
-        one
+        *one
     } else {
-        best
+        *best
     }
 }
 
@@ -117,23 +117,25 @@ fn further_behind(best: SourceTime, one: SourceTime) -> SourceTime
 fn ends_with(ends: Option<Ends>, one: Option<SourceTime>) -> Option<Ends>
     ensures { result ≡ ends_with ends one }
 {
-    match (ends, one) {
-        (Some(ends), Some(one)) => Some(Ends {
-            ahead: further_ahead(ends.ahead, one),
-            behind: further_behind(ends.behind, one),
-        }),
-        (None, Some(one)) => Some(Ends {
-            ahead: one,
-            behind: one,
-        }),
-        (ends, None) => ends,
+    match one {
+        Some(one) => match ends {
+            Some(ends) => Some(Ends {
+                ahead: further_ahead(&ends.ahead, &one),
+                behind: further_behind(&ends.behind, &one),
+            }),
+            None => Some(Ends {
+                ahead: one,
+                behind: one,
+            }),
+        },
+        None => ends,
     }
 }
 
 /// The source of a reading, with its time.
-fn source_at<F: Fate + Drop>(world: &World<F>, at: u64, kept: KeptReading) -> Option<SourceTime>
+fn source_at<F: Fate + Drop>(world: &World<F>, at: u64, kept: &KeptReading) -> Option<SourceTime>
     requires { at ≤ 1000000000000000 }
-    ensures { result ≡ source_at at world.now.world_core kept }
+    ensures { result ≡ source_at at world.now.world_core kept.now }
 {
     match clock_time(world, kept.source, at) {
         Some(time) => Some(SourceTime {
@@ -153,7 +155,7 @@ fn told_time<F: Fate + Drop>(
     requires { at ≤ 1000000000000000 }
     ensures { result ≡ told_time at world.now.world_core system.now }
 {
-    match system.reading {
+    match &system.reading {
         Some(kept) => source_at(world, at, kept),
         None => None,
     }
@@ -180,17 +182,18 @@ fn apart(a: ScaledNs, b: ScaledNs) -> u128
 }
 
 /// How far the ends differ; none where they don't.
-fn difference_between(ends: Ends) -> Option<Difference>
-    ensures { result ≡ difference_of (Some ends) }
+fn difference_between(ends: &Ends) -> Option<Difference>
+    ensures { result ≡ difference_of (Some ends.now) }
 {
-    match apart(ends.ahead.time, ends.behind.time) {
-        0 => None,
-        amount => Some(Difference {
-            amount,
-            ahead: ends.ahead.clock,
-            behind: ends.behind.clock,
-        }),
+    let amount = apart(ends.ahead.time, ends.behind.time);
+    if amount == 0 {
+        return None;
     }
+    Some(Difference {
+        amount,
+        ahead: ends.ahead.clock,
+        behind: ends.behind.clock,
+    })
 }
 
 /// How far the ends differ; none where there are none, or they don't.
@@ -198,7 +201,7 @@ fn difference_of(ends: Option<Ends>) -> Option<Difference>
     ensures { result ≡ difference_of ends }
 {
     match ends {
-        Some(ends) => difference_between(ends),
+        Some(ends) => difference_between(&ends),
         None => None,
     }
 }

@@ -1,8 +1,7 @@
 //! The lines of what systems read.
 
 ghost use Rattle.std.specs.Prelude.{◌≡◌, ◌≤◌, ◌++◌, ◌∷◌, [], OnOk, string_bytes};
-ghost use Rattle.gptp_words.specs.Lines.{text_of};
-ghost use Rattle.gptp_timeline.specs.TimeLines.{apart_words, first_words, reading_line, reads_words, sources_words, times_line};
+ghost use Rattle.gptp_timeline.specs.TimeLines.{reading_line, reads_words, times_line};
 
 use crate::amounts::{Near, NearOrNone, SignedOrNone, UpOrNone};
 use crate::exact_reads::ExactReads;
@@ -90,14 +89,14 @@ pub(crate) fn write_reading<F: Fate + Drop>(
     text: &mut String,
     world: &World<F>,
     at: u64,
-    new: NewReading,
+    new: &NewReading,
 ) -> Result<(), AllocError>
     requires { at ≤ 1000000000000000 }
     ensures { OnOk result (string_bytes text.new
-        ≡ string_bytes text.old ++ (reading_line at world.now.world_core new ++ 10 ∷ [])) }
+        ≡ string_bytes text.old ++ (reading_line at world.now.world_core new.now ++ 10 ∷ [])) }
 {
     let before = error_before(world, at, new);
-    let after = reading_error(world, at, new.clock, new.after);
+    let after = reading_error(world, at, new.clock, &new.after);
     let step = step_of(world, at, new);
     writeln!(
         text,

@@ -179,9 +179,9 @@ impl TimeWatch {
     }
 
     /// A system gets a reading at a time.
-    fn take_new<F: Fate + Drop>(&mut self, world: &World<F>, at: u64, act: &Act, new: NewReading)
+    fn take_new<F: Fate + Drop>(&mut self, world: &World<F>, at: u64, act: &Act, new: &NewReading)
         requires { at ≤ 1000000000000000 }
-        ensures { self.new ≡ times_with at world.now.world_core act.now (Some new) self.old }
+        ensures { self.new ≡ times_with at world.now.world_core act.now (Some new.now) self.old }
     {
         let changes = changes_source(new);
         let before = told_if(changes, world, at, &self.systems);
@@ -228,11 +228,11 @@ impl TimeWatch {
         text: &mut String,
         world: &World<F>,
         at: u64,
-        new: NewReading,
+        new: &NewReading,
     ) -> Result<(), AllocError>
         requires { at ≤ 1000000000000000 }
         ensures { OnOk result (string_bytes text.new
-            ≡ string_bytes text.old ++ text_of (reading_lines self.now.told at world.now.world_core (Some new))) }
+            ≡ string_bytes text.old ++ text_of (reading_lines self.now.told at world.now.world_core (Some new.now))) }
     {
         match self.told {
             true => write_reading(text, world, at, new),
@@ -255,8 +255,8 @@ impl TimeWatch {
     {
         match new_reading(world, &self.systems, &timed.act, done) {
             Some(new) => {
-                self.write_new(text, world, timed.at, new)?;
-                self.take_new(world, timed.at, &timed.act, new);
+                self.write_new(text, world, timed.at, &new)?;
+                self.take_new(world, timed.at, &timed.act, &new);
             }
             None => self.take_none(world, timed.at, &timed.act),
         }
@@ -277,7 +277,7 @@ impl TimeWatch {
         ensures { result ≡ option_and_then (reading_error to world.now.world_core clock) (reading_among self.now.systems clock) }
     {
         match reading_among(&self.systems, clock) {
-            Some(kept) => reading_error(world, to, clock, kept),
+            Some(kept) => reading_error(world, to, clock, &kept),
             None => None,
         }
     }

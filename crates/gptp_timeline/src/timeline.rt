@@ -264,14 +264,13 @@ fn write_times_if(
     text: &mut String,
     asked: bool,
     stretch: &Stretch,
-    measures: Option<TimeMeasures>,
 ) -> Result<(), AllocError>
     ensures { OnOk result (string_bytes text.new
-        ≡ string_bytes text.old ++ text_of (line_of_times asked stretch.now measures)) }
+        ≡ string_bytes text.old ++ text_of (line_of_times asked stretch.now stretch.now.times)) }
 {
-    match measures {
+    match &stretch.times {
         Some(measures) => match asked {
-            true => write_times(text, stretch.from, stretch.to, &measures),
+            true => write_times(text, stretch.from, stretch.to, measures),
             false => Ok(()),
         },
         None => Ok(()),
@@ -323,7 +322,6 @@ fn end_stretch<F: Fate + Drop, K: Sink>(
     ensures works { result ≢ Err Cut.Write → K.failures sink.new ≡ K.failures sink.old }
     ensures fails { result ≡ Err Cut.Write → K.failures sink.new ≢ K.failures sink.old }
 {
-    let times = times_ended(world, plan.to, watch.times());
     let stretch = ended(
         alloc,
         plan.from,
@@ -332,12 +330,12 @@ fn end_stretch<F: Fate + Drop, K: Sink>(
         plan.bound,
         watch.measures(),
         watch.systems(),
-        times,
+        times_ended(world, plan.to, watch.times()),
     )?;
     let roots = roots_of(alloc, watch.systems())?;
     let mut text = String::new(alloc);
     write_after(&mut text, &stretch)?;
-    write_times_if(&mut text, asks_lines(watch.times()), &stretch, times)?;
+    write_times_if(&mut text, asks_lines(watch.times()), &stretch)?;
     write_errors(&mut text, world, plan.to, &plan.errors, watch)?;
     write_whole(sink, text.as_bytes())?;
     Ok(StretchEnd::new(stretch, roots))
