@@ -1,10 +1,14 @@
 -- What is measured of what is looked at, part by part.
-use Rattle.std.proofs.Common.{◌≡◌, ℕ, List, [], ◌∷◌, ◌++◌, map, Option, refl, ap, ◌∙◌}
+use Rattle.std.proofs.Common.{◌≡◌, ℕ, ℤ, List, [], ◌∷◌, ◌++◌, map, Option, refl, sym, ap, ◌∙◌}
+use Rattle.gptp_model.specs.World.{WorldState}
 use Rattle.gptp_timeline.specs.Extremes.{extremes_from, ExtremesState, Look}
-use Rattle.gptp_timeline.specs.Looks.{look_amount, looked_both, LookedAt, measured_with}
+use Rattle.gptp_timeline.specs.Looks.{change_if, error_before, listed, look_amount, look_if, looked_both, looked_difference, looked_error, looked_new, looked_step, LookedAt, measured_with}
 use Rattle.gptp_timeline.specs.Measures.{greatest_from}
+use Rattle.gptp_timeline.specs.Readings.{changes_source, reading_error, step_in}
 use Rattle.gptp_timeline.specs.Sources.{DifferenceState, widest_from}
 use Rattle.gptp_timeline.specs.declared.looks.TimeMeasures.{TimeMeasures}
+use Rattle.gptp_timeline.specs.declared.measures.Greatest.{Greatest}
+use Rattle.gptp_timeline.specs.declared.readings.NewReading.{NewReading}
 use Rattle.gptp_timeline.proofs.MeasureLemmas.{greatest_both}
 
 map_both : (xs ys : List Look) → map look_amount (xs ++ ys) ≡ map look_amount xs ++ map look_amount ys
@@ -39,3 +43,48 @@ measured_both a b m =
       step = step i;
       changed = changed i;
     }
+
+-- a system that gets a reading: the two errors, the two differences, the step and the change, one after another
+pub new_measured : (at : ℕ) (w : WorldState) (u : NewReading) (before after : Option DifferenceState)
+    (m first second third fourth last : TimeMeasures) (old new : Option ℤ) (step change : Option Greatest)
+    → old ≡ error_before at w u → new ≡ reading_error at w u.clock u.after → step ≡ step_in at w u
+    → listed change ≡ change_if (changes_source u) u.clock at
+    → first ≡ measured_with (looked_error u.clock old) m → second ≡ measured_with (looked_error u.clock new) first
+    → third ≡ measured_with (looked_difference before) second → fourth ≡ measured_with (looked_difference after) third
+    → last ≡ measured_with (looked_step step change) fourth
+    → last ≡ measured_with (looked_new at w u before after) m
+new_measured at w u before after m first second third fourth last old new step change old_is new_is step_is change_is
+    a b c d e =
+    let chain : last ≡ measured_with (looked_step step change) (measured_with (looked_difference after)
+    (measured_with (looked_difference before) (measured_with (looked_error u.clock new)
+    (measured_with (looked_error u.clock old) m)))) =
+    e ∙ ap (measured_with (looked_step step change)) (d ∙ ap (measured_with (looked_difference after)) (c
+    ∙ ap (measured_with (looked_difference before)) (b ∙ ap (measured_with (looked_error u.clock new)) a))) in
+    let errors_one = look_if u.clock old in let errors_two = look_if u.clock new in
+    let time = sym (ap (greatest_from m.time) (map_both errors_one errors_two)
+    ∙ greatest_both m.time (map look_amount errors_one) (map look_amount errors_two)) in
+    let errors = sym (extremes_both m.errors errors_one errors_two) in
+    let sources = sym (widest_both m.sources (listed before) (listed after)) in
+    let joined : measured_with (looked_step step change) (measured_with (looked_difference after)
+    (measured_with (looked_difference before) (measured_with (looked_error u.clock new)
+    (measured_with (looked_error u.clock old) m))))
+    ≡ record {
+      time = greatest_from m.time (map look_amount (errors_one ++ errors_two));
+      errors = extremes_from m.errors (errors_one ++ errors_two);
+      sources = widest_from m.sources (listed before ++ listed after);
+      step = greatest_from m.step (listed step);
+      changed = greatest_from m.changed (listed change);
+    } = λ i. record {
+      time = time i;
+      errors = errors i;
+      sources = sources i;
+      step = greatest_from m.step (listed step);
+      changed = greatest_from m.changed (listed change);
+    } in
+    chain ∙ joined ∙ (λ i. record {
+      time = greatest_from m.time (map look_amount (look_if u.clock (old_is i) ++ look_if u.clock (new_is i)));
+      errors = extremes_from m.errors (look_if u.clock (old_is i) ++ look_if u.clock (new_is i));
+      sources = widest_from m.sources (listed before ++ listed after);
+      step = greatest_from m.step (listed (step_is i));
+      changed = greatest_from m.changed (change_is i);
+    })

@@ -23,14 +23,18 @@ abbrev pub first_words : ℕ → Option Greatest → List ℕ
 first_words from None = codes "none none"
 first_words from (Some g) = decimal (g.amount - from) ++ codes " " ++ clock_text g.clock
 
--- the line of what was measured in a stretch
-abbrev pub times_line : ℕ → ℕ → TimeMeasures → List ℕ
-times_line from to m =
+abbrev pub read_words : ℕ → ℕ → TimeMeasures → List ℕ
+read_words from to m =
     codes "times " ++ decimal from ++ codes " to " ++ decimal to
     ++ codes " time " ++ worst_text m.time
     ++ codes " apart " ++ near_text (apart m) ++ sources_words m.sources
-    ++ codes " step " ++ worst_text m.step
-    ++ codes " first " ++ first_words from m.changed
+
+abbrev pub jump_words : ℕ → TimeMeasures → List ℕ
+jump_words from m = codes " step " ++ worst_text m.step ++ codes " first " ++ first_words from m.changed
+
+-- the line of what was measured in a stretch
+abbrev pub times_line : ℕ → ℕ → TimeMeasures → List ℕ
+times_line from to m = read_words from to m ++ jump_words from m
 
 -- the line of a reading that a system gets
 abbrev pub reading_line : ℕ → WorldState → NewReading → List ℕ

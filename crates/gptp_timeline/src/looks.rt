@@ -159,8 +159,8 @@ pub(crate) fn look_at_all<F: Fate + Drop>(
     requires { at ≤ 1000000000000000 }
     ensures { result ≡ measured_with (looked_all at world.now.world_core systems.now) measures }
 {
-    let measures = look_at_each(measures, world, at, systems);
-    with_difference(measures, told_difference(world, at, systems))
+    let errors = look_at_each(measures, world, at, systems);
+    with_difference(errors, told_difference(world, at, systems))
 }
 
 /// How far the sources differ that are told at a time, where a source changes.
@@ -237,9 +237,9 @@ pub(crate) fn look_at_new<F: Fate + Drop>(
     requires { at ≤ 1000000000000000 }
     ensures { result ≡ measured_with (looked_new at world.now.world_core new.now before after) measures }
 {
-    let measures = with_look(measures, new.clock, error_before(world, at, new));
-    let measures = with_look(measures, new.clock, reading_error(world, at, new.clock, &new.after));
-    let measures = with_difference(measures, before);
-    let measures = with_difference(measures, after);
-    with_step(measures, step_in(world, at, new), change_of(new, at))
+    let first = with_look(measures, new.clock, error_before(world, at, new));
+    let second = with_look(first, new.clock, reading_error(world, at, new.clock, &new.after));
+    let third = with_difference(second, before);
+    let fourth = with_difference(third, after);
+    with_step(fourth, step_in(world, at, new), change_of(new, at))
 }

@@ -1,7 +1,7 @@
 //! The lines of what systems read.
 
 ghost use Rattle.std.specs.Prelude.{◌≡◌, ◌≤◌, ◌++◌, ◌∷◌, [], OnOk, string_bytes};
-ghost use Rattle.gptp_timeline.specs.TimeLines.{reading_line, reads_words, times_line};
+ghost use Rattle.gptp_timeline.specs.TimeLines.{jump_words, read_words, reading_line, reads_words, times_line};
 
 use crate::amounts::{Near, NearOrNone, SignedOrNone, UpOrNone};
 use crate::exact_reads::ExactReads;
@@ -63,7 +63,40 @@ impl fmt::Display for First {
     }
 }
 
+/// Appends how far off systems read in a stretch, and how far apart.
+fn write_read(
+    text: &mut String,
+    from: u64,
+    to: u64,
+    measures: &TimeMeasures,
+) -> Result<(), AllocError>
+    ensures { OnOk result (string_bytes text.new
+        ≡ string_bytes text.old ++ read_words from to measures.now) }
+{
+    write!(
+        text,
+        "times {from} to {to} time {} apart {}{}",
+        Worst(measures.time),
+        Near(measures.apart()),
+        Sources(measures.sources)
+    )
+}
+
+/// Appends by how much what a system reads jumped, and when a system changed its source last.
+fn write_jumps(text: &mut String, from: u64, measures: &TimeMeasures) -> Result<(), AllocError>
+    ensures { OnOk result (string_bytes text.new
+        ≡ string_bytes text.old ++ (jump_words from measures.now ++ 10 ∷ [])) }
+{
+    writeln!(
+        text,
+        " step {} first {}",
+        Worst(measures.step),
+        First(from, measures.changed)
+    )
+}
+
 /// Appends the line of what was measured in a stretch of what systems read.
+#[tactic(auto, using(crate::proofs::LineLemmas::words_on))]
 pub(crate) fn write_times(
     text: &mut String,
     from: u64,
@@ -73,15 +106,8 @@ pub(crate) fn write_times(
     ensures { OnOk result (string_bytes text.new
         ≡ string_bytes text.old ++ (times_line from to measures.now ++ 10 ∷ [])) }
 {
-    writeln!(
-        text,
-        "times {from} to {to} time {} apart {}{} step {} first {}",
-        Worst(measures.time),
-        Near(measures.apart()),
-        Sources(measures.sources),
-        Worst(measures.step),
-        First(from, measures.changed)
-    )
+    write_read(text, from, to, measures)?;
+    write_jumps(text, from, measures)
 }
 
 /// Appends the line of a reading that a system got.
