@@ -1,11 +1,11 @@
 -- What is measured of what is looked at, part by part.
-use Rattle.std.proofs.Common.{◌≡◌, ℕ, ℤ, List, [], ◌∷◌, ◌++◌, map, Option, refl, sym, ap, ◌∙◌}
+use Rattle.std.proofs.Common.{◌≡◌, ℕ, ℤ, List, [], ◌∷◌, ◌++◌, map, Option, Some, refl, sym, ap, ◌∙◌}
 use Rattle.gptp_model.specs.World.{WorldState}
-use Rattle.gptp_timeline.specs.Extremes.{extremes_from, ExtremesState, Look}
+use Rattle.gptp_timeline.specs.Extremes.{extremes_from, ExtremesState, extremes_with, Look}
 use Rattle.gptp_timeline.specs.Looks.{change_if, error_before, listed, look_amount, look_if, looked_both, looked_difference, looked_error, looked_new, looked_step, LookedAt, measured_with}
 use Rattle.gptp_timeline.specs.Measures.{greatest_from}
 use Rattle.gptp_timeline.specs.Readings.{changes_source, reading_error, step_in}
-use Rattle.gptp_timeline.specs.Sources.{DifferenceState, widest_from}
+use Rattle.gptp_timeline.specs.Sources.{DifferenceState, wider, widest_from}
 use Rattle.gptp_timeline.specs.declared.looks.TimeMeasures.{TimeMeasures}
 use Rattle.gptp_timeline.specs.declared.measures.Greatest.{Greatest}
 use Rattle.gptp_timeline.specs.declared.readings.NewReading.{NewReading}
@@ -18,12 +18,12 @@ map_both (x ∷ xs) ys = ap (λ rest. look_amount x ∷ rest) (map_both xs ys)
 extremes_both : (e : Option ExtremesState) (xs ys : List Look)
     → extremes_from e (xs ++ ys) ≡ extremes_from (extremes_from e xs) ys
 extremes_both e [] ys = refl
-extremes_both e (x ∷ xs) ys = extremes_both _ xs ys
+extremes_both e (x ∷ xs) ys = extremes_both (Some (extremes_with e x.error)) xs ys
 
 widest_both : (d : Option DifferenceState) (xs ys : List DifferenceState)
     → widest_from d (xs ++ ys) ≡ widest_from (widest_from d xs) ys
 widest_both d [] ys = refl
-widest_both d (x ∷ xs) ys = widest_both _ xs ys
+widest_both d (x ∷ xs) ys = widest_both (wider d x) xs ys
 
 pub measured_both : (a b : LookedAt) (m : TimeMeasures)
     → measured_with (looked_both a b) m ≡ measured_with b (measured_with a m)

@@ -1,5 +1,5 @@
 -- One of several that stand by rising clocks is changed, or read.
-use Rattle.std.proofs.Common.{◌≡◌, ◌<◌, ◌==◌, ◌+◌, ◌++◌, ℕ, zero, suc, true, false, List, [], ◌∷◌, drop, get_or, length, map, take, Option, Some, None, if◌then◌else◌, Result, Ok, Err, slice_get, slice_set, refl, sym, ap, subst, ◌∙◌, arith}
+use Rattle.std.proofs.Common.{◌≡◌, ◌<◌, ◌==◌, ◌+◌, ◌++◌, ℕ, zero, suc, Bool, true, false, List, [], ◌∷◌, drop, get_or, length, map, take, Option, Some, None, if◌then◌else◌, Result, Ok, Err, slice_get, slice_set, refl, sym, ap, subst, ◌∙◌, arith}
 use Rattle.std.specs.Cmp.{nat_cmp_total}
 use Rattle.std.specs.List.Sorted.{IsBinarySearchResult, IsSearchInRange}
 use Rattle.std.specs.Ordering.{nat_cmp}
@@ -111,9 +111,9 @@ read_at_place xs place x one within read there =
 -- clocks stay where each is left with its own
 pub same_rising : {X : Type 0} (clock_of : X → ℕ) (f : X → X) (xs : List X) → ((x : X) → clock_of (f x) ≡ clock_of x)
     → IsRising (map clock_of xs) → IsRising (map clock_of (map f xs))
-same_rising clock_of f xs same rising = subst IsRising (sym (clocks xs)) rising
+same_rising {X} clock_of f xs same rising = subst IsRising (sym (clocks xs)) rising
   where
-    clocks : (ys : List _) → map clock_of (map f ys) ≡ map clock_of ys
+    clocks : (ys : List X) → map clock_of (map f ys) ≡ map clock_of ys
     clocks [] = refl
     clocks (y ∷ ys) = ap (λ c. c ∷ map clock_of (map f ys)) (same y) ∙ ap (λ rest. clock_of y ∷ rest) (clocks ys)
 
@@ -126,3 +126,14 @@ changed_more f (x ∷ xs) zero d below = refl
 changed_more f (x ∷ xs) (suc i) d below =
     let e : suc i + 1 ≡ suc (i + 1) = omega arith in
     rw e (ap (λ rest. f x ∷ rest) (changed_more f xs i d (omega arith)))
+
+-- and where one of them is changed, and keeps its own
+pub rising_changed : {X : Type 0} (clock_of : X → ℕ) (name : ℕ) (f : X → X) (xs : List X)
+    → ((x : X) → clock_of (f x) ≡ clock_of x) → IsRising (map clock_of xs)
+    → IsRising (map clock_of (map (changed clock_of name f) xs))
+rising_changed {X} clock_of name f xs same rising =
+    same_rising clock_of (changed clock_of name f) xs (λ x. by x (clock_of x == name)) rising
+  where
+    by : (x : X) (t : Bool) → clock_of (if t then f x else x) ≡ clock_of x
+    by x true = same x
+    by x false = refl

@@ -1,5 +1,5 @@
 -- The lines of what systems read (profile).
-use Rattle.std.specs.Prelude.{ℕ, ◌-◌, List, [], ◌∷◌, ◌++◌, codes, Option, Some, None}
+use Rattle.std.specs.Prelude.{ℕ, ◌-◌, List, [], ◌∷◌, ◌++◌, codes, Option, Some, None, ℤ}
 use Rattle.std.specs.Fmt.{decimal}
 use Rattle.gptp_accuracy.specs.AccuracyText.{error_text, reading_at}
 use Rattle.gptp_accuracy.specs.declared.errors.SystemError.{SystemError}
@@ -36,15 +36,22 @@ jump_words from m = codes " step " ++ worst_text m.step ++ codes " first " ++ fi
 abbrev pub times_line : ℕ → ℕ → TimeMeasures → List ℕ
 times_line from to m = read_words from to m ++ jump_words from m
 
+abbrev pub source_words : ℕ → NewReading → List ℕ
+source_words at u =
+    codes "reading " ++ decimal at ++ codes " " ++ clock_text u.clock ++ codes " from " ++ clock_text u.after.source
+
+abbrev pub new_words : Option ℤ → Option ℤ → Option ℤ → List ℕ
+new_words before after step =
+    codes " before " ++ or_none signed_text before
+    ++ codes " after " ++ or_none signed_text after
+    ++ codes " step " ++ or_none signed_text step
+
+abbrev pub errors_words : ℕ → WorldState → NewReading → List ℕ
+errors_words at w u = new_words (error_before at w u) (reading_error at w u.clock u.after) (step_of at w u)
+
 -- the line of a reading that a system gets
 abbrev pub reading_line : ℕ → WorldState → NewReading → List ℕ
-reading_line at w u =
-    codes "reading " ++ decimal at
-    ++ codes " " ++ clock_text u.clock
-    ++ codes " from " ++ clock_text u.after.source
-    ++ codes " before " ++ or_none signed_text (error_before at w u)
-    ++ codes " after " ++ or_none signed_text (reading_error at w u.clock u.after)
-    ++ codes " step " ++ or_none signed_text (step_of at w u)
+reading_line at w u = source_words at u ++ errors_words at w u
 
 -- how far off a system read, and how far it may be
 abbrev pub reads_words : SystemError → Option ExactReads → List ℕ

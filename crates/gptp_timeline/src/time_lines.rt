@@ -1,7 +1,7 @@
 //! The lines of what systems read.
 
 ghost use Rattle.std.specs.Prelude.{◌≡◌, ◌≤◌, ◌++◌, ◌∷◌, [], OnOk, string_bytes};
-ghost use Rattle.gptp_timeline.specs.TimeLines.{jump_words, read_words, reading_line, reads_words, times_line};
+ghost use Rattle.gptp_timeline.specs.TimeLines.{errors_words, jump_words, new_words, read_words, reading_line, reads_words, source_words, times_line};
 
 use crate::amounts::{Near, NearOrNone, SignedOrNone, UpOrNone};
 use crate::exact_reads::ExactReads;
@@ -110,7 +110,58 @@ pub(crate) fn write_times(
     write_jumps(text, from, measures)
 }
 
+/// Appends which system got a reading at a time, and from which source.
+fn write_source(text: &mut String, at: u64, new: &NewReading) -> Result<(), AllocError>
+    ensures { OnOk result (string_bytes text.new ≡ string_bytes text.old ++ source_words at new.now) }
+{
+    write!(
+        text,
+        "reading {at} {} from {}",
+        ClockDigits(new.clock),
+        ClockDigits(new.after.source)
+    )
+}
+
+/// Appends how far off the system is by the reading before and by the new one, and by how much its time jumped.
+fn write_jump(
+    text: &mut String,
+    before: Option<i128>,
+    after: Option<i128>,
+    step: Option<i128>,
+) -> Result<(), AllocError>
+    ensures { OnOk result (string_bytes text.new
+        ≡ string_bytes text.old ++ (new_words before after step ++ 10 ∷ [])) }
+{
+    writeln!(
+        text,
+        " before {} after {} step {}",
+        SignedOrNone(before),
+        SignedOrNone(after),
+        SignedOrNone(step)
+    )
+}
+
+/// Appends that of a reading that a system got.
+fn write_errors_of<F: Fate + Drop>(
+    text: &mut String,
+    world: &World<F>,
+    at: u64,
+    new: &NewReading,
+) -> Result<(), AllocError>
+    requires { at ≤ 1000000000000000 }
+    ensures { OnOk result (string_bytes text.new
+        ≡ string_bytes text.old ++ (errors_words at world.now.world_core new.now ++ 10 ∷ [])) }
+{
+    write_jump(
+        text,
+        error_before(world, at, new),
+        reading_error(world, at, new.clock, &new.after),
+        step_of(world, at, new),
+    )
+}
+
 /// Appends the line of a reading that a system got.
+#[tactic(auto, using(crate::proofs::LineLemmas::words_on))]
 pub(crate) fn write_reading<F: Fate + Drop>(
     text: &mut String,
     world: &World<F>,
@@ -121,18 +172,8 @@ pub(crate) fn write_reading<F: Fate + Drop>(
     ensures { OnOk result (string_bytes text.new
         ≡ string_bytes text.old ++ (reading_line at world.now.world_core new.now ++ 10 ∷ [])) }
 {
-    let before = error_before(world, at, new);
-    let after = reading_error(world, at, new.clock, &new.after);
-    let step = step_of(world, at, new);
-    writeln!(
-        text,
-        "reading {at} {} from {} before {} after {} step {}",
-        ClockDigits(new.clock),
-        ClockDigits(new.after.source),
-        SignedOrNone(before),
-        SignedOrNone(after),
-        SignedOrNone(step)
-    )
+    write_source(text, at, new)?;
+    write_errors_of(text, world, at, new)
 }
 
 /// Appends how far off a system read, and how far it may be.

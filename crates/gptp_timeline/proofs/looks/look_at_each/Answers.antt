@@ -13,7 +13,7 @@ loop-system-preserved g c =
     let here : drop i rs ≡ item ∷ rest =
     drop_more rs i item c.loop-system-test.true
     ∙ ap (λ (x : SystemReading). x ∷ rest) (sym c.system-item.is) in
-    ap (measured_with (looked_each at w rest)) (c.with_look.ensures
+    ap (measured_with (looked_each at w rest)) (c.with_look-measures.ensures
     ∙ ap (λ e. measured_with (looked_error item.clock e) m) c.error_by.ensures.is)
     ∙ sym (measured_both (looked_error item.clock (error_in at w item)) (looked_each at w rest) m)
     ∙ ap (λ xs. measured_with (looked_each at w xs) m) (sym here)
