@@ -1,5 +1,5 @@
 -- What is kept of what systems read is what is defined over the acts.
-use Rattle.std.proofs.Common.{◌≡◌, ◌==◌, ◌&&◌, ℕ, Bool, true, false, if◌then◌else◌, List, [], ◌∷◌, ◌++◌, map, Option, Some, None, option_map, refl, sym, ap, ◌∙◌}
+use Rattle.std.proofs.Common.{◌≡◌, ◌==◌, ◌&&◌, ℕ, Bool, true, false, if◌then◌else◌, List, [], ◌∷◌, ◌++◌, map, Option, Some, None, is_some, option_map, unsigned_abs, refl, sym, ap, ◌∙◌}
 use Rattle.gptp_model.specs.World.{WorldState}
 use Rattle.gptp_model.specs.Views.{rising_clocks}
 use Rattle.gptp_model.specs.declared.done.Done.{Done}
@@ -9,16 +9,17 @@ use Rattle.gptp_scenario.specs.declared.change.Act.{Act}
 use Rattle.gptp_scenario.specs.declared.change.Act.TheVariants.{Change as Changing, Deliver, Expire}
 use Rattle.gptp_system.specs.State.{SystemState}
 use Rattle.gptp_world.specs.Transitions.{ActTrace}
-use Rattle.gptp_timeline.specs.ExactReads.{reads_by, reads_over, reads_with, unread, without_reads}
-use Rattle.gptp_timeline.specs.Looks.{events_left, left_behind, looked_all, looked_in, looked_over, measured_times, measured_with, nothing_looked, nothing_read}
+use Rattle.gptp_timeline.specs.ExactReads.{counts_new, reads_by, reads_next, reads_over, reads_with, unread, without_reads}
+use Rattle.gptp_timeline.specs.Looks.{error_before, events_left, left_behind, looked_all, looked_in, looked_over, measured_times, measured_with, nothing_looked, nothing_read}
 use Rattle.gptp_timeline.specs.Passing.{times_before}
-use Rattle.gptp_timeline.specs.Readings.{new_in, no_reading, read_after, readings_after}
+use Rattle.gptp_timeline.specs.Readings.{new_in, reading_error, no_reading, read_after, readings_after}
 use Rattle.gptp_timeline.specs.Receipts.{offset_error, received_by}
 use Rattle.gptp_timeline.specs.Shown.{live_system}
 use Rattle.gptp_timeline.specs.Stretch.{at_of}
 use Rattle.gptp_timeline.specs.TimeWatch.{TimeState, times_after, times_begun}
 use Rattle.gptp_timeline.specs.Timeline.{asks_lines, exact_time, line_of_times, none_carried, reads_if, reads_kept, StretchTrace, stretch_reading_lines, times_ended, tracks}
-use Rattle.gptp_timeline.specs.Watch.{see_act, see_at, see_delivery, see_each, see_one, see_placed, see_receipt_if, see_receipt_of, see_system, take_error, times_lines_if, WatchState}
+use Rattle.gptp_timeline.specs.Watch.{event_look, own_look, place_of, places_of, see_act, see_at, see_delivery, see_each, see_one, see_placed, see_receipt_if, see_receipt_of, see_system, take_error, times_lines_if, WatchState}
+use Rattle.gptp_timeline.specs.declared.exact_reads.ExactReads.{ExactReads}
 use Rattle.gptp_timeline.specs.declared.exact_reads.SystemReads.{SystemReads}
 use Rattle.gptp_timeline.specs.declared.looks.TimeMeasures.{TimeMeasures}
 use Rattle.gptp_timeline.specs.declared.readings.NewReading.{NewReading}
@@ -64,21 +65,23 @@ placed_times : (at : ℕ) (w : WorldState) (clock : ℕ) (received : Bool) (plac
     → (see_placed at w clock received place o).times ≡ o.times
 placed_times at w clock received None o = refl
 placed_times at w clock received (Some place) o =
-    receipt_if_times received at w clock place _ ∙ at_times _ w place o
+    receipt_if_times received at w clock place (see_at (own_look at received) w place o)
+    ∙ at_times (own_look at received) w place o
 
 system_times : (at : ℕ) (w : WorldState) (clock : ℕ) (received : Bool) (o : WatchState)
     → (see_system at w clock received o).times ≡ o.times
-system_times at w clock received o = placed_times at w clock received _ o
+system_times at w clock received o = placed_times at w clock received (place_of clock o) o
 
 delivery_times : (at : ℕ) (w : WorldState) (done : Done) (o : WatchState) → (see_delivery at w done o).times ≡ o.times
 delivery_times at w Quiet o = refl
-delivery_times at w (Heard clock port answer frame) o = system_times at w clock _ o
+delivery_times at w (Heard clock port answer frame) o =
+    system_times at w clock (is_some (received_by (Heard clock port answer frame))) o
 
 pub act_times : (at : ℕ) (act : Act) (done : Done) (w : WorldState) (o : WatchState)
     → (see_act at act done w o).times ≡ o.times
 act_times at (Deliver link direction) done w o = delivery_times at w done o
 act_times at (Expire clock timer) done w o = system_times at w clock false o
-act_times at (Changing change) done w o = each_times _ w _ o
+act_times at (Changing change) done w o = each_times (event_look at) w (places_of o) o
 
 -- ---- the account after acts
 
@@ -240,11 +243,14 @@ rest_begun options from names events (Some rs) times (o, is, rest) =
 -- it ends
 stays_unread : (from : Option ℕ) (at : ℕ) (w : WorldState) (u : NewReading) (x : SystemReads)
     → without_reads (reads_with from at w u x) ≡ without_reads x
-stays_unread from at w u x = by (x.clock == u.clock)
+stays_unread from at w u x =
+    by (x.clock == u.clock) (reads_next (counts_new from at u) at (option_map unsigned_abs (error_before at w u))
+    (option_map unsigned_abs (reading_error at w u.clock u.after)) x.reads)
   where
-    by : (same : Bool) → without_reads (if same then record x { reads = _ } else x) ≡ without_reads x
-    by true = refl
-    by false = refl
+    by : (same : Bool) (reads : Option ExactReads)
+        → without_reads (if same then record x { reads = reads } else x) ≡ without_reads x
+    by true reads = refl
+    by false reads = refl
 
 all_unread : (from : Option ℕ) (at : ℕ) (w : WorldState) (u : NewReading) (xs : List SystemReads)
     → map without_reads (map (reads_with from at w u) xs) ≡ map without_reads xs
@@ -290,7 +296,7 @@ module _ (options : TimelineOptions) (names : List ℕ) (p : StretchTrace) (from
   line_kept None s measured = refl
   line_kept (Some rs) s measured = refl
 
-none_asked : (asked : Bool) → [] ≡ (if asked then [] else [])
+none_asked : (asked : Bool) → ◌≡◌ {A = List ℕ} [] (if asked then [] else [])
 none_asked true = refl
 none_asked false = refl
 
