@@ -23,9 +23,11 @@ returns-in_err-write_whole-clause-some g c =
     c.as_bytes.ensures.value in
     let old = g.K.Sink.written c.args.sink.now in let new = g.K.Sink.written c.write_whole.new.sink in (
       see_times at act done w (see_act at act done w o),
-      told ++ read,
-      (refl, refl),
-      subst (AppendsSome old new) text (front_of old new c.as_bytes.result.now c.in_err-write_whole.ensures.front),
+      (
+        told ++ read,
+        (refl, refl),
+        subst (AppendsSome old new) text (front_of old new c.as_bytes.result.now c.in_err-write_whole.ensures.front),
+      ),
     )
 
 pub returns-clause-some : goal.returns-clause-some
@@ -41,9 +43,11 @@ returns-clause-some g c =
     c.as_bytes.ensures.value in
     let old = g.K.Sink.written c.args.sink.now in let new = g.K.Sink.written c.write_whole.new.sink in (
       see_times at act done w (see_act at act done w o),
-      told ++ read,
-      (refl, refl),
-      subst (AppendsSome old new) text (all_of old new c.as_bytes.result.now c.in_ok-write_whole.ensures.whole),
+      (
+        told ++ read,
+        (refl, refl),
+        subst (AppendsSome old new) text (all_of old new c.as_bytes.result.now c.in_ok-write_whole.ensures.whole),
+      ),
     )
 
 pub returns-clause-whole : goal.returns-clause-whole
