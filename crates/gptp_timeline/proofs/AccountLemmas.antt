@@ -28,7 +28,7 @@ use Rattle.gptp_timeline.specs.declared.stretch.Stretch.{Stretch}
 use Rattle.gptp_timeline.specs.declared.timeline.TimelineOptions.{TimelineOptions}
 use Rattle.gptp_timeline.specs.declared.watched.ActView.{ActView}
 use Rattle.gptp_timeline.specs.declared.watched.Watched.{Watched}
-use Rattle.gptp_timeline.proofs.LookLemmas.{measured_both}
+use Rattle.gptp_timeline.proofs.LookedLemmas.{measured_both}
 
 -- ---- nothing else that an observer does touches it
 

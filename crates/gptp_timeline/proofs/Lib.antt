@@ -25,7 +25,7 @@ pub mod StretchesSoFarLemmas
 pub mod PassLemmas
 pub mod NameLemmas
 mod ClockLemmas
-mod LookLemmas
+mod LookedLemmas
 mod PutLemmas
 mod AccountLemmas
 pub mod ObservedLemmas

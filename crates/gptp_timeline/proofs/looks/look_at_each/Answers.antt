@@ -2,7 +2,7 @@ use Rattle.std.proofs.Common.{◌≡◌, ◌+◌, ◌∷◌, drop, ap, sym, ◌�
 use Rattle.std.proofs.lemmas.List.{drop_more}
 use Rattle.gptp_timeline.specs.Looks.{error_in, looked_each, looked_error, measured_with}
 use Rattle.gptp_timeline.specs.declared.readings.SystemReading.{SystemReading}
-use Rattle.gptp_timeline.proofs.LookLemmas.{measured_both}
+use Rattle.gptp_timeline.proofs.LookedLemmas.{measured_both}
 use Rattle.gptp_timeline.proofs.looks.look_at_each.Goals as goal
 
 pub loop-system-preserved : goal.loop-system-preserved
