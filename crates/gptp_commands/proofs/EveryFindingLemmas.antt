@@ -1,19 +1,14 @@
 -- Each input has a text of what is found in it.
-use Rattle.std.proofs.Common.{◌==◌, ◌&&◌, ℕ, Bool, true, false, not, nat_le, List, [], ◌∷◌, ◌++◌, length, map, None, Result, Ok, Err, refl, inl, inr}
+use Rattle.std.proofs.Common.{◌==◌, ◌&&◌, ℕ, Bool, true, false, not, nat_le, List, [], ◌∷◌, ◌++◌, length, map, arith, refl, inl, inr}
 use Rattle.std.specs.Bool.{MatchBool}
 use Rattle.gptp_network.specs.Document.{DocumentState, Fails, Means}
 use Rattle.gptp_network.specs.ReadDocument.{read_document}
 use Rattle.gptp_network.specs.declared.fault.DocumentFault.{DocumentFault}
 use Rattle.gptp_network.specs.declared.fault.DocumentFault.TheVariants.{TooMany}
-use Rattle.gptp_network.specs.declared.why.Refusal.{Refusal}
 use Rattle.gptp_network.proofs.LawLemmas.{MeansOrFails, means_or_fails}
-use Rattle.gptp_outline.specs.Rows.{table_of}
 use Rattle.gptp_lint.specs.LintText.{calm_time_line, found_lines, refused_line}
-use Rattle.gptp_lint.specs.Outline.{header_line}
-use Rattle.gptp_lint.specs.Refusal.{TellsPlace, TellsRefusal, no_toml_words, place_of, refusal_words}
-use Rattle.gptp_lint.specs.UnreadKeys.{unread_keys}
+use Rattle.gptp_lint.specs.Refusal.{TellsPlace, no_toml_words, refusal_tail}
 use Rattle.gptp_lint.proofs.EveryLemmas.{each_is_found}
-use Rattle.gptp_lint.proofs.UnreadLemmas.{bare, bare_near, bare_placed}
 use Rattle.gptp_commands.specs.declared.failure.Status.TheVariants.{Refused}
 use Rattle.gptp_commands.specs.declared.question.Question.TheVariants.{Lint}
 use Rattle.gptp_commands.specs.Documents.{RefusesFault, document_limit}
@@ -23,40 +18,26 @@ use Rattle.gptp_commands.specs.LintText.{RefusesAtPlace, TellsFindings}
 use Rattle.gptp_commands.specs.QuestionText.{AnswersQuestionInput, QuestionText}
 use Rattle.gptp_commands.proofs.EveryQuestionLemmas.{refused_so}
 
--- which key was meant is left open: none is told here
 findings_told : (strict : Bool) (input : List ℕ) (d : DocumentState) → Means input d
     → HaveText (TellsFindings input d strict)
 findings_told strict input d means =
     let (f, are) = each_is_found input d means in
-    let unread = map bare (unread_keys input) in
-    let said = found_lines input d.network.params.threshold f unread in (
+    let said = found_lines input d.network.params.threshold f in (
       said ++ map calm_time_line f.calm.items,
       status_by (strict && not (length said == 0)),
       record {
         findings = f;
         are = are;
         found = not (length said == 0);
-        text = record {
-          unread = unread;
-          unread_are = bare_placed (unread_keys input);
-          near_are = bare_near (table_of input) (unread_keys input);
-          lines_are = refl;
-          found_is = refl;
-        };
+        text = record { lines_are = refl; found_is = refl };
         status_is = refl;
       },
     )
 
--- nor is a key that is near where a document is refused
-told_of : (input : List ℕ) (read : Result DocumentState Refusal) → (tail : List ℕ) × TellsRefusal input read tail
-told_of input (Ok d) = ([], refl)
-told_of input (Err refusal) =
-    (refusal_words refusal (header_line input (place_of refusal.place)) None, (None, (λ missing. refl), refl))
-
+-- where a text stops being TOML is left open: its beginning is told here
 told_at : (input : List ℕ) (fault : DocumentFault) → Fails input fault → (tail : List ℕ) × TellsPlace input tail
-told_at input fault (inl (is, no_toml)) = (no_toml_words None, inl (no_toml, (None, refl)))
-told_at input fault (inr (t, parses, is)) =
-    let (tail, told) = told_of input (read_document t) in (tail, inr (t, parses, told))
+told_at input fault (inl (is, no_toml)) = (no_toml_words [], inl (no_toml, (0, omega arith, refl)))
+told_at input fault (inr (t, parses, is)) = (refusal_tail input t (read_document t), inr (t, parses, refl))
 
 refused_at : (input : List ℕ) (fault : DocumentFault) → Fails input fault → HaveText (RefusesAtPlace input fault)
 refused_at input fault fails =

@@ -1,5 +1,5 @@
 -- What follows the fault of a text has no line feed.
-use Rattle.std.proofs.Common.{◌≡◌, ◌&&◌, ◌==◌, ◌/◌, ◌%◌, ◌+◌, ◌++◌, ℕ, zero, suc, ℤ, pos, negsuc, Bool, true, false, not, codes, List, [], ◌∷◌, take, Option, Some, None, Result, Ok, Err, refl, sym, ap, subst, ◌∙◌, inl, inr, arith}
+use Rattle.std.proofs.Common.{◌≡◌, ◌==◌, ◌/◌, ◌%◌, ◌+◌, ◌++◌, ℕ, zero, suc, ℤ, pos, negsuc, Bool, true, false, not, codes, List, [], ◌∷◌, take, Option, Some, None, Result, Ok, Err, refl, sym, subst, ◌∙◌, inl, inr, arith}
 use Rattle.std.specs.Prelude.{if◌then◌else◌, nat_lt, slice_index}
 use Rattle.std.specs.Fmt.{decimal, digit_glyph, digits, digits_onto, signed_decimal}
 use Rattle.std.specs.List.{flat_map, list_all}
@@ -7,6 +7,7 @@ use Rattle.std.proofs.lemmas.Bool.{and_parts}
 use Rattle.std.proofs.lemmas.Bool.Decides.{nat_tests}
 use Rattle.std.proofs.lemmas.List.Folds.{list_all-append}
 use Rattle.hex.specs.Hex.{encode_lower, encode_with, lower_digits}
+use Rattle.toml.specs.Data.{Members}
 use Rattle.gptp_vector.specs.declared.port.PortId.{PortId}
 use Rattle.gptp_setup.specs.declared.setup.Params.{Params}
 use Rattle.gptp_scenario.specs.Faults as plans
@@ -23,8 +24,9 @@ use Rattle.gptp_network.specs.declared.why.Shape.TheVariants as shapes
 use Rattle.gptp_network.specs.declared.why.Why.{Why}
 use Rattle.gptp_network.specs.declared.why.Why.TheVariants as whys
 use Rattle.gptp_words.specs.Digits.{clock_text}
-use Rattle.gptp_lint.specs.Outline.{header_line}
-use Rattle.gptp_lint.specs.Refusal.{HasNoFeed, TellsPlace, TellsRefusal, no_toml_words, place_of, refusal_words}
+use Rattle.gptp_lint.specs.Ending.{column_at_end, line_at_end}
+use Rattle.gptp_lint.specs.Outline.{header_line, outline_of_text}
+use Rattle.gptp_lint.specs.Refusal.{HasNoFeed, TellsPlace, meant_at, no_toml_words, place_of, refusal_tail, refusal_words}
 use Rattle.gptp_lint.specs.Unread.{escaped, escaped_octet, is_plain, line_words, near_words, place_words, section_name}
 use Rattle.gptp_lint.specs.Why.{nanoseconds, port_words, shape_word, timing_words, why_words}
 use Rattle.gptp_lint.specs.declared.place.Place.{Place}
@@ -279,18 +281,17 @@ refusal r line near =
     part (codes " ") refl then_part place (place_of r.place) line then_part part (codes " ") refl
     then_part reason r.why then_part known near
 
-no_toml : (at : Option (ℕ × ℕ)) → IsPart (no_toml_words at)
-no_toml None = part (codes " text") refl
-no_toml (Some at) =
-    part (codes " text line ") refl then_part natural at.0 then_part part (codes " column ") refl
-    then_part natural at.1
+no_toml : (front : List ℕ) → IsPart (no_toml_words front)
+no_toml front =
+    part (codes " text line ") refl then_part natural (line_at_end front) then_part part (codes " column ") refl
+    then_part natural (column_at_end front)
 
-told : (text : List ℕ) (read : Result DocumentState Refusal) (tail : List ℕ) → TellsRefusal text read tail
-    → HasNoFeed tail
-told text (Ok d) tail is = subst HasNoFeed (sym is) refl
-told text (Err r) tail (near, missing, is) =
-    subst HasNoFeed (sym is) (refusal r (header_line text (place_of r.place)) near).has_no_feed
+told : (text : List ℕ) (t : Members) (read : Result DocumentState Refusal) → HasNoFeed (refusal_tail text t read)
+told text t (Ok d) = refl
+told text t (Err r) =
+    let place = place_of r.place in
+    (refusal r (header_line text place) (meant_at t (outline_of_text text) place r.why)).has_no_feed
 
 pub in_one_line : (text tail : List ℕ) → TellsPlace text tail → HasNoFeed tail
-in_one_line text tail (inl (none, (at, is))) = subst HasNoFeed (sym is) (no_toml at).has_no_feed
-in_one_line text tail (inr (t, parses, tells)) = told text (read_document t) tail tells
+in_one_line text tail (inl (none, (n, within, is))) = subst HasNoFeed (sym is) (no_toml (take n text)).has_no_feed
+in_one_line text tail (inr (t, parses, is)) = subst HasNoFeed (sym is) (told text t (read_document t))

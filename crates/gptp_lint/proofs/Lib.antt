@@ -15,6 +15,8 @@ mod FeedLemmas
 mod OrderedLemmas
 mod OutlineLemmas
 mod KeyLemmas
-pub mod UnreadLemmas
+mod NearestLemmas
+mod EndingLemmas
+mod UnreadLemmas
 mod FewLemmas
 pub mod EveryLemmas

@@ -1,5 +1,5 @@
 -- No link is told of, and Sync is never late, exactly where each time is calm.
-use Rattle.std.proofs.Common.{◌≡◌, ◌↔◌, ℕ, false, List, [], Option, Some, None, refl, sym, ap, subst, ◌∙◌}
+use Rattle.std.proofs.Common.{◌≡◌, ◌↔◌, ℕ, false, [], Option, Some, None, refl, sym, ap, subst}
 use Rattle.std.specs.Option.{option_to_list}
 use Rattle.gptp_lists.specs.Members.{In}
 use Rattle.gptp_lists.proofs.SystemSpecLemmas.{In-map, from_map, slice_get-In}

@@ -1,5 +1,5 @@
 -- Which keys are read where (profile).
-use Rattle.std.specs.Prelude.{◌||◌, ℕ, ℤ, pos, negsuc, ◌==◌, Bool, false, List, [], ◌∷◌, Option, Some, None, bytes_eq, codes, if◌then◌else◌}
+use Rattle.std.specs.Prelude.{◌||◌, ℕ, ℤ, pos, negsuc, ◌==◌, Bool, false, List, [], ◌∷◌, Option, Some, None, bytes_eq, codes, filter, if◌then◌else◌, is_none}
 use Rattle.std.specs.List.{list_any}
 use Rattle.toml.specs.Data.{Data, Items, Members, as_array, as_integer, as_str, as_table, get_item, get_member, no_items}
 use Rattle.gptp_lint.specs.Unread.{section_name}
@@ -116,3 +116,14 @@ keys_read t (Member Event number) = event_keys (kind_text (table_at t (Member Ev
 -- a key is one of these, or a name, which is read nowhere and may stand everywhere
 abbrev pub is_known : List (List ℕ) → List ℕ → Bool
 is_known keys key = bytes_eq key (codes "name") || list_any (λ known. bytes_eq known key) keys
+
+-- the keys that are read at a place and absent there, in the order of the formats; none where there is no table
+abbrev pub is_absent : Members → List ℕ → Bool
+is_absent table key = is_none (get_member key table)
+
+abbrev pub absent_in : Option Members → List (List ℕ) → List (List ℕ)
+absent_in (Some table) keys = filter (is_absent table) keys
+absent_in None keys = []
+
+abbrev pub absent_at : Members → Place → List (List ℕ)
+absent_at t place = absent_in (table_at t place) (keys_read t place)

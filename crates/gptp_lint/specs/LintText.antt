@@ -1,11 +1,10 @@
 -- What `lint` writes for a document (profile).
 use Rattle.std.specs.Prelude.{◌≡◌, ◌==◌, ℕ, not, Bool, codes, List, ◌++◌, length, map, Option, Some, None, option_map}
 use Rattle.std.specs.Fmt.{decimal}
-use Rattle.std.specs.List.{AllByRecursion, flat_map}
+use Rattle.std.specs.List.{flat_map}
 use Rattle.std.specs.Option.{option_to_list}
 use Rattle.gptp_network.specs.Faults as documents
 use Rattle.gptp_network.specs.declared.fault.DocumentFault.{DocumentFault}
-use Rattle.gptp_outline.specs.Rows.{table_of}
 use Rattle.gptp_words.specs.Digits.{clock_text, identity_text, or_none}
 use Rattle.gptp_words.specs.Lines.{text_of}
 use Rattle.gptp_topology.specs.declared.times.CalmTime.{CalmTime}
@@ -16,9 +15,9 @@ use Rattle.gptp_lint.specs.declared.trouble.Long.{Long}
 use Rattle.gptp_lint.specs.declared.trouble.Lossy.{Lossy}
 use Rattle.gptp_lint.specs.declared.place.Place.TheVariants.{Member}
 use Rattle.gptp_lint.specs.declared.place.Section.TheVariants.{Link}
-use Rattle.gptp_lint.specs.Outline.{header_line, outline_of_text}
-use Rattle.gptp_lint.specs.Unread.{UnreadKey, line_words, placed, unread_line}
-use Rattle.gptp_lint.specs.UnreadKeys.{NearIsRead, unread_keys}
+use Rattle.gptp_lint.specs.Outline.{header_line}
+use Rattle.gptp_lint.specs.Unread.{line_words}
+use Rattle.gptp_lint.specs.UnreadKeys.{unread_lines}
 
 -- the line of a document that is refused: the fault, and after it where it is and why it is one (`TellsPlace`)
 abbrev pub refused_line : DocumentFault → List ℕ → List ℕ
@@ -75,24 +74,20 @@ other_lines f =
     ++ map chance_line f.components.chance.items ++ map nobody_line f.components.nobody.items
 
 -- all lines but those that tell of each time whether it is calm
-abbrev pub found_lines : List ℕ → ℕ → Findings → List UnreadKey → List (List ℕ)
-found_lines input threshold f unread =
-    map (unread_line (outline_of_text input)) unread
+abbrev pub found_lines : List ℕ → ℕ → Findings → List (List ℕ)
+found_lines input threshold f =
+    unread_lines input
     ++ map (λ (l : Long). long_line threshold (header_line input (Member Link l.link)) l) f.long.items
     ++ map (λ (l : Lossy). lossy_line (header_line input (Member Link l.link)) l) f.lossy.items
     ++ flat_map (late_lines f.limit) f.calm.items ++ other_lines f
 
 -- The findings of a document of this threshold, which the input spells: the keys that aren't read, the links that are
 -- too long or lose frames, each with the line of its header, the times at which Sync is late, the other findings, and
--- each time; and whether there is a line but the last. There is no other line. Which of the keys that are read at the
--- place of another is near that, if any, is left open here.
+-- each time; and whether there is a line but the last. There is no other line.
 pub record AreLines (input : List ℕ) (threshold : ℕ) (f : Findings) (lines : List (List ℕ)) (found : Bool)
     : Type 0 where
-  pub unread : List UnreadKey
-  pub unread_are : map placed unread ≡ unread_keys input
-  pub near_are : AllByRecursion (NearIsRead (table_of input)) unread
-  pub lines_are : lines ≡ found_lines input threshold f unread ++ map calm_time_line f.calm.items
-  pub found_is : found ≡ not (length (found_lines input threshold f unread) == 0)
+  pub lines_are : lines ≡ found_lines input threshold f ++ map calm_time_line f.calm.items
+  pub found_is : found ≡ not (length (found_lines input threshold f) == 0)
 
 abbrev pub AppendsFindings : List ℕ → ℕ → Findings → List ℕ → List ℕ → Bool → Type 0
 AppendsFindings input threshold f old new found =

@@ -1,9 +1,8 @@
--- The line of a key that isn't read (profile).
+-- The words for a place of a document and for its keys (profile).
 use Rattle.std.specs.Prelude.{if◌then◌else◌, ◌==◌, ◌&&◌, ◌++◌, ◌∷◌, ℕ, Bool, not, nat_le, codes, List, [], take, Option, Some, None}
 use Rattle.std.specs.Fmt.{decimal}
 use Rattle.std.specs.List.{flat_map}
 use Rattle.hex.specs.Hex.{encode_lower}
-use Rattle.gptp_lint.specs.Outline.{OutlineState, PlacedKey, line_in}
 use Rattle.gptp_lint.specs.declared.place.Place.{Place}
 use Rattle.gptp_lint.specs.declared.place.Place.TheVariants.{Top, Network, Member}
 use Rattle.gptp_lint.specs.declared.place.Section.{Section}
@@ -38,20 +37,7 @@ abbrev pub escaped : List ℕ → List ℕ
 escaped [] = 92 ∷ []
 escaped (octet ∷ more) = flat_map escaped_octet (take 64 (octet ∷ more))
 
--- a key that isn't read: its place, and the key that was meant, maybe
-pub record UnreadKey : Type 0 where
-  pub place : Place
-  pub key : List ℕ
-  pub near : Option (List ℕ)
-
+-- the key that was meant, maybe
 abbrev pub near_words : Option (List ℕ) → List ℕ
 near_words (Some known) = codes " near " ++ escaped known
 near_words None = []
-
--- its line, with that of the header of its place
-abbrev pub unread_line : OutlineState → UnreadKey → List ℕ
-unread_line o k =
-    codes "unknown " ++ place_words k.place (line_in o k.place) ++ codes " key " ++ escaped k.key ++ near_words k.near
-
-abbrev pub placed : UnreadKey → PlacedKey
-placed k = (k.place, k.key)

@@ -1,17 +1,18 @@
--- Which keys of a document aren't read (profile).
-use Rattle.std.specs.Prelude.{◌≡◌, ◌==◌, ◌++◌, ℕ, Bool, List, [], ◌∷◌, Option, Some, None, Contains, IfSome, filter, if◌then◌else◌, map}
+-- Which keys of a document aren't read, and their lines (profile).
+use Rattle.std.specs.Prelude.{◌≡◌, ◌==◌, ◌&&◌, ◌++◌, ℕ, Bool, List, [], ◌∷◌, Option, Some, None, codes, filter, if◌then◌else◌, map}
 use Rattle.std.specs.BTreeSet.{BTreeSet, contains}
 use Rattle.std.specs.Borrow.{Bor}
 use Rattle.std.specs.Cmp.Lexicographic.{slice_cmp}
-use Rattle.std.specs.List.{AllByRecursion, fold, list_any}
+use Rattle.std.specs.List.{fold, list_any}
 use Rattle.std.specs.Ordering.{is_eq, nat_cmp, ordering_then}
 use Rattle.std.specs.declared.cmp.Ordering.{Ordering}
 use Rattle.toml.specs.Data.{Members}
 use Rattle.gptp_outline.specs.Rows.{table_of}
 use Rattle.gptp_words.specs.Lines.{text_of}
-use Rattle.gptp_lint.specs.Keys.{is_known, keys_read}
-use Rattle.gptp_lint.specs.Outline.{OutlineState, PlacedKey, entry_view, outline_of_text}
-use Rattle.gptp_lint.specs.Unread.{UnreadKey, placed, unread_line}
+use Rattle.gptp_lint.specs.Keys.{absent_at, is_known, keys_read}
+use Rattle.gptp_lint.specs.Nearest.{nearest}
+use Rattle.gptp_lint.specs.Outline.{OutlineState, PlacedKey, entry_view, line_in, outline_of_text}
+use Rattle.gptp_lint.specs.Unread.{escaped, near_words, place_words}
 use Rattle.gptp_lint.specs.declared.outline.Entry.{Entry}
 use Rattle.gptp_lint.specs.declared.place.Place.{Place}
 use Rattle.gptp_lint.specs.declared.place.Place.TheVariants.{Member, Network, Top}
@@ -33,6 +34,10 @@ abbrev pub number_of : Place → ℕ
 number_of Top = 0
 number_of Network = 0
 number_of (Member section number) = number
+
+-- two places are one
+abbrev pub is_at : Place → Place → Bool
+is_at a b = (part_of a == part_of b) && (number_of a == number_of b)
 
 -- the order of two keys with their places: by the part of the document, the member there, and the key; equal for the
 -- same key at the same place
@@ -76,23 +81,24 @@ unread_of None o = []
 unfoldable pub unread_keys : List ℕ → List PlacedKey
 unread_keys input = unread_of (table_of input) (outline_of_text input)
 
--- the key that was meant, where one is told, is read at the place of the other
-abbrev pub keys_in : Option Members → Place → List (List ℕ)
-keys_in (Some t) place = keys_read t place
-keys_in None place = []
+-- the key that was meant by one that isn't read: the nearest of those that are read at its place and absent there
+abbrev pub meant_in : Option Members → PlacedKey → Option (List ℕ)
+meant_in (Some t) k = nearest k.1 (absent_at t k.0)
+meant_in None k = None
 
-abbrev pub NearIsRead : Option Members → UnreadKey → Type 0
-NearIsRead t k = IfSome k.near (Contains (keys_in t k.place))
+-- the line of a key that isn't read, with that of the header of its place
+abbrev pub unread_line : Option Members → OutlineState → PlacedKey → List ℕ
+unread_line t o k =
+    codes "unknown " ++ place_words k.0 (line_in o k.0) ++ codes " key " ++ escaped k.1 ++ near_words (meant_in t k)
+
+abbrev pub unread_lines : List ℕ → List (List ℕ)
+unread_lines input = map (unread_line (table_of input) (outline_of_text input)) (unread_keys input)
 
 -- ---- what the code keeps
 
 -- lines of these keys
-pub record AppendsUnread (t : Option Members) (o : OutlineState) (keys : List PlacedKey) (old new : List ℕ)
-    : Type 0 where
-  pub told : List UnreadKey
-  pub keys_are : map placed told ≡ keys
-  pub near_are : AllByRecursion (NearIsRead t) told
-  pub text_is : new ≡ old ++ text_of (map (unread_line o) told)
+abbrev pub AppendsUnread : Option Members → OutlineState → List PlacedKey → List ℕ → List ℕ → Type 0
+AppendsUnread t o keys old new = new ≡ old ++ text_of (map (unread_line t o) keys)
 
 abbrev pub found_view : List (Bor Entry) → List PlacedKey
 found_view found = map (λ e. entry_view e.now) found

@@ -1,12 +1,13 @@
 //! Which keys are read where (profile).
 
-ghost use Rattle.std.specs.Prelude.{◌≡◌, bytes_eq, map, option_map};
+ghost use Rattle.std.specs.Prelude.{◌≡◌, ◌++◌, ◌∷◌, [], IfOk, OnOk, bytes_eq, filter, if◌then◌else◌, map, option_map};
 ghost use Rattle.std.specs.List.{list_any};
 ghost use Rattle.toml.specs.Data.{get_member};
 ghost use Rattle.toml.specs.View.{items_view, table_view, view};
-ghost use Rattle.gptp_lint.specs.Keys.{event_keys, is_known, is_two, is_version_2, keys_read, kind_text, member_at, members_of, system_keys, table_at};
+ghost use Rattle.gptp_lint.specs.Keys.{absent_at, event_keys, is_absent, is_known, is_two, is_version_2, keys_read, kind_text, member_at, members_of, system_keys, table_at};
 
 use crate::place::{Place, Section};
+use std::alloc::{AllocError, Global};
 use toml::{Table, Value};
 
 /// Those at the top.
@@ -219,4 +220,52 @@ pub(crate) fn is_known(keys: &[&str], key: &[u8]) -> bool
     ensures { result ≡ is_known (map (λ known. known.now) keys.now) key.now }
 {
     key == b"name".as_slice() || is_among(keys, key)
+}
+
+/// Puts a key that is read after others, if a table doesn't have it.
+fn push_absent(
+    absent: &mut Vec<&'static [u8]>,
+    table: &Table,
+    known: &'static str,
+) -> Result<(), AllocError>
+    ensures { OnOk result (map (λ key. key.now) absent.new.items ≡ map (λ key. key.now) absent.old.items
+        ++ (if is_absent (table_view table.now) known.now then known.now ∷ [] else [])) }
+{
+    match value_at(table, known) {
+        Some(_) => Ok(()),
+        None => {
+            absent.push(known.as_bytes())?;
+            Ok(())
+        }
+    }
+}
+
+/// The keys that a table doesn't have, of some.
+fn absent_in(
+    alloc: Global,
+    table: &Table,
+    keys: &[&'static str],
+) -> Result<Vec<&'static [u8]>, AllocError>
+    ensures { IfOk result (λ absent. map (λ key. key.now) absent.items
+        ≡ filter (is_absent (table_view table.now)) (map (λ key. key.now) keys.now)) }
+{
+    let mut absent = Vec::new(alloc);
+    for known in keys {
+        push_absent(&mut absent, table, *known)?;
+    }
+    Ok(absent)
+}
+
+/// The keys that are read at a place and absent there, in the order of the formats.
+pub(crate) fn absent_at(
+    alloc: Global,
+    document: &Table,
+    place: Place,
+) -> Result<Vec<&'static [u8]>, AllocError>
+    ensures { IfOk result (λ absent. map (λ key. key.now) absent.items ≡ absent_at (table_view document.now) place) }
+{
+    match table_at(document, place) {
+        None => Ok(Vec::new(alloc)),
+        Some(table) => absent_in(alloc, table, keys_at(document, place)),
+    }
 }

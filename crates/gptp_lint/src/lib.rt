@@ -3,6 +3,7 @@
 #![tactic(auto)]
 
 mod components;
+mod ending;
 mod escaped;
 mod findings;
 mod graph;

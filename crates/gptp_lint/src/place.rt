@@ -3,6 +3,7 @@
 ghost use Rattle.std.specs.Prelude.{◌≡◌};
 ghost use Rattle.gptp_lint.specs.Refusal.{place_of, section_of};
 ghost use Rattle.gptp_lint.specs.Unread.{section_name};
+ghost use Rattle.gptp_lint.specs.UnreadKeys.{is_at, number_of, part_of, part_of_section};
 
 use std::fmt;
 
@@ -69,6 +70,46 @@ impl Place {
             }
         }
     }
+}
+
+/// The part of a document that a section is, by its order there.
+fn part_of_section(section: Section) -> u8
+    ensures { result ≡ part_of_section section }
+{
+    match section {
+        Section::System => 2,
+        Section::Link => 3,
+        Section::Event => 4,
+    }
+}
+
+/// The part of a document in which a place is, by its order there.
+pub(crate) fn part_of(place: Place) -> u8
+    ensures { result ≡ part_of place }
+{
+    match place {
+        Place::Top => 0,
+        Place::Network => 1,
+        Place::Member(section, _) => part_of_section(section),
+    }
+}
+
+/// Which member of its part a place is.
+pub(crate) fn number_of(place: Place) -> usize
+    ensures { result ≡ number_of place }
+{
+    match place {
+        Place::Top => 0,
+        Place::Network => 0,
+        Place::Member(_, number) => number,
+    }
+}
+
+/// Whether two places are one.
+pub(crate) fn is_at(place: Place, other: Place) -> bool
+    ensures { result ≡ is_at place other }
+{
+    part_of(place) == part_of(other) && number_of(place) == number_of(other)
 }
 
 /// The line of a header, from 1, shown after the number of its member; nothing where there is none.

@@ -1,5 +1,5 @@
 -- What the second of two systems reads 100 ms after a Follow_Up, by the theorem on time at any moment.
-use Rattle.std.proofs.Common.{◌≡◌, ◌≤◌, ◌+◌, ℕ, ℤ, pos, Option, refl, sym, ap, subst, ◌∙◌, arith}
+use Rattle.std.proofs.Common.{◌≡◌, ◌≤◌, ◌+◌, ℕ, ℤ, pos, Option, Some, refl, sym, ap, subst, ◌∙◌, arith}
 use Rattle.gptp_error_laws.specs.TimeError.{Way, reading_error_at}
 use Rattle.gptp_model.specs.declared.done.Done.{Done}
 use Rattle.gptp_model.specs.Sound.{IsSound}
@@ -12,6 +12,14 @@ use Rattle.gptp_invariants.specs.WorldSettlingInvariant.{SettlingInvariant}
 use Rattle.gptp_links.specs.declared.bounds.Bounds.{Bounds}
 use Rattle.gptp_pdelay.specs.Clock.{local_clock}
 use Rattle.gptp_reading.specs.Reading.{IsBestsTime, IsReadingErrorOf}
+use Rattle.gptp_reading.specs.ReadingLaws.{HeldIsRead}
+use Rattle.gptp_scenario.specs.declared.change.Timed.{Timed}
+use Rattle.gptp_model.specs.Course.{WasDone}
+use Rattle.gptp_invariants.specs.SyncTimedClaim.{WorldInvariant}
+use Rattle.gptp_system.specs.Reading.{held_reading, read_at}
+use Rattle.gptp_system.specs.State.{SystemState, local_time}
+use Rattle.gptp_system.specs.declared.reading.Reading.{Reading}
+use Rattle.gptp_theorem.specs.Headline.{UsesFollowUp}
 use Rattle.gptp_reading.specs.Readings.{HeadlineOnReadings, LeavesReading, RunsReadExactly, WorldsReadExactly}
 use Rattle.gptp_scaled.specs.Counts.{AreWithin}
 use Rattle.gptp_network_tests.specs.Pair.{IsPairSince, first_member, pair_document, pair_pace, pair_snapshot, params}
@@ -67,3 +75,21 @@ runs_read answers theorem until fate start w ts t read early unfolds member k al
     read_by_theorem t.before t.told.timed.at k all.is.world.sound (record { pace = all.pace; is = all.is }) passed
     t.after t.told.done read
     (theorem pair_document until fate start w ts t (playable k.network) (omega (arith, early)) unfolds member) left
+
+-- where a system used a Follow_Up, what it gives for its reading is what it reads by
+pub left : (w : WorldState) (done : Done) (s : SystemState) (time : ℕ) (r : Reading) → UsesFollowUp 2 done
+    → ShowsLive 2 w s → HeldIsRead → held_reading s ≡ Some r
+    → LeavesReading 2 w done time (read_at r (local_time s time))
+left w done s time r uses shows law held =
+    record { uses = uses; system = s; shows = shows; is = law s time r held }
+
+-- what the second reads 100 ms after an act is what a clock shows that runs exactly, but for rounding and its rate
+pub second_is_read : {F : Type 0} (answers : Bounds → ℕ → F → Option ℕ → F → Type 0) (timed : Timed)
+    (fate fate_after : F) (w w' : WorldState) (done : Done) (read : ℤ) (later : ℕ) → WorldsOfTwoReadExactly answers
+    → IsPairSince 27000000000 w → WorldInvariant w → WasDone answers timed fate fate_after w w' done
+    → timed.at ≤ 28000000000 → later ≡ timed.at + 100000000
+    → LeavesReading 2 w' done (timed.at + 100000000) read
+    → AreWithin 31 read (local_clock 0 (pos 0) later)
+second_is_read answers timed fate fate_after w w' done read later theorem k all was early is reads =
+    subst (λ t. AreWithin 31 read (local_clock 0 (pos 0) t)) (sym is)
+    (theorem timed fate fate_after w w' done read k all was (omega (arith, early)) reads)

@@ -5,6 +5,7 @@ use crate::drawn::{
     follow_at_rest, follow_by_distance, follow_by_paths, hear_in_time, play_at_rest, second_then,
     whole,
 };
+use crate::readings::read_in_time;
 use crate::same::same;
 use crate::soon::follow_soon;
 use gptp_links::PcgFate;
@@ -50,6 +51,12 @@ fn two_systems_at_rest_are_as_proved(rt: HostRuntime) -> Result<(), Fail> {
     same(
         &rt,
         offset.is_some_and(|offset| offset.value().unsigned_abs() <= 19),
+        true,
+    );
+    let read = read_in_time(rt.alloc(), PcgFate::new(1))?;
+    same(
+        &rt,
+        read.is_some_and(|(read, at)| read.abs_diff(i128::from(at) << 16) <= 31),
         true,
     );
     Ok(())

@@ -58,10 +58,10 @@ const SETTLED: u64 = 26_000_000_000;
 
 /// Before the second hears the Sync that leaves the first at 27.125 s, and its Follow_Up. By then all has settled, and
 /// what it uses has come down the one link: that takes a threshold and a residence at most, 1,800 ns.
-const AWAITS: u64 = 27_125_000_499;
+pub(crate) const AWAITS: u64 = 27_125_000_499;
 
 /// When nothing is awaited any more.
-const LAST: u64 = 28_000_000_000;
+pub(crate) const LAST: u64 = 28_000_000_000;
 
 /// The identity with this clock, and all defaults.
 fn identity(clock: u8) -> Identity
@@ -130,7 +130,11 @@ fn go_on<F: Fate + Drop>(world: &mut World<F>, time: u64) -> Result<(), NetworkF
 }
 
 /// Their world at a time.
-fn pair_at<F: Fate + Drop>(alloc: Global, fate: F, time: u64) -> Result<World<F>, NetworkFault>
+pub(crate) fn pair_at<F: Fate + Drop>(
+    alloc: Global,
+    fate: F,
+    time: u64,
+) -> Result<World<F>, NetworkFault>
     requires moment { time ≤ 1000000000000000 }
     ensures { IfOk result (λ world. IsPairAt time world.world_core) }
 {
@@ -352,7 +356,7 @@ fn is_follow_up(octets: &[u8]) -> bool
 }
 
 /// Whether the second system used a Follow_Up by an act of which this is told.
-fn second_uses(done: &Done) -> bool
+pub(crate) fn second_uses(done: &Done) -> bool
     ensures { result ≡ true → UsesFollowUp 2 done.now }
 {
     match done {

@@ -10,3 +10,4 @@ pub mod EachLemmas
 pub mod HeardLemmas
 pub mod LastingLemmas
 pub mod LatelyLemmas
+pub mod HeldLemmas

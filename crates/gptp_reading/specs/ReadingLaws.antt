@@ -15,7 +15,10 @@ use Rattle.gptp_sync_machine.specs.Invariant.{FollowerInvariant}
 use Rattle.gptp_sync_machine.specs.Messages.{Message, FollowUp, IsOneMessage}
 use Rattle.gptp_sync_machine.specs.Right.{IsHeldAt, IsMeasuredAt, at_rate, info_of}
 use Rattle.gptp_sync_machine.specs.RightLaws.{IsOnWay}
-use Rattle.gptp_reading.specs.Reading.{read_after}
+use Rattle.gptp_system.specs.Reading.{held_reading, read_at}
+use Rattle.gptp_system.specs.State.{SystemState, local_time}
+use Rattle.gptp_system.specs.declared.reading.Reading.{Reading}
+use Rattle.gptp_reading.specs.Reading.{read_after, reading}
 
 -- What is read so long after a Sync came over a link is the root's time then: within the link's part of the time error,
 -- the error of the rate from above times the greatest delay, and the error of the rate after the link times that span,
@@ -58,3 +61,8 @@ ReadingIsExact says = (k : FollowerSetting) (s : Follower) (front : LaneFrame) (
     (pos 33550000
     *ℤ read_after (info_of (at_rate told held) ingress) delay rate (own_clock k (s.time + later) -ℤ ingress))
     (pos 33550000 *ℤ root_clock k (s.time + later))
+
+-- what a system holds of the Follow_Up that it used last is what it reads by
+abbrev pub HeldIsRead : Type 0
+HeldIsRead = (s : SystemState) (time : ℕ) (r : Reading) → held_reading s ≡ Some r
+    → reading s time ≡ Some (read_at r (local_time s time))

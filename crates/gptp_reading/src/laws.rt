@@ -1,6 +1,6 @@
 //! Laws on what is read: over one link, on a way, and at a system that follows its parent.
 
-ghost use Rattle.gptp_reading.specs.ReadingLaws.{ReadingIsExact, ReadingIsRight, ReadingIsWithin};
+ghost use Rattle.gptp_reading.specs.ReadingLaws.{HeldIsRead, ReadingIsExact, ReadingIsRight, ReadingIsWithin};
 
 use gptp_sync_machine::Coding;
 
@@ -20,4 +20,9 @@ pub fn reading_is_right()
 /// of the rate so far times the span. To the span the jitter of the link is added.
 pub fn reading_is_exact<C: Coding>()
     ensures { ReadingIsExact C.says }
+{}
+
+/// What `System::reading` of gptp_system gives is what the system reads by, at every time.
+pub fn held_is_read()
+    ensures { HeldIsRead }
 {}

@@ -13,5 +13,5 @@ mod laws;
 mod readings;
 
 pub use age::{runs_hear_in_time, worlds_are_recent};
-pub use laws::{reading_is_exact, reading_is_right, reading_is_within};
+pub use laws::{held_is_read, reading_is_exact, reading_is_right, reading_is_within};
 pub use readings::{runs_read_exactly, runs_read_in_time, worlds_leave_time, worlds_read_exactly};

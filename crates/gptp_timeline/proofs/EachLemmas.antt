@@ -4,8 +4,7 @@ use Rattle.std.specs.List.{range_with_len}
 use Rattle.std.proofs.lemmas.List.{length-set}
 use Rattle.gptp_words.specs.Lines.{text_of}
 use Rattle.gptp_model.specs.World.{WorldState}
-use Rattle.gptp_timeline.specs.Shown.{shown}
-use Rattle.gptp_timeline.specs.Watch.{lines_at, lines_each, measures_after, see_all, see_at, see_each, see_one, watched_after, WatchState}
+use Rattle.gptp_timeline.specs.Watch.{lines_at, lines_each, measures_after, see_all, see_at, see_each, see_one, watched_after, WatchState, left_at}
 use Rattle.gptp_timeline.specs.declared.measures.Measures.{Measures}
 use Rattle.gptp_timeline.specs.declared.watched.ActView.{ActView}
 use Rattle.gptp_timeline.specs.declared.watched.Watched.{Watched}
@@ -24,12 +23,12 @@ set_at_seam (z ∷ front) x y back = ap (λ t. z ∷ t) (set_at_seam front x y b
 
 module _ (look : ActView) (w : WorldState) where
   abbrev pub behind : Watched → Watched
-  behind x = watched_after look (shown x.clock w) x
+  behind x = watched_after look (left_at look w x) x
 
   -- what is measured of several, one after another
   abbrev pub measured_each : List Watched → Measures → Measures
   measured_each [] m = m
-  measured_each (x ∷ xs) m = measured_each xs (measures_after look x (shown x.clock w) m)
+  measured_each (x ∷ xs) m = measured_each xs (measures_after look x (left_at look w x) m)
 
   -- after those that were looked at, all that are left are
   pub each_looked : (front back : List Watched) (o : WatchState) → o.systems ≡ front ++ back
@@ -41,7 +40,7 @@ module _ (look : ActView) (w : WorldState) where
       ap (λ xs. slice_get xs (length front)) are ∙ at_seam front x back in
       let seen : see_at look w (length front) o ≡ record o {
         systems = slice_set o.systems (length front) (behind x);
-        measures = measures_after look x (shown x.clock w) o.measures;
+        measures = measures_after look x (left_at look w x) o.measures;
       } = ap (λ y. see_one look w (length front) y o) here in
       let set : slice_set o.systems (length front) (behind x) ≡ (front ++ behind x ∷ []) ++ back =
       ap (λ xs. slice_set xs (length front) (behind x)) are ∙ set_at_seam front x (behind x) back
@@ -50,17 +49,17 @@ module _ (look : ActView) (w : WorldState) where
       let next = each_looked (front ++ behind x ∷ []) back
       (record o {
         systems = slice_set o.systems (length front) (behind x);
-        measures = measures_after look x (shown x.clock w) o.measures;
+        measures = measures_after look x (left_at look w x) o.measures;
       }) set in
       ap (see_each look w (range_with_len (length front + 1) (length back))) seen
       ∙ ap (λ k. see_each look w (range_with_len k (length back)) (record o {
         systems = slice_set o.systems (length front) (behind x);
-        measures = measures_after look x (shown x.clock w) o.measures;
+        measures = measures_after look x (left_at look w x) o.measures;
       })) count
       ∙ next
       ∙ ap (λ xs. record o {
         systems = xs;
-        measures = measured_each back (measures_after look x (shown x.clock w) o.measures);
+        measures = measured_each back (measures_after look x (left_at look w x) o.measures);
       }) (append_assoc front (behind x ∷ []) (map behind back))
 
   pub all_looked : (o : WatchState) → see_all look w o
@@ -83,7 +82,7 @@ same_count look w place o = by (slice_get o.systems place)
   where
     by : (x : Option Watched) → length (see_one look w place x o).systems ≡ length o.systems
     by None = refl
-    by (Some x) = length-set o.systems place (watched_after look (shown x.clock w) x)
+    by (Some x) = length-set o.systems place (watched_after look (left_at look w x) x)
 
 -- one more is looked at
 module _ (look : ActView) (w : WorldState) (all : List (List ℕ)) (place n : ℕ) (below : place < n) (o next : WatchState)

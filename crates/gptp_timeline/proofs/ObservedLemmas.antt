@@ -1,5 +1,5 @@
 -- What an observer keeps and tells is what is defined over the acts: as systems start, and stretch by stretch.
-use Rattle.std.proofs.Common.{◌≡◌, ℕ, Bool, false, List, [], ◌∷◌, ◌++◌, map, Option, Some, None, length, option_map, refl, sym, ap, subst, ◌∙◌, append_assoc, append-nil}
+use Rattle.std.proofs.Common.{◌≡◌, ℕ, Bool, false, List, [], ◌∷◌, ◌++◌, map, Option, Some, None, inl, inr, length, option_map, refl, sym, ap, subst, ◌∙◌, append_assoc, append-nil}
 use Rattle.std.specs.List.{filter_map, flat_map}
 use Rattle.std.proofs.lemmas.List.Folds.{flat_map-map}
 use Rattle.gptp_model.specs.declared.station.Station.{Station}
@@ -10,7 +10,9 @@ use Rattle.gptp_model.specs.Views.{rising_clocks}
 use Rattle.gptp_model.specs.World.{WorldState}
 use Rattle.gptp_links.specs.declared.bounds.Bounds.{Bounds}
 use Rattle.gptp_lists.specs.Members.{In}
+use Rattle.gptp_model.specs.declared.done.Done.{Done}
 use Rattle.gptp_scenario.specs.Network.{NetworkState}
+use Rattle.gptp_scenario.specs.declared.change.Act.{Act}
 use Rattle.gptp_scenario.specs.declared.change.Timed.{Timed}
 use Rattle.gptp_world.specs.Observing.{Tells}
 use Rattle.gptp_world.specs.Transitions.{ActTrace}
@@ -29,7 +31,7 @@ use Rattle.gptp_timeline.specs.Looks.{measured_times}
 use Rattle.gptp_timeline.specs.Readings.{read_after, readings_after}
 use Rattle.gptp_timeline.specs.TimeWatch.{times_after}
 use Rattle.gptp_timeline.specs.Timeline.{StretchTrace, accuracy_at, act_lines, acts_lines, asks_lines, Carried, carry, end_lines, ended_of, exact_time, is_begun, kept_accuracy, kept_accuracy_at, line_of_times, none_carried, none_waits, reads_if, reads_kept, start_lines, stretch_of, stretch_reading_lines, timeline_accuracy_lines, times_ended, tracks}
-use Rattle.gptp_timeline.specs.Watch.{WatchState, watch_begun, event_look, lines_all, see_act, see_all, see_times, seen_lines, tells_changes, times_lines_if, unless, unseen, without_error}
+use Rattle.gptp_timeline.specs.Watch.{WatchState, watch_begun, event_look, lines_all, see_act, see_all, see_times, seen_lines, tells_changes, TellsSeen, times_lines_if, unless, unseen, without_error}
 use Rattle.gptp_timeline.specs.declared.counts.Counts.{Counts}
 use Rattle.gptp_timeline.specs.declared.looks.TimeMeasures.{TimeMeasures}
 use Rattle.gptp_timeline.specs.declared.measures.Greatest.{Greatest}
@@ -51,6 +53,7 @@ use Rattle.gptp_timeline.proofs.MeasureLemmas.{greatest_both}
 use Rattle.gptp_timeline.proofs.NameLemmas.{acts_named, AreNamed, first_names, same_named}
 use Rattle.gptp_timeline.proofs.StandLemmas.{kept, map_same, Stands}
 use Rattle.gptp_timeline.proofs.StepLemmas.{errors_next, measured_by, restand, Tracks}
+use Rattle.gptp_timeline.proofs.StillLemmas.{stays_seen}
 use Rattle.gptp_timeline.proofs.TrackLemmas.{all_seen_lines, unless_each}
 
 -- ---- what is kept
@@ -84,6 +87,13 @@ pub record IsOfPlan (plan : Plan) (p : StretchTrace) : Type 0 where
   pub begins_is : plan.begins_with_event ≡ is_begun p.events
   pub bound_is : plan.bound ≡ p.bound
   pub errors_are : plan.errors ≡ p.errors
+
+-- where there is no account, it sees nothing
+none_timed : (at : ℕ) (act : Act) (done : Done) (w : WorldState) (o : WatchState) → o.times ≡ None
+    → see_times at act done w o ≡ o
+none_timed at act done w o untimed =
+    ap (λ times. record o { times = option_map (times_after at act done w) times }) untimed
+    ∙ sym (ap (λ times. record o { times = times }) untimed)
 
 -- ---- systems start
 
@@ -278,6 +288,24 @@ module _ (options : TimelineOptions) (names : List ℕ) (carried : Carried) wher
     next_readings ts t None = refl
     next_readings ts t (Some rs) = ap Some (readings_more ts t rs)
 
+    -- an act that was passed over is as if it had been looked at
+    was_seen : (ts : List ActTrace) (t : ActTrace) (o between : WatchState) (lines : List (List ℕ))
+        → Observes options names carried from events ts t.before o → IsDone t
+        → tells_changes t.told t.after o between lines → TellsSeen t.told t.after o between lines
+    was_seen ts t o between lines observes done (inl seen) = seen
+    was_seen ts t o between lines observes done (inr (passes, is, none)) =
+        let act = t.told.timed.act in
+        let stays = passes.leaves.stays (at (at_of t) t.before) t.after done.draws done.acts in
+        let (kept, told) = stays_seen options.summary options.offsets from names since
+        (λ name. error_from name from ts) ts t o observes.tracks stays.same act t.told.done
+        passes.leaves.is_other stays.nobody in (
+          is ∙ sym (none_timed (at_of t) act t.told.done t.after o passes.untimed)
+              ∙ sym (ap (see_times (at_of t) act t.told.done t.after) kept),
+          none
+              ∙ sym (ap (times_lines_if (at_of t) act t.told.done t.after) passes.untimed)
+              ∙ sym (ap (λ ls. ls ++ times_lines_if (at_of t) act t.told.done t.after o.times) told),
+        )
+
     -- after several
     chained : (us ts : List ActTrace) (w w' : WorldState) (before after : List Station) (o o_after : WatchState)
         (lines : List (List ℕ)) → before ≡ w.stations → Chain us before after → w'.stations ≡ after
@@ -290,9 +318,11 @@ module _ (options : TimelineOptions) (names : List ℕ) (carried : Carried) wher
           (moved ts w w' o (end ∙ sym same ∙ start) observes)),
       none,
     )
-    chained (t ∷ us) ts w w' before after o o_after lines start (first, done, rest) end
-        (between, one, others, (is, told), tells, are) observes =
-        let step = act_step ts t o (moved ts w t.before o (first ∙ start) observes) done in
+    chained (t ∷ us) ts w w' begun after o o_after lines start (first, done, rest) end
+        (between, one, others, tells_one, tells, are) observes =
+        let before = moved ts w t.before o (first ∙ start) observes in
+        let (is, told) = was_seen ts t o between one before done tells_one in
+        let step = act_step ts t o before done in
         let next = chained us (ts ++ t ∷ []) t.after w' t.after.stations after between o_after others refl rest end
         tells
         (subst (Observes options names carried from events (ts ++ t ∷ []) t.after) (sym is) step.0) in (

@@ -78,9 +78,9 @@ module _ (summary offsets : Bool) (from : Option ℕ) (names : List ℕ) (rising
         → is_event t ≡ false → slice_get o.systems place ≡ Some x → x.clock ≡ clock
         → ((name : ℕ) → (name ≡ clock → ⊥) → shown name t.after ≡ shown name t.before)
         → ((name : ℕ) → (name ≡ clock → ⊥) → receives name t ≡ false) → receives clock t ≡ received
-        → TakesOne errors ts t (taken (own_look (at_of t) received) place x (shown x.clock t.after) o)
+        → TakesOne errors ts t (taken (own_look (at_of t) received false) place x (shown x.clock t.after) o)
     own_taken errors ts t o received place clock x tracks act there named others quiet own =
-        let look = own_look (at_of t) received in
+        let look = own_look (at_of t) received false in
         let since = waits ts begun in
         let (name, here, is) = from_map (kept since errors t.before) names place x
         (ap (λ xs. slice_get xs place) (sym tracks.stands.are) ∙ there) in

@@ -1,5 +1,5 @@
 -- Where the system with a clock stands among those that are kept.
-use Rattle.std.proofs.Common.{◌≡◌, ◌<◌, ◌+◌, ◌==◌, ℕ, zero, suc, true, false, List, [], ◌∷◌, length, map, Option, Some, None, if◌then◌else◌, Result, Ok, Err, slice_get, slice_set, get_or, take, drop, ◌++◌, subst, refl, sym, ap, ◌∙◌, arith}
+use Rattle.std.proofs.Common.{◌≡◌, ◌<◌, ◌+◌, ◌==◌, ℕ, zero, suc, true, false, List, [], ◌∷◌, length, map, Option, Some, None, IfSome, if◌then◌else◌, Result, Ok, Err, slice_get, slice_set, get_or, take, drop, ◌++◌, subst, refl, sym, ap, ◌∙◌, arith}
 use Rattle.std.specs.Cmp.{nat_cmp_total}
 use Rattle.std.specs.List.Sorted.{IsBinarySearchResult, IsSearchInRange}
 use Rattle.std.specs.Ordering.{nat_cmp}
@@ -94,6 +94,15 @@ module _ (systems : List Watched) (clock : ℕ) (rising : WatchedRise systems) w
       let parted = is (comparisons_rise clock_of_watched systems clock rising) in
       sym (place_none clock 0 systems (λ j y there same.
       missing nat_cmp_total clock_of_watched systems clock gap parted y (In-slice_get y systems j there) same))
+
+  -- the system there has the clock
+  pub named_there : (r : Result ℕ ℕ) → IsSearchInRange r (length systems)
+      → IsBinarySearchResult (λ x. nat_cmp (clock_of_watched x) clock) systems r
+      → IfSome (result_ok r) (λ place. (x : Watched) → slice_get systems place ≡ Some x → x.clock ≡ clock)
+  named_there (Ok place) within is = λ x there.
+      let (y, at, tied) = found nat_cmp_total clock_of_watched systems clock place within is in
+      ap clock_of_watched (same_Some x y (sym there ∙ at)) ∙ ranked y.clock clock Equal (sym tied)
+  named_there (Err gap) within is = tt
 
   -- what is kept of the system there, or nothing
   pub error_searched : (r : Result ℕ ℕ) → IsSearchInRange r (length systems)

@@ -77,7 +77,6 @@ use Rattle.gptp_timeline.specs.Laws.{AllNear, Settle}
 use Rattle.gptp_timeline.specs.Passing.{first_time}
 use Rattle.gptp_timeline.specs.Shown.{live_system, same_choice, same_roles, shown}
 use Rattle.gptp_timeline.specs.Stretch.{at_of}
-use Rattle.gptp_timeline.specs.StretchText.{behind}
 use Rattle.gptp_timeline.specs.Timeline.{AllPass, end_before, IsPassage, later_than, now_of, StretchTrace, TimelineOf}
 use Rattle.gptp_timeline.specs.declared.timeline.TimelineOptions.{TimelineOptions}
 use Rattle.gptp_timeline.proofs.EventLemmas.{Each, ends_first, ends_later, filter_each, filter_in_order, filter_passes, first_due}

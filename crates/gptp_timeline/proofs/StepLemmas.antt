@@ -97,7 +97,7 @@ module _ (summary offsets : Bool) (from : Option ℕ) (names : List ℕ) (begun 
       let measured : measured_each look t.after o.systems o.measures ≡ measured_by (ts ++ t ∷ []) =
       ap (λ xs. measured_each look t.after xs o.measures) tracks.stands.are
       ∙ ap (measured_each look t.after (map (kept since errors t.before) names)) tracks.measures_are
-      ∙ event_measured look since errors t.before t.after names (measured_by ts) refl
+      ∙ event_measured (at_of t) since errors t.before t.after names (measured_by ts)
       ∙ same_made _ _ _ _ _ _ (greatest (ended names begun ts)) (worst_error ts)
       (sym (last_more (leaves_another same_choice names) ts t))
       (sym (last_more (leaves_another same_roles names) ts t))

@@ -6,7 +6,7 @@ use Rattle.gptp_timeline.specs.Changes.{change_lines}
 use Rattle.gptp_timeline.specs.Measures.{last_if}
 use Rattle.gptp_timeline.specs.Shown.{same_choice, same_roles, shown}
 use Rattle.gptp_timeline.specs.Stretch.{same_known}
-use Rattle.gptp_timeline.specs.Watch.{lines_all, lines_each, measures_after, one_lines, see_at, see_one, unless, WatchState}
+use Rattle.gptp_timeline.specs.Watch.{lines_all, lines_each, measures_after, one_lines, see_at, see_one, unless, WatchState, event_look, left_at}
 use Rattle.gptp_timeline.specs.declared.measures.Greatest.{Greatest}
 use Rattle.gptp_timeline.specs.declared.measures.Measures.{Measures}
 use Rattle.gptp_timeline.specs.declared.shown.Shown.{Shown}
@@ -37,36 +37,36 @@ pub same_made : (a b c a' b' c' : Option ℕ) (h e : Option Greatest) → a ≡ 
 same_made a b c a' b' c' h e x y z =
     ap (λ v. made v b c h e) x ∙ ap (λ v. made a' v c h e) y ∙ ap (λ v. made a' b' v h e) z
 
-module _ (look : ActView) (since errors : ℕ → Option ℕ) (w w' : WorldState) where
+module _ (at : ℕ) (since errors : ℕ → Option ℕ) (w w' : WorldState) where
   -- some of these systems aren't the same
   abbrev pub some_other : (Option Shown → Option Shown → Bool) → List ℕ → Bool
   some_other same names = list_any (λ name. not (same (shown name w) (shown name w'))) names
 
   -- what an event leaves measured of systems that are looked at one after another
-  pub event_measured : (names : List ℕ) (m : Measures) → look.by_event ≡ true
-      → measured_each look w' (map (kept since errors w) names) m
-      ≡ made (last_if (not (some_other same_choice names)) look.at m.choice)
-      (last_if (not (some_other same_roles names)) look.at m.roles)
-      (last_if (not (some_other same_known names)) look.at m.offsets) m.holdover m.error
-  event_measured [] m by_event = refl
-  event_measured (n ∷ ns) m by_event =
-      ap (measured_each look w' (map (kept since errors w) ns)) (first (since n) by_event)
-      ∙ event_measured ns (made (last_if (same_choice (shown n w) (shown n w')) look.at m.choice)
-      (last_if (same_roles (shown n w) (shown n w')) look.at m.roles)
-      (last_if (same_known (shown n w) (shown n w')) look.at m.offsets) m.holdover m.error) by_event
+  pub event_measured : (names : List ℕ) (m : Measures)
+      → measured_each (event_look at) w' (map (kept since errors w) names) m
+      ≡ made (last_if (not (some_other same_choice names)) at m.choice)
+      (last_if (not (some_other same_roles names)) at m.roles)
+      (last_if (not (some_other same_known names)) at m.offsets) m.holdover m.error
+  event_measured [] m = refl
+  event_measured (n ∷ ns) m =
+      ap (measured_each (event_look at) w' (map (kept since errors w) ns)) (first (since n))
+      ∙ event_measured ns (made (last_if (same_choice (shown n w) (shown n w')) at m.choice)
+      (last_if (same_roles (shown n w) (shown n w')) at m.roles)
+      (last_if (same_known (shown n w) (shown n w')) at m.offsets) m.holdover m.error)
       ∙ same_made _ _ _ _ _ _ m.holdover m.error
-      (last_both (same_choice (shown n w) (shown n w')) (some_other same_choice ns) look.at m.choice)
-      (last_both (same_roles (shown n w) (shown n w')) (some_other same_roles ns) look.at m.roles)
-      (last_both (same_known (shown n w) (shown n w')) (some_other same_known ns) look.at m.offsets)
+      (last_both (same_choice (shown n w) (shown n w')) (some_other same_choice ns) at m.choice)
+      (last_both (same_roles (shown n w) (shown n w')) (some_other same_roles ns) at m.roles)
+      (last_both (same_known (shown n w) (shown n w')) (some_other same_known ns) at m.offsets)
     where
-      first : (begun : Option ℕ) → look.by_event ≡ true
-          → measures_after look (record { clock = n; shown = shown n w; since = begun; error = errors n })
+      first : (begun : Option ℕ)
+          → measures_after (event_look at) (record { clock = n; shown = shown n w; since = begun; error = errors n })
           (shown n w') m
-          ≡ made (last_if (same_choice (shown n w) (shown n w')) look.at m.choice)
-          (last_if (same_roles (shown n w) (shown n w')) look.at m.roles)
-          (last_if (same_known (shown n w) (shown n w')) look.at m.offsets) m.holdover m.error
-      first None event = refl
-      first (Some begun) event = rw event refl
+          ≡ made (last_if (same_choice (shown n w) (shown n w')) at m.choice)
+          (last_if (same_roles (shown n w) (shown n w')) at m.roles)
+          (last_if (same_known (shown n w) (shown n w')) at m.offsets) m.holdover m.error
+      first None = refl
+      first (Some begun) = refl
 
 -- ---- the lines of several systems
 
@@ -74,14 +74,14 @@ module _ (look : ActView) (w : WorldState) where
   -- the lines of the systems after others that were looked at
   pub each_lines : (front back : List Watched) (o : WatchState) → o.systems ≡ front ++ back
       → lines_each look w (range_with_len (length front) (length back)) o
-      ≡ flat_map (λ (x : Watched). unless o.summary (change_lines look.at x.clock x.shown (shown x.clock w))) back
+      ≡ flat_map (λ (x : Watched). unless o.summary (change_lines look.at x.clock x.shown (left_at look w x))) back
   each_lines front [] o are = refl
   each_lines front (x ∷ back) o are =
       let here : slice_get o.systems (length front) ≡ Some x =
       ap (λ xs. slice_get xs (length front)) are ∙ at_seam front x back in
       let after : WatchState = record o {
         systems = slice_set o.systems (length front) (behind look w x);
-        measures = measures_after look x (shown x.clock w) o.measures;
+        measures = measures_after look x (left_at look w x) o.measures;
       } in
       let seen : see_at look w (length front) o ≡ after =
       ap (λ y. see_one look w (length front) y o) here in
@@ -92,15 +92,15 @@ module _ (look : ActView) (w : WorldState) where
       sym (length-append front (behind look w x ∷ [])) in
       ap (λ y. unless o.summary (one_lines look w y)
       ++ lines_each look w (range_with_len (length front + 1) (length back)) (see_at look w (length front) o)) here
-      ∙ ap (λ v. unless o.summary (change_lines look.at x.clock x.shown (shown x.clock w))
+      ∙ ap (λ v. unless o.summary (change_lines look.at x.clock x.shown (left_at look w x))
       ++ lines_each look w (range_with_len (length front + 1) (length back)) v) seen
-      ∙ ap (λ k. unless o.summary (change_lines look.at x.clock x.shown (shown x.clock w))
+      ∙ ap (λ k. unless o.summary (change_lines look.at x.clock x.shown (left_at look w x))
       ++ lines_each look w (range_with_len k (length back)) after) count
-      ∙ ap (λ rest. unless o.summary (change_lines look.at x.clock x.shown (shown x.clock w)) ++ rest)
+      ∙ ap (λ rest. unless o.summary (change_lines look.at x.clock x.shown (left_at look w x)) ++ rest)
       (each_lines (front ++ behind look w x ∷ []) back after set)
 
   pub all_seen_lines : (o : WatchState) → lines_all look w o
-      ≡ flat_map (λ (x : Watched). unless o.summary (change_lines look.at x.clock x.shown (shown x.clock w))) o.systems
+      ≡ flat_map (λ (x : Watched). unless o.summary (change_lines look.at x.clock x.shown (left_at look w x))) o.systems
   all_seen_lines o = each_lines [] o.systems o refl
 
 -- lines that are left out of each are left out of all

@@ -19,6 +19,7 @@ pub mod TimeLines
 pub mod TimeWatch
 pub mod Limits
 pub mod End
+pub mod Leaving
 pub mod Watch
 pub mod Timeline
 pub mod Ends

@@ -1,6 +1,6 @@
 -- What the code keeps of a stretch that passes: what an observer keeps and tells of an act, by what it kept before and
 -- the world after the act. Contracts of private functions alone cite this, but for `WatchState` and `unless`.
-use Rattle.std.specs.Prelude.{◌≡◌, ℕ, ◌+◌, ◌==◌, ◌&&◌, ◌||◌, nat_le, nat_lt, not, Bool, true, false, if◌then◌else◌, List, [], ◌∷◌, ◌++◌, length, map, Option, Some, None, is_none, is_some, slice_get, slice_set, ℤ, unsigned_abs}
+use Rattle.std.specs.Prelude.{◌≡◌, ◌⊎◌, ℕ, ◌+◌, ◌==◌, nat_le, nat_lt, not, Bool, true, false, if◌then◌else◌, List, [], ◌∷◌, ◌++◌, length, map, Option, Some, None, is_some, slice_get, slice_set, ℤ, unsigned_abs}
 use Rattle.std.specs.List.{range_with_len}
 use Rattle.std.specs.Option.{option_map, option_map_or}
 use Rattle.gptp_model.specs.Advancing.{Told}
@@ -13,9 +13,10 @@ use Rattle.gptp_scenario.specs.declared.change.Act.TheVariants.{Change as Changi
 use Rattle.gptp_system.specs.State.{SystemState}
 use Rattle.gptp_timeline.specs.Changes.{change_lines}
 use Rattle.gptp_timeline.specs.EventLine.{event_line}
+use Rattle.gptp_timeline.specs.Leaving.{LeavesAll, left_by}
 use Rattle.gptp_timeline.specs.Measures.{better_if, ended_by, last_if, one_at, since_after}
-use Rattle.gptp_timeline.specs.Receipts.{offset_error, offset_line, received_by}
-use Rattle.gptp_timeline.specs.Shown.{is_expecting, live_system, same_choice, same_roles, shown}
+use Rattle.gptp_timeline.specs.Receipts.{is_follow_up, offset_error, offset_line, received_by}
+use Rattle.gptp_timeline.specs.Shown.{is_expecting, live_system, same_choice, same_roles}
 use Rattle.gptp_timeline.specs.Stretch.{same_known}
 use Rattle.gptp_timeline.specs.TimeWatch.{TimeState, times_after, times_begun, times_lines}
 use Rattle.gptp_timeline.specs.declared.measures.Greatest.{Greatest}
@@ -28,11 +29,6 @@ use Rattle.gptp_timeline.specs.declared.watched.Watched.{Watched}
 
 abbrev pub since_behind : ActView → Watched → Option Shown → Option ℕ
 since_behind look x after = since_after look.at look.received (is_expecting x.shown) (is_expecting after) x.since
-
--- an act that leaves a system as it is neither begins nor ends a wait of it: none is received, and it goes on to expect
--- time where it waits
-abbrev pub leaves_wait : ActView → Watched → Bool
-leaves_wait look x = not look.received && (is_none x.since || is_expecting x.shown)
 
 abbrev pub wait_behind : ActView → Watched → Option Shown → Option Greatest
 wait_behind look x after =
@@ -49,11 +45,6 @@ measures_after look x after m = record {
 
 abbrev pub watched_after : ActView → Option Shown → Watched → Watched
 watched_after look after x = record x { shown = after; since = since_behind look x after }
-
--- an act leaves all that is kept of it as it was
-pub record StaysSo (look : ActView) (w : WorldState) (x : Watched) : Type 0 where
-  pub shown_so : shown x.clock w ≡ x.shown
-  pub waits_so : leaves_wait look x ≡ true
 
 -- the greater of two amounts, where the second counts
 abbrev pub greater : Option ℕ → ℕ → Option ℕ
@@ -107,17 +98,21 @@ taken look place x after o = record o {
   measures = measures_after look x after o.measures;
 }
 
+-- what an act left of a system
+abbrev pub left_at : ActView → WorldState → Watched → Option Shown
+left_at look w x = left_by look.known_alone (live_system x.clock w) x.shown
+
 -- the system at a place is looked at, if there is one
 abbrev pub see_one : ActView → WorldState → ℕ → Option Watched → WatchState → WatchState
 see_one look w place None o = o
-see_one look w place (Some x) o = taken look place x (shown x.clock w) o
+see_one look w place (Some x) o = taken look place x (left_at look w x) o
 
 abbrev pub see_at : ActView → WorldState → ℕ → WatchState → WatchState
 see_at look w place o = see_one look w place (slice_get o.systems place) o
 
 abbrev pub one_lines : ActView → WorldState → Option Watched → List (List ℕ)
 one_lines look w None = []
-one_lines look w (Some x) = change_lines look.at x.clock x.shown (shown x.clock w)
+one_lines look w (Some x) = change_lines look.at x.clock x.shown (left_at look w x)
 
 abbrev pub lines_at : ActView → WorldState → ℕ → WatchState → List (List ℕ)
 lines_at look w place o = unless o.summary (one_lines look w (slice_get o.systems place))
@@ -137,7 +132,7 @@ places_of o = range_with_len 0 (length o.systems)
 -- ---- an event
 
 abbrev pub event_look : ℕ → ActView
-event_look at = record { at = at; by_event = true; received = false }
+event_look at = record { at = at; by_event = true; received = false; known_alone = false }
 
 abbrev pub see_all : ActView → WorldState → WatchState → WatchState
 see_all look w o = see_each look w (places_of o) o
@@ -147,8 +142,9 @@ lines_all look w o = lines_each look w (places_of o) o
 
 -- ---- a delivery or an expiry
 
-abbrev pub own_look : ℕ → Bool → ActView
-own_look at received = record { at = at; by_event = false; received = received }
+abbrev pub own_look : ℕ → Bool → Bool → ActView
+own_look at received known_alone =
+    record { at = at; by_event = false; received = received; known_alone = known_alone }
 
 -- the receipt of the system at a place, with its error, is measured
 abbrev pub counts_from : Option ℕ → ℕ → Bool
@@ -199,42 +195,42 @@ abbrev pub place_of : ℕ → WatchState → Option ℕ
 place_of clock o = place_from clock 0 o.systems
 
 -- the system with a clock is looked at, and its receipt
-abbrev pub see_placed : ℕ → WorldState → ℕ → Bool → Option ℕ → WatchState → WatchState
-see_placed at w clock received None o = o
-see_placed at w clock received (Some place) o =
-    see_receipt_if received at w clock place (see_at (own_look at received) w place o)
+abbrev pub see_placed : ℕ → WorldState → ℕ → Bool → Bool → Option ℕ → WatchState → WatchState
+see_placed at w clock received known_alone None o = o
+see_placed at w clock received known_alone (Some place) o =
+    see_receipt_if received at w clock place (see_at (own_look at received known_alone) w place o)
 
-abbrev pub placed_lines : ℕ → WorldState → ℕ → Bool → Option ℕ → WatchState → List (List ℕ)
-placed_lines at w clock received None o = []
-placed_lines at w clock received (Some place) o =
-    lines_at (own_look at received) w place o ++ receipt_lines_if received at w clock o
+abbrev pub placed_lines : ℕ → WorldState → ℕ → Bool → Bool → Option ℕ → WatchState → List (List ℕ)
+placed_lines at w clock received known_alone None o = []
+placed_lines at w clock received known_alone (Some place) o =
+    lines_at (own_look at received known_alone) w place o ++ receipt_lines_if received at w clock o
 
-abbrev pub see_system : ℕ → WorldState → ℕ → Bool → WatchState → WatchState
-see_system at w clock received o = see_placed at w clock received (place_of clock o) o
+abbrev pub see_system : ℕ → WorldState → ℕ → Bool → Bool → WatchState → WatchState
+see_system at w clock received known_alone o = see_placed at w clock received known_alone (place_of clock o) o
 
-abbrev pub watched_lines : ℕ → WorldState → ℕ → Bool → WatchState → List (List ℕ)
-watched_lines at w clock received o = placed_lines at w clock received (place_of clock o) o
+abbrev pub watched_lines : ℕ → WorldState → ℕ → Bool → Bool → WatchState → List (List ℕ)
+watched_lines at w clock received known_alone o = placed_lines at w clock received known_alone (place_of clock o) o
 
 -- ---- an act
 
 abbrev pub see_delivery : ℕ → WorldState → Done → WatchState → WatchState
 see_delivery at w Quiet o = o
 see_delivery at w (Heard clock port answer frame) o =
-    see_system at w clock (is_some (received_by (Heard clock port answer frame))) o
+    see_system at w clock (is_some (received_by (Heard clock port answer frame))) (is_follow_up frame.items) o
 
 abbrev pub delivery_lines : ℕ → WorldState → Done → WatchState → List (List ℕ)
 delivery_lines at w Quiet o = []
 delivery_lines at w (Heard clock port answer frame) o =
-    watched_lines at w clock (is_some (received_by (Heard clock port answer frame))) o
+    watched_lines at w clock (is_some (received_by (Heard clock port answer frame))) (is_follow_up frame.items) o
 
 abbrev pub see_act : ℕ → Act → Done → WorldState → WatchState → WatchState
 see_act at (Deliver link direction) done w o = see_delivery at w done o
-see_act at (Expire clock timer) done w o = see_system at w clock false o
+see_act at (Expire clock timer) done w o = see_system at w clock false false o
 see_act at (Changing change) done w o = see_all (event_look at) w o
 
 abbrev pub seen_lines : ℕ → Act → Done → WorldState → WatchState → List (List ℕ)
 seen_lines at (Deliver link direction) done w o = delivery_lines at w done o
-seen_lines at (Expire clock timer) done w o = watched_lines at w clock false o
+seen_lines at (Expire clock timer) done w o = watched_lines at w clock false false o
 seen_lines at (Changing change) done w o =
     unless o.summary (event_line at change ∷ []) ++ lines_all (event_look at) w o
 
@@ -246,13 +242,25 @@ abbrev pub times_lines_if : ℕ → Act → Done → WorldState → Option TimeS
 times_lines_if at act done w None = []
 times_lines_if at act done w (Some times) = times_lines at act done w times
 
--- what the observer keeps and tells of an act
-abbrev pub tells_changes : Told → WorldState → WatchState → WatchState → List (List ℕ) → Type 0
-tells_changes told w o o_after lines =
+-- it is looked at what an act left
+abbrev pub TellsSeen : Told → WorldState → WatchState → WatchState → List (List ℕ) → Type 0
+TellsSeen told w o o_after lines =
     (o_after ≡ see_times told.timed.at told.timed.act told.done w
     (see_act told.timed.at told.timed.act told.done w o))
     × (lines ≡ seen_lines told.timed.at told.timed.act told.done w o
     ++ times_lines_if told.timed.at told.timed.act told.done w o.times)
+
+-- it isn't, where the act leaves all that is shown as it was, and there is no account
+pub record PassesOver (act : Act) (done : Done) (o : WatchState) : Type 0 where
+  pub leaves : LeavesAll act done
+  pub untimed : o.times ≡ None
+
+abbrev pub TellsNone : Told → WatchState → WatchState → List (List ℕ) → Type 0
+TellsNone told o o_after lines = PassesOver told.timed.act told.done o × (o_after ≡ o) × (lines ≡ [])
+
+-- what the observer keeps and tells of an act
+abbrev pub tells_changes : Told → WorldState → WatchState → WatchState → List (List ℕ) → Type 0
+tells_changes told w o o_after lines = TellsSeen told w o o_after lines ⊎ TellsNone told o o_after lines
 
 -- clocks rise
 abbrev pub WatchedRise : List Watched → Type 0

@@ -17,6 +17,7 @@ mod event_line;
 mod exact_reads;
 mod extremes;
 mod laws;
+mod leaving;
 mod limits;
 mod looks;
 mod measures;

@@ -15,7 +15,7 @@ use gptp_world::World;
 use std::alloc::AllocError;
 
 /// Whether a frame is a Follow_Up, by its messageType.
-fn is_follow_up(frame: &[u8]) -> bool
+pub(crate) fn is_follow_up(frame: &[u8]) -> bool
     ensures { result ≡ is_follow_up frame.now }
 {
     match frame.first() {

@@ -1,9 +1,11 @@
 //! What is shown of a system.
 
-ghost use Rattle.std.specs.Prelude.{◌≡◌, ◌≤◌, true, length};
+ghost use Rattle.std.specs.Prelude.{◌≡◌, ◌≤◌, true, false, Some, is_some, length};
+ghost use Rattle.gptp_timeline.specs.Ports.{same_bool};
+ghost use Rattle.gptp_timeline.specs.Leaving.{left_by};
 ghost use Rattle.gptp_timeline.specs.Shown.{is_expecting, is_known, same_choice, same_roles, same_slave, same_way, shown_of};
 
-use crate::ports::{Ports, ports_of, same_ports, show_ports};
+use crate::ports::{Ports, ports_of, same_bool, same_ports, show_ports};
 use gptp_system::System;
 use gptp_vector::Identity;
 
@@ -56,7 +58,7 @@ fn same_way(a: &Shown, b: &Shown) -> bool
 }
 
 /// Whether a live system shows this.
-pub(crate) fn shows(system: &System, shown: &Shown) -> bool
+fn shows(system: &System, shown: &Shown) -> bool
     requires { length system.now.ports ≤ 16 }
     ensures { result ≡ true → shown_of system.now ≡ shown.now }
 {
@@ -66,6 +68,27 @@ pub(crate) fn shows(system: &System, shown: &Shown) -> bool
         && same_slave(slave, shown.slave)
         && system.offset().is_some() == shown.known
         && show_ports(system, shown.ports.as_slice())
+}
+
+/// Whether the offset of a system is known as before.
+fn shows_known(system: &System, shown: &Shown) -> bool
+    ensures { result ≡ same_bool (is_some system.now.offset) shown.now.known }
+{
+    same_bool(system.offset().is_some(), shown.known)
+}
+
+/// Whether an act that can leave nothing of a live system another but whether its offset is known, or any other act,
+/// left what is shown of it as it was.
+pub(crate) fn shows_left(known_alone: bool, system: &System, shown: &Shown) -> bool
+    requires { length system.now.ports ≤ 16 }
+    ensures same { result ≡ true → left_by known_alone (Some system.now) (Some shown.now) ≡ Some shown.now }
+    ensures other { result ≡ false
+        → left_by known_alone (Some system.now) (Some shown.now) ≡ Some (shown_of system.now) }
+{
+    match known_alone {
+        true => shows_known(system, shown),
+        false => shows(system, shown),
+    }
 }
 
 /// Whether a system is as before as to whether it lives, root, steps and Slave port.

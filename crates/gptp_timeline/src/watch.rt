@@ -4,28 +4,31 @@ ghost use Rattle.std.specs.Prelude.{◌≡◌, ◌≤◌, ◌<◌, ◌+◌, ◌+
 ghost use Rattle.gptp_model.specs.Views.{rising_clocks};
 ghost use Rattle.gptp_words.specs.Lines.{text_of};
 ghost use Rattle.gptp_timeline.specs.Measures.{one_at};
-ghost use Rattle.gptp_timeline.specs.Shown.{live_system, shown};
 ghost use Rattle.gptp_timeline.specs.TimeWatch.{times_after, times_begun};
-ghost use Rattle.gptp_timeline.specs.Watch.{counts_from, receipt_lines_of, times_lines_if, unseen, without_error};
+ghost use Rattle.gptp_timeline.specs.Watch.{counts_from, times_lines_if, unseen, without_error};
 
 use crate::changes::write_changes;
 use crate::event_line::write_event;
+use crate::leaving::leaves_all;
 use crate::measures::{Greatest, Measures, NOTHING, better_if};
-use crate::receipts::{error_of, received_by, write_offset};
-use crate::shown::{Shown, shown_of, shows};
+use crate::receipts::{error_of, is_follow_up, received_by, write_offset};
+use crate::shown::{Shown, shown_of, shows_left};
 use crate::time_watch::TimeWatch;
-use crate::watched::{ActView, Watched, error_after, leaves_wait, measures_after, since_behind};
+use crate::watched::{ActView, Watched, error_after, measures_after, since_behind, wait_behind};
 use gptp_links::Fate;
 use gptp_report::sink::Sink;
 use gptp_report::{Cut, Observer, write_whole};
+use gptp_scaled::ScaledNs;
 use gptp_scenario::Change;
+use gptp_system::System;
 use gptp_vector::ClockId;
 use gptp_world::{Act, Done, Timed, World};
 use std::alloc::{AllocError, Global};
 use std::marker::Model;
 
 /// An observer that writes a line for each event, for each system and port that an act left another, and for each
-/// receipt of time, where they are asked for, and measures what became of a stretch. It is seen as what it keeps.
+/// receipt of time, where they are asked for, and measures what became of a stretch. It passes over acts that leave all
+/// that is shown as it was. It is seen as what it keeps.
 #[derive(Drop)]
 pub(crate) struct Watch {
     // Whether events and changes are left out.
@@ -59,29 +62,6 @@ impl Model for Watch {
     } };
 
     ghost invariant = { λ w. WatchedRise w.systems.items };
-}
-
-/// What the system with a clock shows, where it is live.
-fn shown_in<F: Fate + Drop>(world: &World<F>, clock: ClockId) -> Option<Shown>
-    ensures { result ≡ shown clock world.now.world_core }
-{
-    world.well_formed();
-    match world.system(clock) {
-        Some(system) => Some(shown_of(system)),
-        None => None,
-    }
-}
-
-/// Whether the system with a clock shows this, or doesn't live as nothing is shown.
-fn shows_in<F: Fate + Drop>(world: &World<F>, clock: ClockId, last: &Option<Shown>) -> bool
-    ensures { result ≡ true → shown clock world.now.world_core ≡ last.now }
-{
-    world.well_formed();
-    match (world.system(clock), last) {
-        (Some(system), Some(last)) => shows(system, last),
-        (None, None) => true,
-        _ => false,
-    }
 }
 
 /// What is kept of a system that hasn't started.
@@ -195,12 +175,15 @@ fn see_times<F: Fate + Drop>(
 }
 
 impl Watch {
-    ghost use Rattle.std.specs.Prelude.{◌≡◌, ◌≤◌, ◌<◌, ◌++◌, ◌∷◌, [], None, false, true, IfOk, IfSome, OnOk, length, map, slice_get, Some, string_bytes};
+    ghost use Rattle.std.specs.Prelude.{◌≡◌, ◌≤◌, ◌<◌, ◌++◌, ◌∷◌, [], None, false, true, not, if◌then◌else◌, IfOk, IfSome, OnOk, length, map, slice_get, Some, string_bytes};
     ghost use Rattle.gptp_model.specs.Views.{rising_clocks};
     ghost use Rattle.gptp_words.specs.Lines.{text_of};
     ghost use Rattle.gptp_timeline.specs.Changes.{change_lines};
     ghost use Rattle.gptp_timeline.specs.EventLine.{event_line};
-    ghost use Rattle.gptp_timeline.specs.Watch.{WatchedRise, StaysSo, watch_begun, delivery_lines, event_look, lines_all, lines_at, nothing, place_of, placed_lines, receipt_lines, receipt_lines_if, see_act, see_all, see_at, see_delivery, see_placed, see_receipt, see_receipt_if, see_system, see_times, seen_lines, times_lines_if, watched_lines, take_error, taken, unless, unseen};
+    ghost use Rattle.gptp_timeline.specs.Receipts.{offset_line};
+    ghost use Rattle.gptp_timeline.specs.Leaving.{left_by};
+    ghost use Rattle.gptp_timeline.specs.Shown.{shown_of};
+    ghost use Rattle.gptp_timeline.specs.Watch.{WatchedRise, watch_begun, delivery_lines, event_look, lines_all, lines_at, nothing, PassesOver, place_of, placed_lines, receipt_lines_of, see_act, see_all, see_at, see_delivery, see_placed, see_receipt_of, see_system, see_times, seen_lines, times_lines_if, watched_lines, take_error, taken, unless, unseen};
     ghost use Rattle.gptp_timeline.specs.declared.watched.Watched.{Watched};
 
     /// An observer of a world whose systems start, before it has seen that.
@@ -264,6 +247,16 @@ impl Watch {
         &self.times
     }
 
+    /// Whether an act is passed over: it leaves all that is shown as it was, and there is no account.
+    fn passes_over(&self, act: &Act, done: &Done) -> bool
+        ensures { result ≡ true → PassesOver act.now done.now self.now }
+    {
+        match self.times {
+            Some(_) => false,
+            None => leaves_all(act, done),
+        }
+    }
+
     /// Sees what an act does to what systems read.
     fn see_times<F: Fate + Drop>(
         &mut self,
@@ -291,10 +284,19 @@ impl Watch {
     fn place_of(&self, clock: ClockId) -> Option<usize>
         ensures is { result ≡ place_of clock self.now }
         ensures within { IfSome result (λ place. place < length self.now.systems) }
+        ensures named { IfSome result (λ place. (x : Watched) → slice_get self.now.systems place ≡ Some x → x.clock ≡ clock) }
     {
         self.systems
             .binary_search_by_key(&clock, |system| system.clock)
             .ok()
+    }
+
+    /// The clock of the system at a place.
+    fn clock_at(&self, place: usize) -> ClockId
+        requires { place < length self.now.systems }
+        ensures { (x : Watched) → slice_get self.now.systems place ≡ Some x → result ≡ x.clock }
+    {
+        self.systems[place].clock
     }
 
     /// Appends the lines of a system that is left as `after`, where they are asked for.
@@ -335,32 +337,73 @@ impl Watch {
         };
     }
 
-    /// Whether an act leaves all that is kept of the system at a place as it was.
-    fn stays_at<F: Fate + Drop>(&self, world: &World<F>, look: ActView, place: usize) -> bool
-        requires { place < length self.now.systems }
-        ensures { result ≡ true → (x : Watched) → slice_get self.now.systems place ≡ Some x → StaysSo look world.now.world_core x }
+    /// An act left what is shown of the system at a place as it was.
+    fn take_same(&mut self, look: ActView, place: usize)
+        requires { place < length self.old.systems }
+        ensures { (x : Watched) → slice_get self.old.systems place ≡ Some x → self.new ≡ taken look place x x.shown self.old }
     {
         let system = &self.systems[place];
-        leaves_wait(look, system) && shows_in(world, system.clock, &system.shown)
+        let wait = wait_behind(look, system, &system.shown);
+        let since = since_behind(look, system, &system.shown);
+        self.measures.holdover = better_if(self.measures.holdover, wait);
+        self.systems[place].since = since;
     }
 
-    /// Takes up what an act leaves of the system at a place.
-    fn see_anew<F: Fate + Drop>(
+    /// Whether a live system shows what was last shown of the system at a place.
+    fn shows_at(&self, known_alone: bool, place: usize, system: &System) -> bool
+        requires place { place < length self.now.systems }
+        requires few { length system.now.ports ≤ 16 }
+        ensures same { result ≡ true → (x : Watched) → slice_get self.now.systems place ≡ Some x
+            → left_by known_alone (Some system.now) x.shown ≡ x.shown }
+        ensures other { result ≡ false → (x : Watched) → slice_get self.now.systems place ≡ Some x
+            → left_by known_alone (Some system.now) x.shown ≡ Some (shown_of system.now) }
+    {
+        match &self.systems[place].shown {
+            Some(last) => shows_left(known_alone, system, last),
+            None => false,
+        }
+    }
+
+    /// The system at a place is left as `after` by an act.
+    fn see_left(
         &mut self,
         text: &mut String,
-        world: &World<F>,
         look: ActView,
         place: usize,
+        after: Option<Shown>,
     ) -> Result<(), AllocError>
         requires { place < length self.old.systems }
-        ensures sees { OnOk result (self.new ≡ see_at look world.now.world_core place self.old) }
-        ensures tells { OnOk result (string_bytes text.new
-            ≡ string_bytes text.old ++ text_of (lines_at look world.now.world_core place self.old)) }
+        ensures sees { OnOk result ((x : Watched) → slice_get self.old.systems place ≡ Some x
+            → self.new ≡ taken look place x after self.old) }
+        ensures tells { OnOk result ((x : Watched) → slice_get self.old.systems place ≡ Some x → string_bytes text.new
+            ≡ string_bytes text.old ++ text_of (unless self.old.summary (change_lines look.at x.clock x.shown after))) }
     {
-        let after = shown_in(world, self.systems[place].clock);
         self.write_changes_at(text, look.at, place, &after)?;
         self.take(look, place, after);
         Ok(())
+    }
+
+    /// The system at a place is live after an act.
+    fn see_live(
+        &mut self,
+        text: &mut String,
+        look: ActView,
+        place: usize,
+        system: &System,
+    ) -> Result<(), AllocError>
+        requires place { place < length self.old.systems }
+        requires few { length system.now.ports ≤ 16 }
+        ensures sees { OnOk result ((x : Watched) → slice_get self.old.systems place ≡ Some x
+            → self.new ≡ taken look place x (left_by look.known_alone (Some system.now) x.shown) self.old) }
+        ensures tells { OnOk result ((x : Watched) → slice_get self.old.systems place ≡ Some x → string_bytes text.new
+            ≡ string_bytes text.old ++ text_of (unless self.old.summary
+            (change_lines look.at x.clock x.shown (left_by look.known_alone (Some system.now) x.shown)))) }
+    {
+        if self.shows_at(look.known_alone, place, system) {
+            self.take_same(look, place);
+            return Ok(());
+        }
+        self.see_left(text, look, place, Some(shown_of(system)))
     }
 
     /// Looks at the system at a place after an act.
@@ -376,9 +419,10 @@ impl Watch {
         ensures tells { OnOk result (string_bytes text.new
             ≡ string_bytes text.old ++ text_of (lines_at look world.now.world_core place self.old)) }
     {
-        match self.stays_at(world, look, place) {
-            true => Ok(()),
-            false => self.see_anew(text, world, look, place),
+        world.well_formed();
+        match world.system(self.clock_at(place)) {
+            Some(system) => self.see_live(text, look, place, system),
+            None => self.see_left(text, look, place, None),
         }
     }
 
@@ -413,6 +457,7 @@ impl Watch {
             at: 0,
             by_event: true,
             received: false,
+            known_alone: false,
         };
         self.see_all(text, world, look)
     }
@@ -446,6 +491,7 @@ impl Watch {
             at,
             by_event: true,
             received: false,
+            known_alone: false,
         };
         self.see_all(text, world, look)
     }
@@ -462,44 +508,25 @@ impl Watch {
         self.systems[place].error = error_after(counts, most, amount_of(error));
     }
 
-    /// Appends the line of the receipt of a system, where it is asked for.
-    fn write_offset_if<F: Fate + Drop>(
+    /// Appends the line of a receipt with that offset and error, where it is asked for.
+    fn write_offset_if(
         &self,
         text: &mut String,
-        world: &World<F>,
         at: u64,
         clock: ClockId,
+        offset: Option<ScaledNs>,
+        error: Option<i128>,
     ) -> Result<(), AllocError>
-        requires { at ≤ 1000000000000000 }
         ensures { OnOk result (string_bytes text.new
-            ≡ string_bytes text.old ++ text_of (receipt_lines at world.now.world_core clock self.now)) }
+            ≡ string_bytes text.old ++ text_of (unless (not self.now.offsets) (offset_line at clock offset error ∷ []))) }
     {
         match self.offsets {
-            true => write_receipt(text, world, at, clock),
+            true => write_offset(text, at, clock, offset, error),
             false => Ok(()),
         }
     }
 
-    /// The receipt of the system at a place is measured.
-    fn measure_receipt<F: Fate + Drop>(
-        &mut self,
-        world: &World<F>,
-        at: u64,
-        clock: ClockId,
-        place: usize,
-    )
-        requires moment { at ≤ 1000000000000000 }
-        requires place { place < length self.old.systems }
-        ensures { self.new ≡ see_receipt at world.now.world_core clock place self.old }
-    {
-        world.well_formed();
-        if let Some(system) = world.system(clock) {
-            let error = error_of(at, system, world);
-            self.take_error(at, place, error);
-        }
-    }
-
-    /// Sees the receipt of time of the system at a place.
+    /// Sees the receipt of time of a live system, which is that at a place.
     fn see_receipt<F: Fate + Drop>(
         &mut self,
         text: &mut String,
@@ -507,19 +534,22 @@ impl Watch {
         at: u64,
         clock: ClockId,
         place: usize,
+        system: &System,
     ) -> Result<(), AllocError>
         requires moment { at ≤ 1000000000000000 }
         requires place { place < length self.old.systems }
-        ensures sees { OnOk result (self.new ≡ see_receipt at world.now.world_core clock place self.old) }
+        ensures sees { OnOk result (self.new ≡ see_receipt_of at world.now.world_core place (Some system.now) self.old) }
         ensures tells { OnOk result (string_bytes text.new
-            ≡ string_bytes text.old ++ text_of (receipt_lines at world.now.world_core clock self.old)) }
+            ≡ string_bytes text.old ++ text_of (unless (not self.old.offsets)
+            (receipt_lines_of at world.now.world_core clock (Some system.now)))) }
     {
-        self.write_offset_if(text, world, at, clock)?;
-        self.measure_receipt(world, at, clock, place);
+        let error = error_of(at, system, world);
+        self.write_offset_if(text, at, clock, system.offset(), error)?;
+        self.take_error(at, place, error);
         Ok(())
     }
 
-    /// Sees the receipt of time of the system at a place, where time was received.
+    /// Sees the receipt of time of a live system, which is that at a place, where time was received.
     fn see_receipt_if<F: Fate + Drop>(
         &mut self,
         text: &mut String,
@@ -528,20 +558,23 @@ impl Watch {
         at: u64,
         clock: ClockId,
         place: usize,
+        system: &System,
     ) -> Result<(), AllocError>
         requires moment { at ≤ 1000000000000000 }
         requires place { place < length self.old.systems }
-        ensures sees { OnOk result (self.new ≡ see_receipt_if received at world.now.world_core clock place self.old) }
+        ensures sees { OnOk result (self.new
+            ≡ (if received then see_receipt_of at world.now.world_core place (Some system.now) self.old else self.old)) }
         ensures tells { OnOk result (string_bytes text.new
-            ≡ string_bytes text.old ++ text_of (receipt_lines_if received at world.now.world_core clock self.old)) }
+            ≡ string_bytes text.old ++ text_of (if received then
+            unless (not self.old.offsets) (receipt_lines_of at world.now.world_core clock (Some system.now)) else [])) }
     {
         match received {
-            true => self.see_receipt(text, world, at, clock, place),
+            true => self.see_receipt(text, world, at, clock, place, system),
             false => Ok(()),
         }
     }
 
-    /// Sees a delivery or an expiry at the system at a place.
+    /// Sees a delivery or an expiry at the system with a clock, which is that at a place.
     fn see_placed<F: Fate + Drop>(
         &mut self,
         text: &mut String,
@@ -549,21 +582,30 @@ impl Watch {
         at: u64,
         clock: ClockId,
         received: bool,
+        known_alone: bool,
         place: usize,
     ) -> Result<(), AllocError>
         requires moment { at ≤ 1000000000000000 }
         requires place { place < length self.old.systems }
-        ensures sees { OnOk result (self.new ≡ see_placed at world.now.world_core clock received (Some place) self.old) }
+        requires named { (x : Watched) → slice_get self.old.systems place ≡ Some x → x.clock ≡ clock }
+        ensures sees { OnOk result (self.new ≡ see_placed at world.now.world_core clock received known_alone (Some place) self.old) }
         ensures tells { OnOk result (string_bytes text.new
-            ≡ string_bytes text.old ++ text_of (placed_lines at world.now.world_core clock received (Some place) self.old)) }
+            ≡ string_bytes text.old ++ text_of (placed_lines at world.now.world_core clock received known_alone (Some place) self.old)) }
     {
         let look = ActView {
             at,
             by_event: false,
             received,
+            known_alone,
         };
-        self.see_at(text, world, look, place)?;
-        self.see_receipt_if(text, world, received, at, clock, place)
+        world.well_formed();
+        match world.system(clock) {
+            Some(system) => {
+                self.see_live(text, look, place, system)?;
+                self.see_receipt_if(text, world, received, at, clock, place, system)
+            }
+            None => self.see_left(text, look, place, None),
+        }
     }
 
     /// Sees a delivery or an expiry at the system with a clock, by which it received time or didn't.
@@ -574,14 +616,15 @@ impl Watch {
         at: u64,
         clock: ClockId,
         received: bool,
+        known_alone: bool,
     ) -> Result<(), AllocError>
         requires { at ≤ 1000000000000000 }
-        ensures sees { OnOk result (self.new ≡ see_system at world.now.world_core clock received self.old) }
+        ensures sees { OnOk result (self.new ≡ see_system at world.now.world_core clock received known_alone self.old) }
         ensures tells { OnOk result (string_bytes text.new
-            ≡ string_bytes text.old ++ text_of (watched_lines at world.now.world_core clock received self.old)) }
+            ≡ string_bytes text.old ++ text_of (watched_lines at world.now.world_core clock received known_alone self.old)) }
     {
         match self.place_of(clock) {
-            Some(place) => self.see_placed(text, world, at, clock, received, place),
+            Some(place) => self.see_placed(text, world, at, clock, received, known_alone, place),
             None => Ok(()),
         }
     }
@@ -602,7 +645,10 @@ impl Watch {
         let received = received_by(done).is_some();
         match done {
             Done::Quiet => Ok(()),
-            Done::Heard { clock, .. } => self.see_system(text, world, at, *clock, received),
+            Done::Heard { clock, frame, .. } => {
+                let known_alone = is_follow_up(frame.as_slice());
+                self.see_system(text, world, at, *clock, received, known_alone)
+            }
         }
     }
 
@@ -622,34 +668,10 @@ impl Watch {
         match &timed.act {
             Act::Change(change) => self.see_event(text, world, timed.at, change),
             Act::Expire { clock, timer: _ } => {
-                self.see_system(text, world, timed.at, *clock, false)
+                self.see_system(text, world, timed.at, *clock, false, false)
             }
             Act::Deliver { .. } => self.see_delivery(text, world, timed.at, done),
         }
-    }
-}
-
-/// Appends the line of the receipt of a system, where it is live.
-fn write_receipt<F: Fate + Drop>(
-    text: &mut String,
-    world: &World<F>,
-    at: u64,
-    clock: ClockId,
-) -> Result<(), AllocError>
-    requires { at ≤ 1000000000000000 }
-    ensures { OnOk result (string_bytes text.new
-        ≡ string_bytes text.old ++ text_of (receipt_lines_of at world.now.world_core clock (live_system clock world.now.world_core))) }
-{
-    world.well_formed();
-    match world.system(clock) {
-        Some(system) => write_offset(
-            text,
-            at,
-            clock,
-            system.offset(),
-            error_of(at, system, world),
-        ),
-        None => Ok(()),
     }
 }
 
@@ -666,6 +688,9 @@ impl Observer for Watch {
         done: &Done,
         sink: &mut K,
     ) -> Result<(), Cut> {
+        if self.passes_over(&timed.act, done) {
+            return Ok(());
+        }
         let mut text = String::new(alloc);
         self.see(&mut text, world, timed, done)?;
         self.see_times(&mut text, world, timed, done)?;

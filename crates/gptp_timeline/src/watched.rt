@@ -1,7 +1,7 @@
 //! What is kept of each system while a document runs.
 
 ghost use Rattle.std.specs.Prelude.{◌≡◌};
-ghost use Rattle.gptp_timeline.specs.Watch.{error_after, measures_after, since_behind, wait_behind, leaves_wait};
+ghost use Rattle.gptp_timeline.specs.Watch.{error_after, measures_after, since_behind, wait_behind};
 
 use crate::measures::{Greatest, Measures, better_if, ended_by, last_if, since_after};
 use crate::ports::same_bool;
@@ -17,6 +17,8 @@ pub(crate) struct ActView {
     pub by_event: bool,
     /// Whether the system received time by it.
     pub received: bool,
+    /// Whether it can have left nothing of the system another but whether its offset is known.
+    pub known_alone: bool,
 }
 
 /// What is kept of a system.
@@ -33,13 +35,6 @@ pub(crate) struct Watched {
     pub error: Option<u128>,
 }
 
-/// Whether an act that leaves a system as it is neither begins nor ends a wait of it.
-pub(crate) fn leaves_wait(look: ActView, system: &Watched) -> bool
-    ensures { result ≡ leaves_wait look system.now }
-{
-    !look.received && (system.since.is_none() || is_expecting(&system.shown))
-}
-
 /// When the wait under way of a system began, after an act that left it as `after`.
 pub(crate) fn since_behind(look: ActView, system: &Watched, after: &Option<Shown>) -> Option<u64>
     ensures { result ≡ since_behind look system.now after.now }
@@ -54,7 +49,11 @@ pub(crate) fn since_behind(look: ActView, system: &Watched, after: &Option<Shown
 }
 
 /// The wait of a system that an act ended which left it as `after`, if it ended one that counts.
-fn wait_behind(look: ActView, system: &Watched, after: &Option<Shown>) -> Option<Greatest>
+pub(crate) fn wait_behind(
+    look: ActView,
+    system: &Watched,
+    after: &Option<Shown>,
+) -> Option<Greatest>
     ensures { result ≡ wait_behind look system.now after.now }
 {
     match ended_by(
