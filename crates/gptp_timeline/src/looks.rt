@@ -238,7 +238,11 @@ pub(crate) fn look_at_new<F: Fate + Drop>(
     ensures { result ≡ measured_with (looked_new at world.now.world_core new.now before after) measures }
 {
     let first = with_look(measures, new.clock, error_before(world, at, new));
-    let second = with_look(first, new.clock, reading_error(world, at, new.clock, &new.after));
+    let second = with_look(
+        first,
+        new.clock,
+        reading_error(world, at, new.clock, &new.after),
+    );
     let third = with_difference(second, before);
     let fourth = with_difference(third, after);
     with_step(fourth, step_in(world, at, new), change_of(new, at))

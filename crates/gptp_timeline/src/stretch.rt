@@ -14,8 +14,8 @@ ghost use Rattle.gptp_timeline.specs.StretchText.{accuracy_line, after_line, beh
 use crate::amounts::{Near, NearOrNone, Up};
 use crate::counts::{Counts, counts_of};
 use crate::limits::Limit;
-use crate::measures::{Greatest, Measures, better_if};
 use crate::looks::TimeMeasures;
+use crate::measures::{Greatest, Measures, better_if};
 use crate::time_lines::write_reads;
 use crate::time_watch::TimeWatch;
 use crate::watched::Watched;

@@ -9,9 +9,7 @@ ghost use Rattle.gptp_timeline.specs.Stretch.{is_change};
 use crate::exact_reads::{
     ExactReads, SystemReads, amount_of, clear_reads, reads_among, reads_ended, take_reads,
 };
-use crate::looks::{
-    NOTHING_READ, TimeMeasures, error_by, look_at_all, look_at_new, told_if,
-};
+use crate::looks::{NOTHING_READ, TimeMeasures, error_by, look_at_all, look_at_new, told_if};
 use crate::readings::{
     NewReading, SystemReading, changes_source, failed_by, new_reading, put_reading, reading_among,
     reading_error,

@@ -260,11 +260,7 @@ fn asks_lines(times: &Option<TimeWatch>) -> bool
 }
 
 /// Appends the line of what systems read, where it is asked for.
-fn write_times_if(
-    text: &mut String,
-    asked: bool,
-    stretch: &Stretch,
-) -> Result<(), AllocError>
+fn write_times_if(text: &mut String, asked: bool, stretch: &Stretch) -> Result<(), AllocError>
     ensures { OnOk result (string_bytes text.new
         ≡ string_bytes text.old ++ text_of (line_of_times asked stretch.now stretch.now.times)) }
 {

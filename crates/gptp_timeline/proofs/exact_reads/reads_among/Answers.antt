@@ -9,7 +9,6 @@ use Rattle.gptp_timeline.specs.declared.exact_reads.SystemReads.{SystemReads}
 use Rattle.gptp_timeline.proofs.PutLemmas.{among, among_at, none_among, stands_at, stands_nowhere}
 use Rattle.gptp_timeline.proofs.exact_reads.reads_among.Goals as goal
 
-
 -- the same by one recursion and another
 same : (name : ℕ) (xs : List SystemReads) → reads_among xs name ≡ among (λ (x : SystemReads). x.clock) name (λ (x : SystemReads). x.reads) xs
 same name [] = refl

@@ -9,7 +9,6 @@ use Rattle.gptp_timeline.specs.declared.readings.SystemReading.{SystemReading}
 use Rattle.gptp_timeline.proofs.PutLemmas.{among, among_at, none_among, stands_at, stands_nowhere}
 use Rattle.gptp_timeline.proofs.readings.reading_among.Goals as goal
 
-
 -- the same by one recursion and another
 same : (name : ℕ) (xs : List SystemReading) → reading_among xs name ≡ among (λ (x : SystemReading). x.clock) name (λ (x : SystemReading). x.reading) xs
 same name [] = refl
