@@ -69,8 +69,12 @@ ends_once {F} answers once d until fate two other names is k l =
     let same = all_pass_once answers once false d names until 0 events l.started k.fate_after l.fate_after l.start
     k.after l.after k.passages l.passages (begun_named answers d.network fate l.started l.start is l.begun) pass
     l.pass in
-    k.are ∙ ap (λ (w : WorldState). last_two (ends_in (rising_clocks w) (none_carried false (rising_clocks w)) k.passages)) starts
-    ∙ ap last_two (same_ends (rising_clocks l.start) (none_carried false (rising_clocks l.start)) k.passages l.passages same) ∙ sym l.are
+    k.are
+    ∙ ap (λ (w : WorldState). last_two (ends_in (rising_clocks w) (none_carried false (rising_clocks w)) k.passages))
+    starts
+    ∙ ap last_two (same_ends (rising_clocks l.start) (none_carried false (rising_clocks l.start)) k.passages
+    l.passages same)
+    ∙ sym l.are
 
 -- ---- a table, or a refusal
 

@@ -196,7 +196,8 @@ same_stretch_reads false names readings p q k s = refl
 same_stretch_reads true names None p q k s = refl
 same_stretch_reads true names (Some rs) p q k s =
     let exact = same_exact p.errors q.errors k.errors in
-    let ended = same_ended_reads (exact_time p.errors) rs (map unread names) p.acts q.acts p.to p.after s.clock k.acts in
+    let ended = same_ended_reads (exact_time p.errors) rs (map unread names) p.acts q.acts p.to p.after s.clock
+    k.acts in
     ap (reads_words s) (ended
     ∙ (λ i. ended_reads (k.to i) (k.after i) (readings_after q.acts rs)
     (reads_over (exact i) rs (map unread names) q.acts) s.clock))

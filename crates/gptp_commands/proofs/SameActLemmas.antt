@@ -183,7 +183,8 @@ same_acts options names readings [] [] k = refl
 same_acts options names readings [] (u ∷ us) k = absurd k
 same_acts options names readings (t ∷ ts) [] k = absurd k
 same_acts options names readings (t ∷ ts) (u ∷ us) (first, rest) =
-    let later = ap (λ (rs : Option (List SystemReading)). acts_lines options names rs ts) (same_read_if readings t u first)
+    let later = ap (λ (rs : Option (List SystemReading)). acts_lines options names rs ts)
+    (same_read_if readings t u first)
     ∙ same_acts options names (option_map (read_after u) readings) ts us rest in
     λ i. (same_act options names t u first i ++ same_reading_lines options readings t u first i) ++ later i
 

@@ -13,7 +13,7 @@ use Rattle.gptp_timeline.specs.ExactReads.{counts_new, reads_by, reads_next, rea
 use Rattle.gptp_timeline.specs.Looks.{error_before, events_left, left_behind, looked_all, looked_in, looked_over, measured_times, measured_with, nothing_looked, nothing_read}
 use Rattle.gptp_timeline.specs.Passing.{times_before}
 use Rattle.gptp_timeline.specs.Readings.{new_in, reading_error, no_reading, read_after, readings_after}
-use Rattle.gptp_timeline.specs.Receipts.{offset_error, received_by}
+use Rattle.gptp_timeline.specs.Receipts.{is_follow_up, offset_error, received_by}
 use Rattle.gptp_timeline.specs.Shown.{live_system}
 use Rattle.gptp_timeline.specs.Stretch.{at_of}
 use Rattle.gptp_timeline.specs.TimeWatch.{TimeState, times_after, times_begun}
@@ -61,26 +61,26 @@ receipt_if_times : (received : Bool) (at : ℕ) (w : WorldState) (clock place : 
 receipt_if_times true at w clock place o = receipt_times at w place (live_system clock w) o
 receipt_if_times false at w clock place o = refl
 
-placed_times : (at : ℕ) (w : WorldState) (clock : ℕ) (received : Bool) (place : Option ℕ) (o : WatchState)
-    → (see_placed at w clock received place o).times ≡ o.times
-placed_times at w clock received None o = refl
-placed_times at w clock received (Some place) o =
-    receipt_if_times received at w clock place (see_at (own_look at received) w place o)
-    ∙ at_times (own_look at received) w place o
+placed_times : (at : ℕ) (w : WorldState) (clock : ℕ) (received alone : Bool) (place : Option ℕ) (o : WatchState)
+    → (see_placed at w clock received alone place o).times ≡ o.times
+placed_times at w clock received alone None o = refl
+placed_times at w clock received alone (Some place) o =
+    receipt_if_times received at w clock place (see_at (own_look at received alone) w place o)
+    ∙ at_times (own_look at received alone) w place o
 
-system_times : (at : ℕ) (w : WorldState) (clock : ℕ) (received : Bool) (o : WatchState)
-    → (see_system at w clock received o).times ≡ o.times
-system_times at w clock received o = placed_times at w clock received (place_of clock o) o
+system_times : (at : ℕ) (w : WorldState) (clock : ℕ) (received alone : Bool) (o : WatchState)
+    → (see_system at w clock received alone o).times ≡ o.times
+system_times at w clock received alone o = placed_times at w clock received alone (place_of clock o) o
 
 delivery_times : (at : ℕ) (w : WorldState) (done : Done) (o : WatchState) → (see_delivery at w done o).times ≡ o.times
 delivery_times at w Quiet o = refl
 delivery_times at w (Heard clock port answer frame) o =
-    system_times at w clock (is_some (received_by (Heard clock port answer frame))) o
+    system_times at w clock (is_some (received_by (Heard clock port answer frame))) (is_follow_up frame.items) o
 
 pub act_times : (at : ℕ) (act : Act) (done : Done) (w : WorldState) (o : WatchState)
     → (see_act at act done w o).times ≡ o.times
 act_times at (Deliver link direction) done w o = delivery_times at w done o
-act_times at (Expire clock timer) done w o = system_times at w clock false o
+act_times at (Expire clock timer) done w o = system_times at w clock false false o
 act_times at (Changing change) done w o = each_times (event_look at) w (places_of o) o
 
 -- ---- the account after acts
@@ -175,7 +175,8 @@ module _ (options : TimelineOptions) (from : Option ℕ) (names : List ℕ) (eve
 
 -- ---- between stretches
 
-pub record IsAtRest (options : TimelineOptions) (names : List ℕ) (rs : List SystemReading) (o : TimeState) : Type 0 where
+pub record IsAtRest (options : TimelineOptions) (names : List ℕ) (rs : List SystemReading) (o : TimeState) :
+    Type 0 where
   pub lines_is : o.lines ≡ options.times
   pub told_is : o.told ≡ (options.times && options.offsets)
   pub systems_are : o.systems ≡ rs
@@ -291,7 +292,8 @@ rest_after options from names events ts (Some rs) times is = (
 
 module _ (options : TimelineOptions) (names : List ℕ) (p : StretchTrace) (from : Option ℕ) (events : ℕ) where
   pub line_kept : (readings : Option (List SystemReading)) (s : Stretch) (measured : List SystemReading → TimeMeasures)
-      → line_of_times (asks_lines (account_if options from names events p.acts readings)) s (option_map measured readings)
+      → line_of_times (asks_lines (account_if options from names events p.acts readings)) s
+      (option_map measured readings)
       ≡ line_of_times options.times s (option_map measured readings)
   line_kept None s measured = refl
   line_kept (Some rs) s measured = refl

@@ -411,7 +411,8 @@ module _ (options : TimelineOptions) (names : List ℕ) (carried : Carried) wher
     pub stretch_ended : ended_of plan p.after o ≡ stretch_of names carried p
     stretch_ended =
         ap (ended_stretch plan.from plan.to plan.begins_with_event plan.bound o.measures o.systems) times_is
-        ∙ ap (λ from. ended_stretch from plan.to plan.begins_with_event plan.bound o.measures o.systems times) is.from_is
+        ∙ ap (λ from. ended_stretch from plan.to plan.begins_with_event plan.bound o.measures o.systems times)
+        is.from_is
         ∙ ap (λ to. ended_stretch p.from to plan.begins_with_event plan.bound o.measures o.systems times) is.to_is
         ∙ ap (λ begins. ended_stretch p.from p.to begins plan.bound o.measures o.systems times) is.begins_is
         ∙ ap (λ bound. ended_stretch p.from p.to (is_begun p.events) bound o.measures o.systems times) is.bound_is
@@ -454,7 +455,8 @@ module _ (options : TimelineOptions) (names : List ℕ) (carried : Carried) wher
     line_is =
         ap (λ (s : Stretch). line_of_times (asks_lines o.times) s s.times) stretch_ended
         ∙ ap (λ account. line_of_times (asks_lines account) (stretch_of names carried p) times) observes.times_are
-        ∙ line_kept options names p (exact_time p.errors) (length p.events) carried.readings (stretch_of names carried p)
+        ∙ line_kept options names p (exact_time p.errors) (length p.events) carried.readings
+        (stretch_of names carried p)
         (λ rs. measured_times rs (length p.events) p.acts p.to p.after)
 
     pub end_told : end_lines plan p.after o ≡ after_line (stretch_of names carried p)

@@ -398,8 +398,8 @@ module _ {F : Type 0} (answers : Bounds → ℕ → F → Option ℕ → F → T
 
       lines_are : told ++ end_lines plan after o_after ≡ passage_lines options names so_far.carried passed
       lines_are =
-          seen_lines answers options names so_far.carried plan (now_of from left) drawn between o so_far.rests next after
-          o_after told seen known.begins_is
+          seen_lines answers options names so_far.carried plan (now_of from left) drawn between o so_far.rests next
+          after o_after told seen known.begins_is
 
       verdict_so : verdict ≡ kept_after options.limits (end_in names so_far.carried passed) kept
       verdict_so =
@@ -425,8 +425,8 @@ module _ {F : Type 0} (answers : Bounds → ℕ → F → Option ℕ → F → T
             so_far.carried so_far.lines so_far.gone passed
             (is_passage answers exact d until from to left (sym (ends_before until (later_than from left) to is)) plan
             known drawn next between after seen.acts seen.courses) is);
-        rests = seen_rests answers options names so_far.carried plan (now_of from left) drawn between o so_far.rests next
-            after o_after told seen known.begins_is;
+        rests = seen_rests answers options names so_far.carried plan (now_of from left) drawn between o so_far.rests
+            next after o_after told seen known.begins_is;
         so = both_so;
       }
 

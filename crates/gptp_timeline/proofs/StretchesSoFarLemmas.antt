@@ -35,7 +35,8 @@ module _ (limits : Limits) (names : List ℕ) where
   kept_one exceeded a = record { exceeded = exceeded; before = None; last = Some a }
 
   behind_two : (ps : List StretchTrace) (carried : Carried) (exceeded : Option Limit) (a b : EndState)
-      → two_of (all_kept limits names carried ps (kept_two exceeded a b)) ≡ last_two (a ∷ (b ∷ ends_in names carried ps))
+      → two_of (all_kept limits names carried ps (kept_two exceeded a b))
+      ≡ last_two (a ∷ (b ∷ ends_in names carried ps))
   behind_two [] carried exceeded a b = refl
   behind_two (p ∷ ps) carried exceeded a b =
       behind_two ps (carry p.acts carried)

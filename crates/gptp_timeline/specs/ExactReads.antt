@@ -73,5 +73,6 @@ reads_ended to error r = record {
 
 abbrev pub ended_reads : ℕ → WorldState → List SystemReading → List SystemReads → ℕ → Option ExactReads
 ended_reads to w rs xs name =
-    option_map (reads_ended to (option_map unsigned_abs (option_and_then (reading_error to w name) (reading_among rs name))))
+    option_map (reads_ended to
+    (option_map unsigned_abs (option_and_then (reading_error to w name) (reading_among rs name))))
     (reads_among xs name)

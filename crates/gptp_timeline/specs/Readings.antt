@@ -44,8 +44,8 @@ clock_time name at w = clock_among name at w.stations
 abbrev pub read_by : KeptReading → ℤ → ℤ
 read_by kept shown = option_map_or (λ r. read_at r shown) kept.received shown
 
--- How far off a system is at a time that reads by this: what it reads, less what the clock of the source shows. There is
--- no error where no system has that clock.
+-- How far off a system is at a time that reads by this: what it reads, less what the clock of the source shows. There
+-- is no error where no system has that clock.
 abbrev pub reading_error : ℕ → WorldState → ℕ → KeptReading → Option ℤ
 reading_error at w name kept = option_and_then (λ shown.
     option_map (λ time. read_by kept shown -ℤ time) (clock_time kept.source at w)) (clock_time name at w)
@@ -74,8 +74,8 @@ is_master_role role = false
 abbrev pub is_master : ShownPort → Bool
 is_master p = is_master_role p.role
 
--- A live system sends time of its own: it has no Slave port, and so is its own root, it can be a grandmaster, and it has
--- a Master port.
+-- A live system sends time of its own: it has no Slave port, and so is its own root, it can be a grandmaster, and it
+-- has a Master port.
 abbrev pub is_sending : SystemState → Bool
 is_sending s = is_none s.slave && (root_is_capable s.root && list_any is_master (shown_ports s))
 

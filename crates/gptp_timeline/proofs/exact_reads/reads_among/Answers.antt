@@ -10,7 +10,8 @@ use Rattle.gptp_timeline.proofs.PutLemmas.{among, among_at, none_among, stands_a
 use Rattle.gptp_timeline.proofs.exact_reads.reads_among.Goals as goal
 
 -- the same by one recursion and another
-same : (name : ℕ) (xs : List SystemReads) → reads_among xs name ≡ among (λ (x : SystemReads). x.clock) name (λ (x : SystemReads). x.reads) xs
+same : (name : ℕ) (xs : List SystemReads)
+    → reads_among xs name ≡ among (λ (x : SystemReads). x.clock) name (λ (x : SystemReads). x.reads) xs
 same name [] = refl
 same name (x ∷ xs) = ap (λ rest. if x.clock == name then x.reads else rest) (same name xs)
 
@@ -22,7 +23,8 @@ returns-in-Ok c =
     (answers_always _ _ _ (λ f a r g called. search rules)) in
     let s = stands_at (λ (x : SystemReads). x.clock) name xs c.requires place
     (subst (λ (r : Result ℕ ℕ). IsSearchInRange r (length xs)) c.in-Ok.is facts.bound)
-    (subst (λ (r : Result ℕ ℕ). IsBinarySearchResult (λ (x : SystemReads). nat_cmp x.clock name) xs r) c.in-Ok.is by_clock) in
+    (subst (λ (r : Result ℕ ℕ). IsBinarySearchResult (λ (x : SystemReads). nat_cmp x.clock name) xs r) c.in-Ok.is
+    by_clock) in
     ap (λ (x : SystemReads). x.reads) (read xs place s.one c.index-systems-place.result s.there)
     ∙ sym (same name xs ∙ among_at (λ (x : SystemReads). x.clock) name (λ (x : SystemReads). x.reads) xs place s)
 
@@ -34,5 +36,6 @@ returns-in-Err c =
     (answers_always _ _ _ (λ f a r g called. search rules)) in
     let s = stands_nowhere (λ (x : SystemReads). x.clock) name xs c.requires c.in-Err.field-0
     (subst (λ (r : Result ℕ ℕ). IsSearchInRange r (length xs)) c.in-Err.is facts.bound)
-    (subst (λ (r : Result ℕ ℕ). IsBinarySearchResult (λ (x : SystemReads). nat_cmp x.clock name) xs r) c.in-Err.is by_clock) in
+    (subst (λ (r : Result ℕ ℕ). IsBinarySearchResult (λ (x : SystemReads). nat_cmp x.clock name) xs r) c.in-Err.is
+    by_clock) in
     sym (same name xs ∙ none_among (λ (x : SystemReads). x.clock) name (λ (x : SystemReads). x.reads) xs s)

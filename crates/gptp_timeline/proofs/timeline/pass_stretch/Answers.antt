@@ -59,7 +59,8 @@ returns-clause-passed g c =
     let new = g.K.Sink.written c.end_stretch.new.sink in
     let began = c.begin.ensures
     ∙ ap (λ from. watch_begun from (length c.args.events.now) c.args.watch.now) c.exact_from.ensures in
-    let told = played.2.lines in let ends = end_lines c.args.plan.now c.play.new.world.world_core c.play.new.observer in (
+    let told = played.2.lines in
+    let ends = end_lines c.args.plan.now c.play.new.world.world_core c.play.new.observer in (
       told,
       sees_all g.F.Fate.answers c.args.plan.now c.args.events.now c.args.world.now.fate c.args.world.now.world_core
           c.args.watch.now c.begin.new.self began c.requires.due played.0 c.play.new.observer (Appends old between)
