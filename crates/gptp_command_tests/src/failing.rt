@@ -129,8 +129,20 @@ const ORDER: TimelineOrder = TimelineOrder {
     options: TimelineOptions {
         summary: false,
         offsets: true,
+        times: true,
         limits: Limits {
-            most: [Some(0), None, None, None, None, None],
+            most: [
+                Some(0),
+                None,
+                None,
+                None,
+                None,
+                None,
+                None,
+                None,
+                None,
+                None,
+            ],
         },
     },
 };

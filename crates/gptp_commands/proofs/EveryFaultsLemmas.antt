@@ -19,8 +19,7 @@ use Rattle.gptp_theorem.specs.PlayedLaws.{IsPlayable}
 use Rattle.gptp_theorem.proofs.OctetLemmas.{documents_playable}
 use Rattle.gptp_timeline.specs.Ends.{EndState}
 use Rattle.gptp_timeline.specs.LastTwo.{end_in, ends_in, last_two}
-use Rattle.gptp_timeline.specs.Stretch.{waits}
-use Rattle.gptp_timeline.specs.Timeline.{AllPass, StretchTrace, later_than, none_waits}
+use Rattle.gptp_timeline.specs.Timeline.{AllPass, Carried, StretchTrace, carry, later_than, none_carried}
 use Rattle.gptp_faults.specs.EveryLaws.{HasEnds, HasFaults, InjectsNothing, RunsEnd}
 use Rattle.gptp_faults.specs.Runs.{draws}
 use Rattle.gptp_faults.specs.Times.{AreOptions}
@@ -40,20 +39,20 @@ use Rattle.gptp_commands.proofs.InjectLemmas.{meant_injects}
 -- ---- the last two stretches
 
 -- two stretches or more have a last but one
-two_ends : (names : List ℕ) (since : ℕ → Option ℕ) (p q : StretchTrace) (ps : List StretchTrace)
-    → (two : EndState × EndState) × (Some two ≡ last_two (ends_in names since (p ∷ (q ∷ ps))))
-two_ends names since p q [] = ((end_in names since p, end_in names (waits p.acts since) q), refl)
-two_ends names since p q (r ∷ rs) = two_ends names (waits p.acts since) q r rs
+two_ends : (names : List ℕ) (carried : Carried) (p q : StretchTrace) (ps : List StretchTrace)
+    → (two : EndState × EndState) × (Some two ≡ last_two (ends_in names carried (p ∷ (q ∷ ps))))
+two_ends names carried p q [] = ((end_in names carried p, end_in names (carry p.acts carried) q), refl)
+two_ends names carried p q (r ∷ rs) = two_ends names (carry p.acts carried) q r rs
 
 -- so there are two where an event comes after the begin
 ends_of : {F : Type 0} (answers : Bounds → ℕ → F → Option ℕ → F → Type 0) (d : DocumentState) (until : ℕ)
     (names : List ℕ) (events : List Timed) (fate fate_after : F) (w w' : WorldState) (first : StretchTrace)
     (others : List StretchTrace)
     → AllPass answers false d until 0 events fate fate_after w w' (first ∷ others) → later_than 0 events ≢ []
-    → (two : EndState × EndState) × (Some two ≡ last_two (ends_in names none_waits (first ∷ others)))
+    → (two : EndState × EndState) × (Some two ≡ last_two (ends_in names (none_carried false names) (first ∷ others)))
 ends_of answers d until names events fate fate_after w w' first [] (passage, none, ends) some = absurd (some none)
 ends_of answers d until names events fate fate_after w w' first (next ∷ others) pass some =
-    two_ends names none_waits first next others
+    two_ends names (none_carried false names) first next others
 
 -- the last event comes after the begin, where it isn't at that and is no later than the end
 last_left : (events : List Timed) (last : Timed) (until : ℕ) → 0 < last.at → last.at ≤ until

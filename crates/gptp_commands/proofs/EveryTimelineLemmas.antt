@@ -31,7 +31,7 @@ use Rattle.gptp_accuracy.proofs.OneLemmas.{errors_once}
 use Rattle.gptp_accuracy.proofs.WayLemmas.{one_each}
 use Rattle.gptp_timeline.specs.End.{IsDefaultEnd, end_behind}
 use Rattle.gptp_timeline.specs.Limits.{is_exceeded, verdict_lines}
-use Rattle.gptp_timeline.specs.Timeline.{AreErrorsBy, HoldsBy, StretchTrace, TimelineOf, all_exceeded, all_lines, none_waits, start_lines}
+use Rattle.gptp_timeline.specs.Timeline.{AreErrorsBy, HoldsBy, Carried, StretchTrace, TimelineOf, all_exceeded, all_lines, none_carried, start_lines, tracks}
 use Rattle.gptp_timeline.specs.declared.limits.Limit.{Limit}
 use Rattle.gptp_timeline.specs.declared.timeline.TimelineOptions.{TimelineOptions}
 use Rattle.gptp_timeline.proofs.RightLemmas.{timelines_are_right}
@@ -147,10 +147,11 @@ module _ (input : List ℕ) (d : DocumentState) (means : Means input d) where
       start w run.courses in
       let passages : List StretchTrace = k.first ∷ k.others in
       let names : List ℕ = rising_clocks start in
-      let verdict : Option Limit = all_exceeded options.limits names none_waits passages None in
+      let carried : Carried = none_carried (tracks options) names in
+      let verdict : Option Limit = all_exceeded options.limits names carried passages None in
       let lines : List (List ℕ) =
       start_lines options names start
-      ++ all_lines options names none_waits passages ++ verdict_lines options.limits verdict in (
+      ++ all_lines options names carried passages [] ++ verdict_lines options.limits verdict in (
         lines,
         is_exceeded options.limits verdict,
         record {

@@ -17,8 +17,8 @@ use Rattle.gptp_accuracy.proofs.WayLemmas.{HasOneEach}
 use Rattle.gptp_timeline.specs.Ends.{EndState}
 use Rattle.gptp_timeline.specs.LastTwo.{EndsOf, end_in, ends_in, last_two}
 use Rattle.gptp_timeline.specs.Shown.{shown}
-use Rattle.gptp_timeline.specs.Stretch.{roots_of, waits}
-use Rattle.gptp_timeline.specs.Timeline.{AllPass, StretchTrace, none_waits}
+use Rattle.gptp_timeline.specs.Stretch.{roots_of}
+use Rattle.gptp_timeline.specs.Timeline.{AllPass, Carried, StretchTrace, carry, none_carried}
 use Rattle.gptp_faults.specs.Faults.{FaultsOf}
 use Rattle.gptp_faults.specs.Laws.{RunsEndOnce}
 use Rattle.gptp_faults.specs.Refusals.{RefusesFaults}
@@ -31,27 +31,27 @@ use Rattle.gptp_commands.specs.FaultsText.{FaultsText, TellsFaults}
 use Rattle.gptp_commands.specs.RunText.{draws}
 use Rattle.gptp_commands.proofs.OneRunLemmas.{draws_once}
 use Rattle.gptp_commands.proofs.OneTimelineLemmas.{IsSamePassage, SamePassages, all_pass_once, each_named, same_stretch}
-use Rattle.gptp_commands.proofs.SameActLemmas.{same_waits}
+use Rattle.gptp_commands.proofs.SameActLemmas.{same_carry}
 use Rattle.gptp_commands.proofs.OneAnswerLemmas.{one_answer}
 use Rattle.gptp_commands.proofs.VerdictLemmas.{AreSame, same_refusal}
 
 -- ---- a run
 
-same_end : (names : List ℕ) (since : ℕ → Option ℕ) (p q : StretchTrace) → IsSamePassage p q
-    → end_in names since p ≡ end_in names since q
-same_end names since p q k =
-    let stretch = same_stretch names since p q k in
+same_end : (names : List ℕ) (carried : Carried) (p q : StretchTrace) → IsSamePassage p q
+    → end_in names carried p ≡ end_in names carried q
+same_end names carried p q k =
+    let stretch = same_stretch names carried p q k in
     λ i. record { stretch = stretch i; roots = roots_of (map (λ name. shown name (k.after i)) names) }
 
-same_ends : (names : List ℕ) (since : ℕ → Option ℕ) (ps qs : List StretchTrace) → SamePassages ps qs
-    → ends_in names since ps ≡ ends_in names since qs
-same_ends names since [] [] k = refl
-same_ends names since [] (q ∷ qs) k = absurd k
-same_ends names since (p ∷ ps) [] k = absurd k
-same_ends names since (p ∷ ps) (q ∷ qs) (first, rest) =
-    let later = ap (λ (begun : ℕ → Option ℕ). ends_in names begun ps) (same_waits p.acts q.acts since first.acts)
-    ∙ same_ends names (waits q.acts since) ps qs rest in
-    ap₂ (λ (e : EndState) (es : List EndState). e ∷ es) (same_end names since p q first) later
+same_ends : (names : List ℕ) (carried : Carried) (ps qs : List StretchTrace) → SamePassages ps qs
+    → ends_in names carried ps ≡ ends_in names carried qs
+same_ends names carried [] [] k = refl
+same_ends names carried [] (q ∷ qs) k = absurd k
+same_ends names carried (p ∷ ps) [] k = absurd k
+same_ends names carried (p ∷ ps) (q ∷ qs) (first, rest) =
+    let later = ap (λ (begun : Carried). ends_in names begun ps) (same_carry p.acts q.acts carried first.acts)
+    ∙ same_ends names (carry q.acts carried) ps qs rest in
+    ap₂ (λ (e : EndState) (es : List EndState). e ∷ es) (same_end names carried p q first) later
 
 -- the last two stretches of a run end in one way
 ends_once : {F : Type 0} (answers : Bounds → ℕ → F → Option ℕ → F → Type 0) → AnswersOnce answers
@@ -69,8 +69,12 @@ ends_once {F} answers once d until fate two other names is k l =
     let same = all_pass_once answers once false d names until 0 events l.started k.fate_after l.fate_after l.start
     k.after l.after k.passages l.passages (begun_named answers d.network fate l.started l.start is l.begun) pass
     l.pass in
-    k.are ∙ ap (λ (w : WorldState). last_two (ends_in (rising_clocks w) none_waits k.passages)) starts
-    ∙ ap last_two (same_ends (rising_clocks l.start) none_waits k.passages l.passages same) ∙ sym l.are
+    k.are
+    ∙ ap (λ (w : WorldState). last_two (ends_in (rising_clocks w) (none_carried false (rising_clocks w)) k.passages))
+    starts
+    ∙ ap last_two (same_ends (rising_clocks l.start) (none_carried false (rising_clocks l.start)) k.passages
+    l.passages same)
+    ∙ sym l.are
 
 -- ---- a table, or a refusal
 

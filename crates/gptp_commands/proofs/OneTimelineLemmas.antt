@@ -1,5 +1,5 @@
 -- A document and what is asked of its timeline have one text, and one status.
-use Rattle.std.proofs.Common.{◌≡◌, ℕ, Bool, true, false, List, [], ◌∷◌, ◌++◌, map, Option, Some, None, refl, sym, ap, ap₂, subst, ◌∙◌}
+use Rattle.std.proofs.Common.{◌≡◌, ℕ, Bool, true, false, List, [], ◌∷◌, ◌++◌, length, map, Option, Some, None, option_map, refl, sym, ap, ap₂, subst, ◌∙◌}
 use Rattle.std.specs.Bool.{⊤}
 use Rattle.std.specs.List.{flat_map}
 use Rattle.gptp_links.specs.declared.bounds.Bounds.{Bounds}
@@ -31,10 +31,15 @@ use Rattle.gptp_accuracy.proofs.WayLemmas.{HasOneEach}
 use Rattle.gptp_timeline.specs.End.{end_behind}
 use Rattle.gptp_timeline.specs.Limits.{exceeded_after, is_exceeded, verdict_lines}
 use Rattle.gptp_timeline.specs.Shown.{shown}
-use Rattle.gptp_timeline.specs.Stretch.{counted, measured, waits}
+use Rattle.gptp_timeline.specs.Stretch.{counted, measured}
 use Rattle.gptp_timeline.specs.StretchText.{after_line, system_accuracy}
-use Rattle.gptp_timeline.specs.Timeline.{AllPass, AreErrorsBy, AreErrorsIf, IsPassage, StretchTrace, TimelineOf, accuracy_at, timeline_accuracy_lines, all_exceeded, all_lines, is_begun, later_than, none_waits, passage_lines, start_lines, stretch_of}
+use Rattle.gptp_timeline.specs.ExactReads.{ended_reads, reads_over, unread}
+use Rattle.gptp_timeline.specs.Looks.{measured_times}
+use Rattle.gptp_timeline.specs.Readings.{readings_after}
+use Rattle.gptp_timeline.specs.TimeLines.{reads_words}
+use Rattle.gptp_timeline.specs.Timeline.{AllPass, AreErrorsBy, AreErrorsIf, Carried, IsPassage, StretchTrace, TimelineOf, accuracy_at, all_exceeded, all_lines, carry, exact_time, is_begun, later_than, line_of_times, none_carried, passage_lines, reads_if, start_lines, stretch_of, timeline_accuracy_lines, tracks}
 use Rattle.gptp_timeline.specs.declared.limits.Limits.{Limits}
+use Rattle.gptp_timeline.specs.declared.readings.SystemReading.{SystemReading}
 use Rattle.gptp_timeline.specs.declared.timeline.TimelineOptions.{TimelineOptions}
 use Rattle.gptp_commands.specs.declared.failure.Status.{Status}
 use Rattle.gptp_commands.specs.declared.timeline.TimelineOrder.{TimelineOrder}
@@ -42,7 +47,7 @@ use Rattle.gptp_commands.specs.Failure.{status_by}
 use Rattle.gptp_commands.specs.RunText.{draws, generator}
 use Rattle.gptp_commands.specs.TimelineText.{EndsAt, PlaysTimeline, TellsTimeline, TimelineText}
 use Rattle.gptp_commands.proofs.OneRunLemmas.{draws_once}
-use Rattle.gptp_commands.proofs.SameActLemmas.{same_acts, same_errors_from, same_measures, same_waits}
+use Rattle.gptp_commands.proofs.SameActLemmas.{same_acts, same_carry, same_ended_reads, same_errors_from, same_measures, same_times}
 use Rattle.gptp_commands.proofs.OneAnswerLemmas.{one_answer}
 use Rattle.gptp_commands.proofs.VerdictLemmas.{AreSame}
 
@@ -160,26 +165,57 @@ module _ {F : Type 0} (answers : Bounds → ℕ → F → Option ℕ → F → T
 
 -- ---- their lines
 
-same_accuracy_at : (from : Option ℕ) (ts us : List ActTrace) (systems : List SystemError) → SameTransitions ts us
-    → accuracy_at from ts systems ≡ accuracy_at from us systems
-same_accuracy_at None ts us systems k = refl
-same_accuracy_at (Some from) ts us systems k =
-    λ i. flat_map (system_accuracy from (λ name. same_errors_from name (Some from) ts us k i)) systems
+same_accuracy_at : (reads : SystemError → List ℕ) (from : Option ℕ) (ts us : List ActTrace)
+    (systems : List SystemError) → SameTransitions ts us
+    → accuracy_at reads from ts systems ≡ accuracy_at reads from us systems
+same_accuracy_at reads None ts us systems k = refl
+same_accuracy_at reads (Some from) ts us systems k =
+    λ i. flat_map (system_accuracy from (λ name. same_errors_from name (Some from) ts us k i) reads) systems
 
-same_accuracy : (ts us : List ActTrace) (a b : Option TimeErrors) → SameTransitions ts us → SameErrors a b
-    → timeline_accuracy_lines ts a ≡ timeline_accuracy_lines us b
-same_accuracy ts us None None k same = refl
-same_accuracy ts us None (Some u) k same = absurd same
-same_accuracy ts us (Some t) None k same = absurd same
-same_accuracy ts us (Some t) (Some u) k (from, systems) =
-    ap₂ (λ (time : Option ℕ) (errors : List SystemError). accuracy_at time ts errors) from systems
-    ∙ same_accuracy_at u.from ts us u.systems.items k
+same_accuracy : (reads : SystemError → List ℕ) (ts us : List ActTrace) (a b : Option TimeErrors)
+    → SameTransitions ts us → SameErrors a b
+    → timeline_accuracy_lines reads ts a ≡ timeline_accuracy_lines reads us b
+same_accuracy reads ts us None None k same = refl
+same_accuracy reads ts us None (Some u) k same = absurd same
+same_accuracy reads ts us (Some t) None k same = absurd same
+same_accuracy reads ts us (Some t) (Some u) k (from, systems) =
+    ap₂ (λ (time : Option ℕ) (errors : List SystemError). accuracy_at reads time ts errors) from systems
+    ∙ same_accuracy_at reads u.from ts us u.systems.items k
 
-pub same_stretch : (names : List ℕ) (since : ℕ → Option ℕ) (p q : StretchTrace) → IsSamePassage p q
-    → stretch_of names since p ≡ stretch_of names since q
-same_stretch names since p q k =
-    let measures = same_measures names since p.to p.acts q.acts k.acts
-    ∙ ap (λ (to : ℕ). measured names since to q.acts) k.to in
+-- from the same time on they hold
+same_exact : (a b : Option TimeErrors) → SameErrors a b → exact_time a ≡ exact_time b
+same_exact None None same = refl
+same_exact None (Some u) same = absurd same
+same_exact (Some t) None same = absurd same
+same_exact (Some t) (Some u) (from, systems) = from
+
+-- what systems read
+same_stretch_reads : (asked : Bool) (names : List ℕ) (readings : Option (List SystemReading)) (p q : StretchTrace)
+    → IsSamePassage p q → (s : SystemError) → reads_if asked names readings p s ≡ reads_if asked names readings q s
+same_stretch_reads false names readings p q k s = refl
+same_stretch_reads true names None p q k s = refl
+same_stretch_reads true names (Some rs) p q k s =
+    let exact = same_exact p.errors q.errors k.errors in
+    let ended = same_ended_reads (exact_time p.errors) rs (map unread names) p.acts q.acts p.to p.after s.clock
+    k.acts in
+    ap (reads_words s) (ended
+    ∙ (λ i. ended_reads (k.to i) (k.after i) (readings_after q.acts rs)
+    (reads_over (exact i) rs (map unread names) q.acts) s.clock))
+
+same_times_if : (readings : Option (List SystemReading)) (p q : StretchTrace) → IsSamePassage p q
+    → option_map (λ rs. measured_times rs (length p.events) p.acts p.to p.after) readings
+    ≡ option_map (λ rs. measured_times rs (length q.events) q.acts q.to q.after) readings
+same_times_if None p q k = refl
+same_times_if (Some rs) p q k =
+    ap Some (same_times rs (length p.events) p.acts q.acts p.to p.after k.acts
+    ∙ (λ i. measured_times rs (length (k.events i)) q.acts (k.to i) (k.after i)))
+
+pub same_stretch : (names : List ℕ) (carried : Carried) (p q : StretchTrace) → IsSamePassage p q
+    → stretch_of names carried p ≡ stretch_of names carried q
+same_stretch names carried p q k =
+    let measures = same_measures names carried.since p.to p.acts q.acts k.acts
+    ∙ ap (λ (to : ℕ). measured names carried.since to q.acts) k.to in
+    let times = same_times_if carried.readings p q k in
     λ i. record {
       from = k.from i;
       to = k.to i;
@@ -187,40 +223,46 @@ same_stretch names since p q k =
       bound = k.bound i;
       measures = measures i;
       counts = counted (map (λ name. shown name (k.after i)) names);
+      times = times i;
     }
 
-same_passage : (options : TimelineOptions) (names : List ℕ) (since : ℕ → Option ℕ) (p q : StretchTrace)
+same_passage : (options : TimelineOptions) (names : List ℕ) (carried : Carried) (p q : StretchTrace)
     → IsSamePassage p q
-    → passage_lines options names since p ≡ passage_lines options names since q
-same_passage options names since p q k =
-    let acts = same_acts options names p.acts q.acts k.acts in
-    let stretch = same_stretch names since p q k in
-    let accuracy = same_accuracy p.acts q.acts p.errors q.errors k.acts k.errors in
-    λ i. acts i ++ after_line (stretch i) ∷ accuracy i
+    → passage_lines options names carried p ≡ passage_lines options names carried q
+same_passage options names carried p q k =
+    let acts = same_acts options names carried.readings p.acts q.acts k.acts in
+    let stretch = same_stretch names carried p q k in
+    let asked = options.times in
+    let reads : ◌≡◌ {A = SystemError → List ℕ} (reads_if asked names carried.readings p)
+    (reads_if asked names carried.readings q) = λ i s. same_stretch_reads asked names carried.readings p q k s i in
+    let accuracy = ap (λ (r : SystemError → List ℕ). timeline_accuracy_lines r p.acts p.errors) reads
+    ∙ same_accuracy (reads_if asked names carried.readings q) p.acts q.acts p.errors q.errors k.acts k.errors in
+    λ i. acts i
+    ++ after_line (stretch i) ∷ (line_of_times options.times (stretch i) (stretch i).times ++ accuracy i)
 
-same_lines : (options : TimelineOptions) (names : List ℕ) (since : ℕ → Option ℕ) (ps qs : List StretchTrace)
-    → SamePassages ps qs → all_lines options names since ps ≡ all_lines options names since qs
-same_lines options names since [] [] k = refl
-same_lines options names since [] (q ∷ qs) k = absurd k
-same_lines options names since (p ∷ ps) [] k = absurd k
-same_lines options names since (p ∷ ps) (q ∷ qs) (first, rest) =
-    let later = ap (λ (begun : ℕ → Option ℕ). all_lines options names begun ps)
-    (same_waits p.acts q.acts since first.acts)
-    ∙ same_lines options names (waits q.acts since) ps qs rest in
-    λ i. same_passage options names since p q first i ++ later i
+same_lines : (options : TimelineOptions) (names : List ℕ) (carried : Carried) (ps qs : List StretchTrace)
+    → SamePassages ps qs → all_lines options names carried ps [] ≡ all_lines options names carried qs []
+same_lines options names carried [] [] k = refl
+same_lines options names carried [] (q ∷ qs) k = absurd k
+same_lines options names carried (p ∷ ps) [] k = absurd k
+same_lines options names carried (p ∷ ps) (q ∷ qs) (first, rest) =
+    let later = ap (λ (begun : Carried). all_lines options names begun ps [])
+    (same_carry p.acts q.acts carried first.acts)
+    ∙ same_lines options names (carry q.acts carried) ps qs rest in
+    λ i. same_passage options names carried p q first i ++ later i
 
-same_exceeded : (limits : Limits) (names : List ℕ) (since begun : ℕ → Option ℕ) (ps qs : List StretchTrace)
-    → ◌≡◌ {A = ℕ → Option ℕ} since begun → SamePassages ps qs
-    → all_exceeded limits names since ps ≡ all_exceeded limits names begun qs
-same_exceeded limits names since begun [] [] e k = refl
-same_exceeded limits names since begun [] (q ∷ qs) e k = absurd k
-same_exceeded limits names since begun (p ∷ ps) [] e k = absurd k
-same_exceeded limits names since begun (p ∷ ps) (q ∷ qs) e (first, rest) =
-    let later : ◌≡◌ {A = ℕ → Option ℕ} (waits p.acts since) (waits q.acts begun) =
-    ap (λ (s : ℕ → Option ℕ). waits p.acts s) e ∙ same_waits p.acts q.acts begun first.acts in
-    let stretch : stretch_of names since p ≡ stretch_of names begun q =
-    ap (λ (s : ℕ → Option ℕ). stretch_of names s p) e ∙ same_stretch names begun p q first in
-    λ i before. same_exceeded limits names (waits p.acts since) (waits q.acts begun) ps qs later rest i
+same_exceeded : (limits : Limits) (names : List ℕ) (carried begun : Carried) (ps qs : List StretchTrace)
+    → carried ≡ begun → SamePassages ps qs
+    → all_exceeded limits names carried ps ≡ all_exceeded limits names begun qs
+same_exceeded limits names carried begun [] [] e k = refl
+same_exceeded limits names carried begun [] (q ∷ qs) e k = absurd k
+same_exceeded limits names carried begun (p ∷ ps) [] e k = absurd k
+same_exceeded limits names carried begun (p ∷ ps) (q ∷ qs) e (first, rest) =
+    let later : carry p.acts carried ≡ carry q.acts begun =
+    ap (λ (c : Carried). carry p.acts c) e ∙ same_carry p.acts q.acts begun first.acts in
+    let stretch : stretch_of names carried p ≡ stretch_of names begun q =
+    ap (λ (c : Carried). stretch_of names c p) e ∙ same_stretch names begun p q first in
+    λ i before. same_exceeded limits names (carry p.acts carried) (carry q.acts begun) ps qs later rest i
     (exceeded_after limits (stretch i) before)
 
 -- ---- the whole text
@@ -241,23 +283,26 @@ one_timeline_of {F} answers once d until options fate xs ys a b names is k l =
     k.after l.after k.passages l.passages (begun_named answers d.network fate l.started l.start is l.begun) pass
     l.pass in
     let clocks = rising_clocks l.start in
-    let counted : all_exceeded options.limits clocks none_waits k.passages None
-    ≡ all_exceeded options.limits clocks none_waits l.passages None = λ i.
-    same_exceeded options.limits clocks none_waits none_waits k.passages l.passages refl same i None in
+    let none : List ℕ → Carried = none_carried (tracks options) in
+    let carried = none clocks in
+    let counted : all_exceeded options.limits clocks carried k.passages None
+    ≡ all_exceeded options.limits clocks carried l.passages None = λ i.
+    same_exceeded options.limits clocks carried carried k.passages l.passages refl same i None in
     let verdicts : k.verdict ≡ l.verdict =
     k.verdict_is
     ∙ ap (λ (w : WorldState).
-    all_exceeded options.limits (rising_clocks w) none_waits k.passages None) starts
+    all_exceeded options.limits (rising_clocks w) (none (rising_clocks w)) k.passages None) starts
     ∙ counted ∙ sym l.verdict_is in
-    let told = same_lines options clocks none_waits k.passages l.passages same in
-    let parts : start_lines options clocks l.start ++ all_lines options clocks none_waits k.passages
+    let told = same_lines options clocks carried k.passages l.passages same in
+    let parts : start_lines options clocks l.start ++ all_lines options clocks carried k.passages []
     ++ verdict_lines options.limits k.verdict
-    ≡ start_lines options clocks l.start ++ all_lines options clocks none_waits l.passages
+    ≡ start_lines options clocks l.start ++ all_lines options clocks carried l.passages []
     ++ verdict_lines options.limits l.verdict = λ i.
     start_lines options clocks l.start ++ told i ++ verdict_lines options.limits (verdicts i) in (
       k.are
           ∙ ap (λ (w : WorldState).
-          start_lines options (rising_clocks w) w ++ all_lines options (rising_clocks w) none_waits k.passages
+          start_lines options (rising_clocks w) w
+          ++ all_lines options (rising_clocks w) (none (rising_clocks w)) k.passages []
           ++ verdict_lines options.limits k.verdict) starts
           ∙ parts ∙ sym l.are,
       k.exceeded_is ∙ ap (is_exceeded options.limits) verdicts ∙ sym l.exceeded_is,

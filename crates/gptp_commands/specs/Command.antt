@@ -21,7 +21,7 @@ use Rattle.gptp_commands.specs.declared.question.Question.{Question}
 use Rattle.gptp_commands.specs.declared.question.Question.TheVariants.{Accuracy, Choice, Explain, Lint}
 use Rattle.gptp_commands.specs.declared.run.RunOptions.{RunOptions}
 use Rattle.gptp_commands.specs.declared.table.Form.TheVariants.{Number}
-use Rattle.gptp_commands.specs.declared.table.rows.TheConstants.{ALWAYS, AT, CERTIFICATE, CLOCK, FILE, FRAMES, HOLD, MAX_ERROR, MOMENT, MOMENTS, OFFSETS, ONLY, PART, PARTS, PROGRESS, READS, RUN_UNTIL, SEED, SEEDS, STRICT, SUMMARY, TIMELINE_UNTIL, WHERE}
+use Rattle.gptp_commands.specs.declared.table.rows.TheConstants.{ALWAYS, AT, CERTIFICATE, CLOCK, FILE, FRAMES, HOLD, MAX_ERROR, MOMENT, MOMENTS, OFFSETS, ONLY, PART, PARTS, PROGRESS, READS, RUN_UNTIL, SEED, SEEDS, STRICT, SUMMARY, TIMELINE_UNTIL, TIMES, WHERE}
 use Rattle.gptp_commands.specs.declared.timeline.TimelineOrder.{TimelineOrder}
 use Rattle.gptp_commands.specs.Options.{flag_of, option_number, place_value, word_of}
 use Rattle.gptp_commands.specs.Table.{Argument, CommandEntry, commands, gptp_sim, the}
@@ -52,6 +52,7 @@ pub record ReadsTimeline (rows : List Row) (order : TimelineOrder) : Type 0 wher
   pub seed : order.seed ≡ unwrap_or (option_number (the SEED) rows) 1
   pub summary : order.options.summary ≡ flag_of (the SUMMARY) rows
   pub offsets : order.options.offsets ≡ flag_of (the OFFSETS) rows
+  pub times : order.options.times ≡ flag_of (the TIMES) rows
   pub limits : ReadsLimits rows order.options.limits
 
 -- the kind of cases that a text names

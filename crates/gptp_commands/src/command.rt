@@ -22,7 +22,7 @@ use crate::source::{CountedReader, Source};
 use crate::table::rows::{
     ALWAYS, AT, CERTIFICATE, CLOCK, FILE, FRAMES, HOLD, MAX_ERROR, MOMENT, MOMENTS, NANOSECONDS,
     OFFSETS, ONLY, PART, PARTS, PROGRESS, READS, RUN_UNTIL, SEED, SEEDS, STRICT, SUMMARY,
-    TIMELINE_UNTIL, WHERE,
+    TIMELINE_UNTIL, TIMES, WHERE,
 };
 use crate::timeline::TimelineOrder;
 use crate::version::is_version;
@@ -201,6 +201,7 @@ fn timeline_in(matches: &ArgMatches) -> TimelineOrder
         options: TimelineOptions {
             summary: flag(matches, &SUMMARY),
             offsets: flag(matches, &OFFSETS),
+            times: flag(matches, &TIMES),
             limits: limits_in(matches),
         },
     }

@@ -57,6 +57,8 @@ pub(crate) mod rows {
         "Say too by how much it is off at most at every moment; none where 'sync_timeout' is 0");
     pub(crate) const CLOCK: Row = ("clock", (Form::Place, &[], "CLOCK"),
         "The clock of the system that is meant, 16 hexadecimal digits");
+    pub(crate) const TIMES: Row = ("times", FLAG,
+        "Say of each stretch how far off systems read time, how far apart, and when it last came from another source");
     pub(crate) const STRICT: Row = ("strict", FLAG, "End with status 1 where there is any line but on calm");
     pub(crate) const SEEDS: Row = ("seeds", (Form::Number(1, 1000), &["1"], "N"),
         "With how many seeds each case is tried; where nothing is lost it hardly matters");
@@ -81,6 +83,12 @@ pub(crate) mod rows {
         ("max-without", MANY, "Say whether where a stretch ends at most so many systems go without time"),
         ("max-roots", MANY, "Say whether at most so many roots are followed there by two systems or more"),
         ("max-alone", MANY, "Say whether at most so many systems follow a root there that no other does"),
+        TIMES,
+        ("max-time", NANOSECONDS, "Say whether what each system reads is always off by at most this, in ns"),
+        ("max-apart", NANOSECONDS, "Say whether no two systems ever read further apart than this, in ns"),
+        ("max-step", NANOSECONDS, "Say whether no system's time ever jumps by more than this, in ns"),
+        ("max-first", NANOSECONDS,
+            "Say whether in each stretch each system has its time within this, in ns"),
     ];
 
     /// The arguments of `faults`.
@@ -132,6 +140,7 @@ Example: gptp_sim run --until 5000000000 --seed 7 < examples/vehicle.toml",
 Input: standard input, a document in TOML of at most 32 MiB (33,554,432 octets).
 Output: each event, what each act leaves another at which system, and, where a stretch between the times of
 events ends, how long the choice took to stand, how long a system went without time, and how far time was off.
+With --times also what systems read at any moment: how far off, how far apart, and by how much it jumped.
 With a --max- the last line is 'within', or 'exceeded' with the first word that is above it in some stretch.
 Times are in ns.
 Example: gptp_sim timeline --summary --max-choice 4000000000 < examples/vehicle.toml",

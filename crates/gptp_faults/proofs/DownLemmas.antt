@@ -11,8 +11,7 @@ use Rattle.gptp_network.specs.Document.{DocumentState}
 use Rattle.gptp_scenario.specs.declared.change.Timed.{Timed}
 use Rattle.gptp_timeline.specs.Ends.{EndState}
 use Rattle.gptp_timeline.specs.LastTwo.{end_in, ends_in, last_two}
-use Rattle.gptp_timeline.specs.Stretch.{waits}
-use Rattle.gptp_timeline.specs.Timeline.{AllPass, end_before, later_than, StretchTrace}
+use Rattle.gptp_timeline.specs.Timeline.{AllPass, Carried, carry, end_before, later_than, StretchTrace}
 use Rattle.gptp_timeline.proofs.PastLemmas.{PastBy}
 
 -- ---- events later than a time
@@ -130,29 +129,29 @@ module _ {F : Type 0} (answers : Bounds → ℕ → F → Option ℕ → F → T
     pub member : In passage passages
     pub from_is : passage.from ≡ down
     pub to_is : passage.to ≡ up
-    pub since : ℕ → Option ℕ
-    pub ended : e ≡ end_in names since passage
+    pub carried : Carried
+    pub ended : e ≡ end_in names carried passage
 
   -- it is so of these
   abbrev FindsIt : List StretchTrace → Type 0
-  FindsIt passages = (down up from : ℕ) (left : List Timed) (since : ℕ → Option ℕ) (fate fate_after : F)
+  FindsIt passages = (down up from : ℕ) (left : List Timed) (carried : Carried) (fate fate_after : F)
       (w w' : WorldState) (a b : EndState) → AreLast down up from left
       → AllPass answers false d until from left fate fate_after w w' passages
-      → last_two (ends_in names since passages) ≡ Some (a, b) → IsBetween down up passages a
+      → last_two (ends_in names carried passages) ≡ Some (a, b) → IsBetween down up passages a
 
-  pub last_but_one : (passages : List StretchTrace) (down up from : ℕ) (left : List Timed) (since : ℕ → Option ℕ)
+  pub last_but_one : (passages : List StretchTrace) (down up from : ℕ) (left : List Timed) (carried : Carried)
       (fate fate_after : F) (w w' : WorldState) (a b : EndState) → AreLast down up from left
       → AllPass answers false d until from left fate fate_after w w' passages
-      → last_two (ends_in names since passages) ≡ Some (a, b) → IsBetween down up passages a
-  last_but_one [] down up from left since fate fate_after w w' a b k pass two = absurd pass
-  last_but_one (p ∷ []) down up from left since fate fate_after w w' a b k (passage, none, ends) two =
+      → last_two (ends_in names carried passages) ≡ Some (a, b) → IsBetween down up passages a
+  last_but_one [] down up from left carried fate fate_after w w' a b k pass two = absurd pass
+  last_but_one (p ∷ []) down up from left carried fate fate_after w w' a b k (passage, none, ends) two =
       let order = k.order in let early = k.early in
       absurd (second_late down up from from left k (omega (arith, order, early)) none)
-  last_but_one (p ∷ (q ∷ [])) down up from left since fate fate_after w w' a b k
+  last_but_one (p ∷ (q ∷ [])) down up from left carried fate fate_after w w' a b k
       (drawn, passage, some, (passage_q, none, ends)) two =
       by (nat_lt from down) refl
     where
-      same : end_in names since p ≡ a
+      same : end_in names carried p ≡ a
       same = ap (λ (two : EndState × EndState). two.0) (same_Some _ (a, b) two)
 
       by : (t : Bool) → nat_lt from down ≡ t → IsBetween down up (p ∷ (q ∷ [])) a
@@ -170,10 +169,10 @@ module _ {F : Type 0} (answers : Bounds → ℕ → F → Option ℕ → F → T
             member = inl refl;
             from_is = passage.from_is ∙ at;
             to_is = passage.to_is ∙ ap (end_before until) left_is ∙ k.second_at;
-            since = since;
+            carried = carried;
             ended = sym same;
           }
-  last_but_one (p ∷ (q ∷ (r ∷ rs))) down up from left since fate fate_after w w' a b k
+  last_but_one (p ∷ (q ∷ (r ∷ rs))) down up from left carried fate fate_after w w' a b k
       (drawn, passage, some, (drawn_next, passage_q, more, rest)) two =
       by (nat_lt from down) refl (last_but_one (q ∷ (r ∷ rs)))
     where
@@ -182,13 +181,13 @@ module _ {F : Type 0} (answers : Bounds → ℕ → F → Option ℕ → F → T
           let before : from < down = grind (arith, nat_tests) in
           let next = subst (λ t. AreLast down up t (later_than from left)) (sym passage.to_is)
           (still_last down up from until left k before) in
-          let found = others down up p.to (later_than from left) (waits p.acts since) drawn
+          let found = others down up p.to (later_than from left) (carry p.acts carried) drawn
           fate_after p.after w' a b next (drawn_next, passage_q, more, rest) two in record {
             passage = found.passage;
             member = inr found.member;
             from_is = found.from_is;
             to_is = found.to_is;
-            since = found.since;
+            carried = found.carried;
             ended = found.ended;
           }
       by false is others =

@@ -22,7 +22,7 @@ use Rattle.gptp_timeline.specs.Each.{Each}
 use Rattle.gptp_timeline.specs.Ends.{EndState}
 use Rattle.gptp_timeline.specs.LastTwo.{EndsOf}
 use Rattle.gptp_timeline.specs.Laws.{AreRoots}
-use Rattle.gptp_timeline.specs.Timeline.{none_waits}
+use Rattle.gptp_timeline.specs.Timeline.{none_carried}
 use Rattle.gptp_timeline.specs.declared.stretch.Stretch.{Stretch}
 use Rattle.gptp_timeline.proofs.FollowedLemmas.{follow_there}
 use Rattle.gptp_scenario.proofs.LogLemmas.{largest_log}
@@ -181,7 +181,8 @@ module _ (d : DocumentState) (t : Times) (p : Planned) (playable : IsPlayable d)
       (first_moment t) run in
       let names = rising_clocks e.start in
       let k = last_but_one draws whole until names e.passages t.from (t.from + p.hold) 0 (events_by until whole.events)
-      none_waits e.started e.fate_after e.start e.after a b (both_last until (omega arith)) e.pass (sym e.are) in
+      (none_carried false names) e.started e.fate_after e.start e.after a b (both_last until (omega arith)) e.pass
+      (sym e.are) in
       let begins : k.passage.bound ≡ Some bound = ap (λ (x : EndState). x.stretch.bound) (sym k.ended) ∙ bounded in
       let to = k.to_is in
       let there : IsSnapshot whole k.passage.from g =

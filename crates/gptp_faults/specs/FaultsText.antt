@@ -8,7 +8,7 @@ use Rattle.gptp_timeline.specs.Limits.{all_limits, amount_of, first_exceeded, ve
 use Rattle.gptp_timeline.specs.StretchText.{longest_text, worst_text}
 use Rattle.gptp_timeline.specs.declared.counts.Counts.{Counts}
 use Rattle.gptp_timeline.specs.declared.limits.Limit.{Limit}
-use Rattle.gptp_timeline.specs.declared.limits.Limit.TheVariants.{Alone, Choice, Error, Holdover, Roots, Without}
+use Rattle.gptp_timeline.specs.declared.limits.Limit.TheVariants.{Alone, Apart, Choice, Error, First, Holdover, Roots, Step, Time, Without}
 use Rattle.gptp_timeline.specs.declared.limits.Limits.{Limits}
 use Rattle.gptp_vector.specs.declared.port.PortId.{PortId}
 use Rattle.gptp_faults.specs.Extremes.{greatest_of_two, of_none}
@@ -95,6 +95,10 @@ worst_amount e Error = amount_of e.error
 worst_amount e Without = Some e.counts.without
 worst_amount e Roots = Some e.counts.roots
 worst_amount e Alone = Some e.counts.alone
+worst_amount e Time = None
+worst_amount e Apart = None
+worst_amount e Step = None
+worst_amount e First = None
 
 -- the first limit that it exceeds
 abbrev pub exceeded_by : Limits → Extremes → Option Limit

@@ -240,6 +240,7 @@ fn worst_amount(worst: &Extremes, limit: Limit) -> Option<u128>
         Limit::Without => Some(u128::from(worst.counts.without)),
         Limit::Roots => Some(u128::from(worst.counts.roots)),
         Limit::Alone => Some(u128::from(worst.counts.alone)),
+        Limit::Time | Limit::Apart | Limit::Step | Limit::First => None,
     }
 }
 

@@ -26,6 +26,10 @@ pub mod ChainStepLemmas
 pub mod StretchesSoFarLemmas
 pub mod PassLemmas
 pub mod NameLemmas
+mod ClockLemmas
+mod LookedLemmas
+mod PutLemmas
+mod AccountLemmas
 pub mod ObservedLemmas
 pub mod TimelineLemmas
 pub mod UnfoldLemmas

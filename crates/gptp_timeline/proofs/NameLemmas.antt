@@ -14,8 +14,13 @@ use Rattle.gptp_lists.proofs.SystemSpecLemmas.{In-map, In-slice_get}
 use Rattle.gptp_scenario.specs.declared.change.Act.{Act}
 use Rattle.gptp_system.specs.State.{clock}
 use Rattle.gptp_invariants.proofs.WorldNameLemmas.{clock_of_station, clocks_rise, In-rising}
+use Rattle.gptp_timeline.specs.ExactReads.{unread}
+use Rattle.gptp_timeline.specs.Readings.{no_reading}
+use Rattle.gptp_timeline.specs.TimeWatch.{AreRising}
 use Rattle.gptp_timeline.specs.Watch.{WatchedRise, unseen}
 use Rattle.gptp_timeline.specs.declared.watched.Watched.{Watched}
+use Rattle.gptp_timeline.specs.declared.exact_reads.SystemReads.{SystemReads}
+use Rattle.gptp_timeline.specs.declared.readings.SystemReading.{SystemReading}
 
 -- ---- what is kept of systems
 
@@ -26,6 +31,21 @@ unseen_clocks (n ∷ ns) = ap (λ rest. n ∷ rest) (unseen_clocks ns)
 
 pub unseen_rise : (w : WorldState) → HaveOwnClocks w → WatchedRise (map unseen (rising_clocks w))
 unseen_rise w own = subst IsRising (sym (unseen_clocks (rising_clocks w))) (clocks_rise w own)
+
+no_reading_clocks : (names : List ℕ) → map (λ (x : SystemReading). x.clock) (map no_reading names) ≡ names
+no_reading_clocks [] = refl
+no_reading_clocks (n ∷ ns) = ap (λ rest. n ∷ rest) (no_reading_clocks ns)
+
+unread_clocks : (names : List ℕ) → map (λ (x : SystemReads). x.clock) (map unread names) ≡ names
+unread_clocks [] = refl
+unread_clocks (n ∷ ns) = ap (λ rest. n ∷ rest) (unread_clocks ns)
+
+pub first_rise : (w : WorldState) → HaveOwnClocks w
+    → AreRising (map no_reading (rising_clocks w)) (map unread (rising_clocks w))
+first_rise w own = record {
+  readings_rise = subst IsRising (sym (no_reading_clocks (rising_clocks w))) (clocks_rise w own);
+  reads_rise = subst IsRising (sym (unread_clocks (rising_clocks w))) (clocks_rise w own);
+}
 
 -- ---- the names of systems
 

@@ -1,5 +1,5 @@
 -- What an observer keeps and tells is what is defined over the acts: as systems start, and stretch by stretch.
-use Rattle.std.proofs.Common.{◌≡◌, ℕ, Bool, false, List, [], ◌∷◌, ◌++◌, map, Option, Some, None, option_map, inl, inr, refl, sym, ap, subst, ◌∙◌, append_assoc, append-nil}
+use Rattle.std.proofs.Common.{◌≡◌, ℕ, Bool, false, List, [], ◌∷◌, ◌++◌, map, Option, Some, None, inl, inr, length, option_map, refl, sym, ap, subst, ◌∙◌, append_assoc, append-nil}
 use Rattle.std.specs.List.{filter_map, flat_map}
 use Rattle.std.proofs.lemmas.List.Folds.{flat_map-map}
 use Rattle.gptp_model.specs.declared.station.Station.{Station}
@@ -10,11 +10,14 @@ use Rattle.gptp_model.specs.Views.{rising_clocks}
 use Rattle.gptp_model.specs.World.{WorldState}
 use Rattle.gptp_links.specs.declared.bounds.Bounds.{Bounds}
 use Rattle.gptp_lists.specs.Members.{In}
+use Rattle.gptp_model.specs.declared.done.Done.{Done}
 use Rattle.gptp_scenario.specs.Network.{NetworkState}
+use Rattle.gptp_scenario.specs.declared.change.Act.{Act}
 use Rattle.gptp_scenario.specs.declared.change.Timed.{Timed}
 use Rattle.gptp_world.specs.Observing.{Tells}
 use Rattle.gptp_world.specs.Transitions.{ActTrace}
 use Rattle.gptp_report.specs.Transitions.{Courses, CoursesSoFar}
+use Rattle.gptp_accuracy.specs.declared.errors.SystemError.{SystemError}
 use Rattle.gptp_accuracy.specs.declared.errors.TimeErrors.{TimeErrors}
 use Rattle.gptp_timeline.specs.Changes.{change_lines}
 use Rattle.gptp_timeline.specs.Ends.{EndState}
@@ -24,16 +27,22 @@ use Rattle.gptp_timeline.specs.Passing.{watch_before}
 use Rattle.gptp_timeline.specs.Shown.{is_expecting, live_among, shown, shown_of}
 use Rattle.gptp_timeline.specs.Stretch.{at_of, counted, ended, error_from, roots_of, shown_of_all, under_way, waits}
 use Rattle.gptp_timeline.specs.StretchText.{after_line, ended_stretch, error_among, system_accuracy, wait_of}
-use Rattle.gptp_timeline.specs.Timeline.{StretchTrace, accuracy_at, timeline_accuracy_lines, act_lines, end_lines, ended_of, exact_time, is_begun, kept_accuracy, kept_accuracy_at, none_waits, start_lines, stretch_of}
-use Rattle.gptp_timeline.specs.Watch.{WatchState, watch_begun, event_look, lines_all, see_act, see_all, seen_lines, tells_changes, TellsSeen, unless, unseen, without_error}
+use Rattle.gptp_timeline.specs.Looks.{measured_times}
+use Rattle.gptp_timeline.specs.Readings.{read_after, readings_after}
+use Rattle.gptp_timeline.specs.TimeWatch.{times_after}
+use Rattle.gptp_timeline.specs.Timeline.{StretchTrace, accuracy_at, act_lines, acts_lines, asks_lines, Carried, carry, end_lines, ended_of, exact_time, is_begun, kept_accuracy, kept_accuracy_at, line_of_times, none_carried, none_waits, reads_if, reads_kept, start_lines, stretch_of, stretch_reading_lines, timeline_accuracy_lines, times_ended, tracks}
+use Rattle.gptp_timeline.specs.Watch.{WatchState, watch_begun, event_look, lines_all, see_act, see_all, see_times, seen_lines, tells_changes, TellsSeen, times_lines_if, unless, unseen, without_error}
 use Rattle.gptp_timeline.specs.declared.counts.Counts.{Counts}
+use Rattle.gptp_timeline.specs.declared.looks.TimeMeasures.{TimeMeasures}
 use Rattle.gptp_timeline.specs.declared.measures.Greatest.{Greatest}
+use Rattle.gptp_timeline.specs.declared.readings.SystemReading.{SystemReading}
 use Rattle.gptp_timeline.specs.declared.measures.Measures.{Measures}
 use Rattle.gptp_timeline.specs.declared.shown.Shown.{Shown}
 use Rattle.gptp_timeline.specs.declared.stretch.Stretch.{Stretch}
 use Rattle.gptp_timeline.specs.declared.timeline.Plan.{Plan}
 use Rattle.gptp_timeline.specs.declared.timeline.TimelineOptions.{TimelineOptions}
 use Rattle.gptp_timeline.specs.declared.watched.Watched.{Watched}
+use Rattle.gptp_timeline.proofs.AccountLemmas.{account_ended, account_if, account_if_more, account_told, act_times, line_kept, reads_are, readings_more, rest_after, rest_begun, rest_first, RestTimes}
 use Rattle.gptp_timeline.proofs.BeginLemmas.{none_expects}
 use Rattle.gptp_timeline.proofs.ChainLemmas.{broken_chain, Chain, courses_chain, IsDone}
 use Rattle.gptp_timeline.proofs.ChainStepLemmas.{done_step, strangers}
@@ -52,21 +61,23 @@ use Rattle.gptp_timeline.proofs.TrackLemmas.{all_seen_lines, unless_each}
 abbrev one_kept : ℕ → Option ℕ → Option ℕ → Option Shown → Watched
 one_kept name since error s = record { clock = name; shown = s; since = since; error = error }
 
--- Between stretches it keeps what the systems with these names show, and since when each waits.
-pub record Rests (options : TimelineOptions) (names : List ℕ) (since : ℕ → Option ℕ) (w : WorldState) (o : WatchState) :
+-- Between stretches it keeps what the systems with these names show, since when each waits, and what each reads.
+pub record Rests (options : TimelineOptions) (names : List ℕ) (carried : Carried) (w : WorldState) (o : WatchState) :
     Type 0 where
   pub named : AreNamed names w
   pub summary_is : o.summary ≡ options.summary
   pub offsets_is : o.offsets ≡ options.offsets
   pub errors : ℕ → Option ℕ
-  pub stands : Stands names since errors w o.systems
+  pub stands : Stands names carried.since errors w o.systems
+  pub times : RestTimes options names carried.readings o.times
 
--- In a stretch in which receipts count from a time on it keeps what is defined over the acts so far; before the stretch
--- systems waited since then.
-pub record Observes (options : TimelineOptions) (names : List ℕ) (since : ℕ → Option ℕ) (from : Option ℕ)
+-- In a stretch of so many events in which receipts count from a time on it keeps what is defined over the acts so far,
+-- where this was carried over.
+pub record Observes (options : TimelineOptions) (names : List ℕ) (carried : Carried) (from : Option ℕ) (events : ℕ)
     (ts : List ActTrace) (w : WorldState) (o : WatchState) : Type 0 where
   pub named : AreNamed names w
-  pub tracks : Tracks options.summary options.offsets from names since (λ name. error_from name from ts) ts w o
+  pub tracks : Tracks options.summary options.offsets from names carried.since (λ name. error_from name from ts) ts w o
+  pub times_are : o.times ≡ account_if options from names events ts carried.readings
   pub others : (name : ℕ) → (In name names → ⊥) → error_from name from ts ≡ None
 
 -- a passage is that of a plan
@@ -76,6 +87,13 @@ pub record IsOfPlan (plan : Plan) (p : StretchTrace) : Type 0 where
   pub begins_is : plan.begins_with_event ≡ is_begun p.events
   pub bound_is : plan.bound ≡ p.bound
   pub errors_are : plan.errors ≡ p.errors
+
+-- where there is no account, it sees nothing
+none_timed : (at : ℕ) (act : Act) (done : Done) (w : WorldState) (o : WatchState) → o.times ≡ None
+    → see_times at act done w o ≡ o
+none_timed at act done w o untimed =
+    ap (λ times. record o { times = option_map (times_after at act done w) times }) untimed
+    ∙ sym (ap (λ times. record o { times = times }) untimed)
 
 -- ---- systems start
 
@@ -92,9 +110,10 @@ seen_first w (n ∷ ns) nobody =
 pub start_rests : {F : Type 0} (answers : Bounds → ℕ → F → Option ℕ → F → Type 0) (n : NetworkState)
     (fate fate_after : F) (options : TimelineOptions) (w : WorldState) (o : WatchState)
     → Begun answers n fate fate_after w → IsWired w → o ≡ watch_before options w
-    → Rests options (rising_clocks w) none_waits w (see_all (event_look 0) w o)
+    → Rests options (rising_clocks w) (none_carried (tracks options) (rising_clocks w)) w (see_all (event_look 0) w o)
 start_rests answers n fate fate_after options w o starts wired first =
-    subst (Rests options (rising_clocks w) none_waits w) (sym (all_looked (event_look 0) w o)) (record {
+    subst (Rests options (rising_clocks w) (none_carried (tracks options) (rising_clocks w)) w)
+    (sym (all_looked (event_look 0) w o)) (record {
       named = first_names w wired;
       summary_is = ap (λ (v : WatchState). v.summary) first;
       offsets_is = ap (λ (v : WatchState). v.offsets) first;
@@ -104,6 +123,8 @@ start_rests answers n fate fate_after options w o starts wired first =
             ∙ seen_first w (rising_clocks w) (none_expects answers n fate fate_after w starts);
         still = λ name none. refl;
       };
+      times = subst (λ (v : WatchState). RestTimes options (rising_clocks w)
+          (none_carried (tracks options) (rising_clocks w)).readings v.times) (sym first) (rest_first options w);
     })
 
 -- and told it
@@ -147,25 +168,29 @@ ended_with s roots = record { stretch = s; roots = roots }
 
 -- ---- how exact systems were
 
-accuracy_kept : (ts : List ActTrace) (kept : List Watched) (errors : Option TimeErrors)
+accuracy_kept : (reads : SystemError → List ℕ) (ts : List ActTrace) (kept : List Watched) (errors : Option TimeErrors)
     → ((clock : ℕ) → error_among kept clock ≡ error_from clock (exact_time errors) ts)
-    → kept_accuracy kept errors ≡ timeline_accuracy_lines ts errors
-accuracy_kept ts kept None are = refl
-accuracy_kept ts kept (Some t) are = by t.from are
+    → kept_accuracy reads kept errors ≡ timeline_accuracy_lines reads ts errors
+accuracy_kept reads ts kept None are = refl
+accuracy_kept reads ts kept (Some t) are = by t.from are
   where
     by : (from : Option ℕ) → ((clock : ℕ) → error_among kept clock ≡ error_from clock from ts)
-        → kept_accuracy_at from kept t.systems.items ≡ accuracy_at from ts t.systems.items
+        → kept_accuracy_at reads from kept t.systems.items ≡ accuracy_at reads from ts t.systems.items
     by None are = refl
     by (Some from) are =
         let same : error_among kept ≡ (λ clock. error_from clock (Some from) ts) = λ i clock. are clock i in
-        ap (λ (errors : ℕ → Option ℕ). flat_map (system_accuracy from errors) t.systems.items) same
+        ap (λ (errors : ℕ → Option ℕ). flat_map (system_accuracy from errors reads) t.systems.items) same
 
-module _ (options : TimelineOptions) (names : List ℕ) (since : ℕ → Option ℕ) where
+module _ (options : TimelineOptions) (names : List ℕ) (carried : Carried) where
+  abbrev since : ℕ → Option ℕ
+  since = carried.since
+
   -- ---- a stretch begins
 
-  pub stretch_begins : (from : Option ℕ) (w : WorldState) (o : WatchState) → Rests options names since w o
-      → Observes options names since from [] w (watch_begun from o)
-  stretch_begins from w o rests = record {
+  pub stretch_begins : (from : Option ℕ) (events : ℕ) (w : WorldState) (o : WatchState)
+      → Rests options names carried w o
+      → Observes options names carried from events [] w (watch_begun from events o)
+  stretch_begins from events w o rests = record {
     named = rests.named;
     tracks = record {
       summary_is = rests.summary_is;
@@ -177,14 +202,15 @@ module _ (options : TimelineOptions) (names : List ℕ) (since : ℕ → Option 
       };
       measures_are = refl;
     };
+    times_are = rest_begun options from names events carried.readings o.times rests.times;
     others = λ name stranger. refl;
   }
 
   -- ---- its acts
 
-  module _ (from : Option ℕ) where
+  module _ (from : Option ℕ) (events : ℕ) where
     moved : (ts : List ActTrace) (w w' : WorldState) (o : WatchState) → w'.stations ≡ w.stations
-        → Observes options names since from ts w o → Observes options names since from ts w' o
+        → Observes options names carried from events ts w o → Observes options names carried from events ts w' o
     moved ts w w' o same observes = record {
       named = same_named names w w' same observes.named;
       tracks = record {
@@ -195,56 +221,100 @@ module _ (options : TimelineOptions) (names : List ℕ) (since : ℕ → Option 
             observes.tracks.stands;
         measures_are = observes.tracks.measures_are;
       };
+      times_are = observes.times_are;
       others = observes.others;
     }
 
+    -- what systems read is told behind the rest
+    told_both : (ts : List ActTrace) (t : ActTrace) (o : WatchState)
+        → Observes options names carried from events ts t.before o
+        → seen_lines (at_of t) t.told.timed.act t.told.done t.after o ≡ act_lines options names t
+        → seen_lines (at_of t) t.told.timed.act t.told.done t.after o
+        ++ times_lines_if (at_of t) t.told.timed.act t.told.done t.after o.times
+        ≡ act_lines options names t
+        ++ stretch_reading_lines options (option_map (readings_after ts) carried.readings) t
+    told_both ts t o observes told =
+        ap (λ first. first ++ times_lines_if (at_of t) t.told.timed.act t.told.done t.after o.times) told
+        ∙ ap (λ times. act_lines options names t
+        ++ times_lines_if (at_of t) t.told.timed.act t.told.done t.after times) observes.times_are
+        ∙ ap (λ rest. act_lines options names t ++ rest)
+        (account_told options from names events ts t carried.readings)
+
     -- after one more
     act_step : (ts : List ActTrace) (t : ActTrace) (o : WatchState)
-        → Observes options names since from ts t.before o → IsDone t
-        → Observes options names since from (ts ++ t ∷ []) t.after
-        (see_act (at_of t) t.told.timed.act t.told.done t.after o)
-        × (seen_lines (at_of t) t.told.timed.act t.told.done t.after o ≡ act_lines options names t)
+        → Observes options names carried from events ts t.before o → IsDone t
+        → Observes options names carried from events (ts ++ t ∷ []) t.after
+        (see_times (at_of t) t.told.timed.act t.told.done t.after
+        (see_act (at_of t) t.told.timed.act t.told.done t.after o))
+        × (seen_lines (at_of t) t.told.timed.act t.told.done t.after o
+        ++ times_lines_if (at_of t) t.told.timed.act t.told.done t.after o.times
+        ≡ act_lines options names t
+        ++ stretch_reading_lines options (option_map (readings_after ts) carried.readings) t)
     act_step ts t o observes done =
         let errors : ℕ → Option ℕ = λ name. error_from name from ts in
         let more : (name : ℕ) → error_from name from (ts ++ t ∷ []) ≡ errors_next from t errors name =
         λ name. errors_more name from t ts in
         let stepped = done_step options from names observes.named.rising since errors ts t o observes.tracks
-        t.told.timed.act t.told.done done.draws observes.named refl refl done.acts in (
+        t.told.timed.act t.told.done done.draws observes.named refl refl done.acts in
+        let seen : WatchState = see_act (at_of t) t.told.timed.act t.told.done t.after o in
+        let tracked = retrack options.summary options.offsets from names since (errors_next from t errors)
+        (λ name. error_from name from (ts ++ t ∷ [])) (ts ++ t ∷ []) t.after seen more stepped.0 in (
           record {
             named = acts_named names t.told.timed.act (at (at_of t) t.before) done.draws t.told.done t.after done.acts
                 (same_named names t.before (at (at_of t) t.before) refl observes.named);
-            tracks = retrack options.summary options.offsets from names since (errors_next from t errors)
-                (λ name. error_from name from (ts ++ t ∷ [])) (ts ++ t ∷ []) t.after
-                (see_act (at_of t) t.told.timed.act t.told.done t.after o) more stepped.0;
+            tracks = record {
+              summary_is = tracked.summary_is;
+              offsets_is = tracked.offsets_is;
+              from_is = tracked.from_is;
+              stands = tracked.stands;
+              measures_are = tracked.measures_are;
+            };
+            times_are = ap (option_map (times_after (at_of t) t.told.timed.act t.told.done t.after))
+                (act_times (at_of t) t.told.timed.act t.told.done t.after o ∙ observes.times_are)
+                ∙ account_if_more options from names events ts t carried.readings;
             others = λ name stranger.
                 more name
                 ∙ errors_stay name from t errors (strangers names t observes.named t.told.timed.act t.told.done
                 done.draws refl done.acts name stranger)
                 ∙ observes.others name stranger;
           },
-          stepped.1,
+          told_both ts t o observes stepped.1,
         )
 
-    -- an act that wasn't looked at is as if it had been
+    -- what systems read after one more
+    next_readings : (ts : List ActTrace) (t : ActTrace) (readings : Option (List SystemReading))
+        → option_map (readings_after (ts ++ t ∷ [])) readings
+        ≡ option_map (read_after t) (option_map (readings_after ts) readings)
+    next_readings ts t None = refl
+    next_readings ts t (Some rs) = ap Some (readings_more ts t rs)
+
+    -- an act that was passed over is as if it had been looked at
     was_seen : (ts : List ActTrace) (t : ActTrace) (o between : WatchState) (lines : List (List ℕ))
-        → Observes options names since from ts t.before o → IsDone t → tells_changes t.told t.after o between lines
-        → TellsSeen t.told t.after o between lines
+        → Observes options names carried from events ts t.before o → IsDone t
+        → tells_changes t.told t.after o between lines → TellsSeen t.told t.after o between lines
     was_seen ts t o between lines observes done (inl seen) = seen
-    was_seen ts t o between lines observes done (inr (leaves, is, none)) =
-        let stays = leaves.stays (at (at_of t) t.before) t.after done.draws done.acts in
+    was_seen ts t o between lines observes done (inr (passes, is, none)) =
+        let act = t.told.timed.act in
+        let stays = passes.leaves.stays (at (at_of t) t.before) t.after done.draws done.acts in
         let (kept, told) = stays_seen options.summary options.offsets from names since
-        (λ name. error_from name from ts) ts t o observes.tracks stays.same t.told.timed.act t.told.done
-        leaves.is_other stays.nobody in
-        (is ∙ sym kept, none ∙ sym told)
+        (λ name. error_from name from ts) ts t o observes.tracks stays.same act t.told.done
+        passes.leaves.is_other stays.nobody in (
+          is ∙ sym (none_timed (at_of t) act t.told.done t.after o passes.untimed)
+              ∙ sym (ap (see_times (at_of t) act t.told.done t.after) kept),
+          none
+              ∙ sym (ap (times_lines_if (at_of t) act t.told.done t.after) passes.untimed)
+              ∙ sym (ap (λ ls. ls ++ times_lines_if (at_of t) act t.told.done t.after o.times) told),
+        )
 
     -- after several
     chained : (us ts : List ActTrace) (w w' : WorldState) (before after : List Station) (o o_after : WatchState)
         (lines : List (List ℕ)) → before ≡ w.stations → Chain us before after → w'.stations ≡ after
-        → Tells tells_changes us o o_after lines → Observes options names since from ts w o
-        → Observes options names since from (ts ++ us) w' o_after × (lines ≡ flat_map (act_lines options names) us)
+        → Tells tells_changes us o o_after lines → Observes options names carried from events ts w o
+        → Observes options names carried from events (ts ++ us) w' o_after
+        × (lines ≡ acts_lines options names (option_map (readings_after ts) carried.readings) us)
     chained [] ts w w' before after o o_after lines start same end (is, none) observes = (
-      subst (λ us. Observes options names since from us w' o_after) (sym (append-nil ts))
-          (subst (Observes options names since from ts w') (sym is)
+      subst (λ us. Observes options names carried from events us w' o_after) (sym (append-nil ts))
+          (subst (Observes options names carried from events ts w') (sym is)
           (moved ts w w' o (end ∙ sym same ∙ start) observes)),
       none,
     )
@@ -255,41 +325,53 @@ module _ (options : TimelineOptions) (names : List ℕ) (since : ℕ → Option 
         let step = act_step ts t o before done in
         let next = chained us (ts ++ t ∷ []) t.after w' t.after.stations after between o_after others refl rest end
         tells
-        (subst (Observes options names since from (ts ++ t ∷ []) t.after) (sym is) step.0) in (
-          subst (λ vs. Observes options names since from vs w' o_after) (append_assoc ts (t ∷ []) us) next.0,
-          are ∙ ap (λ ls. ls ++ others) (told ∙ step.1) ∙ ap (λ ls. act_lines options names t ++ ls) next.1,
+        (subst (Observes options names carried from events (ts ++ t ∷ []) t.after) (sym is) step.0) in (
+          subst (λ vs. Observes options names carried from events vs w' o_after) (append_assoc ts (t ∷ []) us) next.0,
+          are ∙ ap (λ ls. ls ++ others) (told ∙ step.1)
+              ∙ ap (λ ls. (act_lines options names t
+              ++ stretch_reading_lines options (option_map (readings_after ts) carried.readings) t) ++ ls)
+              (next.1 ∙ ap (λ readings. acts_lines options names readings us) (next_readings ts t carried.readings)),
         )
+
+  none_before : (readings : Option (List SystemReading)) → option_map (readings_after []) readings ≡ readings
+  none_before None = refl
+  none_before (Some rs) = refl
 
   module _ {F : Type 0} (answers : Bounds → ℕ → F → Option ℕ → F → Type 0) (from : Option ℕ) (until : ℕ)
       (events : List Timed) (ts : List ActTrace) (fate : F) (w : WorldState) (o o_after : WatchState)
-      (lines : List (List ℕ)) (begins : Observes options names since from [] w o)
+      (lines : List (List ℕ)) (begins : Observes options names carried from (length events) [] w o)
       (tells : Tells tells_changes ts o o_after lines) where
+    lines_from : lines ≡ acts_lines options names (option_map (readings_after []) carried.readings) ts
+        → lines ≡ acts_lines options names carried.readings ts
+    lines_from are = are ∙ ap (λ readings. acts_lines options names readings ts) (none_before carried.readings)
+
     -- they pass
     passes : (fate_after : F) (w' : WorldState) → Courses answers until events ts fate fate_after w w'
-        → Observes options names since from ts w' o_after × (lines ≡ flat_map (act_lines options names) ts)
+        → Observes options names carried from (length events) ts w' o_after
+        × (lines ≡ acts_lines options names (option_map (readings_after []) carried.readings) ts)
     passes fate_after w' courses =
-        chained from ts [] w w' w.stations w'.stations o o_after lines refl
+        chained from (length events) ts [] w w' w.stations w'.stations o o_after lines refl
         (courses_chain answers until events ts fate fate_after w w' courses) refl tells begins
 
     pub stretch_passes : (fate_after : F) (w' : WorldState) → Courses answers until events ts fate fate_after w w'
-        → Observes options names since from ts w' o_after
+        → Observes options names carried from (length events) ts w' o_after
     stretch_passes fate_after w' courses = (passes fate_after w' courses).0
 
     pub stretch_told : (fate_after : F) (w' : WorldState) → Courses answers until events ts fate fate_after w w'
-        → lines ≡ flat_map (act_lines options names) ts
-    stretch_told fate_after w' courses = (passes fate_after w' courses).1
+        → lines ≡ acts_lines options names carried.readings ts
+    stretch_told fate_after w' courses = lines_from (passes fate_after w' courses).1
 
     -- or break off
-    pub broken_told : CoursesSoFar answers until events ts fate w → lines ≡ flat_map (act_lines options names) ts
+    pub broken_told : CoursesSoFar answers until events ts fate w → lines ≡ acts_lines options names carried.readings ts
     broken_told courses =
         let (after, chain) = broken_chain answers until events ts fate w courses in
-        (chained from ts [] w (record w { stations = after }) w.stations after o o_after lines refl chain refl tells
-        begins).1
+        lines_from (chained from (length events) ts [] w (record w { stations = after }) w.stations after o o_after
+        lines refl chain refl tells begins).1
 
   -- ---- a stretch ends
 
   module _ (plan : Plan) (p : StretchTrace) (is : IsOfPlan plan p) (o : WatchState)
-      (observes : Observes options names since (exact_time p.errors) p.acts p.after o) where
+      (observes : Observes options names carried (exact_time p.errors) (length p.events) p.acts p.after o) where
     abbrev now : ℕ → Option ℕ
     now = waits p.acts since
 
@@ -299,6 +381,9 @@ module _ (options : TimelineOptions) (names : List ℕ) (since : ℕ → Option 
     abbrev measures : Measures
     measures = measured_by options.summary options.offsets (exact_time p.errors) names since p.acts
 
+    abbrev times : Option TimeMeasures
+    times = option_map (λ rs. measured_times rs (length p.events) p.acts p.to p.after) carried.readings
+
     abbrev became : Option Greatest → Counts → Stretch
     became holdover counts = record {
       from = p.from;
@@ -307,6 +392,7 @@ module _ (options : TimelineOptions) (names : List ℕ) (since : ℕ → Option 
       bound = p.bound;
       measures = record measures { holdover = holdover };
       counts = counts;
+      times = times;
     }
 
     -- the longest of the waits that ended, and of those under way
@@ -316,44 +402,84 @@ module _ (options : TimelineOptions) (names : List ℕ) (since : ℕ → Option 
         ap (greatest_from measures.holdover) (kept_waits now errors p.after p.to names)
         ∙ sym (greatest_both None (ended names since p.acts) (under_way names now p.to))
 
-    pub stretch_ended : ended_of plan o ≡ stretch_of names since p
+    times_is : times_ended plan.to p.after o.times ≡ times
+    times_is =
+        ap (λ to. times_ended to p.after o.times) is.to_is
+        ∙ ap (times_ended p.to p.after) observes.times_are
+        ∙ account_ended options (exact_time p.errors) names (length p.events) p.acts p.to p.after carried.readings
+
+    pub stretch_ended : ended_of plan p.after o ≡ stretch_of names carried p
     stretch_ended =
-        ap (λ from. ended_stretch from plan.to plan.begins_with_event plan.bound o.measures o.systems) is.from_is
-        ∙ ap (λ to. ended_stretch p.from to plan.begins_with_event plan.bound o.measures o.systems) is.to_is
-        ∙ ap (λ begins. ended_stretch p.from p.to begins plan.bound o.measures o.systems) is.begins_is
-        ∙ ap (λ bound. ended_stretch p.from p.to (is_begun p.events) bound o.measures o.systems) is.bound_is
-        ∙ ap (λ m. ended_stretch p.from p.to (is_begun p.events) p.bound m o.systems) observes.tracks.measures_are
-        ∙ ap (ended_stretch p.from p.to (is_begun p.events) p.bound measures) observes.tracks.stands.are
+        ap (ended_stretch plan.from plan.to plan.begins_with_event plan.bound o.measures o.systems) times_is
+        ∙ ap (λ from. ended_stretch from plan.to plan.begins_with_event plan.bound o.measures o.systems times)
+        is.from_is
+        ∙ ap (λ to. ended_stretch p.from to plan.begins_with_event plan.bound o.measures o.systems times) is.to_is
+        ∙ ap (λ begins. ended_stretch p.from p.to begins plan.bound o.measures o.systems times) is.begins_is
+        ∙ ap (λ bound. ended_stretch p.from p.to (is_begun p.events) bound o.measures o.systems times) is.bound_is
+        ∙ ap (λ m. ended_stretch p.from p.to (is_begun p.events) p.bound m o.systems times) observes.tracks.measures_are
+        ∙ ap (λ xs. ended_stretch p.from p.to (is_begun p.events) p.bound measures xs times) observes.tracks.stands.are
         ∙ ap (λ h. became h (counted (shown_of_all (map (kept now errors p.after) names)))) longest
         ∙ ap (λ shown. became (greatest (ended names since p.acts ++ under_way names now p.to)) (counted shown))
         (kept_shown now errors p.after names)
 
     -- so it ended
-    pub end_is : end_of plan o ≡ end_in names since p
+    pub end_is : end_of plan p.after o ≡ end_in names carried p
     end_is =
         ap (λ s. ended_with s (roots_of (shown_of_all o.systems))) stretch_ended
-        ∙ ap (λ (xs : List Watched). ended_with (stretch_of names since p) (roots_of (shown_of_all xs)))
+        ∙ ap (λ (xs : List Watched). ended_with (stretch_of names carried p) (roots_of (shown_of_all xs)))
         observes.tracks.stands.are
-        ∙ ap (λ all. ended_with (stretch_of names since p) (roots_of all)) (kept_shown now errors p.after names)
+        ∙ ap (λ all. ended_with (stretch_of names carried p) (roots_of all)) (kept_shown now errors p.after names)
 
     errors_are : (clock : ℕ) → error_among o.systems clock ≡ errors clock
     errors_are clock =
         ap (λ xs. error_among xs clock) observes.tracks.stands.are
         ∙ kept_error now errors p.after clock names (observes.others clock)
 
-    pub end_told : end_lines plan o ≡ after_line (stretch_of names since p) ∷ timeline_accuracy_lines p.acts p.errors
+    abbrev asked : SystemError → List ℕ
+    asked = reads_if options.times names carried.readings p
+
+    reads_is : reads_kept plan.to p.after o.times ≡ asked
+    reads_is = λ i s. (ap (λ to. reads_kept to p.after o.times s) is.to_is
+        ∙ ap (λ times. reads_kept p.to p.after times s) observes.times_are
+        ∙ reads_are options names p (length p.events) carried.readings s) i
+
+    accuracy_is : kept_accuracy (reads_kept plan.to p.after o.times) o.systems plan.errors
+        ≡ timeline_accuracy_lines asked p.acts p.errors
+    accuracy_is =
+        ap (λ (reads : SystemError → List ℕ). kept_accuracy reads o.systems plan.errors) reads_is
+        ∙ ap (kept_accuracy asked o.systems) is.errors_are
+        ∙ accuracy_kept asked p.acts o.systems p.errors errors_are
+
+    line_is : line_of_times (asks_lines o.times) (ended_of plan p.after o) (ended_of plan p.after o).times
+        ≡ line_of_times options.times (stretch_of names carried p) (stretch_of names carried p).times
+    line_is =
+        ap (λ (s : Stretch). line_of_times (asks_lines o.times) s s.times) stretch_ended
+        ∙ ap (λ account. line_of_times (asks_lines account) (stretch_of names carried p) times) observes.times_are
+        ∙ line_kept options names p (exact_time p.errors) (length p.events) carried.readings
+        (stretch_of names carried p)
+        (λ rs. measured_times rs (length p.events) p.acts p.to p.after)
+
+    pub end_told : end_lines plan p.after o ≡ after_line (stretch_of names carried p)
+        ∷ (line_of_times options.times (stretch_of names carried p) (stretch_of names carried p).times
+        ++ timeline_accuracy_lines asked p.acts p.errors)
     end_told =
-        ap (λ (s : Stretch). after_line s ∷ kept_accuracy o.systems plan.errors) stretch_ended
-        ∙ ap (λ ls. after_line (stretch_of names since p) ∷ ls)
-        (ap (kept_accuracy o.systems) is.errors_are ∙ accuracy_kept p.acts o.systems p.errors errors_are)
+        ap (λ (s : Stretch). after_line s
+        ∷ (line_of_times (asks_lines o.times) (ended_of plan p.after o) (ended_of plan p.after o).times
+        ++ kept_accuracy (reads_kept plan.to p.after o.times) o.systems plan.errors)) stretch_ended
+        ∙ ap (λ line. after_line (stretch_of names carried p)
+        ∷ (line ++ kept_accuracy (reads_kept plan.to p.after o.times) o.systems plan.errors)) line_is
+        ∙ ap (λ rest. after_line (stretch_of names carried p)
+        ∷ (line_of_times options.times (stretch_of names carried p) (stretch_of names carried p).times ++ rest))
+        accuracy_is
 
   -- the observer is where the next can begin
-  pub stretch_rests : (from : Option ℕ) (ts : List ActTrace) (w : WorldState) (o : WatchState)
-      → Observes options names since from ts w o → Rests options names (waits ts since) w o
-  stretch_rests from ts w o observes = record {
+  pub stretch_rests : (from : Option ℕ) (events : ℕ) (ts : List ActTrace) (w : WorldState) (o : WatchState)
+      → Observes options names carried from events ts w o → Rests options names (carry ts carried) w o
+  stretch_rests from events ts w o observes = record {
     named = observes.named;
     summary_is = observes.tracks.summary_is;
     offsets_is = observes.tracks.offsets_is;
     errors = λ name. error_from name from ts;
     stands = observes.tracks.stands;
+    times = rest_after options from names events ts carried.readings o.times observes.times_are;
   }

@@ -1,6 +1,5 @@
 -- Stretches that pass one after another, and the observer between them.
 use Rattle.std.proofs.Common.{◌≡◌, ◌==◌, ℕ, Bool, true, false, not, length, None, arith, List, [], ◌∷◌, ◌++◌, Option, Some, Result, Ok, Err, inl, inr, refl, sym, ap, subst, ◌∙◌, append_assoc, append-nil}
-use Rattle.std.specs.List.{flat_map}
 use Rattle.std.specs.Prelude.{IfOk, OnOk}
 use Rattle.std.proofs.lemmas.Bool.Decides.{nat_tests}
 use Rattle.gptp_model.specs.Sound.{HaveTheirSetups}
@@ -19,18 +18,19 @@ use Rattle.gptp_words.specs.Lines.{text_of}
 use Rattle.gptp_timeline.specs.Ends.{EndState}
 use Rattle.gptp_timeline.specs.LastTwo.{all_kept, end_in, end_of, kept_after, none_kept}
 use Rattle.gptp_timeline.specs.Passing.{first_time, StretchIsSeen, IsSeenSoFar, StopsSeen}
-use Rattle.gptp_timeline.specs.Stretch.{roots_of, shown_of_all, waits}
+use Rattle.gptp_timeline.specs.Stretch.{roots_of, shown_of_all}
 use Rattle.gptp_timeline.specs.StretchText.{after_line, ended_stretch}
-use Rattle.gptp_timeline.specs.Timeline.{act_lines, all_lines, AllPass, AreErrorsIf, end_before, end_lines, ended_of, exact_time, is_begun, kept_accuracy, IsPassage, IsTimelinePlan, later_than, none_waits, now_of, StretchTrace, passage_lines, SomePass}
+use Rattle.gptp_timeline.specs.Timeline.{acts_lines, all_lines, AllPass, AreErrorsIf, asks_lines, Carried, carry, end_before, end_lines, ended_of, exact_time, is_begun, kept_accuracy, IsPassage, IsTimelinePlan, later_than, line_of_times, none_carried, now_of, passage_lines, reads_kept, SomePass, StretchTrace, times_ended, tracks}
 use Rattle.gptp_timeline.specs.Watch.{watch_begun, tells_changes, WatchState}
 use Rattle.gptp_timeline.specs.declared.ends.StretchesSoFar.{StretchesSoFar}
+use Rattle.gptp_timeline.specs.declared.looks.TimeMeasures.{TimeMeasures}
 use Rattle.gptp_timeline.specs.declared.measures.Measures.{Measures}
 use Rattle.gptp_timeline.specs.declared.stretch.Stretch.{Stretch}
 use Rattle.gptp_timeline.specs.declared.timeline.Plan.{Plan}
 use Rattle.gptp_timeline.specs.declared.timeline.TimelineOptions.{TimelineOptions}
 use Rattle.gptp_timeline.specs.declared.watched.Watched.{Watched}
 use Rattle.gptp_timeline.proofs.EventLemmas.{ends_before, some_left}
-use Rattle.gptp_timeline.proofs.LineLemmas.{line_on}
+use Rattle.gptp_timeline.proofs.LineLemmas.{line_on, lines_on}
 use Rattle.gptp_timeline.proofs.ObservedLemmas.{broken_told, end_is, end_told, ended_with, IsOfPlan, Observes, Rests, stretch_begins, stretch_passes, stretch_rests, stretch_told}
 
 -- ---- answers
@@ -57,33 +57,38 @@ pub appended_text : (empty after octets text : List ℕ) → empty ≡ [] → af
 appended_text empty after octets text none added same = same ∙ added ∙ ap (λ b. b ++ text) none
 
 -- what became of a stretch, and how it ended
-stretch_is : (plan : Plan) (o : WatchState) (s : Stretch) (m : Measures) (xs : List Watched)
-    → s ≡ ended_stretch plan.from plan.to plan.begins_with_event plan.bound m xs → m ≡ o.measures → xs ≡ o.systems
-    → s ≡ ended_of plan o
-stretch_is plan o s m xs is measures systems =
-    is ∙ ap (λ k. ended_stretch plan.from plan.to plan.begins_with_event plan.bound k xs) measures
-    ∙ ap (ended_stretch plan.from plan.to plan.begins_with_event plan.bound o.measures) systems
+abbrev ended_by_plan : Plan → Measures → List Watched → Option TimeMeasures → Stretch
+ended_by_plan plan = ended_stretch plan.from plan.to plan.begins_with_event plan.bound
 
-pub end_made : (plan : Plan) (o : WatchState) (s : Stretch) (m : Measures) (xs ys : List Watched) (roots : List ℕ)
-    (e : EndState) → s ≡ ended_stretch plan.from plan.to plan.begins_with_event plan.bound m xs → m ≡ o.measures
-    → xs ≡ o.systems → roots ≡ roots_of (shown_of_all ys) → ys ≡ o.systems
-    → e ≡ record { stretch = s; roots = roots } → e ≡ end_of plan o
-end_made plan o s m xs ys roots e is measures systems followed also made =
-    made ∙ ap (λ t. ended_with t roots) (stretch_is plan o s m xs is measures systems)
-    ∙ ap (ended_with (ended_of plan o)) (followed ∙ ap (λ (zs : List Watched). roots_of (shown_of_all zs)) also)
+module _ (plan : Plan) (w : WorldState) (o : WatchState) (s : Stretch) (m : Measures) (xs : List Watched)
+    (times : Option TimeMeasures) (is : s ≡ ended_by_plan plan m xs times) (measures : m ≡ o.measures)
+    (systems : xs ≡ o.systems) (read : times ≡ times_ended plan.to w o.times) where
+  stretch_is : s ≡ ended_of plan w o
+  stretch_is =
+      is ∙ ap (λ k. ended_by_plan plan k xs times) measures
+      ∙ ap (λ ys. ended_by_plan plan o.measures ys times) systems
+      ∙ ap (ended_by_plan plan o.measures o.systems) read
 
--- the lines where a stretch ends
-pub end_text : (plan : Plan) (o : WatchState) (s : Stretch) (m : Measures) (xs : List Watched)
-    (empty between after octets : List ℕ)
-    → s ≡ ended_stretch plan.from plan.to plan.begins_with_event plan.bound m xs → m ≡ o.measures → xs ≡ o.systems
-    → empty ≡ [] → between ≡ empty ++ (after_line s ++ 10 ∷ [])
-    → after ≡ between ++ text_of (kept_accuracy o.systems plan.errors) → octets ≡ after
-    → octets ≡ text_of (end_lines plan o)
-end_text plan o s m xs empty between after octets is measures systems none line rest same =
-    let stretch = stretch_is plan o s m xs is measures systems in
-    appended_text empty after octets (text_of (end_lines plan o)) none
-    (line_on empty between after (after_line s) (kept_accuracy o.systems plan.errors) line rest
-    ∙ ap (λ t. empty ++ text_of (after_line t ∷ kept_accuracy o.systems plan.errors)) stretch) same
+  pub end_made : (ys : List Watched) (roots : List ℕ) (e : EndState) → roots ≡ roots_of (shown_of_all ys)
+      → ys ≡ o.systems → e ≡ record { stretch = s; roots = roots } → e ≡ end_of plan w o
+  end_made ys roots e followed also made =
+      made ∙ ap (λ t. ended_with t roots) stretch_is
+      ∙ ap (ended_with (ended_of plan w o)) (followed ∙ ap (λ (zs : List Watched). roots_of (shown_of_all zs)) also)
+
+  -- the lines where a stretch ends
+  pub end_text : (asked : Bool) (empty one two after octets : List ℕ) → asked ≡ asks_lines o.times → empty ≡ []
+      → one ≡ empty ++ (after_line s ++ 10 ∷ []) → two ≡ one ++ text_of (line_of_times asked s s.times)
+      → after ≡ two ++ text_of (kept_accuracy (reads_kept plan.to w o.times) o.systems plan.errors) → octets ≡ after
+      → octets ≡ text_of (end_lines plan w o)
+  end_text asked empty one two after octets asks none line times_line rest same =
+      let exact = kept_accuracy (reads_kept plan.to w o.times) o.systems plan.errors in
+      let behind : after ≡ one ++ text_of (line_of_times asked s s.times ++ exact) =
+      lines_on one two after (line_of_times asked s s.times) exact times_line rest in
+      appended_text empty after octets (text_of (end_lines plan w o)) none
+      (line_on empty one after (after_line s) (line_of_times asked s s.times ++ exact) line behind
+      ∙ ap (λ (t : Stretch). empty ++ text_of (after_line t ∷ (line_of_times asked t t.times ++ exact))) stretch_is
+      ∙ ap (λ a. empty ++ text_of (after_line (ended_of plan w o)
+      ∷ (line_of_times a (ended_of plan w o) (ended_of plan w o).times ++ exact))) asks) same
 
 -- ---- the acts of a stretch
 
@@ -107,9 +112,13 @@ module _ {F : Type 0} (answers : Bounds → ℕ → F → Option ℕ → F → T
 
 module _ {F : Type 0} (answers : Bounds → ℕ → F → Option ℕ → F → Type 0) (exact : Bool) (d : DocumentState) (until : ℕ)
     (options : TimelineOptions) (names : List ℕ) (events : List Timed) (fate : F) (w : WorldState) where
+  -- as systems start
+  abbrev pub first : Carried
+  first = none_carried (tracks options) names
+
   -- Stretches passed, the first from 0 on with these events; the next begins at a time with those that are left.
   pub record Gone (from : ℕ) (left : List Timed) (drawn : F) (between : WorldState) (kept : StretchesSoFar)
-      (since : ℕ → Option ℕ) (lines : List (List ℕ)) : Type 0 where
+      (carried : Carried) (lines : List (List ℕ)) : Type 0 where
     pub passages : List StretchTrace
     pub more : (q : StretchTrace) (qs : List StretchTrace) (fate_after : F) (w' : WorldState)
         → AllPass answers exact d until from left drawn fate_after between w' (q ∷ qs)
@@ -117,17 +126,17 @@ module _ {F : Type 0} (answers : Bounds → ℕ → F → Option ℕ → F → T
     pub some : (qs : List StretchTrace) (ts : List ActTrace)
         → SomePass answers exact d until from left drawn between qs ts
         → SomePass answers exact d until 0 events fate w (passages ++ qs) ts
-    pub lines_are : (qs : List StretchTrace)
-        → lines ++ all_lines options names since qs ≡ all_lines options names none_waits (passages ++ qs)
-    pub kept_is : (qs : List StretchTrace) → all_kept options.limits names since qs kept
-        ≡ all_kept options.limits names none_waits (passages ++ qs) none_kept
+    pub lines_are : (qs : List StretchTrace) (ts : List ActTrace)
+        → lines ++ all_lines options names carried qs ts ≡ all_lines options names first (passages ++ qs) ts
+    pub kept_is : (qs : List StretchTrace) → all_kept options.limits names carried qs kept
+        ≡ all_kept options.limits names first (passages ++ qs) none_kept
 
-  pub gone_none : Gone 0 events fate w none_kept none_waits []
+  pub gone_none : Gone 0 events fate w none_kept first []
   gone_none = record {
     passages = [];
     more = λ q qs fate_after w' all. all;
     some = λ qs ts some. some;
-    lines_are = λ qs. refl;
+    lines_are = λ qs ts. refl;
     kept_is = λ qs. refl;
   }
 
@@ -135,20 +144,19 @@ module _ {F : Type 0} (answers : Bounds → ℕ → F → Option ℕ → F → T
   pub record AllGone (fate_after : F) (w' : WorldState) (verdict : StretchesSoFar) (all : List (List ℕ)) : Type 0 where
     pub passages : List StretchTrace
     pub pass : AllPass answers exact d until 0 events fate fate_after w w' passages
-    pub verdict_is : verdict ≡ all_kept options.limits names none_waits passages none_kept
-    pub are : all ≡ all_lines options names none_waits passages
+    pub verdict_is : verdict ≡ all_kept options.limits names first passages none_kept
+    pub are : all ≡ all_lines options names first passages []
 
   -- or some of them did
   pub record SomeGone (some_lines : List (List ℕ)) : Type 0 where
     pub passages : List StretchTrace
     pub acts : List ActTrace
     pub pass : SomePass answers exact d until 0 events fate w passages acts
-    pub are : some_lines
-        ≡ all_lines options names none_waits passages ++ flat_map (act_lines options names) acts
+    pub are : some_lines ≡ all_lines options names first passages acts
 
   -- one stretch more after which another comes
   module _ (from to : ℕ) (left : List Timed) (drawn next : F) (between : WorldState) (kept : StretchesSoFar)
-      (since : ℕ → Option ℕ) (lines : List (List ℕ)) (gone : Gone from left drawn between kept since lines)
+      (carried : Carried) (lines : List (List ℕ)) (gone : Gone from left drawn between kept carried lines)
       (p : StretchTrace) (passage : IsPassage answers exact d until from left drawn next between p)
       (is : first_time (later_than from left) ≡ Some to) where
     to_is : p.to ≡ to
@@ -158,8 +166,8 @@ module _ {F : Type 0} (answers : Bounds → ℕ → F → Option ℕ → F → T
     behind qs = sym (append_assoc gone.passages (p ∷ []) qs)
 
     pub gone_more : Gone to (later_than from left) next p.after
-        (kept_after options.limits (end_in names since p) kept) (waits p.acts since)
-        (lines ++ passage_lines options names since p)
+        (kept_after options.limits (end_in names carried p) kept) (carry p.acts carried)
+        (lines ++ passage_lines options names carried p)
     gone_more = record {
       passages = gone.passages ++ p ∷ [];
       more = λ q qs fate_after w' all.
@@ -178,41 +186,37 @@ module _ {F : Type 0} (answers : Bounds → ℕ → F → Option ℕ → F → T
             passage,
             subst (λ t. SomePass answers exact d until t (later_than from left) next p.after qs ts) (sym to_is) rest,
           ));
-      lines_are = λ qs. append_assoc lines (passage_lines options names since p)
-          (all_lines options names (waits p.acts since) qs)
-          ∙ gone.lines_are (p ∷ qs)
-          ∙ ap (all_lines options names none_waits) (behind qs);
+      lines_are = λ qs ts. append_assoc lines (passage_lines options names carried p)
+          (all_lines options names (carry p.acts carried) qs ts)
+          ∙ gone.lines_are (p ∷ qs) ts
+          ∙ ap (λ ps. all_lines options names first ps ts) (behind qs);
       kept_is = λ qs. gone.kept_is (p ∷ qs)
-          ∙ ap (λ ps. all_kept options.limits names none_waits ps none_kept) (behind qs);
+          ∙ ap (λ ps. all_kept options.limits names first ps none_kept) (behind qs);
     }
 
   -- the last of them
   module _ (from : ℕ) (left : List Timed) (drawn : F) (between : WorldState) (kept : StretchesSoFar)
-      (since : ℕ → Option ℕ) (lines : List (List ℕ)) (gone : Gone from left drawn between kept since lines) where
+      (carried : Carried) (lines : List (List ℕ)) (gone : Gone from left drawn between kept carried lines) where
     pub gone_all : (p : StretchTrace) (next : F) → IsPassage answers exact d until from left drawn next between p
         → later_than from left ≡ []
-        → AllGone next p.after (kept_after options.limits (end_in names since p) kept)
-        (lines ++ passage_lines options names since p)
+        → AllGone next p.after (kept_after options.limits (end_in names carried p) kept)
+        (lines ++ passage_lines options names carried p)
     gone_all p next passage none = record {
       passages = gone.passages ++ p ∷ [];
       pass = gone.more p [] next p.after (passage, none, refl);
       verdict_is = gone.kept_is (p ∷ []);
-      are = ap (λ rest. lines ++ rest) (sym (append-nil (passage_lines options names since p)))
-          ∙ gone.lines_are (p ∷ []);
+      are = ap (λ rest. lines ++ rest) (sym (append-nil (passage_lines options names carried p)))
+          ∙ gone.lines_are (p ∷ []) [];
     }
 
     lines_of : (qs : List StretchTrace) (ts : List ActTrace) (more : List (List ℕ))
-        → more ≡ all_lines options names since qs ++ flat_map (act_lines options names) ts
-        → lines ++ more
-        ≡ all_lines options names none_waits (gone.passages ++ qs) ++ flat_map (act_lines options names) ts
-    lines_of qs ts more are =
-        ap (λ rest. lines ++ rest) are
-        ∙ sym (append_assoc lines (all_lines options names since qs) (flat_map (act_lines options names) ts))
-        ∙ ap (λ front. front ++ flat_map (act_lines options names) ts) (gone.lines_are qs)
+        → more ≡ all_lines options names carried qs ts
+        → lines ++ more ≡ all_lines options names first (gone.passages ++ qs) ts
+    lines_of qs ts more are = ap (λ rest. lines ++ rest) are ∙ gone.lines_are qs ts
 
     some_gone : (qs : List StretchTrace) (ts : List ActTrace) (more : List (List ℕ))
         → SomePass answers exact d until from left drawn between qs ts
-        → more ≡ all_lines options names since qs ++ flat_map (act_lines options names) ts → SomeGone (lines ++ more)
+        → more ≡ all_lines options names carried qs ts → SomeGone (lines ++ more)
     some_gone qs ts more pass are = record {
       passages = gone.passages ++ qs;
       acts = ts;
@@ -230,21 +234,20 @@ module _ {F : Type 0} (answers : Bounds → ℕ → F → Option ℕ → F → T
     -- among its acts
     pub gone_on : (ts : List ActTrace) (told : List (List ℕ))
         → CoursesSoFar answers (end_before until (later_than from left)) (now_of from left) ts drawn between
-        → told ≡ flat_map (act_lines options names) ts → SomeGone (lines ++ told)
+        → told ≡ acts_lines options names carried.readings ts → SomeGone (lines ++ told)
     gone_on ts told courses are = some_gone [] ts told courses are
 
     -- where it ends
     pub gone_to_end : (p : StretchTrace) (next : F) → IsPassage answers exact d until from left drawn next between p
-        → SomeGone (lines ++ passage_lines options names since p)
+        → SomeGone (lines ++ passage_lines options names carried p)
     gone_to_end p next passage =
-        some_gone (p ∷ []) [] (passage_lines options names since p) (
+        some_gone (p ∷ []) [] (passage_lines options names carried p) (
           next,
           passage,
           none_done answers (end_before until (later_than p.to (later_than from left)))
               (now_of p.to (later_than from left)) next p.after,
         )
-        (sym (append-nil (passage_lines options names since p ++ []) ∙ append-nil
-        (passage_lines options names since p)))
+        (sym (append-nil (passage_lines options names carried p)))
 
 -- ---- what passed before an observer
 
@@ -283,10 +286,10 @@ module _ {F : Type 0} (answers : Bounds → ℕ → F → Option ℕ → F → T
 
 -- an observer sees them, for which the stretch began
 module _ {F : Type 0} (answers : Bounds → ℕ → F → Option ℕ → F → Type 0) (plan : Plan) (now : List Timed) (fate : F)
-    (w : WorldState) (o mid : WatchState) (mid_is : mid ≡ watch_begun (exact_time plan.errors) o)
+    (w : WorldState) (o mid : WatchState) (mid_is : mid ≡ watch_begun (exact_time plan.errors) (length now) o)
     (due : events_by plan.to now ≡ now) (ts : List ActTrace) (o_after : WatchState) (So : List ℕ → Type 0)
     (observed : Observed tells_changes ts mid o_after So) where
-  tells : Tells tells_changes ts (watch_begun (exact_time plan.errors) o) o_after observed.lines
+  tells : Tells tells_changes ts (watch_begun (exact_time plan.errors) (length now) o) o_after observed.lines
   tells = subst (λ b. Tells tells_changes ts b o_after observed.lines) mid_is observed.are
 
   pub sees_all : (fate_after : F) (w' : WorldState)
@@ -309,10 +312,11 @@ module _ {F : Type 0} (answers : Bounds → ℕ → F → Option ℕ → F → T
 
 -- what is told of them, and the lines where the stretch ends
 module _ {F : Type 0} (answers : Bounds → ℕ → F → Option ℕ → F → Type 0) (options : TimelineOptions) (names : List ℕ)
-    (since : ℕ → Option ℕ) (plan : Plan) (now : List Timed) (fate : F) (w : WorldState) (o : WatchState)
-    (rests : Rests options names since w o) where
-  begins : Observes options names since (exact_time plan.errors) [] w (watch_begun (exact_time plan.errors) o)
-  begins = stretch_begins options names since (exact_time plan.errors) w o rests
+    (carried : Carried) (plan : Plan) (now : List Timed) (fate : F) (w : WorldState) (o : WatchState)
+    (rests : Rests options names carried w o) where
+  begins : Observes options names carried (exact_time plan.errors) (length now) [] w
+      (watch_begun (exact_time plan.errors) (length now) o)
+  begins = stretch_begins options names carried (exact_time plan.errors) (length now) w o rests
 
   -- to the end of the stretch
   module _ (fate_after : F) (w' : WorldState) (o_after : WatchState) (told : List (List ℕ))
@@ -324,32 +328,32 @@ module _ {F : Type 0} (answers : Bounds → ℕ → F → Option ℕ → F → T
     of_plan : IsOfPlan plan seen_passage
     of_plan = record { from_is = refl; to_is = refl; begins_is = is_begun_is; bound_is = refl; errors_are = refl }
 
-    observes : Observes options names since (exact_time plan.errors) seen.acts w' o_after
+    observes : Observes options names carried (exact_time plan.errors) (length now) seen.acts w' o_after
     observes =
-        stretch_passes options names since answers (exact_time plan.errors) plan.to now seen.acts fate w
-        (watch_begun (exact_time plan.errors) o) o_after told begins seen.tells fate_after w' seen.courses
+        stretch_passes options names carried answers (exact_time plan.errors) plan.to now seen.acts fate w
+        (watch_begun (exact_time plan.errors) (length now) o) o_after told begins seen.tells fate_after w' seen.courses
 
-    pub seen_end : end_of plan o_after ≡ end_in names since (passage_of plan now seen.acts w')
-    seen_end = end_is options names since plan seen_passage of_plan o_after observes
+    pub seen_end : end_of plan w' o_after ≡ end_in names carried (passage_of plan now seen.acts w')
+    seen_end = end_is options names carried plan seen_passage of_plan o_after observes
 
-    pub seen_lines : told ++ end_lines plan o_after
-        ≡ passage_lines options names since (passage_of plan now seen.acts w')
+    pub seen_lines : told ++ end_lines plan w' o_after
+        ≡ passage_lines options names carried (passage_of plan now seen.acts w')
     seen_lines =
-        ap (λ front. front ++ end_lines plan o_after)
-        (stretch_told options names since answers (exact_time plan.errors) plan.to now seen.acts fate w
-        (watch_begun (exact_time plan.errors) o) o_after told begins seen.tells fate_after w' seen.courses)
-        ∙ ap (λ rest. flat_map (act_lines options names) seen.acts ++ rest)
-        (end_told options names since plan seen_passage of_plan o_after observes)
+        ap (λ front. front ++ end_lines plan w' o_after)
+        (stretch_told options names carried answers (exact_time plan.errors) plan.to now seen.acts fate w
+        (watch_begun (exact_time plan.errors) (length now) o) o_after told begins seen.tells fate_after w' seen.courses)
+        ∙ ap (λ rest. acts_lines options names carried.readings seen.acts ++ rest)
+        (end_told options names carried plan seen_passage of_plan o_after observes)
 
-    pub seen_rests : Rests options names (waits seen.acts since) w' o_after
-    seen_rests = stretch_rests options names since (exact_time plan.errors) seen.acts w' o_after observes
+    pub seen_rests : Rests options names (carry seen.acts carried) w' o_after
+    seen_rests = stretch_rests options names carried (exact_time plan.errors) (length now) seen.acts w' o_after observes
 
   -- or so far
   pub seen_so_far : (told : List (List ℕ)) (some : IsSeenSoFar answers plan now fate w o told)
-      → told ≡ flat_map (act_lines options names) some.acts
+      → told ≡ acts_lines options names carried.readings some.acts
   seen_so_far told some =
-      broken_told options names since answers (exact_time plan.errors) plan.to now some.acts fate w
-      (watch_begun (exact_time plan.errors) o) some.o_after told begins some.tells some.courses
+      broken_told options names carried answers (exact_time plan.errors) plan.to now some.acts fate w
+      (watch_begun (exact_time plan.errors) (length now) o) some.o_after told begins some.tells some.courses
 
 -- ---- all stretches before an observer
 
@@ -358,16 +362,17 @@ module _ {F : Type 0} (answers : Bounds → ℕ → F → Option ℕ → F → T
   -- Stretches passed; the observer is where the next can begin, and this is so of the text of them.
   pub record GoneSeen (from : ℕ) (left : List Timed) (drawn : F) (between : WorldState) (kept : StretchesSoFar)
       (o : WatchState) (So : List ℕ → Type 0) : Type 0 where
-    pub since : ℕ → Option ℕ
+    pub carried : Carried
     pub lines : List (List ℕ)
-    pub gone : Gone answers exact d until options names events fate w from left drawn between kept since lines
-    pub rests : Rests options names since between o
+    pub gone : Gone answers exact d until options names events fate w from left drawn between kept carried lines
+    pub rests : Rests options names carried between o
     pub so : So (text_of lines)
 
-  pub seen_none : (o : WatchState) (So : List ℕ → Type 0) → Rests options names none_waits w o → So []
+  pub seen_none : (o : WatchState) (So : List ℕ → Type 0)
+      → Rests options names (none_carried (tracks options) names) w o → So []
       → GoneSeen 0 events fate w none_kept o So
   seen_none o So rests so = record {
-    since = none_waits;
+    carried = none_carried (tracks options) names;
     lines = [];
     gone = gone_none answers exact d until options names events fate w;
     rests = rests;
@@ -386,54 +391,54 @@ module _ {F : Type 0} (answers : Bounds → ℕ → F → Option ℕ → F → T
     module _ (plan : Plan) (next : F) (after : WorldState) (o_after : WatchState) (told : List (List ℕ))
         (verdict : StretchesSoFar) (known : IsTimelinePlan exact d from to (is_begun (now_of from left)) plan)
         (seen : StretchIsSeen answers plan (now_of from left) drawn next between after o o_after told)
-        (verdict_is : verdict ≡ kept_after options.limits (end_of plan o_after) kept)
-        (so : Second (text_of (told ++ end_lines plan o_after))) where
+        (verdict_is : verdict ≡ kept_after options.limits (end_of plan after o_after) kept)
+        (so : Second (text_of (told ++ end_lines plan after o_after))) where
       abbrev passed : StretchTrace
       passed = passage_of plan (now_of from left) seen.acts after
 
-      lines_are : told ++ end_lines plan o_after ≡ passage_lines options names so_far.since passed
+      lines_are : told ++ end_lines plan after o_after ≡ passage_lines options names so_far.carried passed
       lines_are =
-          seen_lines answers options names so_far.since plan (now_of from left) drawn between o so_far.rests next after
-          o_after told seen known.begins_is
+          seen_lines answers options names so_far.carried plan (now_of from left) drawn between o so_far.rests next
+          after o_after told seen known.begins_is
 
-      verdict_so : verdict ≡ kept_after options.limits (end_in names so_far.since passed) kept
+      verdict_so : verdict ≡ kept_after options.limits (end_in names so_far.carried passed) kept
       verdict_so =
           verdict_is
           ∙ ap (λ e. kept_after options.limits e kept)
-          (seen_end answers options names so_far.since plan (now_of from left) drawn between o so_far.rests next
+          (seen_end answers options names so_far.carried plan (now_of from left) drawn between o so_far.rests next
           after o_after told seen known.begins_is)
 
-      both_so : Both (text_of (so_far.lines ++ passage_lines options names so_far.since passed))
-      both_so = joined (passage_lines options names so_far.since passed)
+      both_so : Both (text_of (so_far.lines ++ passage_lines options names so_far.carried passed))
+      both_so = joined (passage_lines options names so_far.carried passed)
           (subst (λ xs. Second (text_of xs)) lines_are so)
 
       -- and another comes
       pub seen_more : first_time (later_than from left) ≡ Some to
           → GoneSeen to (later_than from left) next after verdict o_after Both
       seen_more is = record {
-        since = waits seen.acts so_far.since;
-        lines = so_far.lines ++ passage_lines options names so_far.since passed;
+        carried = carry seen.acts so_far.carried;
+        lines = so_far.lines ++ passage_lines options names so_far.carried passed;
         gone = subst (λ e. Gone answers exact d until options names events fate w to (later_than from left) next after e
-            (waits seen.acts so_far.since) (so_far.lines ++ passage_lines options names so_far.since passed))
+            (carry seen.acts so_far.carried) (so_far.lines ++ passage_lines options names so_far.carried passed))
             (sym verdict_so)
             (gone_more answers exact d until options names events fate w from to left drawn next between kept
-            so_far.since so_far.lines so_far.gone passed
+            so_far.carried so_far.lines so_far.gone passed
             (is_passage answers exact d until from to left (sym (ends_before until (later_than from left) to is)) plan
             known drawn next between after seen.acts seen.courses) is);
-        rests = seen_rests answers options names so_far.since plan (now_of from left) drawn between o so_far.rests next
-            after o_after told seen known.begins_is;
+        rests = seen_rests answers options names so_far.carried plan (now_of from left) drawn between o so_far.rests
+            next after o_after told seen known.begins_is;
         so = both_so;
       }
 
       -- and it is the last
       pub seen_all : later_than from left ≡ [] → to ≡ until
           → (passages : List StretchTrace) × AllPass answers exact d until 0 events fate next w after passages
-          × (verdict ≡ all_kept options.limits names none_waits passages none_kept)
-          × Both (text_of (all_lines options names none_waits passages))
+          × (verdict ≡ all_kept options.limits names (none_carried (tracks options) names) passages none_kept)
+          × Both (text_of (all_lines options names (none_carried (tracks options) names) passages []))
       seen_all none last =
           let ends : to ≡ end_before until (later_than from left) = last ∙ ap (end_before until) (sym none) in
           let all = gone_all answers exact d until options names events fate w from left drawn between kept
-          so_far.since so_far.lines so_far.gone passed next
+          so_far.carried so_far.lines so_far.gone passed next
           (is_passage answers exact d until from to left ends plan known drawn next between after seen.acts
           seen.courses) none in (
             all.passages,
@@ -447,14 +452,14 @@ module _ {F : Type 0} (answers : Bounds → ℕ → F → Option ℕ → F → T
         → StopsSeen answers exact d from to (now_of from left) drawn between o lines → Second (text_of lines)
         → (passages : List StretchTrace) × (acts : List ActTrace)
         × SomePass answers exact d until 0 events fate w passages acts
-        × Both (text_of (all_lines options names none_waits passages ++ flat_map (act_lines options names) acts))
+        × Both (text_of (all_lines options names (none_carried (tracks options) names) passages acts))
     seen_some lines ends stops so = by stops
       where
         some_of : (more : List (List ℕ)) → lines ≡ more
             → SomeGone answers exact d until options names events fate w (so_far.lines ++ more)
             → (passages : List StretchTrace) × (acts : List ActTrace)
             × SomePass answers exact d until 0 events fate w passages acts
-            × Both (text_of (all_lines options names none_waits passages ++ flat_map (act_lines options names) acts))
+            × Both (text_of (all_lines options names (none_carried (tracks options) names) passages acts))
         some_of more are some = (
           some.passages,
           some.acts,
@@ -465,25 +470,25 @@ module _ {F : Type 0} (answers : Bounds → ℕ → F → Option ℕ → F → T
         by : StopsSeen answers exact d from to (now_of from left) drawn between o lines
             → (passages : List StretchTrace) × (acts : List ActTrace)
             × SomePass answers exact d until 0 events fate w passages acts
-            × Both (text_of (all_lines options names none_waits passages ++ flat_map (act_lines options names) acts))
+            × Both (text_of (all_lines options names (none_carried (tracks options) names) passages acts))
         by (inl none) =
             some_of [] none
             (gone_no_further answers exact d until options names events fate w from left drawn between kept
-            so_far.since so_far.lines so_far.gone)
+            so_far.carried so_far.lines so_far.gone)
         by (inr (plan, known, inl some)) =
             some_of lines refl
-            (gone_on answers exact d until options names events fate w from left drawn between kept so_far.since
+            (gone_on answers exact d until options names events fate w from left drawn between kept so_far.carried
             so_far.lines so_far.gone some.acts lines
             (some_acts answers exact d until from to left ends plan known drawn between some.acts some.courses)
-            (seen_so_far answers options names so_far.since plan (now_of from left) drawn between o so_far.rests lines
+            (seen_so_far answers options names so_far.carried plan (now_of from left) drawn between o so_far.rests lines
             some))
         by (inr (plan, known, inr whole)) =
-            some_of (passage_lines options names so_far.since
+            some_of (passage_lines options names so_far.carried
             (passage_of plan (now_of from left) whole.seen.acts whole.after))
             (whole.are
-            ∙ seen_lines answers options names so_far.since plan (now_of from left) drawn between o so_far.rests
+            ∙ seen_lines answers options names so_far.carried plan (now_of from left) drawn between o so_far.rests
             whole.fate_after whole.after whole.o_after whole.told whole.seen known.begins_is)
-            (gone_to_end answers exact d until options names events fate w from left drawn between kept so_far.since
+            (gone_to_end answers exact d until options names events fate w from left drawn between kept so_far.carried
             so_far.lines so_far.gone (passage_of plan (now_of from left) whole.seen.acts whole.after) whole.fate_after
             (is_passage answers exact d until from to left ends plan known drawn whole.fate_after between whole.after
             whole.seen.acts whole.seen.courses))

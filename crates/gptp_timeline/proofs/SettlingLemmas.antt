@@ -559,7 +559,7 @@ within_bound from bound (Some last) within = omega arith
 pub stretches_settle : {F : Type 0} (answers : Bounds → ℕ → F → Option ℕ → F → Type 0) (d : DocumentState) (until : ℕ)
     (options : TimelineOptions) (fate : F) (lines : List (List ℕ)) (exceeded : Bool)
     (t : TimelineOf answers d until options fate lines exceeded) → IsPlayable d → Settle t.passages
-stretches_settle answers d until options fate lines exceeded t playable p bound names since member bounded_by near =
+stretches_settle answers d until options fate lines exceeded t playable p bound names carried member bounded_by near =
     let clocks = rising_clocks t.start in
     let b = begins answers d playable clocks true until t.passages 0 [] (events_by until d.events) t.started
     t.fate_after t.start t.after p (left_first answers d playable clocks until)

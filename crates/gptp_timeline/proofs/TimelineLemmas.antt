@@ -1,7 +1,6 @@
 -- The text of a timeline: its start, its stretches and its verdict.
 use Rattle.std.proofs.Common.{◌≡◌, ℕ, Bool, List, [], ◌++◌, Option, None, inl, inr, refl, sym, ap, subst, ◌∙◌, append-nil, append_assoc, true}
 use Rattle.std.specs.Io.KnownBytes.{Appends}
-use Rattle.std.specs.List.{flat_map}
 use Rattle.gptp_model.specs.Course.{Begun}
 use Rattle.gptp_model.specs.Views.{rising_clocks}
 use Rattle.gptp_model.specs.World.{WorldState}
@@ -14,7 +13,7 @@ use Rattle.gptp_world.proofs.FollowLemmas.{text_append}
 use Rattle.gptp_sink.proofs.SinkLemmas.{appends_both, none_of, some_behind}
 use Rattle.gptp_words.specs.Lines.{text_of}
 use Rattle.gptp_timeline.specs.Limits.{is_exceeded, verdict_lines}
-use Rattle.gptp_timeline.specs.Timeline.{act_lines, all_exceeded, all_lines, AllPass, BeginsTimeline, none_waits, StretchTrace, SomePass, start_lines, TimelineOf}
+use Rattle.gptp_timeline.specs.Timeline.{all_exceeded, all_lines, AllPass, BeginsTimeline, Carried, none_carried, StretchTrace, SomePass, start_lines, TimelineOf, tracks}
 use Rattle.gptp_timeline.specs.declared.limits.Limit.{Limit}
 use Rattle.gptp_timeline.specs.declared.timeline.TimelineOptions.{TimelineOptions}
 use Rattle.gptp_timeline.proofs.PassLemmas.{none_done}
@@ -57,13 +56,16 @@ module _ (old first new : Option (List ℕ)) (a b c : List (List ℕ)) (written 
 module _ {F : Type 0} (answers : Bounds → ℕ → F → Option ℕ → F → Type 0) (d : DocumentState) (until : ℕ)
     (options : TimelineOptions) (fate started : F) (start : WorldState)
     (begun : Begun answers d.network fate started start) (old first second new : Option (List ℕ)) where
+  abbrev pub carried : Carried
+  carried = none_carried (tracks options) (rising_clocks start)
+
   -- the start is written, or a front of it
   pub start_begun : AppendsSome old new (text_of (start_lines options (rising_clocks start) start))
       → (lines : List (List ℕ)) × BeginsTimeline answers d until options fate lines
       × AppendsSome old new (text_of lines)
   start_begun some =
       let a = start_lines options (rising_clocks start) start in (
-        (a ++ []) ++ [],
+        a ++ [],
         inr (inl (record {
           started = started;
           start = start;
@@ -73,22 +75,20 @@ module _ {F : Type 0} (answers : Bounds → ℕ → F → Option ℕ → F → T
           pass = none_done answers _ _ started start;
           are = refl;
         })),
-        subst (λ xs. AppendsSome old new (text_of xs)) (sym (append-nil (a ++ []) ∙ append-nil a)) some,
+        subst (λ xs. AppendsSome old new (text_of xs)) (sym (append-nil a)) some,
       )
 
   module _ (written : Appends old first (text_of (start_lines options (rising_clocks start) start))) where
     -- stretches pass, and then it breaks off
     pub stretches_begun : (passages : List StretchTrace) × (acts : List ActTrace)
         × SomePass answers true d until 0 (events_by until d.events) started start passages acts
-        × AppendsSome first new (text_of (all_lines options (rising_clocks start) none_waits passages
-        ++ flat_map (act_lines options (rising_clocks start)) acts))
+        × AppendsSome first new (text_of (all_lines options (rising_clocks start) carried passages acts))
         → (lines : List (List ℕ)) × BeginsTimeline answers d until options fate lines
         × AppendsSome old new (text_of lines)
     stretches_begun (passages, acts, pass, some) =
         let a = start_lines options (rising_clocks start) start in
-        let b = all_lines options (rising_clocks start) none_waits passages in
-        let c = flat_map (act_lines options (rising_clocks start)) acts in (
-          (a ++ b) ++ c,
+        let b = all_lines options (rising_clocks start) carried passages acts in (
+          a ++ b,
           inr (inl (record {
             started = started;
             start = start;
@@ -98,17 +98,18 @@ module _ {F : Type 0} (answers : Bounds → ℕ → F → Option ℕ → F → T
             pass = pass;
             are = refl;
           })),
-          some_of_two old first new a b c written some,
+          subst (AppendsSome old new) (sym (text_append a b))
+              (some_behind old first new (text_of a) (text_of b) written some),
         )
 
     -- all do
     module _ (fate_after : F) (after : WorldState) (verdict : Option Limit) (passages : List StretchTrace)
         (pass : AllPass answers true d until 0 (events_by until d.events) started fate_after start after passages)
-        (verdict_is : verdict ≡ all_exceeded options.limits (rising_clocks start) none_waits passages None)
-        (passed : Appends first second (text_of (all_lines options (rising_clocks start) none_waits passages))) where
+        (verdict_is : verdict ≡ all_exceeded options.limits (rising_clocks start) carried passages None)
+        (passed : Appends first second (text_of (all_lines options (rising_clocks start) carried passages []))) where
       timeline : (lines : List (List ℕ)) (exceeded : Bool)
           → lines ≡ (start_lines options (rising_clocks start) start
-          ++ all_lines options (rising_clocks start) none_waits passages) ++ verdict_lines options.limits verdict
+          ++ all_lines options (rising_clocks start) carried passages []) ++ verdict_lines options.limits verdict
           → exceeded ≡ is_exceeded options.limits verdict → TimelineOf answers d until options fate lines exceeded
       timeline lines exceeded are is = record {
         started = started;
@@ -130,7 +131,7 @@ module _ {F : Type 0} (answers : Bounds → ℕ → F → Option ℕ → F → T
           × AppendsSome old new (text_of lines)
       verdict_begun some =
           let a = start_lines options (rising_clocks start) start in
-          let b = all_lines options (rising_clocks start) none_waits passages in
+          let b = all_lines options (rising_clocks start) carried passages [] in
           let c = verdict_lines options.limits verdict in let is = is_exceeded options.limits verdict in (
             (a ++ b) ++ c,
             inr (inr (is, timeline ((a ++ b) ++ c) is refl refl)),
@@ -143,7 +144,7 @@ module _ {F : Type 0} (answers : Bounds → ℕ → F → Option ℕ → F → T
           × Appends old new (text_of lines)
       all_written exceeded is last =
           let a = start_lines options (rising_clocks start) start in
-          let b = all_lines options (rising_clocks start) none_waits passages in
+          let b = all_lines options (rising_clocks start) carried passages [] in
           let c = verdict_lines options.limits verdict in (
             (a ++ b) ++ c,
             timeline ((a ++ b) ++ c) exceeded refl is,

@@ -9,24 +9,24 @@ use Rattle.gptp_network.specs.Snapshot.{events_by}
 use Rattle.gptp_timeline.specs.Ends.{EndState}
 use Rattle.gptp_timeline.specs.Limits.{exceeded_after}
 use Rattle.gptp_timeline.specs.Shown.{shown}
-use Rattle.gptp_timeline.specs.Stretch.{roots_of, shown_of_all, waits}
-use Rattle.gptp_timeline.specs.Timeline.{AllPass, ended_of, none_waits, StretchTrace, stretch_of}
+use Rattle.gptp_timeline.specs.Stretch.{roots_of, shown_of_all}
+use Rattle.gptp_timeline.specs.Timeline.{AllPass, Carried, carry, ended_of, none_carried, StretchTrace, stretch_of}
 use Rattle.gptp_timeline.specs.Watch.{WatchState}
 use Rattle.gptp_timeline.specs.declared.ends.StretchesSoFar.{StretchesSoFar}
 use Rattle.gptp_timeline.specs.declared.limits.Limits.{Limits}
 use Rattle.gptp_timeline.specs.declared.timeline.Plan.{Plan}
 
--- how a stretch ended that passed, where each system had been waiting since then
-abbrev pub end_in : List ℕ → (ℕ → Option ℕ) → StretchTrace → EndState
-end_in names since p = record {
-  stretch = stretch_of names since p;
+-- how a stretch ended that passed, where this was carried over from the one before
+abbrev pub end_in : List ℕ → Carried → StretchTrace → EndState
+end_in names carried p = record {
+  stretch = stretch_of names carried p;
   roots = roots_of (map (λ name. shown name p.after) names);
 }
 
--- how several stretches ended that passed one after another, where each system had been waiting since then
-abbrev pub ends_in : List ℕ → (ℕ → Option ℕ) → List StretchTrace → List EndState
-ends_in names since [] = []
-ends_in names since (p ∷ ps) = end_in names since p ∷ ends_in names (waits p.acts since) ps
+-- how several stretches ended that passed one after another, where this was carried over from the one before
+abbrev pub ends_in : List ℕ → Carried → List StretchTrace → List EndState
+ends_in names carried [] = []
+ends_in names carried (p ∷ ps) = end_in names carried p ∷ ends_in names (carry p.acts carried) ps
 
 -- the last two of several
 abbrev pub last_two : List EndState → Option (EndState × EndState)
@@ -46,12 +46,12 @@ pub record EndsOf {F : Type 0} (answers : Bounds → ℕ → F → Option ℕ �
   pub fate_after : F
   pub after : WorldState
   pub pass : AllPass answers false d until 0 (events_by until d.events) started fate_after start after passages
-  pub are : two ≡ last_two (ends_in (rising_clocks start) none_waits passages)
+  pub are : two ≡ last_two (ends_in (rising_clocks start) (none_carried false (rising_clocks start)) passages)
 
 -- ---- by what an observer keeps, and what is kept of each stretch
 
-abbrev pub end_of : Plan → WatchState → EndState
-end_of plan o = record { stretch = ended_of plan o; roots = roots_of (shown_of_all o.systems) }
+abbrev pub end_of : Plan → WorldState → WatchState → EndState
+end_of plan w o = record { stretch = ended_of plan w o; roots = roots_of (shown_of_all o.systems) }
 
 -- nothing is kept yet
 abbrev pub none_kept : StretchesSoFar
@@ -66,10 +66,10 @@ kept_after limits e kept = record {
 }
 
 -- what is kept with several stretches more, which passed one after another
-abbrev pub all_kept : Limits → List ℕ → (ℕ → Option ℕ) → List StretchTrace → StretchesSoFar → StretchesSoFar
-all_kept limits names since [] kept = kept
-all_kept limits names since (p ∷ ps) kept =
-    all_kept limits names (waits p.acts since) ps (kept_after limits (end_in names since p) kept)
+abbrev pub all_kept : Limits → List ℕ → Carried → List StretchTrace → StretchesSoFar → StretchesSoFar
+all_kept limits names carried [] kept = kept
+all_kept limits names carried (p ∷ ps) kept =
+    all_kept limits names (carry p.acts carried) ps (kept_after limits (end_in names carried p) kept)
 
 -- the last two stretches of which something is kept
 abbrev pub both_of : Option EndState → Option EndState → Option (EndState × EndState)

@@ -28,7 +28,7 @@ use Rattle.gptp_timeline.specs.Shown.{shown}
 use Rattle.gptp_timeline.specs.Stretch.{at_of, error_at, error_from, receives, roots_of}
 use Rattle.gptp_timeline.specs.StretchText.{behind}
 use Rattle.gptp_timeline.specs.Tellings.{all_tellings, telling_line, tellings, TellLast}
-use Rattle.gptp_timeline.specs.Timeline.{StretchTrace, TimelineOf, stretch_of}
+use Rattle.gptp_timeline.specs.Timeline.{Carried, StretchTrace, TimelineOf, stretch_of}
 use Rattle.gptp_timeline.specs.declared.shown.Shown.{Shown}
 use Rattle.gptp_timeline.specs.declared.timeline.TimelineOptions.{TimelineOptions}
 
@@ -67,10 +67,10 @@ AllNear g = (name : ℕ) → In name (clocks g) → IsNear g name
 -- Where a stretch has a bound, and every live system is near where it ends, no act later than the bound after its
 -- begin leaves a system another as to whether it lives, root, steps or Slave port, nor as to role or capable of a port.
 abbrev pub Settle : List StretchTrace → Type 0
-Settle passages = (p : StretchTrace) (bound : ℕ) (names : List ℕ) (since : ℕ → Option ℕ)
+Settle passages = (p : StretchTrace) (bound : ℕ) (names : List ℕ) (carried : Carried)
     → In p passages → p.bound ≡ Some bound → AllNear (snapshot_of p.after)
-    → IfSome (choice_after (stretch_of names since p)) (λ time. time ≤ bound)
-    × IfSome (behind p.from (stretch_of names since p).measures.roles) (λ time. time ≤ bound)
+    → IfSome (choice_after (stretch_of names carried p)) (λ time. time ≤ bound)
+    × IfSome (behind p.from (stretch_of names carried p).measures.roles) (λ time. time ≤ bound)
 
 abbrev pub StretchesSettle : {F : Type 0} → (Bounds → ℕ → F → Option ℕ → F → Type 0) → Type 0
 StretchesSettle {F} answers = (d : DocumentState) (until : ℕ) (options : TimelineOptions) (fate : F)

@@ -6,10 +6,17 @@ pub mod Tellings
 pub mod EventLine
 pub mod Amounts
 pub mod Receipts
+pub mod Readings
+pub mod Sources
+pub mod Extremes
 pub mod Measures
 pub mod Stretch
 pub mod Roots
+pub mod Looks
+pub mod ExactReads
 pub mod StretchText
+pub mod TimeLines
+pub mod TimeWatch
 pub mod Limits
 pub mod End
 pub mod Leaving

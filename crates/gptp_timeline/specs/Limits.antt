@@ -1,9 +1,11 @@
 -- What is asked of stretches, and which of it isn't so (profile).
-use Rattle.std.specs.Prelude.{ℕ, ◌-◌, ◌*◌, ◌&&◌, ◌||◌, nat_lt, Bool, false, if◌then◌else◌, List, [], ◌∷◌, ◌++◌, codes, Option, Some, None, is_some, slice_index_or}
-use Rattle.std.specs.Option.{option_map}
+use Rattle.std.specs.Prelude.{ℕ, ◌-◌, ◌*◌, ◌==◌, ◌&&◌, ◌||◌, nat_lt, Bool, false, if◌then◌else◌, List, [], ◌∷◌, ◌++◌, codes, Option, Some, None, is_some, slice_index_or}
+use Rattle.std.specs.Option.{option_and_then, option_map}
 use Rattle.gptp_timeline.specs.declared.limits.Limit.{Limit}
-use Rattle.gptp_timeline.specs.declared.limits.Limit.TheVariants.{Alone, Choice, Error, Holdover, Roots, Without}
+use Rattle.gptp_timeline.specs.declared.limits.Limit.TheVariants.{Alone, Apart, Choice, Error, First, Holdover, Roots, Step, Time, Without}
 use Rattle.gptp_timeline.specs.declared.limits.Limits.{Limits}
+use Rattle.gptp_timeline.specs.Looks.{apart, changed_after}
+use Rattle.gptp_timeline.specs.declared.looks.TimeMeasures.{TimeMeasures}
 use Rattle.gptp_timeline.specs.declared.measures.Greatest.{Greatest}
 use Rattle.gptp_timeline.specs.declared.stretch.Stretch.{Stretch}
 
@@ -11,7 +13,7 @@ use Rattle.gptp_timeline.specs.declared.stretch.Stretch.{Stretch}
 
 -- in the order in which a verdict names the first that is exceeded
 abbrev pub all_limits : List Limit
-all_limits = Choice ∷ Holdover ∷ Error ∷ Without ∷ Roots ∷ Alone ∷ []
+all_limits = Choice ∷ Holdover ∷ Error ∷ Without ∷ Roots ∷ Alone ∷ Time ∷ Apart ∷ Step ∷ First ∷ []
 
 -- the place of each among them
 abbrev pub limit_number : Limit → ℕ
@@ -21,6 +23,10 @@ limit_number Error = 2
 limit_number Without = 3
 limit_number Roots = 4
 limit_number Alone = 5
+limit_number Time = 6
+limit_number Apart = 7
+limit_number Step = 8
+limit_number First = 9
 
 abbrev pub limit_text : Limit → List ℕ
 limit_text Choice = codes "choice"
@@ -29,19 +35,31 @@ limit_text Error = codes "error"
 limit_text Without = codes "without"
 limit_text Roots = codes "roots"
 limit_text Alone = codes "alone"
+limit_text Time = codes "time"
+limit_text Apart = codes "apart"
+limit_text Step = codes "step"
+limit_text First = codes "first"
 
 -- the option that gives it
 abbrev pub option_name : Limit → List ℕ
 option_name limit = codes "max-" ++ limit_text limit
 
--- errors are in 2^-16 ns
+-- errors, and what systems read, are in 2^-16 ns
 abbrev pub unit_of : Limit → ℕ
 unit_of Error = 65536
+unit_of Time = 65536
+unit_of Apart = 65536
+unit_of Step = 65536
 unit_of limit = 1
 
 -- what is given for it
 abbrev pub most_of : Limits → Limit → Option ℕ
 most_of limits limit = slice_index_or limits.most (limit_number limit) None
+
+-- a limit is given that asks for what systems read
+abbrev pub asks_times : Limits → Bool
+asks_times limits = is_some (most_of limits Time)
+    || (is_some (most_of limits Apart) || (is_some (most_of limits Step) || is_some (most_of limits First)))
 
 -- ---- whether a stretch keeps to them
 
@@ -51,6 +69,11 @@ choice_after s = option_map (λ time. time - s.from) s.measures.choice
 abbrev pub amount_of : Option Greatest → Option ℕ
 amount_of = option_map (λ (g : Greatest). g.amount)
 
+-- Until a system changed its source last; the whole stretch where a live system has no time at its end.
+abbrev pub first_amount : Stretch → Option ℕ
+first_amount s =
+    if s.counts.without == 0 then option_and_then (λ m. changed_after m s.from) s.times else Some (s.to - s.from)
+
 -- what a limit asks for in a stretch: choice and holdover where it begins with an event, the others in all
 abbrev pub amount_in : Stretch → Limit → Option ℕ
 amount_in s Choice = if s.begins_with_event then choice_after s else None
@@ -59,6 +82,10 @@ amount_in s Error = amount_of s.measures.error
 amount_in s Without = Some s.counts.without
 amount_in s Roots = Some s.counts.roots
 amount_in s Alone = Some s.counts.alone
+amount_in s Time = option_and_then (λ (m : TimeMeasures). amount_of m.time) s.times
+amount_in s Apart = option_map apart s.times
+amount_in s Step = option_and_then (λ (m : TimeMeasures). amount_of m.step) s.times
+amount_in s First = first_amount s
 
 -- a limit of so many units is given, there is an amount, and it is above that limit
 abbrev pub is_above : Option ℕ → ℕ → Option ℕ → Bool

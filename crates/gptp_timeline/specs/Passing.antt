@@ -1,5 +1,5 @@
 -- What the code keeps of a stretch that passes before an observer: contracts of private functions alone cite this.
-use Rattle.std.specs.Prelude.{◌≡◌, ◌⊎◌, ℕ, List, [], ◌∷◌, ◌++◌, Option, Some, None, map, Bool}
+use Rattle.std.specs.Prelude.{◌≡◌, ◌⊎◌, ℕ, List, [], ◌∷◌, ◌++◌, Option, Some, None, map, Bool, ◌&&◌, if◌then◌else◌, length}
 use Rattle.gptp_model.specs.Views.{rising_clocks}
 use Rattle.gptp_model.specs.World.{WorldState}
 use Rattle.gptp_links.specs.declared.bounds.Bounds.{Bounds}
@@ -8,7 +8,11 @@ use Rattle.gptp_scenario.specs.declared.change.Timed.{Timed}
 use Rattle.gptp_world.specs.Observing.{Tells}
 use Rattle.gptp_world.specs.Transitions.{ActTrace}
 use Rattle.gptp_report.specs.Transitions.{Courses, CoursesSoFar}
-use Rattle.gptp_timeline.specs.Timeline.{end_lines, exact_time, is_begun, IsTimelinePlan}
+use Rattle.gptp_timeline.specs.ExactReads.{unread}
+use Rattle.gptp_timeline.specs.Looks.{nothing_read}
+use Rattle.gptp_timeline.specs.Readings.{no_reading}
+use Rattle.gptp_timeline.specs.TimeWatch.{TimeState}
+use Rattle.gptp_timeline.specs.Timeline.{end_lines, exact_time, is_begun, IsTimelinePlan, tracks}
 use Rattle.gptp_timeline.specs.Watch.{watch_begun, event_look, nothing, see_all, tells_changes, unseen, WatchState}
 use Rattle.gptp_timeline.specs.declared.timeline.Plan.{Plan}
 use Rattle.gptp_timeline.specs.declared.timeline.TimelineOptions.{TimelineOptions}
@@ -18,6 +22,18 @@ abbrev pub first_time : List Timed → Option ℕ
 first_time [] = None
 first_time (e ∷ es) = Some e.at
 
+-- what is kept of what systems read before a world starts, where that is asked
+abbrev pub times_before : TimelineOptions → WorldState → Option TimeState
+times_before options w = if tracks options then Some (record {
+  lines = options.times;
+  told = options.times && options.offsets;
+  exact_from = None;
+  events_left = 0;
+  systems = map no_reading (rising_clocks w);
+  reads = map unread (rising_clocks w);
+  measures = nothing_read;
+}) else None
+
 -- an observer before the systems of a world start, and after that
 abbrev pub watch_before : TimelineOptions → WorldState → WatchState
 watch_before options w = record {
@@ -26,6 +42,7 @@ watch_before options w = record {
   exact_from = None;
   systems = map unseen (rising_clocks w);
   measures = nothing;
+  times = times_before options w;
 }
 
 abbrev pub watch_at_start : TimelineOptions → WorldState → WatchState
@@ -37,7 +54,7 @@ pub record StretchIsSeen {F : Type 0} (answers : Bounds → ℕ → F → Option
     (fate fate_after : F) (w w' : WorldState) (o o_after : WatchState) (told : List (List ℕ)) : Type 0 where
   pub acts : List ActTrace
   pub courses : Courses answers plan.to events acts fate fate_after w w'
-  pub tells : Tells tells_changes acts (watch_begun (exact_time plan.errors) o) o_after told
+  pub tells : Tells tells_changes acts (watch_begun (exact_time plan.errors) (length events) o) o_after told
 
 -- some of them were
 pub record IsSeenSoFar {F : Type 0} (answers : Bounds → ℕ → F → Option ℕ → F → Type 0) (plan : Plan)
@@ -45,7 +62,7 @@ pub record IsSeenSoFar {F : Type 0} (answers : Bounds → ℕ → F → Option �
   pub acts : List ActTrace
   pub o_after : WatchState
   pub courses : CoursesSoFar answers plan.to events acts fate w
-  pub tells : Tells tells_changes acts (watch_begun (exact_time plan.errors) o) o_after told
+  pub tells : Tells tells_changes acts (watch_begun (exact_time plan.errors) (length events) o) o_after told
 
 -- all of them were, and the stretch ended
 pub record IsSeenToEnd {F : Type 0} (answers : Bounds → ℕ → F → Option ℕ → F → Type 0) (plan : Plan)
@@ -55,7 +72,7 @@ pub record IsSeenToEnd {F : Type 0} (answers : Bounds → ℕ → F → Option �
   pub o_after : WatchState
   pub told : List (List ℕ)
   pub seen : StretchIsSeen answers plan events fate fate_after w after o o_after told
-  pub are : lines ≡ told ++ end_lines plan o_after
+  pub are : lines ≡ told ++ end_lines plan after o_after
 
 -- A stretch that breaks off: nothing is known of it, or some of its acts were done, or it ended.
 abbrev pub StretchBreaksOff : {F : Type 0} → (Bounds → ℕ → F → Option ℕ → F → Type 0) → Plan → List Timed → F

@@ -11,6 +11,7 @@ use Rattle.gptp_timeline.specs.Amounts.{near_text}
 use Rattle.gptp_timeline.specs.Measures.{greatest_from, one_at}
 use Rattle.gptp_timeline.specs.Stretch.{counted, shown_of_all}
 use Rattle.gptp_timeline.specs.declared.counts.Counts.{Counts}
+use Rattle.gptp_timeline.specs.declared.looks.TimeMeasures.{TimeMeasures}
 use Rattle.gptp_timeline.specs.declared.measures.Greatest.{Greatest}
 use Rattle.gptp_timeline.specs.declared.measures.Measures.{Measures}
 use Rattle.gptp_timeline.specs.declared.stretch.Stretch.{Stretch}
@@ -59,18 +60,19 @@ exact_words name error = codes "accuracy " ++ clock_text name ++ codes " error "
 abbrev pub bound_words : ℕ → ℕ → List ℕ
 bound_words from bound = codes " bound " ++ error_text bound ++ codes " from " ++ decimal from
 
--- the line of a system with the bound of its error
-abbrev pub accuracy_line : ℕ → ℕ → Option ℕ → ℕ → List ℕ
-accuracy_line from name error bound = exact_words name error ++ bound_words from bound
+-- the line of a system with the bound of its error, and behind that what it reads, where that is asked
+abbrev pub accuracy_line : ℕ → ℕ → Option ℕ → ℕ → List ℕ → List ℕ
+accuracy_line from name error bound reads = exact_words name error ++ bound_words from bound ++ reads
 
 -- where it has one, and isn't its own root
-abbrev pub accuracy_of : ℕ → (ℕ → Option ℕ) → ℕ → Bool → Option ℕ → List (List ℕ)
-accuracy_of from errors name is_root None = []
-accuracy_of from errors name true (Some bound) = []
-accuracy_of from errors name false (Some bound) = accuracy_line from name (errors name) bound ∷ []
+abbrev pub accuracy_of : ℕ → (ℕ → Option ℕ) → List ℕ → ℕ → Bool → Option ℕ → List (List ℕ)
+accuracy_of from errors reads name is_root None = []
+accuracy_of from errors reads name true (Some bound) = []
+accuracy_of from errors reads name false (Some bound) = accuracy_line from name (errors name) bound reads ∷ []
 
-abbrev pub system_accuracy : ℕ → (ℕ → Option ℕ) → SystemError → List (List ℕ)
-system_accuracy from errors s = accuracy_of from errors s.clock (clock_of s.root == s.clock) s.error
+abbrev pub system_accuracy : ℕ → (ℕ → Option ℕ) → (SystemError → List ℕ) → SystemError → List (List ℕ)
+system_accuracy from errors reads s =
+    accuracy_of from errors (reads s) s.clock (clock_of s.root == s.clock) s.error
 
 -- ---- by what an observer keeps
 
@@ -83,12 +85,13 @@ error_among [] clock = None
 error_among (x ∷ xs) clock = if x.clock == clock then x.error else error_among xs clock
 
 -- what became of a stretch, by what was measured of its acts and what is kept of all systems
-abbrev pub ended_stretch : ℕ → ℕ → Bool → Option ℕ → Measures → List Watched → Stretch
-ended_stretch from to begins_with_event bound m systems = record {
+abbrev pub ended_stretch : ℕ → ℕ → Bool → Option ℕ → Measures → List Watched → Option TimeMeasures → Stretch
+ended_stretch from to begins_with_event bound m systems times = record {
   from = from;
   to = to;
   begins_with_event = begins_with_event;
   bound = bound;
   measures = record m { holdover = greatest_from m.holdover (filter_map (wait_of to) systems) };
   counts = counted (shown_of_all systems);
+  times = times;
 }

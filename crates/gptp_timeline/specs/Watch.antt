@@ -18,6 +18,7 @@ use Rattle.gptp_timeline.specs.Measures.{better_if, ended_by, last_if, one_at, s
 use Rattle.gptp_timeline.specs.Receipts.{is_follow_up, offset_error, offset_line, received_by}
 use Rattle.gptp_timeline.specs.Shown.{is_expecting, live_system, same_choice, same_roles}
 use Rattle.gptp_timeline.specs.Stretch.{same_known}
+use Rattle.gptp_timeline.specs.TimeWatch.{TimeState, times_after, times_begun, times_lines}
 use Rattle.gptp_timeline.specs.declared.measures.Greatest.{Greatest}
 use Rattle.gptp_timeline.specs.declared.measures.Measures.{Measures}
 use Rattle.gptp_timeline.specs.declared.shown.Shown.{Shown}
@@ -62,6 +63,7 @@ pub record WatchState : Type 0 where
   pub exact_from : Option ℕ
   pub systems : List Watched
   pub measures : Measures
+  pub times : Option TimeState
 
 -- as a document begins
 abbrev pub unseen : ℕ → Watched
@@ -74,11 +76,12 @@ nothing = record { choice = None; roles = None; offsets = None; holdover = None;
 abbrev pub without_error : Watched → Watched
 without_error x = record x { error = None }
 
-abbrev pub watch_begun : Option ℕ → WatchState → WatchState
-watch_begun exact_from o = record o {
+abbrev pub watch_begun : Option ℕ → ℕ → WatchState → WatchState
+watch_begun exact_from events o = record o {
   exact_from = exact_from;
   systems = map without_error o.systems;
   measures = nothing;
+  times = option_map (times_begun exact_from events) o.times;
 }
 
 -- ---- systems that are looked at
@@ -231,15 +234,29 @@ seen_lines at (Expire clock timer) done w o = watched_lines at w clock false fal
 seen_lines at (Changing change) done w o =
     unless o.summary (event_line at change ∷ []) ++ lines_all (event_look at) w o
 
+-- what systems read, where that is asked
+abbrev pub see_times : ℕ → Act → Done → WorldState → WatchState → WatchState
+see_times at act done w o = record o { times = option_map (times_after at act done w) o.times }
+
+abbrev pub times_lines_if : ℕ → Act → Done → WorldState → Option TimeState → List (List ℕ)
+times_lines_if at act done w None = []
+times_lines_if at act done w (Some times) = times_lines at act done w times
+
 -- it is looked at what an act left
 abbrev pub TellsSeen : Told → WorldState → WatchState → WatchState → List (List ℕ) → Type 0
 TellsSeen told w o o_after lines =
-    (o_after ≡ see_act told.timed.at told.timed.act told.done w o)
-    × (lines ≡ seen_lines told.timed.at told.timed.act told.done w o)
+    (o_after ≡ see_times told.timed.at told.timed.act told.done w
+    (see_act told.timed.at told.timed.act told.done w o))
+    × (lines ≡ seen_lines told.timed.at told.timed.act told.done w o
+    ++ times_lines_if told.timed.at told.timed.act told.done w o.times)
 
--- it isn't, where the act leaves all that is shown as it was
+-- it isn't, where the act leaves all that is shown as it was, and there is no account
+pub record PassesOver (act : Act) (done : Done) (o : WatchState) : Type 0 where
+  pub leaves : LeavesAll act done
+  pub untimed : o.times ≡ None
+
 abbrev pub TellsNone : Told → WatchState → WatchState → List (List ℕ) → Type 0
-TellsNone told o o_after lines = LeavesAll told.timed.act told.done × (o_after ≡ o) × (lines ≡ [])
+TellsNone told o o_after lines = PassesOver told.timed.act told.done o × (o_after ≡ o) × (lines ≡ [])
 
 -- what the observer keeps and tells of an act
 abbrev pub tells_changes : Told → WorldState → WatchState → WatchState → List (List ℕ) → Type 0

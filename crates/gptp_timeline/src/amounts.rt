@@ -116,3 +116,22 @@ impl fmt::Display for NearOrNone {
         }
     }
 }
+
+/// Such a time without a sign, rounded up, or `none`.
+#[derive(Clone, Copy)]
+pub(crate) struct UpOrNone(pub Option<u128>);
+
+impl fmt::Display for UpOrNone {
+    ghost use Rattle.std.specs.Prelude.{Some};
+    ghost use Rattle.gptp_words.specs.Digits.{or_none};
+    ghost use Rattle.gptp_accuracy.specs.AccuracyText.{error_text};
+
+    ghost output = { λ amount. Some (or_none error_text amount.0) };
+
+    fn fmt<W: fmt::Write>(&self, f: &mut fmt::Formatter<W>) -> fmt::Result {
+        match self.0 {
+            Some(amount) => write!(f, "{}", Up(amount)),
+            None => f.write_str("none"),
+        }
+    }
+}

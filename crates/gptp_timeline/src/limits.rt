@@ -2,7 +2,7 @@
 
 ghost use Rattle.std.specs.Prelude.{◌≡◌, ◌<◌, ◌++◌, ◌∷◌, [], IfOk, OnOk, is_some, string_bytes};
 ghost use Rattle.gptp_words.specs.Lines.{text_of};
-ghost use Rattle.gptp_timeline.specs.Limits.{amount_in, earlier, exceeded_after, exceeds, first_exceeded, is_above, is_asked, is_exceeded, is_some_given, most_of, option_name, limit_number, unit_of, verdict_line, verdict_lines};
+ghost use Rattle.gptp_timeline.specs.Limits.{amount_in, asks_times, earlier, exceeded_after, exceeds, first_exceeded, is_above, is_asked, is_exceeded, is_some_given, most_of, option_name, limit_number, unit_of, verdict_line, verdict_lines};
 
 use crate::stretch::Stretch;
 use std::alloc::AllocError;
@@ -23,23 +23,35 @@ pub enum Limit {
     Roots,
     /// How many systems follow a root that no other does there.
     Alone,
+    /// How far what a system reads is off, in ns.
+    Time,
+    /// How far apart two systems read, in ns.
+    Apart,
+    /// By how much what a system reads jumps, in ns.
+    Step,
+    /// How long it takes until each system reads the time that it keeps to, in ns.
+    First,
 }
 
 impl Limit {
     /// All of them, in the order in which a verdict names the first that is exceeded.
-    pub const ALL: [Limit; 6] = [
+    pub const ALL: [Limit; 10] = [
         Limit::Choice,
         Limit::Holdover,
         Limit::Error,
         Limit::Without,
         Limit::Roots,
         Limit::Alone,
+        Limit::Time,
+        Limit::Apart,
+        Limit::Step,
+        Limit::First,
     ];
 
     /// Its place among all of them.
     fn place(self) -> usize
         ensures place { result ≡ limit_number self }
-        ensures below { result < 6 }
+        ensures below { result < 10 }
     {
         self as usize
     }
@@ -55,6 +67,10 @@ impl Limit {
             Limit::Without => "max-without",
             Limit::Roots => "max-roots",
             Limit::Alone => "max-alone",
+            Limit::Time => "max-time",
+            Limit::Apart => "max-apart",
+            Limit::Step => "max-step",
+            Limit::First => "max-first",
         }
     }
 
@@ -63,7 +79,7 @@ impl Limit {
         ensures { result ≡ unit_of self }
     {
         match self {
-            Limit::Error => 65_536,
+            Limit::Error | Limit::Time | Limit::Apart | Limit::Step => 65_536,
             _ => 1,
         }
     }
@@ -83,6 +99,10 @@ impl fmt::Display for Limit {
             Limit::Without => "without",
             Limit::Roots => "roots",
             Limit::Alone => "alone",
+            Limit::Time => "time",
+            Limit::Apart => "apart",
+            Limit::Step => "step",
+            Limit::First => "first",
         })
     }
 }
@@ -91,11 +111,11 @@ impl fmt::Display for Limit {
 #[derive(Clone, Copy, Debug, PartialEq, Eq)]
 pub struct Limits {
     /// By limit, in the order of [`Limit::ALL`]; times and errors in ns.
-    pub most: [Option<u64>; 6],
+    pub most: [Option<u64>; 10],
 }
 
 /// None is given.
-pub(crate) const NO_LIMITS: Limits = Limits { most: [None; 6] };
+pub(crate) const NO_LIMITS: Limits = Limits { most: [None; 10] };
 
 impl Limits {
     /// What is given for a limit.
@@ -103,6 +123,16 @@ impl Limits {
         ensures { result ≡ most_of self.now limit }
     {
         self.most[limit.place()]
+    }
+
+    /// Whether any limit is given that asks for what systems read.
+    pub(crate) fn asks_times(&self) -> bool
+        ensures { result ≡ asks_times self.now }
+    {
+        self.most_of(Limit::Time).is_some()
+            || self.most_of(Limit::Apart).is_some()
+            || self.most_of(Limit::Step).is_some()
+            || self.most_of(Limit::First).is_some()
     }
 
     /// Whether there is an amount, and it is above what is given for a limit.

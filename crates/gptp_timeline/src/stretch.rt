@@ -1,23 +1,29 @@
 //! What became of a stretch: the line where it ends.
 
-ghost use Rattle.std.specs.Prelude.{◌≡◌, ◌≢◌, ◌++◌, ◌∷◌, ◌-◌, [], IfOk, OnOk, Some, None, is_some, map, option_map, slice_get, string_bytes};
+ghost use Rattle.std.specs.Prelude.{◌≡◌, ◌≢◌, ◌≤◌, ◌++◌, ◌∷◌, ◌-◌, [], IfOk, OnOk, Some, None, is_some, map, option_map, slice_get, string_bytes};
 ghost use Rattle.std.specs.List.{filter_map, flat_map};
 ghost use Rattle.std.specs.Option.{option_map};
 ghost use Rattle.gptp_words.specs.Lines.{text_of};
 ghost use Rattle.gptp_timeline.specs.Limits.{amount_of};
 ghost use Rattle.gptp_timeline.specs.Measures.{greatest_from};
 ghost use Rattle.gptp_timeline.specs.Stretch.{shown_of_all};
+ghost use Rattle.gptp_timeline.specs.Timeline.{reads_kept};
 ghost use Rattle.gptp_timeline.specs.Watch.{WatchedRise};
 ghost use Rattle.gptp_timeline.specs.StretchText.{accuracy_line, after_line, behind, bound_words, changed_words, counted_words, ended_stretch, error_among, exact_words, greatest_words, system_accuracy, wait_of};
 
 use crate::amounts::{Near, NearOrNone, Up};
 use crate::counts::{Counts, counts_of};
 use crate::limits::Limit;
+use crate::looks::TimeMeasures;
 use crate::measures::{Greatest, Measures, better_if};
+use crate::time_lines::write_reads;
+use crate::time_watch::TimeWatch;
 use crate::watched::Watched;
 use gptp_accuracy::SystemError;
+use gptp_links::Fate;
 use gptp_vector::ClockId;
 use gptp_words::ClockDigits;
+use gptp_world::World;
 use std::alloc::{AllocError, Global};
 use std::fmt;
 
@@ -36,6 +42,8 @@ pub struct Stretch {
     pub measures: Measures,
     /// What was counted where it ended.
     pub counts: Counts,
+    /// What was measured of what systems read, where that is asked.
+    pub times: Option<TimeMeasures>,
 }
 
 /// How long a time is after another, in ns.
@@ -60,7 +68,7 @@ pub fn amount_of(greatest: Option<Greatest>) -> Option<u128>
 
 impl Stretch {
     ghost use Rattle.std.specs.Prelude.{◌≡◌};
-    ghost use Rattle.gptp_timeline.specs.Limits.{amount_in, amount_of, choice_after};
+    ghost use Rattle.gptp_timeline.specs.Limits.{amount_in, amount_of, choice_after, first_amount};
 
     /// How long the choice took to stand, in ns.
     pub fn choice_after(&self) -> Option<u128>
@@ -85,6 +93,54 @@ impl Stretch {
             Limit::Without => Some(u128::from(self.counts.without)),
             Limit::Roots => Some(u128::from(self.counts.roots)),
             Limit::Alone => Some(u128::from(self.counts.alone)),
+            Limit::Time => self.time(),
+            Limit::Apart => self.apart(),
+            Limit::Step => self.step(),
+            Limit::First => self.first(),
+        }
+    }
+
+    /// The greatest error of what a system reads, in units of 2^-16 ns.
+    fn time(&self) -> Option<u128>
+        ensures { result ≡ amount_in self.now Limit.Time }
+    {
+        match self.times {
+            Some(times) => amount_of(times.time),
+            None => None,
+        }
+    }
+
+    /// How far apart two systems read, in units of 2^-16 ns.
+    fn apart(&self) -> Option<u128>
+        ensures { result ≡ amount_in self.now Limit.Apart }
+    {
+        match self.times {
+            Some(times) => Some(times.apart()),
+            None => None,
+        }
+    }
+
+    /// The greatest step of what a system reads, in units of 2^-16 ns.
+    fn step(&self) -> Option<u128>
+        ensures { result ≡ amount_in self.now Limit.Step }
+    {
+        match self.times {
+            Some(times) => amount_of(times.step),
+            None => None,
+        }
+    }
+
+    /// How long it took until a system changed its source last, in ns; the whole stretch where a live system has no
+    /// time at its end.
+    fn first(&self) -> Option<u128>
+        ensures { result ≡ first_amount self.now }
+    {
+        if self.counts.without != 0 {
+            return Some(u128::from(self.to.saturating_sub(self.from)));
+        }
+        match self.times {
+            Some(times) => times.changed_after(self.from),
+            None => None,
         }
     }
 }
@@ -122,8 +178,9 @@ pub(crate) fn ended(
     bound: Option<u64>,
     measures: Measures,
     systems: &[Watched],
+    times: Option<TimeMeasures>,
 ) -> Result<Stretch, AllocError>
-    ensures { IfOk result (λ s. s ≡ ended_stretch from to begins_with_event bound measures systems.now) }
+    ensures { IfOk result (λ s. s ≡ ended_stretch from to begins_with_event bound measures systems.now times) }
 {
     let counts = counts_of(alloc, systems)?;
     let holdover = with_waits(measures.holdover, to, systems);
@@ -140,6 +197,7 @@ pub(crate) fn ended(
             error: measures.error,
         },
         counts,
+        times,
     })
 }
 
@@ -276,63 +334,124 @@ fn write_error(text: &mut String, clock: ClockId, error: Option<u128>) -> Result
 
 /// Appends how exact it is promised to be, and from when on.
 fn write_bound(text: &mut String, from: u64, bound: u128) -> Result<(), AllocError>
-    ensures { OnOk result (string_bytes text.new ≡ string_bytes text.old ++ (bound_words from bound ++ 10 ∷ [])) }
+    ensures { OnOk result (string_bytes text.new ≡ string_bytes text.old ++ bound_words from bound) }
 {
-    writeln!(text, " bound {} from {from}", Up(bound))
+    write!(text, " bound {} from {from}", Up(bound))
 }
 
-/// Appends the line of a system that follows another, with the bound of its error.
-#[tactic(auto, using(crate::proofs::LineLemmas::words_on))]
-fn write_exact(
+/// Appends what a system read, where that is asked of the account.
+fn write_reads_kept<F: Fate + Drop>(
     text: &mut String,
+    world: &World<F>,
+    to: u64,
+    system: &SystemError,
+    times: &TimeWatch,
+) -> Result<(), AllocError>
+    requires { to ≤ 1000000000000000 }
+    ensures { OnOk result (string_bytes text.new
+        ≡ string_bytes text.old ++ reads_kept to world.now.world_core (Some times.now) system.now) }
+{
+    match times.lines() {
+        true => write_reads(text, system, times.reads_of(world, to, system.clock)),
+        false => Ok(()),
+    }
+}
+
+/// Appends that where there is an account.
+fn write_reads_if<F: Fate + Drop>(
+    text: &mut String,
+    world: &World<F>,
+    to: u64,
+    system: &SystemError,
+    times: &Option<TimeWatch>,
+) -> Result<(), AllocError>
+    requires { to ≤ 1000000000000000 }
+    ensures { OnOk result (string_bytes text.new
+        ≡ string_bytes text.old ++ reads_kept to world.now.world_core times.now system.now) }
+{
+    match times {
+        Some(times) => write_reads_kept(text, world, to, system, times),
+        None => Ok(()),
+    }
+}
+
+/// Ends a line.
+fn end_line(text: &mut String) -> Result<(), AllocError>
+    ensures { OnOk result (string_bytes text.new ≡ string_bytes text.old ++ 10 ∷ []) }
+{
+    writeln!(text, "")
+}
+
+/// Appends the line of a system that follows another, with the bound of its error, and how far off it reads where that
+/// is asked.
+#[tactic(auto, using(crate::proofs::LineLemmas::words_on))]
+fn write_exact<F: Fate + Drop>(
+    text: &mut String,
+    world: &World<F>,
     from: u64,
-    clock: ClockId,
+    to: u64,
+    system: &SystemError,
     error: Option<u128>,
     bound: u128,
+    times: &Option<TimeWatch>,
 ) -> Result<(), AllocError>
+    requires { to ≤ 1000000000000000 }
     ensures { OnOk result (string_bytes text.new
-        ≡ string_bytes text.old ++ (accuracy_line from clock error bound ++ 10 ∷ [])) }
+        ≡ string_bytes text.old ++ (accuracy_line from system.now.clock error bound (reads_kept to world.now.world_core times.now system.now) ++ 10 ∷ [])) }
 {
-    write_error(text, clock, error)?;
-    write_bound(text, from, bound)
+    write_error(text, system.clock, error)?;
+    write_bound(text, from, bound)?;
+    write_reads_if(text, world, to, system, times)?;
+    end_line(text)
 }
 
 /// Appends the line on how exact a system is, where it has such a bound and isn't its own root.
-fn write_exact_if(
+fn write_exact_if<F: Fate + Drop>(
     text: &mut String,
+    world: &World<F>,
     from: u64,
+    to: u64,
     system: &SystemError,
     systems: &[Watched],
+    times: &Option<TimeWatch>,
 ) -> Result<(), AllocError>
-    requires { WatchedRise systems.now }
+    requires moment { to ≤ 1000000000000000 }
+    requires rise { WatchedRise systems.now }
     ensures { OnOk result (string_bytes text.new
-        ≡ string_bytes text.old ++ text_of (system_accuracy from (error_among systems.now) system.now)) }
+        ≡ string_bytes text.old ++ text_of (system_accuracy from (error_among systems.now) (reads_kept to world.now.world_core times.now) system.now)) }
 {
     match system.error {
         Some(bound) if system.root.clock() != system.clock => write_exact(
             text,
+            world,
             from,
-            system.clock,
+            to,
+            system,
             error_at(systems, system.clock),
             bound,
+            times,
         ),
         _ => Ok(()),
     }
 }
 
 /// Appends the lines of all of them, by rising clock, where the stretch ends no sooner than the errors hold.
-pub(crate) fn write_accuracies(
+pub(crate) fn write_accuracies<F: Fate + Drop>(
     text: &mut String,
+    world: &World<F>,
     from: u64,
+    to: u64,
     errors: &[SystemError],
     systems: &[Watched],
+    times: &Option<TimeWatch>,
 ) -> Result<(), AllocError>
-    requires { WatchedRise systems.now }
+    requires moment { to ≤ 1000000000000000 }
+    requires rise { WatchedRise systems.now }
     ensures { OnOk result (string_bytes text.new
-        ≡ string_bytes text.old ++ text_of (flat_map (system_accuracy from (error_among systems.now)) errors.now)) }
+        ≡ string_bytes text.old ++ text_of (flat_map (system_accuracy from (error_among systems.now) (reads_kept to world.now.world_core times.now)) errors.now)) }
 {
     for error in errors {
-        write_exact_if(text, from, error, systems)?;
+        write_exact_if(text, world, from, to, error, systems, times)?;
     }
     Ok(())
 }

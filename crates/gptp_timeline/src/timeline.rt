@@ -17,15 +17,18 @@ ghost use Rattle.gptp_words.specs.Lines.{text_of};
 ghost use Rattle.gptp_topology.specs.Times.{AreCalmTimes};
 ghost use Rattle.gptp_timeline.specs.LastTwo.{EndsOf, all_kept, end_of, kept_after, none_kept};
 ghost use Rattle.gptp_timeline.specs.Limits.{is_exceeded, verdict_lines};
-ghost use Rattle.gptp_timeline.specs.Passing.{StretchBreaksOff, StretchIsSeen, StopsSeen, first_time, watch_at_start};
-ghost use Rattle.gptp_timeline.specs.Timeline.{AllPass, AreErrorsBy, AreErrorsIf, BeginsTimeline, IsTimelinePlan, StretchTrace, SomePass, TimelineOf, act_lines, all_lines, end_lines, exact_time, is_begun, kept_accuracy, later_than, none_waits, now_of};
+ghost use Rattle.gptp_timeline.specs.Passing.{StretchBreaksOff, StretchIsSeen, StopsSeen, first_time, times_before, watch_at_start, watch_before};
+ghost use Rattle.gptp_timeline.specs.Timeline.{AllPass, AreErrorsBy, AreErrorsIf, BeginsTimeline, IsTimelinePlan, StretchTrace, SomePass, TimelineOf, all_lines, asks_lines, end_lines, exact_time, is_begun, kept_accuracy, later_than, line_of_times, none_carried, now_of, reads_kept, times_ended, tracks};
 ghost use Rattle.gptp_timeline.specs.Watch.{event_look, lines_all, see_all};
 
 use crate::counts::roots_of;
 use crate::ends::{StretchEnd, StretchesSoFar, both_of, keep, none_kept};
 use crate::limits::{Limit, Limits, NO_LIMITS, write_verdict};
+use crate::looks::TimeMeasures;
 use crate::null_sink::NullSink;
-use crate::stretch::{ended, write_accuracies, write_after};
+use crate::stretch::{Stretch, ended, write_accuracies, write_after};
+use crate::time_lines::write_times;
+use crate::time_watch::TimeWatch;
 use crate::watch::Watch;
 use gptp_accuracy::{TimeErrors, time_errors};
 use gptp_links::Fate;
@@ -43,6 +46,8 @@ pub struct TimelineOptions {
     pub summary: bool,
     /// Whether receipts of time are told.
     pub offsets: bool,
+    /// Whether it is told what systems read.
+    pub times: bool,
     /// What is asked of each stretch.
     pub limits: Limits,
 }
@@ -200,35 +205,116 @@ fn exact_from(errors: &Option<TimeErrors>) -> Option<u64>
     }
 }
 
-/// Appends the lines of how exact systems were, where they are known to be.
-fn write_errors(
+/// Appends the lines of how exact systems were in a stretch that ends at a time, where they are known to be.
+fn write_errors<F: Fate + Drop>(
     text: &mut String,
+    world: &World<F>,
+    to: u64,
     errors: &Option<TimeErrors>,
     watch: &Watch,
 ) -> Result<(), AllocError>
+    requires { to ≤ 1000000000000000 }
     ensures { OnOk result (string_bytes text.new
-        ≡ string_bytes text.old ++ text_of (kept_accuracy watch.now.systems errors.now)) }
+        ≡ string_bytes text.old ++ text_of (kept_accuracy (reads_kept to world.now.world_core watch.now.times) watch.now.systems errors.now)) }
 {
     match errors {
         Some(errors) => match errors.from {
-            Some(from) => write_accuracies(text, from, &errors.systems, watch.systems()),
+            Some(from) => write_accuracies(
+                text,
+                world,
+                from,
+                to,
+                &errors.systems,
+                watch.systems(),
+                watch.times(),
+            ),
             None => Ok(()),
         },
         None => Ok(()),
     }
 }
 
-/// Writes the lines of a stretch that ended, and answers how it did.
-fn end_stretch<K: Sink>(
+/// What was measured of what systems read in a stretch that ends at a time, where that is asked.
+fn times_ended<F: Fate + Drop>(
+    world: &World<F>,
+    to: u64,
+    times: &Option<TimeWatch>,
+) -> Option<TimeMeasures>
+    requires { to ≤ 1000000000000000 }
+    ensures { result ≡ times_ended to world.now.world_core times.now }
+{
+    match times {
+        Some(times) => Some(times.ended(world, to)),
+        None => None,
+    }
+}
+
+/// Whether the line of what systems read is asked for.
+fn asks_lines(times: &Option<TimeWatch>) -> bool
+    ensures { result ≡ asks_lines times.now }
+{
+    match times {
+        Some(times) => times.lines(),
+        None => false,
+    }
+}
+
+/// Appends the line of what systems read, where it is asked for.
+fn write_times_if(text: &mut String, asked: bool, stretch: &Stretch) -> Result<(), AllocError>
+    ensures { OnOk result (string_bytes text.new
+        ≡ string_bytes text.old ++ text_of (line_of_times asked stretch.now stretch.now.times)) }
+{
+    match &stretch.times {
+        Some(measures) => match asked {
+            true => write_times(text, stretch.from, stretch.to, measures),
+            false => Ok(()),
+        },
+        None => Ok(()),
+    }
+}
+
+/// What is kept of what systems read before they start, where that is asked.
+fn times_before<F: Fate + Drop>(
     alloc: Global,
+    world: &World<F>,
+    options: &TimelineOptions,
+) -> Result<Option<TimeWatch>, AllocError>
+    ensures { IfOk result (λ times. times ≡ times_before options.now world.now.world_core) }
+{
+    match options.times || options.limits.asks_times() {
+        true => {
+            let told = options.times && options.offsets;
+            Ok(Some(TimeWatch::new(alloc, world, options.times, told)?))
+        }
+        false => Ok(None),
+    }
+}
+
+/// An observer of a world whose systems start, before it has seen that.
+fn watch_before<F: Fate + Drop>(
+    alloc: Global,
+    world: &World<F>,
+    options: &TimelineOptions,
+) -> Result<Watch, AllocError>
+    ensures { IfOk result (λ watch. watch ≡ watch_before options.now world.now.world_core) }
+{
+    let times = times_before(alloc, world, options)?;
+    Watch::new(alloc, world, options.summary, options.offsets, times)
+}
+
+/// Writes the lines of a stretch that ended in a world, and answers how it did.
+fn end_stretch<F: Fate + Drop, K: Sink>(
+    alloc: Global,
+    world: &World<F>,
     plan: &Plan,
     watch: &Watch,
     sink: &mut K,
 ) -> Result<StretchEnd, Cut>
-    ensures some { AppendsSome (K.written sink.old) (K.written sink.new) (text_of (end_lines plan.now watch.now)) }
-    ensures end { IfOk result (λ end. end ≡ end_of plan.now watch.now) }
+    requires { plan.now.to ≤ 1000000000000000 }
+    ensures some { AppendsSome (K.written sink.old) (K.written sink.new) (text_of (end_lines plan.now world.now.world_core watch.now)) }
+    ensures end { IfOk result (λ end. end ≡ end_of plan.now world.now.world_core watch.now) }
     ensures whole { OnOk result
-        (Appends (K.written sink.old) (K.written sink.new) (text_of (end_lines plan.now watch.now))) }
+        (Appends (K.written sink.old) (K.written sink.new) (text_of (end_lines plan.now world.now.world_core watch.now))) }
     ensures works { result ≢ Err Cut.Write → K.failures sink.new ≡ K.failures sink.old }
     ensures fails { result ≡ Err Cut.Write → K.failures sink.new ≢ K.failures sink.old }
 {
@@ -240,11 +326,13 @@ fn end_stretch<K: Sink>(
         plan.bound,
         watch.measures(),
         watch.systems(),
+        times_ended(world, plan.to, watch.times()),
     )?;
     let roots = roots_of(alloc, watch.systems())?;
     let mut text = String::new(alloc);
     write_after(&mut text, &stretch)?;
-    write_errors(&mut text, &plan.errors, watch)?;
+    write_times_if(&mut text, asks_lines(watch.times()), &stretch)?;
+    write_errors(&mut text, world, plan.to, &plan.errors, watch)?;
     write_whole(sink, text.as_bytes())?;
     Ok(StretchEnd::new(stretch, roots))
 }
@@ -265,17 +353,17 @@ fn pass_stretch<F: Fate + Drop, K: Sink>(
     ensures passed { IfOk result (λ end. (told : List (List ℕ))
         × StretchIsSeen F.answers plan.now events.now world.old.fate world.new.fate world.old.world_core world.new.world_core
         watch.old watch.new told
-        × (end ≡ end_of plan.now watch.new)
-        × Appends (K.written sink.old) (K.written sink.new) (text_of (told ++ end_lines plan.now watch.new))) }
+        × (end ≡ end_of plan.now world.new.world_core watch.new)
+        × Appends (K.written sink.old) (K.written sink.new) (text_of (told ++ end_lines plan.now world.new.world_core watch.new))) }
     ensures broken { OnErr result ((lines : List (List ℕ))
         × StretchBreaksOff F.answers plan.now events.now world.old.fate world.old.world_core watch.old lines
         × AppendsSome (K.written sink.old) (K.written sink.new) (text_of lines)) }
     ensures works { result ≢ Err Cut.Write → K.failures sink.new ≡ K.failures sink.old }
     ensures fails { result ≡ Err Cut.Write → K.failures sink.new ≢ K.failures sink.old }
 {
-    watch.begin(exact_from(&plan.errors));
+    watch.begin(exact_from(&plan.errors), events.len());
     play(alloc, world, events, plan.to, watch, sink)?;
-    end_stretch(alloc, plan, watch, sink)
+    end_stretch(alloc, world, plan, watch, sink)
 }
 
 /// Lets a stretch pass that begins at a time with its events, and answers what is kept of all until then.
@@ -302,8 +390,8 @@ fn next_stretch<F: Fate + Drop, K: Sink>(
         × IsTimelinePlan exact document.now from to (is_begun events.now) plan
         × StretchIsSeen F.answers plan events.now world.old.fate world.new.fate world.old.world_core world.new.world_core
         watch.old watch.new told
-        × (kept ≡ kept_after limits.now (end_of plan watch.new) before)
-        × Appends (K.written sink.old) (K.written sink.new) (text_of (told ++ end_lines plan watch.new))) }
+        × (kept ≡ kept_after limits.now (end_of plan world.new.world_core watch.new) before)
+        × Appends (K.written sink.old) (K.written sink.new) (text_of (told ++ end_lines plan world.new.world_core watch.new))) }
     ensures broken { OnErr result ((lines : List (List ℕ))
         × StopsSeen F.answers exact document.now from to events.now world.old.fate world.old.world_core watch.old lines
         × AppendsSome (K.written sink.old) (K.written sink.new) (text_of lines)) }
@@ -336,15 +424,17 @@ fn all_stretches<F: Fate + Drop, K: Sink>(
     ensures passed { IfOk result (λ kept. (passages : List StretchTrace)
         × AllPass F.answers exact document.now until 0 (events_by until document.now.events) world.old.fate world.new.fate
         world.old.world_core world.new.world_core passages
-        × (kept ≡ all_kept options.now.limits (rising_clocks world.old.world_core) none_waits passages none_kept)
+        × (kept ≡ all_kept options.now.limits (rising_clocks world.old.world_core)
+        (none_carried (tracks options.now) (rising_clocks world.old.world_core)) passages none_kept)
         × Appends (K.written sink.old) (K.written sink.new)
-        (text_of (all_lines options.now (rising_clocks world.old.world_core) none_waits passages))) }
+        (text_of (all_lines options.now (rising_clocks world.old.world_core)
+        (none_carried (tracks options.now) (rising_clocks world.old.world_core)) passages []))) }
     ensures broken { OnErr result ((passages : List StretchTrace) × (acts : List ActTrace)
         × SomePass F.answers exact document.now until 0 (events_by until document.now.events) world.old.fate world.old.world_core
         passages acts
         × AppendsSome (K.written sink.old) (K.written sink.new)
-        (text_of (all_lines options.now (rising_clocks world.old.world_core) none_waits passages
-        ++ flat_map (act_lines options.now (rising_clocks world.old.world_core)) acts))) }
+        (text_of (all_lines options.now (rising_clocks world.old.world_core)
+        (none_carried (tracks options.now) (rising_clocks world.old.world_core)) passages acts))) }
     ensures works { result ≢ Err Cut.Write → K.failures sink.new ≡ K.failures sink.old }
     ensures fails { result ≡ Err Cut.Write → K.failures sink.new ≢ K.failures sink.old }
 {
@@ -433,12 +523,12 @@ pub fn write_timeline<F: Fate + Drop, K: Sink>(
     ensures works { result ≢ Err Cut.Write → K.failures sink.new ≡ K.failures sink.old }
     ensures fails { result ≡ Err Cut.Write → K.failures sink.new ≢ K.failures sink.old }
 {
-    let times = calm_times(alloc, document)?;
+    let calm = calm_times(alloc, document)?;
     let mut world = begin(alloc, document, fate)?;
-    let mut watch = Watch::new(alloc, &world, options.summary, options.offsets)?;
+    let mut watch = watch_before(alloc, &world, options)?;
     write_start(alloc, &world, &mut watch, sink)?;
     let kept = all_stretches(
-        alloc, document, &times, true, &mut world, until, options, &mut watch, sink,
+        alloc, document, &calm, true, &mut world, until, options, &mut watch, sink,
     )?;
     end_verdict(alloc, &options.limits, kept.exceeded, sink)
 }
@@ -447,6 +537,7 @@ pub fn write_timeline<F: Fate + Drop, K: Sink>(
 const NOTHING_TOLD: TimelineOptions = TimelineOptions {
     summary: true,
     offsets: false,
+    times: false,
     limits: NO_LIMITS,
 };
 
@@ -466,7 +557,7 @@ pub fn last_stretches<F: Fate + Drop>(
     let mut sink = NullSink;
     let times = calm_times(alloc, document)?;
     let mut world = begin(alloc, document, fate)?;
-    let mut watch = Watch::new(alloc, &world, true, false)?;
+    let mut watch = watch_before(alloc, &world, &NOTHING_TOLD)?;
     write_start(alloc, &world, &mut watch, &mut sink)?;
     let kept = all_stretches(
         alloc,

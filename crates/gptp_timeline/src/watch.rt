@@ -4,7 +4,8 @@ ghost use Rattle.std.specs.Prelude.{◌≡◌, ◌≤◌, ◌<◌, ◌+◌, ◌+
 ghost use Rattle.gptp_model.specs.Views.{rising_clocks};
 ghost use Rattle.gptp_words.specs.Lines.{text_of};
 ghost use Rattle.gptp_timeline.specs.Measures.{one_at};
-ghost use Rattle.gptp_timeline.specs.Watch.{counts_from, unseen, without_error};
+ghost use Rattle.gptp_timeline.specs.TimeWatch.{times_after, times_begun};
+ghost use Rattle.gptp_timeline.specs.Watch.{counts_from, times_lines_if, unseen, without_error};
 
 use crate::changes::write_changes;
 use crate::event_line::write_event;
@@ -12,6 +13,7 @@ use crate::leaving::leaves_all;
 use crate::measures::{Greatest, Measures, NOTHING, better_if};
 use crate::receipts::{error_of, is_follow_up, received_by, write_offset};
 use crate::shown::{Shown, shown_of, shows_left};
+use crate::time_watch::TimeWatch;
 use crate::watched::{ActView, Watched, error_after, measures_after, since_behind, wait_behind};
 use gptp_links::Fate;
 use gptp_report::sink::Sink;
@@ -39,6 +41,8 @@ pub(crate) struct Watch {
     systems: Vec<Watched>,
     // What is measured in this stretch so far.
     measures: Measures,
+    // What systems read, where that is asked.
+    times: Option<TimeWatch>,
 }
 
 impl Model for Watch {
@@ -54,6 +58,7 @@ impl Model for Watch {
       exact_from = w.exact_from;
       systems = w.systems.items;
       measures = w.measures;
+      times = w.times;
     } };
 
     ghost invariant = { λ w. WatchedRise w.systems.items };
@@ -139,6 +144,36 @@ fn clear_errors(systems: &mut Vec<Watched>)
     }
 }
 
+/// A stretch begins in the account, where there is one.
+fn begin_times(times: &mut Option<TimeWatch>, exact_from: Option<u64>, events: usize)
+    ensures { times.new ≡ option_map (times_begun exact_from events) times.old }
+{
+    match times {
+        Some(times) => times.begin(exact_from, events),
+        None => {}
+    }
+}
+
+/// The account sees an act that was done, where there is one.
+fn see_times<F: Fate + Drop>(
+    times: &mut Option<TimeWatch>,
+    text: &mut String,
+    world: &World<F>,
+    timed: &Timed,
+    done: &Done,
+) -> Result<(), AllocError>
+    requires { timed.now.at ≤ 1000000000000000 }
+    ensures sees { OnOk result (times.new
+        ≡ option_map (times_after timed.now.at timed.now.act done.now world.now.world_core) times.old) }
+    ensures tells { OnOk result (string_bytes text.new
+        ≡ string_bytes text.old ++ text_of (times_lines_if timed.now.at timed.now.act done.now world.now.world_core times.old)) }
+{
+    match times {
+        Some(times) => times.see(text, world, timed, done),
+        None => Ok(()),
+    }
+}
+
 impl Watch {
     ghost use Rattle.std.specs.Prelude.{◌≡◌, ◌≤◌, ◌<◌, ◌++◌, ◌∷◌, [], None, false, true, not, if◌then◌else◌, IfOk, IfSome, OnOk, length, map, slice_get, Some, string_bytes};
     ghost use Rattle.gptp_model.specs.Views.{rising_clocks};
@@ -148,7 +183,7 @@ impl Watch {
     ghost use Rattle.gptp_timeline.specs.Receipts.{offset_line};
     ghost use Rattle.gptp_timeline.specs.Leaving.{left_by};
     ghost use Rattle.gptp_timeline.specs.Shown.{shown_of};
-    ghost use Rattle.gptp_timeline.specs.Watch.{WatchedRise, watch_begun, delivery_lines, event_look, lines_all, lines_at, nothing, place_of, placed_lines, receipt_lines_of, see_act, see_all, see_at, see_delivery, see_placed, see_receipt_of, see_system, seen_lines, watched_lines, take_error, taken, unless, unseen};
+    ghost use Rattle.gptp_timeline.specs.Watch.{WatchedRise, watch_begun, delivery_lines, event_look, lines_all, lines_at, nothing, PassesOver, place_of, placed_lines, receipt_lines_of, see_act, see_all, see_at, see_delivery, see_placed, see_receipt_of, see_system, see_times, seen_lines, times_lines_if, watched_lines, take_error, taken, unless, unseen};
     ghost use Rattle.gptp_timeline.specs.declared.watched.Watched.{Watched};
 
     /// An observer of a world whose systems start, before it has seen that.
@@ -157,6 +192,7 @@ impl Watch {
         world: &World<F>,
         summary: bool,
         offsets: bool,
+        times: Option<TimeWatch>,
     ) -> Result<Self, AllocError>
         ensures { IfOk result (λ w. w ≡ record {
           summary = summary;
@@ -164,6 +200,7 @@ impl Watch {
           exact_from = None;
           systems = map unseen (rising_clocks world.now.world_core);
           measures = nothing;
+          times = times;
         }) }
     {
         world.well_formed();
@@ -174,6 +211,7 @@ impl Watch {
             exact_from: None,
             systems,
             measures: NOTHING,
+            times,
         })
     }
 
@@ -193,12 +231,46 @@ impl Watch {
     }
 
     /// A stretch begins, in which the receipts of each system count by themselves from a time on.
-    pub(crate) fn begin(&mut self, exact_from: Option<u64>)
-        ensures { self.new ≡ watch_begun exact_from self.old }
+    pub(crate) fn begin(&mut self, exact_from: Option<u64>, events: usize)
+        ensures { self.new ≡ watch_begun exact_from events self.old }
     {
         self.exact_from = exact_from;
         self.measures = NOTHING;
         clear_errors(&mut self.systems);
+        begin_times(&mut self.times, exact_from, events);
+    }
+
+    /// What systems read, where that is asked.
+    pub(crate) fn times(&self) -> &Option<TimeWatch>
+        ensures { result.now ≡ self.now.times }
+    {
+        &self.times
+    }
+
+    /// Whether an act is passed over: it leaves all that is shown as it was, and there is no account.
+    fn passes_over(&self, act: &Act, done: &Done) -> bool
+        ensures { result ≡ true → PassesOver act.now done.now self.now }
+    {
+        match self.times {
+            Some(_) => false,
+            None => leaves_all(act, done),
+        }
+    }
+
+    /// Sees what an act does to what systems read.
+    fn see_times<F: Fate + Drop>(
+        &mut self,
+        text: &mut String,
+        world: &World<F>,
+        timed: &Timed,
+        done: &Done,
+    ) -> Result<(), AllocError>
+        requires { timed.now.at ≤ 1000000000000000 }
+        ensures sees { OnOk result (self.new ≡ see_times timed.now.at timed.now.act done.now world.now.world_core self.old) }
+        ensures tells { OnOk result (string_bytes text.new
+            ≡ string_bytes text.old ++ text_of (times_lines_if timed.now.at timed.now.act done.now world.now.world_core self.old.times)) }
+    {
+        see_times(&mut self.times, text, world, timed, done)
     }
 
     /// How many systems there are.
@@ -616,11 +688,12 @@ impl Observer for Watch {
         done: &Done,
         sink: &mut K,
     ) -> Result<(), Cut> {
-        if leaves_all(&timed.act, done) {
+        if self.passes_over(&timed.act, done) {
             return Ok(());
         }
         let mut text = String::new(alloc);
         self.see(&mut text, world, timed, done)?;
+        self.see_times(&mut text, world, timed, done)?;
         write_whole(sink, text.as_bytes())?;
         Ok(())
     }

@@ -9,7 +9,7 @@ use Rattle.gptp_scenario.specs.declared.change.Timed.{Timed}
 use Rattle.gptp_sink.specs.Sink.{AppendsSome}
 use Rattle.gptp_sink.proofs.SinkLemmas.{after_error, appends_both, appends_none, some_behind}
 use Rattle.gptp_timeline.specs.Passing.{first_time, StretchIsSeen, StopsSeen, watch_before}
-use Rattle.gptp_timeline.specs.Timeline.{end_before, is_begun, IsTimelinePlan, later_than, none_waits}
+use Rattle.gptp_timeline.specs.Timeline.{end_before, is_begun, IsTimelinePlan, later_than, none_carried, tracks}
 use Rattle.gptp_timeline.proofs.EventLemmas.{all_now, ends_before, ends_in_time, ends_later, fewer_later, filter_each, may_begin, may_next, none_left, now_by}
 use Rattle.gptp_timeline.proofs.ObservedLemmas.{Rests, start_rests}
 use Rattle.gptp_timeline.proofs.PassLemmas.{courses_stay, none_there, seen_all, seen_more, seen_none, seen_some}
@@ -20,7 +20,7 @@ loop-to-init g c =
     let d = c.args.document.now in let w = c.args.world.now.world_core in let options = c.args.options.now in
     let exact = c.args.exact in
     let old = g.K.Sink.written c.args.sink.now in let names = rising_clocks w in
-    let rests = subst (Rests options names none_waits w) (sym c.requires.starts)
+    let rests = subst (Rests options names (none_carried (tracks options) names) w) (sym c.requires.starts)
     (start_rests g.F.Fate.answers d.network c.requires.begun.0 c.args.world.now.fate options w (watch_before options w)
     c.requires.begun.1 c.well_formed-3.ensures.sound.wired refl) in
     rw (c.none_kept-kept.ensures, c.events_by-left.ensures, c.events.ensures) (record {

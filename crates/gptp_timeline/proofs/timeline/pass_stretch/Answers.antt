@@ -1,4 +1,4 @@
-use Rattle.std.proofs.Common.{◌++◌, ap, ◌∙◌, inl, inr, refl, sym, subst}
+use Rattle.std.proofs.Common.{◌++◌, length, ap, ◌∙◌, inl, inr, refl, sym, subst}
 use Rattle.std.specs.Io.KnownBytes.{Appends}
 use Rattle.gptp_sink.specs.Sink.{AppendsSome}
 use Rattle.gptp_world.proofs.FollowLemmas.{text_append}
@@ -14,7 +14,8 @@ pub returns-in_err-play-clause-broken : goal.returns-in_err-play-clause-broken
 returns-in_err-play-clause-broken g c =
     let broken = c.in_err-play.ensures.broken in
     let old = g.K.Sink.written c.args.sink.now in let new = g.K.Sink.written c.play.new.sink in
-    let began = c.begin.ensures ∙ ap (λ from. watch_begun from c.args.watch.now) c.exact_from.ensures in
+    let began = c.begin.ensures
+    ∙ ap (λ from. watch_begun from (length c.args.events.now) c.args.watch.now) c.exact_from.ensures in
     after_error c.from_residual.result (
       broken.3.lines,
       inl (sees_some g.F.Fate.answers c.args.plan.now c.args.events.now c.args.world.now.fate
@@ -30,8 +31,9 @@ returns-clause-broken g c =
     let played = c.in_ok-play.ensures.played in
     let old = g.K.Sink.written c.args.sink.now in let between = g.K.Sink.written c.play.new.sink in
     let new = g.K.Sink.written c.end_stretch.new.sink in
-    let began = c.begin.ensures ∙ ap (λ from. watch_begun from c.args.watch.now) c.exact_from.ensures in
-    let told = played.2.lines in let ends = end_lines c.args.plan.now c.play.new.observer in
+    let began = c.begin.ensures
+    ∙ ap (λ from. watch_begun from (length c.args.events.now) c.args.watch.now) c.exact_from.ensures in
+    let told = played.2.lines in let ends = end_lines c.args.plan.now c.play.new.world.world_core c.play.new.observer in
     after_error c.end_stretch.result (
       told ++ ends,
       inr (record {
@@ -55,8 +57,10 @@ returns-clause-passed g c =
     let played = c.in_ok-play.ensures.played in
     let old = g.K.Sink.written c.args.sink.now in let between = g.K.Sink.written c.play.new.sink in
     let new = g.K.Sink.written c.end_stretch.new.sink in
-    let began = c.begin.ensures ∙ ap (λ from. watch_begun from c.args.watch.now) c.exact_from.ensures in
-    let told = played.2.lines in let ends = end_lines c.args.plan.now c.play.new.observer in (
+    let began = c.begin.ensures
+    ∙ ap (λ from. watch_begun from (length c.args.events.now) c.args.watch.now) c.exact_from.ensures in
+    let told = played.2.lines in
+    let ends = end_lines c.args.plan.now c.play.new.world.world_core c.play.new.observer in (
       told,
       sees_all g.F.Fate.answers c.args.plan.now c.args.events.now c.args.world.now.fate c.args.world.now.world_core
           c.args.watch.now c.begin.new.self began c.requires.due played.0 c.play.new.observer (Appends old between)

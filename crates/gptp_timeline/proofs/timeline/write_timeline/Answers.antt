@@ -6,6 +6,7 @@ use Rattle.gptp_sink.specs.Sink.{AppendsSome}
 use Rattle.gptp_sink.proofs.SinkLemmas.{after_error}
 use Rattle.gptp_words.specs.Lines.{text_of}
 use Rattle.gptp_model.specs.Views.{rising_clocks}
+use Rattle.gptp_timeline.specs.Timeline.{none_carried, tracks}
 use Rattle.gptp_timeline.specs.Watch.{event_look, see_all}
 use Rattle.gptp_timeline.proofs.StretchesSoFarLemmas.{exceeded_is}
 use Rattle.gptp_timeline.proofs.ObservedLemmas.{start_told}
@@ -22,8 +23,8 @@ all_stretches-requires-clause-starts g c =
 
 -- ---- it breaks off
 
-pub returns-in_err-times-clause-some : goal.returns-in_err-times-clause-some
-returns-in_err-times-clause-some g c =
+pub returns-in_err-calm-clause-some : goal.returns-in_err-calm-clause-some
+returns-in_err-calm-clause-some g c =
     after_error c.from_residual.result
     (nothing_begun g.F.Fate.answers c.args.document.now c.args.until c.args.options.now c.args.fate
     (g.K.Sink.written c.args.sink.now))
@@ -98,7 +99,8 @@ returns-clause-some g c =
     (subst (λ lines. Appends old first (text_of lines)) (start_told options w c.in_ok-watch.watch c.in_ok-watch.ensures)
     c.in_ok-write_start.ensures.whole) c.all_stretches.new.world.fate c.all_stretches.new.world.world_core
     c.in_ok-kept.kept.exceeded passed.0 passed.1
-    (exceeded_is options.limits (rising_clocks w) passed.0 c.in_ok-kept.kept passed.2) passed.3
+    (exceeded_is options.limits (rising_clocks w) passed.0 (none_carried (tracks options) (rising_clocks w))
+    c.in_ok-kept.kept passed.2) passed.3
     c.end_verdict.ensures.some)
 
 -- ---- it ends
@@ -115,6 +117,7 @@ returns-clause-whole g c =
     (subst (λ lines. Appends old first (text_of lines)) (start_told options w c.in_ok-watch.watch c.in_ok-watch.ensures)
     c.in_ok-write_start.ensures.whole) c.all_stretches.new.world.fate c.all_stretches.new.world.world_core
     c.in_ok-kept.kept.exceeded passed.0 passed.1
-    (exceeded_is options.limits (rising_clocks w) passed.0 c.in_ok-kept.kept passed.2) passed.3 exceeded is whole)
+    (exceeded_is options.limits (rising_clocks w) passed.0 (none_carried (tracks options) (rising_clocks w))
+    c.in_ok-kept.kept passed.2) passed.3 exceeded is whole)
     c.end_verdict.ensures.is
     c.end_verdict.ensures.whole

@@ -1,18 +1,11 @@
-use Rattle.std.proofs.Common.{◌≡◌, ◌+◌, ◌++◌, ◌∷◌, [], ℕ, zero, suc, List, None, map, take, slice_get, refl, sym, ap, ◌∙◌, arith}
+use Rattle.std.proofs.Common.{◌++◌, ◌∷◌, [], List, map, take, sym, ap, ◌∙◌}
 use Rattle.std.proofs.lemmas.List.{map-append}
 use Rattle.gptp_model.specs.Views.{rising_clocks}
 use Rattle.gptp_lists.proofs.MappedLemmas.{taken}
 use Rattle.gptp_timeline.specs.Watch.{unseen}
 use Rattle.gptp_timeline.specs.declared.watched.Watched.{Watched}
+use Rattle.gptp_timeline.proofs.PutLemmas.{none_more}
 use Rattle.gptp_timeline.proofs.watch.push_unseen.Goals as goal
-
--- past the end there is no more
-none_more : (xs : List ℕ) (i : ℕ) → slice_get xs i ≡ None → take i xs ≡ take (i + 1) xs
-none_more [] zero none = refl
-none_more [] (suc i) none = let e : suc i + 1 ≡ suc (i + 1) = omega arith in rw e refl
-none_more (x ∷ xs) zero none = absurd cc
-none_more (x ∷ xs) (suc i) none =
-    let e : suc i + 1 ≡ suc (i + 1) = omega arith in rw e (ap (λ rest. x ∷ rest) (none_more xs i none))
 
 pub returns-in_ok-push : goal.returns-in_ok-push
 returns-in_ok-push g c =

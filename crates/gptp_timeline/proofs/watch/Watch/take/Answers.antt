@@ -35,6 +35,7 @@ returns c = λ x is.
       exact_from = inside.exact_from;
       systems = items;
       measures = inside.measures;
+      times = inside.times;
     } in
     ap (λ s. record view {
       systems = slice_set items place (record { clock = z.clock; shown = after; since = s; error = z.error });

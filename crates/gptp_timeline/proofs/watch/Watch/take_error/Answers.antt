@@ -34,6 +34,7 @@ returns c =
       exact_from = inside.exact_from;
       systems = items;
       measures = inside.measures;
+      times = inside.times;
     } in
     let worst : c.better_if-self-inside.result
     ≡ better_if inside.measures.error (option_map (λ (e : ℤ). one_at x.clock (unsigned_abs e)) error) =

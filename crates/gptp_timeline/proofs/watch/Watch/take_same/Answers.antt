@@ -34,6 +34,7 @@ returns c = λ x is.
       exact_from = inside.exact_from;
       systems = items;
       measures = inside.measures;
+      times = inside.times;
     } in
     let wait : c.better_if-self-inside.result ≡ better_if inside.measures.holdover (wait_behind look x x.shown) =
     c.better_if-self-inside.ensures

@@ -1,0 +1,373 @@
+//! What systems read of time, and by what.
+
+ghost use Rattle.std.specs.Prelude.{◌≡◌, ◌≤◌, ◌<◌, ◌^◌, ◌-ℤ◌, IfSome, Some, false, length, unsigned_abs};
+ghost use Rattle.std.specs.List.{list_any};
+ghost use Rattle.std.specs.Option.{option_and_then, option_map_or};
+ghost use Rattle.gptp_system.specs.Reading.{read_at};
+ghost use Rattle.gptp_timeline.specs.Readings.{by_expiry, by_receipt, by_takeover, changes_source, clock_time, failed_by, is_master, is_sending, new_reading, own_reading, read_by, reading_among, reading_error, put_reading, reads_own, received_reading, step_in, step_of};
+ghost use Rattle.gptp_timeline.specs.Shown.{live_system};
+ghost use Rattle.gptp_timeline.specs.TimeWatch.{ReadingsRise};
+
+use crate::measures::Greatest;
+use crate::ports::{ShownPort, ports_of};
+use crate::receipts::received_by;
+use gptp_links::Fate;
+use gptp_roles::Role;
+use gptp_scaled::ScaledNs;
+use gptp_scenario::Change;
+use gptp_system::{Reading, System, Timer};
+use gptp_vector::ClockId;
+use gptp_world::{Act, Done, World};
+
+/// What a system reads time by.
+#[derive(Clone, Copy, Debug, PartialEq, Eq)]
+pub(crate) struct KeptReading {
+    /// The clock that is its source.
+    pub source: ClockId,
+    /// What the Follow_Up left that was used; where the system took over, nothing: it reads its own clock.
+    pub received: Option<Reading>,
+}
+
+/// What is kept of what a system reads.
+#[derive(Clone, Copy, Debug)]
+pub(crate) struct SystemReading {
+    /// Its clock.
+    pub clock: ClockId,
+    /// What it reads time by; nothing where it has no time.
+    pub reading: Option<KeptReading>,
+}
+
+/// A reading that a system gets.
+#[derive(Clone, Copy, Debug)]
+pub(crate) struct NewReading {
+    /// The system.
+    pub clock: ClockId,
+    /// What it read time by before.
+    pub before: Option<KeptReading>,
+    /// What it reads time by from then on.
+    pub after: KeptReading,
+    /// Whether it received time; otherwise it took over.
+    pub received: bool,
+}
+
+/// What the clock of a system, live or failed, shows at a time.
+pub(crate) fn clock_time<F: Fate + Drop>(
+    world: &World<F>,
+    clock: ClockId,
+    at: u64,
+) -> Option<ScaledNs>
+    requires { at ≤ 1000000000000000 }
+    ensures { result ≡ clock_time clock at world.now.world_core }
+{
+    world.well_formed();
+    world.local(clock, at)
+}
+
+/// What is read by what a Follow_Up left, where the own clock shows this, in units of 2^-16 ns.
+fn received_at(reading: &Reading, shown: ScaledNs) -> i128
+    ensures is { result ≡ read_at reading.now shown }
+    ensures small { unsigned_abs result < 2 ^ 99 }
+{
+    let received = reading.ingress.value() - reading.offset.value();
+    received + reading.rate.scale_between(reading.ingress, shown)
+}
+
+/// What is read where the own clock shows this, in units of 2^-16 ns.
+pub(crate) fn read_by(kept: &KeptReading, shown: ScaledNs) -> i128
+    ensures is { result ≡ read_by kept.now shown }
+    ensures small { unsigned_abs result < 2 ^ 99 }
+{
+    match &kept.received {
+        Some(reading) => received_at(reading, shown),
+        None => shown.value(),
+    }
+}
+
+/// How far it is off at a time that a system reads, in units of 2^-16 ns; none where its source has no time.
+pub(crate) fn reading_error<F: Fate + Drop>(
+    world: &World<F>,
+    at: u64,
+    clock: ClockId,
+    kept: &KeptReading,
+) -> Option<i128>
+    requires { at ≤ 1000000000000000 }
+    ensures is { result ≡ reading_error at world.now.world_core clock kept.now }
+    ensures small { IfSome result (λ e. unsigned_abs e < 2 ^ 100) }
+{
+    match clock_time(world, clock, at) {
+        Some(shown) => match clock_time(world, kept.source, at) {
+            Some(time) => Some(read_by(kept, shown) - time.value()),
+            None => None,
+        },
+        None => None,
+    }
+}
+
+/// What a live system reads time by where a Follow_Up was used.
+fn received_reading(system: &System) -> Option<KeptReading>
+    ensures { result ≡ received_reading system.now }
+{
+    let (root, _, _) = system.follows();
+    match system.reading() {
+        Some(reading) => Some(KeptReading {
+            source: root.clock(),
+            received: Some(reading),
+        }),
+        None => None,
+    }
+}
+
+/// What a system reads time by that took over.
+fn own_reading(clock: ClockId) -> KeptReading
+    ensures { result ≡ own_reading clock }
+{
+    KeptReading {
+        source: clock,
+        received: None,
+    }
+}
+
+/// Whether a system took over, and received no time since.
+fn reads_own(kept: &Option<KeptReading>) -> bool
+    ensures { result ≡ reads_own kept.now }
+{
+    match kept {
+        Some(kept) => kept.received.is_none(),
+        None => false,
+    }
+}
+
+/// Whether a port is a Master port.
+fn is_master(port: ShownPort) -> bool
+    ensures { result ≡ is_master port }
+{
+    match port.role {
+        Role::Master => true,
+        _ => false,
+    }
+}
+
+/// Whether any of several ports is a Master port.
+fn has_master(ports: &[ShownPort]) -> bool
+    ensures { result ≡ list_any is_master ports.now }
+{
+    for port in ports {
+        if is_master(*port) {
+            return true;
+        }
+    }
+    false
+}
+
+/// Whether a live system sends time of its own: it is its own root, can be a grandmaster, and has a Master port.
+fn is_sending(system: &System) -> bool
+    requires { length system.now.ports ≤ 16 }
+    ensures { result ≡ is_sending system.now }
+{
+    let (root, _, slave) = system.follows();
+    slave.is_none() && root.capable() && has_master(ports_of(system).as_slice())
+}
+
+/// Whether the system with a clock is live and sends time of its own.
+fn sends<F: Fate + Drop>(world: &World<F>, clock: ClockId) -> bool
+    ensures { result ≡ option_map_or is_sending (live_system clock world.now.world_core) false }
+{
+    world.well_formed();
+    match world.system(clock) {
+        Some(system) => is_sending(system),
+        None => false,
+    }
+}
+
+/// What the live system with a clock reads time by where a Follow_Up was used.
+fn received_in<F: Fate + Drop>(world: &World<F>, clock: ClockId) -> Option<KeptReading>
+    ensures { result ≡ option_and_then received_reading (live_system clock world.now.world_core) }
+{
+    world.well_formed();
+    match world.system(clock) {
+        Some(system) => received_reading(system),
+        None => None,
+    }
+}
+
+/// What the system with a clock reads time by, if it has time.
+pub(crate) fn reading_among(systems: &[SystemReading], clock: ClockId) -> Option<KeptReading>
+    requires { ReadingsRise systems.now }
+    ensures { result ≡ reading_among systems.now clock }
+{
+    match systems.binary_search_by_key(&clock, |system| system.clock) {
+        Ok(place) => systems[place].reading,
+        Err(_) => None,
+    }
+}
+
+/// The system with a clock gets a reading by a receipt.
+fn receipt_of<F: Fate + Drop>(
+    world: &World<F>,
+    systems: &[SystemReading],
+    clock: ClockId,
+) -> Option<NewReading>
+    requires { ReadingsRise systems.now }
+    ensures { result ≡ by_receipt world.now.world_core systems.now (Some clock) }
+{
+    let before = reading_among(systems, clock);
+    match received_in(world, clock) {
+        Some(after) => Some(NewReading {
+            clock,
+            before,
+            after,
+            received: true,
+        }),
+        None => None,
+    }
+}
+
+/// The reading that a system gets by a receipt, if there is one.
+fn by_receipt<F: Fate + Drop>(
+    world: &World<F>,
+    systems: &[SystemReading],
+    receiver: Option<ClockId>,
+) -> Option<NewReading>
+    requires { ReadingsRise systems.now }
+    ensures { result ≡ by_receipt world.now.world_core systems.now receiver }
+{
+    match receiver {
+        Some(clock) => receipt_of(world, systems, clock),
+        None => None,
+    }
+}
+
+/// The reading that a system gets whose Sync timer expired, if it took over by that.
+fn by_takeover<F: Fate + Drop>(
+    world: &World<F>,
+    systems: &[SystemReading],
+    clock: ClockId,
+) -> Option<NewReading>
+    requires { ReadingsRise systems.now }
+    ensures { result ≡ by_takeover world.now.world_core systems.now clock }
+{
+    let before = reading_among(systems, clock);
+    if reads_own(&before) || !sends(world, clock) {
+        return None;
+    }
+    Some(NewReading {
+        clock,
+        before,
+        after: own_reading(clock),
+        received: false,
+    })
+}
+
+/// The reading that a system gets of which a timer expired, if it took over by that.
+fn by_expiry<F: Fate + Drop>(
+    world: &World<F>,
+    systems: &[SystemReading],
+    clock: ClockId,
+    timer: Timer,
+) -> Option<NewReading>
+    requires { ReadingsRise systems.now }
+    ensures { result ≡ by_expiry world.now.world_core systems.now clock timer }
+{
+    match timer {
+        Timer::Sync => by_takeover(world, systems, clock),
+        _ => None,
+    }
+}
+
+/// The reading that a system gets by an act, if one does.
+pub(crate) fn new_reading<F: Fate + Drop>(
+    world: &World<F>,
+    systems: &[SystemReading],
+    act: &Act,
+    done: &Done,
+) -> Option<NewReading>
+    requires { ReadingsRise systems.now }
+    ensures { result ≡ new_reading act.now done.now world.now.world_core systems.now }
+{
+    match act {
+        Act::Deliver { .. } => by_receipt(world, systems, received_by(done)),
+        Act::Expire { clock, timer } => by_expiry(world, systems, *clock, *timer),
+        Act::Change(_) => None,
+    }
+}
+
+/// The system that an act makes fail.
+pub(crate) fn failed_by(act: &Act) -> Option<ClockId>
+    ensures { result ≡ failed_by act.now }
+{
+    match act {
+        Act::Change(Change::Fail { clock }) => Some(*clock),
+        _ => None,
+    }
+}
+
+/// The system with a clock reads time by this from then on, or has no time.
+pub(crate) fn put_reading(
+    systems: &mut Vec<SystemReading>,
+    clock: ClockId,
+    reading: Option<KeptReading>,
+)
+    requires { ReadingsRise systems.old.items }
+    ensures { systems.new.items ≡ put_reading clock reading systems.old.items }
+{
+    match systems.binary_search_by_key(&clock, |system| system.clock) {
+        Ok(place) => {
+            systems[place].reading = reading;
+        }
+        Err(_) => {}
+    }
+}
+
+/// Whether a system that gets a reading has another source than before, or had no time.
+pub(crate) fn changes_source(new: &NewReading) -> bool
+    ensures { result ≡ changes_source new.now }
+{
+    let source = new.after.source;
+    match &new.before {
+        Some(before) => {
+            let other = before.source;
+            other != source
+        }
+        None => true,
+    }
+}
+
+/// By how much more is read by a reading than by another, where the own clock shows this, in units of 2^-16 ns.
+fn step_between(before: &KeptReading, after: &KeptReading, shown: ScaledNs) -> i128
+    ensures { result ≡ read_by after.now shown -ℤ read_by before.now shown }
+{
+    read_by(after, shown) - read_by(before, shown)
+}
+
+/// By how much more a system reads by the new reading than by the one before, in units of 2^-16 ns; none where it had
+/// no time.
+pub(crate) fn step_of<F: Fate + Drop>(world: &World<F>, at: u64, new: &NewReading) -> Option<i128>
+    requires { at ≤ 1000000000000000 }
+    ensures { result ≡ step_of at world.now.world_core new.now }
+{
+    match &new.before {
+        Some(before) => match clock_time(world, new.clock, at) {
+            Some(shown) => Some(step_between(before, &new.after, shown)),
+            None => None,
+        },
+        None => None,
+    }
+}
+
+/// That without its sign, with the system.
+pub(crate) fn step_in<F: Fate + Drop>(
+    world: &World<F>,
+    at: u64,
+    new: &NewReading,
+) -> Option<Greatest>
+    requires { at ≤ 1000000000000000 }
+    ensures { result ≡ step_in at world.now.world_core new.now }
+{
+    match step_of(world, at, new) {
+        Some(step) => Some(Greatest {
+            amount: step.unsigned_abs(),
+            clock: new.clock,
+        }),
+        None => None,
+    }
+}
