@@ -94,7 +94,7 @@ worst_line e =
     worst_words e.choice (amount_or_0 (amount_of e.holdover)) (amount_or_0 (amount_of e.error)) ++ counts_text e.counts
 
 abbrev pub worst_lines : Bool → Extremes → List (List ℕ)
-worst_lines asked e = worst_line e ∷ worst_times_lines asked e.times
+worst_lines asked e = worst_line e ∷ worst_times_lines asked (codes "worst") e.times
 
 -- what a limit asks for in it
 abbrev pub worst_amount : Extremes → Limit → Option ℕ

@@ -7,7 +7,6 @@ use Rattle.gptp_timeline.specs.Limits.{amount_of}
 use Rattle.gptp_timeline.specs.StretchText.{worst_text}
 use Rattle.gptp_timeline.specs.TimeLines.{sources_words}
 use Rattle.gptp_timeline.specs.declared.measures.Greatest.{Greatest}
-use Rattle.gptp_faults.specs.Ranking.{amount_or_0}
 use Rattle.gptp_faults.specs.declared.extremes.Apart.{Apart}
 use Rattle.gptp_faults.specs.declared.extremes.TimeExtremes.{TimeExtremes}
 
@@ -32,18 +31,21 @@ times_line word t = read_words word t.time t.apart ++ jump_words t.step t.first
 abbrev pub times_lines : Bool → List ℕ → TimeExtremes → List (List ℕ)
 times_lines asked word t = if asked then times_line word t ∷ [] else []
 
--- the greatest of all cases, by its amounts
-abbrev pub worst_times_words : ℕ → ℕ → ℕ → Option ℕ → List ℕ
-worst_times_words time apart step first =
-    codes "worst_times time " ++ near_text time
-    ++ codes " apart " ++ near_text apart
-    ++ codes " step " ++ near_text step
-    ++ codes " first " ++ or_none decimal first
+-- ---- the greatest of all cases, by its amounts alone
 
-abbrev pub worst_times_line : TimeExtremes → List ℕ
-worst_times_line t =
-    worst_times_words (amount_or_0 (amount_of t.time)) t.apart.amount (amount_or_0 (amount_of t.step))
-    (amount_of t.first)
+abbrev pub amount_text : Option Greatest → List ℕ
+amount_text None = codes "0.000"
+amount_text (Some g) = near_text g.amount
 
-abbrev pub worst_times_lines : Bool → TimeExtremes → List (List ℕ)
-worst_times_lines asked t = if asked then worst_times_line t ∷ [] else []
+abbrev pub worst_read_words : List ℕ → Option Greatest → ℕ → List ℕ
+worst_read_words word time apart =
+    word ++ codes "_times time " ++ amount_text time ++ codes " apart " ++ near_text apart
+
+abbrev pub worst_jump_words : Option Greatest → Option ℕ → List ℕ
+worst_jump_words step first = codes " step " ++ amount_text step ++ codes " first " ++ or_none decimal first
+
+abbrev pub worst_times_line : List ℕ → TimeExtremes → List ℕ
+worst_times_line word t = worst_read_words word t.time t.apart.amount ++ worst_jump_words t.step (amount_of t.first)
+
+abbrev pub worst_times_lines : Bool → List ℕ → TimeExtremes → List (List ℕ)
+worst_times_lines asked word t = if asked then worst_times_line word t ∷ [] else []

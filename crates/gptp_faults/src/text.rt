@@ -253,7 +253,7 @@ fn write_all_worst(text: &mut String, asked: bool, worst: &Extremes) -> Result<(
         ≡ string_bytes text.old ++ text_of (worst_lines asked worst.now)) }
 {
     write_worst(text, worst)?;
-    write_worst_times(text, asked, &worst.times)
+    write_worst_times(text, asked, "worst", &worst.times)
 }
 
 /// The amount that a limit asks for in the greatest of all: times in ns, errors and what systems read in units of
