@@ -19,7 +19,7 @@ use Rattle.gptp_timeline.specs.Receipts.{received_by, receiver_clock}
 use Rattle.gptp_timeline.specs.Shown.{is_expecting, same_choice, same_roles, shown}
 use Rattle.gptp_timeline.specs.Stretch.{at_of, counts_for, ended, ended_in, error_at, error_from, error_in, holdover, is_change, last_at, leaves_another, measured, same_known, under_way, waits, waits_after}
 use Rattle.gptp_timeline.specs.ExactReads.{ended_reads, reads_by, reads_over}
-use Rattle.gptp_timeline.specs.Looks.{left_behind, looked_all, looked_both, looked_by, looked_in, looked_over, measured_times, measured_with, nothing_read}
+use Rattle.gptp_timeline.specs.Looks.{left_after, looked_all, looked_both, looked_by, looked_in, looked_over, measured_times, measured_with, nothing_read}
 use Rattle.gptp_timeline.specs.Readings.{by_expiry, by_receipt, new_in, new_reading, read_after, readings_after, readings_by}
 use Rattle.gptp_timeline.specs.TimeWatch.{reading_lines}
 use Rattle.gptp_timeline.specs.Timeline.{act_lines, acts_lines, Carried, carry, event_lines, offset_lines, stretch_reading_lines}
@@ -140,10 +140,10 @@ same_looked rs left (t ∷ ts) (u ∷ us) (first, rest) =
     let read = same_read rs t u first in
     let one : looked_in rs left t ≡ looked_in rs left u =
     λ i. looked_by (first.timed i).at (first.after i) (first.timed i).act left (new i) rs (read i) in
-    let later : looked_over (read_after t rs) (left_behind t.told.timed.act left) ts
-    ≡ looked_over (read_after u rs) (left_behind u.told.timed.act left) us =
-    (λ i. looked_over (read i) (left_behind (first.timed i).act left) ts)
-    ∙ same_looked (read_after u rs) (left_behind u.told.timed.act left) ts us rest in
+    let later : looked_over (read_after t rs) (left_after t.told.timed.act left) ts
+    ≡ looked_over (read_after u rs) (left_after u.told.timed.act left) us =
+    (λ i. looked_over (read i) (left_after (first.timed i).act left) ts)
+    ∙ same_looked (read_after u rs) (left_after u.told.timed.act left) ts us rest in
     λ i. looked_both (one i) (later i)
 
 pub same_times : (rs : List SystemReading) (left : ℕ) (ts us : List ActTrace) (to : ℕ) (w : WorldState)

@@ -10,7 +10,7 @@ use Rattle.gptp_scenario.specs.declared.change.Act.TheVariants.{Change as Changi
 use Rattle.gptp_system.specs.State.{SystemState}
 use Rattle.gptp_world.specs.Transitions.{ActTrace}
 use Rattle.gptp_timeline.specs.ExactReads.{counts_new, reads_by, reads_next, reads_over, reads_with, unread, without_reads}
-use Rattle.gptp_timeline.specs.Looks.{error_before, events_left, left_behind, looked_all, looked_in, looked_over, measured_times, measured_with, nothing_looked, nothing_read}
+use Rattle.gptp_timeline.specs.Looks.{error_before, events_left, left_after, looked_all, looked_in, looked_over, measured_times, measured_with, nothing_looked, nothing_read}
 use Rattle.gptp_timeline.specs.Passing.{times_before}
 use Rattle.gptp_timeline.specs.Readings.{new_in, reading_error, no_reading, read_after, readings_after}
 use Rattle.gptp_timeline.specs.Receipts.{is_follow_up, offset_error, received_by}
@@ -103,9 +103,9 @@ account_if options from names events ts readings = option_map (account options f
 -- ---- one act more
 
 left_more : (ts : List ActTrace) (t : ActTrace) (left : ℕ)
-    → events_left (ts ++ t ∷ []) left ≡ left_behind t.told.timed.act (events_left ts left)
+    → events_left (ts ++ t ∷ []) left ≡ left_after t.told.timed.act (events_left ts left)
 left_more [] t left = refl
-left_more (u ∷ us) t left = left_more us t (left_behind u.told.timed.act left)
+left_more (u ∷ us) t left = left_more us t (left_after u.told.timed.act left)
 
 pub readings_more : (ts : List ActTrace) (t : ActTrace) (rs : List SystemReading)
     → readings_after (ts ++ t ∷ []) rs ≡ read_after t (readings_after ts rs)
@@ -126,7 +126,7 @@ measured_more : (ts : List ActTrace) (t : ActTrace) (rs : List SystemReading) (l
 measured_more [] t rs left m = measured_both (looked_in rs left t) nothing_looked m
 measured_more (u ∷ us) t rs left m =
     let next = read_after u rs in
-    let still = left_behind u.told.timed.act left in
+    let still = left_after u.told.timed.act left in
     measured_both (looked_in rs left u) (looked_over next still (us ++ t ∷ [])) m
     ∙ measured_more us t next still (measured_with (looked_in rs left u) m)
     ∙ ap (measured_with (looked_in (readings_after us next) (events_left us still) t))

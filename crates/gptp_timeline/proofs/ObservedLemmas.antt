@@ -264,7 +264,7 @@ module _ (options : TimelineOptions) (names : List ℕ) (carried : Carried) wher
       others = observes.others;
     }
 
-    -- what systems read is told behind the rest
+    -- what systems read is told after the rest
     told_both : (ts : List ActTrace) (t : ActTrace) (o : WatchState)
         → Observes options names carried from events ts t.before o
         → seen_lines (at_of t) t.told.timed.act t.told.done t.after o ≡ act_lines options names t

@@ -87,7 +87,7 @@ abbrev pub change_if : Bool → ℕ → ℕ → List Greatest
 change_if changes name at = if changes then one_at name at ∷ [] else []
 
 -- A system that gets a reading, first by the one before, then by the new one; and the told sources before the act and
--- behind it, where it changes its source.
+-- after it, where it changes its source.
 abbrev pub looked_new : ℕ → WorldState → NewReading → Option DifferenceState → Option DifferenceState → LookedAt
 looked_new at w u before after = record {
   errors = look_if u.clock (error_before at w u) ++ look_if u.clock (reading_error at w u.clock u.after);
@@ -97,14 +97,14 @@ looked_new at w u before after = record {
 }
 
 -- how many events of the stretch are still to come
-abbrev pub left_behind : Act → ℕ → ℕ
-left_behind act left = if is_change act then left - 1 else left
+abbrev pub left_after : Act → ℕ → ℕ
+left_after act left = if is_change act then left - 1 else left
 
--- behind the last event of the stretch all are looked at
+-- after the last event of the stretch all are looked at
 abbrev pub looked_event : Bool → ℕ → WorldState → List SystemReading → LookedAt
 looked_event is_last at w rs = if is_last then looked_all at w rs else nothing_looked
 
--- by an act, where systems read so before and behind it, and so many events of the stretch were to come
+-- by an act, where systems read so before and after it, and so many events of the stretch were to come
 abbrev pub looked_by : ℕ → WorldState → Act → ℕ → Option NewReading → List SystemReading → List SystemReading → LookedAt
 looked_by at w act left None rs after = looked_event (is_change act && (left == 1)) at w after
 looked_by at w act left (Some u) rs after =
@@ -117,11 +117,11 @@ looked_in rs left t = looked_by (at_of t) t.after t.told.timed.act left (new_in 
 abbrev pub looked_over : List SystemReading → ℕ → List ActTrace → LookedAt
 looked_over rs left [] = nothing_looked
 looked_over rs left (t ∷ ts) =
-    looked_both (looked_in rs left t) (looked_over (read_after t rs) (left_behind t.told.timed.act left) ts)
+    looked_both (looked_in rs left t) (looked_over (read_after t rs) (left_after t.told.timed.act left) ts)
 
 abbrev pub events_left : List ActTrace → ℕ → ℕ
 events_left [] left = left
-events_left (t ∷ ts) left = events_left ts (left_behind t.told.timed.act left)
+events_left (t ∷ ts) left = events_left ts (left_after t.told.timed.act left)
 
 -- ---- what is measured of it
 

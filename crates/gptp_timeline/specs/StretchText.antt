@@ -60,7 +60,7 @@ exact_words name error = codes "accuracy " ++ clock_text name ++ codes " error "
 abbrev pub bound_words : ℕ → ℕ → List ℕ
 bound_words from bound = codes " bound " ++ error_text bound ++ codes " from " ++ decimal from
 
--- the line of a system with the bound of its error, and behind that what it reads, where that is asked
+-- the line of a system with the bound of its error, and after that what it reads, where that is asked
 abbrev pub accuracy_line : ℕ → ℕ → Option ℕ → ℕ → List ℕ → List ℕ
 accuracy_line from name error bound reads = exact_words name error ++ bound_words from bound ++ reads
 

@@ -6,7 +6,7 @@ use Rattle.gptp_model.specs.World.{WorldState}
 use Rattle.gptp_model.specs.declared.done.Done.{Done}
 use Rattle.gptp_scenario.specs.declared.change.Act.{Act}
 use Rattle.gptp_timeline.specs.ExactReads.{reads_by, without_reads}
-use Rattle.gptp_timeline.specs.Looks.{left_behind, looked_by, measured_with, nothing_read}
+use Rattle.gptp_timeline.specs.Looks.{left_after, looked_by, measured_with, nothing_read}
 use Rattle.gptp_timeline.specs.Readings.{new_reading, readings_by}
 use Rattle.gptp_timeline.specs.TimeLines.{reading_line}
 use Rattle.gptp_timeline.specs.declared.exact_reads.SystemReads.{SystemReads}
@@ -34,7 +34,7 @@ times_begun from events o = record o {
 -- after an act by which a system got this reading, or none did
 abbrev pub times_with : ℕ → WorldState → Act → Option NewReading → TimeState → TimeState
 times_with at w act u o = record o {
-  events_left = left_behind act o.events_left;
+  events_left = left_after act o.events_left;
   systems = readings_by act u o.systems;
   reads = reads_by o.exact_from at w u o.reads;
   measures = measured_with (looked_by at w act o.events_left u o.systems (readings_by act u o.systems)) o.measures;

@@ -60,7 +60,7 @@ pub(crate) fn amount_of(error: Option<i128>) -> Option<u128>
     }
 }
 
-/// What is kept behind a reading that a system got at a time, with the errors by the one before and by the new one:
+/// What is kept after a reading that a system got at a time, with the errors by the one before and by the new one:
 /// of a receipt that counts, or of another reading.
 fn reads_next(
     counts: bool,
@@ -108,8 +108,8 @@ fn counts_new(from: Option<u64>, at: u64, new: &NewReading) -> bool
     }
 }
 
-/// What is kept of a system behind a reading that it got.
-fn reads_behind<F: Fate + Drop>(
+/// What is kept of a system after a reading that it got.
+fn reads_after<F: Fate + Drop>(
     world: &World<F>,
     from: Option<u64>,
     at: u64,
@@ -146,7 +146,7 @@ pub(crate) fn take_reads<F: Fate + Drop>(
     match systems.binary_search_by_key(&clock, |system| system.clock) {
         Ok(place) => {
             let reads = systems[place].reads;
-            systems[place].reads = reads_behind(world, from, at, new, reads);
+            systems[place].reads = reads_after(world, from, at, new, reads);
         }
         Err(_) => {}
     }

@@ -225,7 +225,7 @@ fn with_step(
     }
 }
 
-/// A system that gets a reading is looked at; these are the differences of told sources before that and behind it.
+/// A system that gets a reading is looked at; these are the differences of told sources before that and after it.
 pub(crate) fn look_at_new<F: Fate + Drop>(
     measures: TimeMeasures,
     world: &World<F>,

@@ -124,7 +124,7 @@ impl TimeWatch {
     ghost use Rattle.gptp_model.specs.Views.{rising_clocks};
     ghost use Rattle.gptp_words.specs.Lines.{text_of};
     ghost use Rattle.gptp_timeline.specs.ExactReads.{ended_reads, unread};
-    ghost use Rattle.gptp_timeline.specs.Looks.{left_behind, looked_all, looked_by, measured_with, nothing_read};
+    ghost use Rattle.gptp_timeline.specs.Looks.{left_after, looked_all, looked_by, measured_with, nothing_read};
     ghost use Rattle.gptp_timeline.specs.Readings.{no_reading, reading_among, reading_error, without_failed};
     ghost use Rattle.gptp_timeline.specs.TimeWatch.{reading_lines, times_after, times_begun, times_lines, times_with};
 
@@ -201,7 +201,7 @@ impl TimeWatch {
 
     /// One event of the stretch less is still to come, where an act is one.
     fn count_event(&mut self, act: &Act)
-        ensures { self.new ≡ record self.old { events_left = left_behind act.now self.old.events_left } }
+        ensures { self.new ≡ record self.old { events_left = left_after act.now self.old.events_left } }
     {
         if let Act::Change(_) = act {
             self.events_left = self.events_left.saturating_sub(1);

@@ -36,7 +36,7 @@ returns-in-Ok g c =
     let next : Option ExactReads → Option ExactReads =
     reads_next (counts_new from at u) at (option_map unsigned_abs (error_before at w u))
     (option_map unsigned_abs (reading_error at w u.clock u.after)) in
-    ap (λ (r : Option ExactReads). slice_set items place (record { clock = x.clock; reads = r })) c.reads_behind.ensures
+    ap (λ (r : Option ExactReads). slice_set items place (record { clock = x.clock; reads = r })) c.reads_after.ensures
     ∙ ap (λ (y : SystemReads). slice_set items place (record { clock = x.clock; reads = next y.reads })) was
     ∙ ap (λ (y : SystemReads). slice_set items place (record { clock = y.clock; reads = next s.one.reads })) is
     ∙ sym (changed_at clock_of name (λ (y : SystemReads). record y { reads = next y.reads }) items place s)
