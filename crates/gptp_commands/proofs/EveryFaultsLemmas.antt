@@ -1,5 +1,5 @@
 -- Each input has a text of its faults, where a fault stays for some time.
-use Rattle.std.proofs.Common.{◌≡◌, ◌≢◌, ◌≤◌, ◌<◌, ℕ, false, nat_le, nat_lt, List, [], ◌∷◌, ◌++◌, Option, Some, None, IfSome, le-leb, lt-ltb, refl, subst, inl, inr}
+use Rattle.std.proofs.Common.{◌≡◌, ◌≢◌, ◌≤◌, ◌<◌, ℕ, Bool, false, nat_le, nat_lt, List, [], ◌∷◌, ◌++◌, Option, Some, None, IfSome, le-leb, lt-ltb, refl, subst, inl, inr}
 use Rattle.rand_pcg.specs.Lcg.{Lcg}
 use Rattle.gptp_model.specs.Views.{rising_clocks}
 use Rattle.gptp_model.specs.World.{WorldState}
@@ -45,14 +45,14 @@ two_ends names carried p q [] = ((end_in names carried p, end_in names (carry p.
 two_ends names carried p q (r ∷ rs) = two_ends names (carry p.acts carried) q r rs
 
 -- so there are two where an event comes after the begin
-ends_of : {F : Type 0} (answers : Bounds → ℕ → F → Option ℕ → F → Type 0) (d : DocumentState) (until : ℕ)
-    (names : List ℕ) (events : List Timed) (fate fate_after : F) (w w' : WorldState) (first : StretchTrace)
+ends_of : {F : Type 0} (answers : Bounds → ℕ → F → Option ℕ → F → Type 0) (asked : Bool) (d : DocumentState)
+    (until : ℕ) (names : List ℕ) (events : List Timed) (fate fate_after : F) (w w' : WorldState) (first : StretchTrace)
     (others : List StretchTrace)
     → AllPass answers false d until 0 events fate fate_after w w' (first ∷ others) → later_than 0 events ≢ []
-    → (two : EndState × EndState) × (Some two ≡ last_two (ends_in names (none_carried false names) (first ∷ others)))
-ends_of answers d until names events fate fate_after w w' first [] (passage, none, ends) some = absurd (some none)
-ends_of answers d until names events fate fate_after w w' first (next ∷ others) pass some =
-    two_ends names (none_carried false names) first next others
+    → (two : EndState × EndState) × (Some two ≡ last_two (ends_in names (none_carried asked names) (first ∷ others)))
+ends_of answers asked d until names events fate fate_after w w' first [] (passage, none, ends) some = absurd (some none)
+ends_of answers asked d until names events fate fate_after w w' first (next ∷ others) pass some =
+    two_ends names (none_carried asked names) first next others
 
 -- the last event comes after the begin, where it isn't at that and is no later than the end
 last_left : (events : List Timed) (last : Timed) (until : ℕ) → 0 < last.at → last.at ≤ until
@@ -84,15 +84,15 @@ one_more_injects (e ∷ es) timed all one = (all.0, one_more_injects es timed al
 
 -- ---- runs
 
-has_ends : (d : DocumentState) (until : ℕ) (fate : Lcg) → IsPlayable d → AllInject d.events
-    → until ≤ 1000000000000000 → later_than 0 (events_by until d.events) ≢ [] → HasEnds d until fate
-has_ends d until fate playable injects early some =
+has_ends : (asked : Bool) (d : DocumentState) (until : ℕ) (fate : Lcg) → IsPlayable d → AllInject d.events
+    → until ≤ 1000000000000000 → later_than 0 (events_by until d.events) ≢ [] → HasEnds asked d until fate
+has_ends asked d until fate playable injects early some =
     let (start, ts, w, run, goes_on) =
     documents_unfold draws draws_answer_all d until fate playable injects early in
     let k = document_passes draws false d until (λ at. bound_at d at playable.network) (λ at to. (None, refl))
     playable.events ts run.started run.drawn start w run.courses in
-    let (two, are) = ends_of draws d until (rising_clocks start) (events_by until d.events) run.started run.drawn
-    start w k.first k.others k.pass some in (
+    let (two, are) = ends_of draws asked d until (rising_clocks start) (events_by until d.events) run.started
+    run.drawn start w k.first k.others k.pass some in (
       two,
       record {
         started = run.started;
@@ -107,14 +107,14 @@ has_ends d until fate playable injects early some =
     )
 
 runs_end : (d : DocumentState) → AllInject d.events → RunsEnd d
-runs_end d injects at later until change other fate nothing no_other can behind within early =
+runs_end d injects asked at later until change other fate nothing no_other can behind within early =
     let failed : DocumentState = with_event at change d in
     let down : Timed = record { at = at; act = acts.Change change } in
     let up : Timed = record { at = later; act = acts.Change other } in
     let both : AllInject ((d.events ++ down ∷ []) ++ up ∷ []) =
     one_more_injects (d.events ++ down ∷ []) up
     (one_more_injects d.events down injects (injects_no_octets change nothing)) (injects_no_octets other no_other) in
-    has_ends (with_event later other failed) until fate can both early
+    has_ends asked (with_event later other failed) until fate can both early
     (last_left failed.events up until behind within)
 
 -- ---- a document

@@ -55,9 +55,10 @@ same_ends names carried (p ∷ ps) (q ∷ qs) (first, rest) =
 
 -- the last two stretches of a run end in one way
 ends_once : {F : Type 0} (answers : Bounds → ℕ → F → Option ℕ → F → Type 0) → AnswersOnce answers
-    → (d : DocumentState) (until : ℕ) (fate : F) (two other : Option (EndState × EndState)) → HasOneEach d.network
-    → IsNamed (initial d.network) → EndsOf answers d until fate two → EndsOf answers d until fate other → two ≡ other
-ends_once {F} answers once d until fate two other names is k l =
+    → (asked : Bool) (d : DocumentState) (until : ℕ) (fate : F) (two other : Option (EndState × EndState))
+    → HasOneEach d.network → IsNamed (initial d.network) → EndsOf answers asked d until fate two
+    → EndsOf answers asked d until fate other → two ≡ other
+ends_once {F} answers once asked d until fate two other names is k l =
     let (fates, starts) =
     begins_once answers once d.network fate k.started l.started k.start l.start is k.begun l.begun in
     let events = events_by until d.events in
@@ -70,9 +71,9 @@ ends_once {F} answers once d until fate two other names is k l =
     k.after l.after k.passages l.passages (begun_named answers d.network fate l.started l.start is l.begun) pass
     l.pass in
     k.are
-    ∙ ap (λ (w : WorldState). last_two (ends_in (rising_clocks w) (none_carried false (rising_clocks w)) k.passages))
+    ∙ ap (λ (w : WorldState). last_two (ends_in (rising_clocks w) (none_carried asked (rising_clocks w)) k.passages))
     starts
-    ∙ ap last_two (same_ends (rising_clocks l.start) (none_carried false (rising_clocks l.start)) k.passages
+    ∙ ap last_two (same_ends (rising_clocks l.start) (none_carried asked (rising_clocks l.start)) k.passages
     l.passages same)
     ∙ sym l.are
 
@@ -96,8 +97,8 @@ module _ (d : DocumentState) (options : FaultsOptions) where
 
   module _ (names : HasOneEach d.network) (is : IsNamed (initial d.network)) where
     runs_end_once : RunsEndOnce d
-    runs_end_once e until fate two other same k l =
-        ends_once draws draws_once e until fate two other
+    runs_end_once asked e until fate two other same k l =
+        ends_once draws draws_once asked e until fate two other
         (subst (λ (n : NetworkState). HasOneEach n) (sym same) names)
         (subst (λ (n : NetworkState). IsNamed (initial n)) (sym same) is) k l
 

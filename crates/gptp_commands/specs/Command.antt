@@ -87,6 +87,7 @@ pub record ReadsFaults (rows : List Row) (options : FaultsOptions) : Type 0 wher
   pub part : options.part ≡ part_of rows
   pub there : options.part ≤ options.parts
   pub progress : options.progress ≡ flag_of (the PROGRESS) rows
+  pub times : options.times ≡ flag_of (the TIMES) rows
   pub limits : ReadsLimits rows options.limits
 
 -- the file and the options of `check`

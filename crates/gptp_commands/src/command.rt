@@ -252,6 +252,7 @@ fn faults_in(alloc: Global, matches: &ArgMatches) -> Result<FaultsOptions, Comma
         parts,
         part,
         progress: flag(matches, &PROGRESS),
+        times: flag(matches, &TIMES),
         limits: limits_in(matches),
     })
 }

@@ -100,6 +100,12 @@ pub(crate) mod rows {
         ("max-without", MANY, "Say whether at most so many systems go without time in the end"),
         ("max-roots", MANY, "Say whether at most so many roots are followed then by two systems or more"),
         ("max-alone", MANY, "Say whether at most so many systems follow a root then that no other does"),
+        ("times", FLAG,
+            "Say too how far off systems read time, how far apart, and when it last came from another source"),
+        ("max-time", NANOSECONDS, "Say whether what each system reads is always off by at most this, in ns"),
+        ("max-apart", NANOSECONDS, "Say whether no two systems ever read further apart than this, in ns"),
+        ("max-step", NANOSECONDS, "Say whether no system's time ever jumps by more than this, in ns"),
+        ("max-first", NANOSECONDS, "Say whether each system always has its time within this, in ns"),
     ];
 
     /// The commands, in the order of help.
@@ -178,6 +184,7 @@ Output: each link in use and each live system fails at several moments and comes
 settled; of each, the worst while it is down ('down') and when it is back ('back'), and how many systems
 follow which root meanwhile; the worst case first. The last line is 'within', or 'exceeded' with the first
 word of 'worst' that is above its --max-.
+With --times also what systems read at any moment: how far off, how far apart, and by how much it jumps.
 Times are in ns. With --parts cases are dealt out: 'tools/planner merge' makes one text of the parts.
 Example: gptp_sim faults --max-holdover 2500000000 < examples/ring.toml",
     }

@@ -20,7 +20,7 @@ pub answered : (d : DocumentState) (options : FaultsOptions) (cases : List Case)
 answered d options cases t planned are_cases are_times before are_planned in_time (Refused fault) none = absurd none
 answered d options cases t planned are_cases are_times before are_planned in_time (Table text exceeded)
     (outcomes, told, are_outcomes, are_told, text_is, exceeded_is) = (
-      table_lines options.limits t told,
+      table_lines options t told,
       record {
         cases = cases;
         are_cases = are_cases;

@@ -29,7 +29,7 @@ module _ (d : DocumentState) (options : FaultsOptions) (playable : IsPlayable d)
       let (outcomes, are_outcomes) = outcomes_exist d playable runs options asked least cases are t times before
       planned are_planned in_time in
       let (told, ranked) = each_is_ranked outcomes in
-      let lines : List (List ℕ) = table_lines options.limits t told in
+      let lines : List (List ℕ) = table_lines options t told in
       let exceeded : Bool = exceeds_limit options.limits told in
       let table : FaultsOf d options lines exceeded = record {
         cases = cases;

@@ -1,5 +1,5 @@
 -- Where runs end, something becomes of each case.
-use Rattle.std.proofs.Common.{◌≡◌, ◌≤◌, ◌<◌, ◌+◌, ◌/◌, ℕ, zero, suc, false, List, [], ◌∷◌, length, None, IfSome, refl, sym, subst, inl, inr, arith}
+use Rattle.std.proofs.Common.{◌≡◌, ◌≤◌, ◌<◌, ◌+◌, ◌/◌, ℕ, zero, suc, Bool, false, List, [], ◌∷◌, length, None, IfSome, refl, sym, subst, inl, inr, arith}
 use Rattle.std.specs.List.{range_with_len}
 use Rattle.std.proofs.lemmas.Nat.{mul-le}
 use Rattle.gptp_lists.specs.Members.{In}
@@ -12,6 +12,7 @@ use Rattle.gptp_timeline.specs.Ends.{EndState}
 use Rattle.gptp_faults.specs.Cases.{AreCases, fault_of, return_of}
 use Rattle.gptp_faults.specs.EveryLaws.{InjectsNothing, RunsEnd}
 use Rattle.gptp_faults.specs.Extremes.{greatest_behind, of_one}
+use Rattle.gptp_faults.specs.Options.{tracks}
 use Rattle.gptp_faults.specs.Outcomes.{AreOutcomes, IsOutcome, IsOutcomeAt, OutcomeState, backs, is_of_part, downs, case_numbers}
 use Rattle.gptp_faults.specs.Refusals.{any_late, fault_before, latest_event}
 use Rattle.gptp_faults.specs.Runs.{CaseRunEnds, generator, run_moment, runs_of, seed_of, with_case}
@@ -50,11 +51,12 @@ injects_nothing (cases.Link a b) = (tt, tt)
 injects_nothing (cases.System clock) = (tt, tt)
 
 -- what becomes of a case of which each run is there
-outcome_of : (d : DocumentState) (t : Times) (p : Planned) (number : ℕ) (all : List (EndState × EndState))
-    → 0 < runs_of t → Each (CaseRunEnds d t p) (range_with_len 0 (runs_of t)) all
-    → (o : OutcomeState) × IsOutcome d t number p o
-outcome_of d t p number [] some each = absurd (none_for (CaseRunEnds d t p) (runs_of t) some each)
-outcome_of d t p number (first ∷ others) some each =
+outcome_of : (asked : Bool) (d : DocumentState) (t : Times) (p : Planned) (number : ℕ)
+    (all : List (EndState × EndState))
+    → 0 < runs_of t → Each (CaseRunEnds asked d t p) (range_with_len 0 (runs_of t)) all
+    → (o : OutcomeState) × IsOutcome asked d t number p o
+outcome_of asked d t p number [] some each = absurd (none_for (CaseRunEnds asked d t p) (runs_of t) some each)
+outcome_of asked d t p number (first ∷ others) some each =
     let (follow, are) = roots_are_followed first.0.roots in (
       record {
         number = number;
@@ -92,7 +94,7 @@ module _ (d : DocumentState) (playable : IsPlayable d) (runs : RunsEnd d) (optio
 
   -- a case that comes back early, and whose runs end in time
   case_run : (p : Planned) → In p.failing all → 0 < p.hold → last_moment t + p.hold ≤ latest_event → RunsEndInTime t p
-      → (run : ℕ) → run < runs_of t → (ends : EndState × EndState) × CaseRunEnds d t p run ends
+      → (run : ℕ) → run < runs_of t → (ends : EndState × EndState) × CaseRunEnds (tracks options) d t p run ends
   case_run p member some early in_time run below =
       let (from, last) = moment_within t (run / t.seeds) some_moment
       (moment_below run t.moments t.seeds some_seed below) in
@@ -103,13 +105,14 @@ module _ (d : DocumentState) (playable : IsPlayable d) (runs : RunsEnd d) (optio
       case_playable d options.only all p.failing (run_moment t run) (run_moment t run + p.hold) playable are member
       (omega (arith, behind, from)) (omega arith) (omega (arith, last, back)) in
       let nothing = injects_nothing p.failing in
-      runs (run_moment t run) (run_moment t run + p.hold) (run_moment t run + p.hold + t.behind) (fault_of p.failing)
-      (return_of p.failing) (generator (seed_of t run)) nothing.0 nothing.1 can (omega (arith, some)) (omega arith)
+      runs (tracks options) (run_moment t run) (run_moment t run + p.hold) (run_moment t run + p.hold + t.behind)
+      (fault_of p.failing) (return_of p.failing) (generator (seed_of t run)) nothing.0 nothing.1 can (omega (arith, some)) (omega arith)
       (omega (arith, last, end))
 
   module _ (planned : List Planned) (are_planned : ArePlanned d options t all planned)
       (in_time : any_late t planned ≡ false) where
-    outcome_at : (number : ℕ) → number < length planned → (o : OutcomeState) × IsOutcomeAt d t planned number o
+    outcome_at : (number : ℕ) → number < length planned
+        → (o : OutcomeState) × IsOutcomeAt (tracks options) d t planned number o
     outcome_at number below =
         let (p, there) = member_there planned number below in
         let (c, member, (same, hold)) = each_at (IsPlanned d options t) all planned number p are_planned there in
@@ -117,14 +120,15 @@ module _ (d : DocumentState) (playable : IsPlayable d) (runs : RunsEnd d) (optio
         let some = hold_some d t c options.hold p.hold playable.network least hold in
         let run = case_run p failing some (back_early t planned in_time number p there)
         (each_in_time t planned in_time number p there) in
-        let (ends, each) = each_exists (CaseRunEnds d t p) (range_with_len 0 (runs_of t))
+        let (ends, each) = each_exists (CaseRunEnds (tracks options) d t p) (range_with_len 0 (runs_of t))
         (λ n among. run n (below_count (runs_of t) n among)) in
-        let (o, outcome) = outcome_of d t p number ends some_run each in
+        let (o, outcome) = outcome_of (tracks options) d t p number ends some_run each in
         (o, (p, there, outcome))
 
     pub outcomes_exist : (outcomes : List OutcomeState) × AreOutcomes d t options planned outcomes
     outcomes_exist =
-        each_exists (IsOutcomeAt d t planned) (case_numbers options.parts options.part (length planned))
+        each_exists (IsOutcomeAt (tracks options) d t planned)
+        (case_numbers options.parts options.part (length planned))
         (λ number member.
         let among = from_filter (is_of_part options.parts options.part) number (range_with_len 0 (length planned))
         member in

@@ -32,6 +32,7 @@ use Rattle.gptp_faults.specs.Cases.{fault_of, return_of}
 use Rattle.gptp_faults.specs.Extremes.{greatest_behind, greatest_of_two, of_one}
 use Rattle.gptp_faults.specs.Faults.{FaultsOf}
 use Rattle.gptp_faults.specs.Laws.{FollowSettled}
+use Rattle.gptp_faults.specs.Options.{tracks}
 use Rattle.gptp_faults.specs.Outcomes.{downs, IsOutcomeAt}
 use Rattle.gptp_faults.specs.Runs.{draws, generator, CaseRunEnds, run_moment, runs_of, seed_of, with_case}
 use Rattle.gptp_faults.specs.Times.{IsHold, IsPlanned, moment}
@@ -103,7 +104,7 @@ bound_kept e (s ∷ ss) = bound_kept (greatest_of_two e (of_one s)) ss
 
 -- ---- a run of a case
 
-module _ (d : DocumentState) (t : Times) (p : Planned) (playable : IsPlayable d)
+module _ (asked : Bool) (d : DocumentState) (t : Times) (p : Planned) (playable : IsPlayable d)
     (last : last_change d.events ≤ t.from) (hold : IsHold d t p.failing None p.hold) where
   abbrev failed : DocumentState
   failed = with_event t.from (fault_of p.failing) d
@@ -172,16 +173,16 @@ module _ (d : DocumentState) (t : Times) (p : Planned) (playable : IsPlayable d)
       omega (arith, is, equal)
 
   -- the roots where its first run ends to be down are those of the settled choice
-  roots_settle : (a b : EndState) (bound : ℕ) (g : Snapshot) → IsPlayable whole → CaseRunEnds d t p 0 (a, b)
+  roots_settle : (a b : EndState) (bound : ℕ) (g : Snapshot) → IsPlayable whole → CaseRunEnds asked d t p 0 (a, b)
       → a.stretch.bound ≡ Some bound → IsSnapshot failed t.from g → AreRoots g a.roots
   roots_settle a b bound g can run bounded stands =
       let until = t.from + p.hold + t.behind in
-      let e : EndsOf draws whole until (generator (seed_of t 0)) (Some (a, b)) =
-      subst (λ at. EndsOf draws (with_case at p d) (at + p.hold + t.behind) (generator (seed_of t 0)) (Some (a, b)))
-      (first_moment t) run in
+      let e : EndsOf draws asked whole until (generator (seed_of t 0)) (Some (a, b)) =
+      subst (λ at. EndsOf draws asked (with_case at p d) (at + p.hold + t.behind) (generator (seed_of t 0))
+      (Some (a, b))) (first_moment t) run in
       let names = rising_clocks e.start in
       let k = last_but_one draws whole until names e.passages t.from (t.from + p.hold) 0 (events_by until whole.events)
-      (none_carried false names) e.started e.fate_after e.start e.after a b (both_last until (omega arith)) e.pass
+      (none_carried asked names) e.started e.fate_after e.start e.after a b (both_last until (omega arith)) e.pass
       (sym e.are) in
       let begins : k.passage.bound ≡ Some bound = ap (λ (x : EndState). x.stretch.bound) (sym k.ended) ∙ bounded in
       let to = k.to_is in
@@ -201,7 +202,7 @@ pub follow_settles : (d : DocumentState) (options : FaultsOptions) (lines : List
 follow_settles d options lines exceeded f playable o bound g default member bounded stands =
     let t = f.times in
     let (number, of_part, (p, there, outcome)) =
-    each_for (IsOutcomeAt d t f.planned) _ f.outcomes o f.are_outcomes member in
+    each_for (IsOutcomeAt (tracks options) d t f.planned) _ f.outcomes o f.are_outcomes member in
     let (c, a_case, (is_case, hold_is)) =
     each_at (IsPlanned d options t) f.cases f.planned number p f.are_planned there in
     let failing = outcome.failing in
@@ -212,12 +213,12 @@ follow_settles d options lines exceeded f playable o bound g default member boun
     let playable_whole = case_playable d options.only f.cases p.failing t.from (t.from + p.hold) playable f.are_cases
     (subst (λ x. In x f.cases) (sym is_case) a_case) last (omega arith) early in
     let first = outcome.first in
-    let run = first_run (CaseRunEnds d t p) (runs_of t) first outcome.others outcome.runs in
+    let run = first_run (CaseRunEnds (tracks options) d t p) (runs_of t) first outcome.others outcome.runs in
     let kept : first.0.stretch.bound ≡ Some bound =
     sym (bound_kept (of_one first.0.stretch) (downs outcome.others))
     ∙ ap (λ (e : Extremes). e.bound) (sym outcome.down) ∙ bounded in
     let g_stands = subst (λ x. IsSnapshot (with_event t.from (fault_of x) d) t.from g) failing stands in (
       first.0.roots,
-      roots_settle d t p playable last hold first.0 first.1 bound g playable_whole run kept g_stands,
+      roots_settle (tracks options) d t p playable last hold first.0 first.1 bound g playable_whole run kept g_stands,
       outcome.follow,
     )

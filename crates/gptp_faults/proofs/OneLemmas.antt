@@ -25,6 +25,7 @@ use Rattle.gptp_faults.specs.Follows.{AreFollows}
 use Rattle.gptp_faults.specs.declared.follows.Follow.{Follow}
 use Rattle.gptp_faults.specs.FaultsText.{exceeds_limit, table_lines}
 use Rattle.gptp_faults.specs.Laws.{NeverRefused, OneRefusal, OneTable, RunsEndOnce}
+use Rattle.gptp_faults.specs.Options.{tracks}
 use Rattle.gptp_faults.specs.Outcomes.{AreOutcomes, IsOutcome, IsOutcomeAt, OutcomeState, backs, downs, case_numbers}
 use Rattle.gptp_faults.specs.Ranking.{OutcomesAreRanked}
 use Rattle.gptp_faults.specs.Refusals.{IsLate, RefusesFaults, any_late, fault_before}
@@ -66,20 +67,19 @@ follows_once roots a b k l =
 -- ---- a run
 
 module _ (d : DocumentState) (once : RunsEndOnce d) where
-  run_once : (t : Times) (p : Planned) (run : ℕ) (a b : EndState × EndState) → CaseRunEnds d t p run a
-      → CaseRunEnds d t p run b
-      → a ≡ b
-  run_once t p run a b k l =
+  run_once : (asked : Bool) (t : Times) (p : Planned) (run : ℕ) (a b : EndState × EndState)
+      → CaseRunEnds asked d t p run a → CaseRunEnds asked d t p run b → a ≡ b
+  run_once asked t p run a b k l =
       let at = run_moment t run in
-      same_Some a b (once (with_case at p d) (at + p.hold + t.behind) (generator (seed_of t run)) (Some a) (Some b) refl
-      k l)
+      same_Some a b (once asked (with_case at p d) (at + p.hold + t.behind) (generator (seed_of t run)) (Some a)
+      (Some b) refl k l)
 
   -- ---- a case
 
-  outcome_once : (t : Times) (number : ℕ) (p : Planned) (a b : OutcomeState) → IsOutcome d t number p a
-      → IsOutcome d t number p b → a ≡ b
-  outcome_once t number p a b k l =
-      let runs = each_once (CaseRunEnds d t p) (run_once t p) _ (k.first ∷ k.others)
+  outcome_once : (asked : Bool) (t : Times) (number : ℕ) (p : Planned) (a b : OutcomeState)
+      → IsOutcome asked d t number p a → IsOutcome asked d t number p b → a ≡ b
+  outcome_once asked t number p a b k l =
+      let runs = each_once (CaseRunEnds asked d t p) (run_once asked t p) _ (k.first ∷ k.others)
       (l.first ∷ l.others) k.runs l.runs in
       let first : k.first ≡ l.first = cc in
       let others : k.others ≡ l.others = cc in
@@ -102,16 +102,16 @@ module _ (d : DocumentState) (once : RunsEndOnce d) where
         follow = follow i;
       }
 
-  outcome_at_once : (t : Times) (planned : List Planned) (number : ℕ) (a b : OutcomeState)
-      → IsOutcomeAt d t planned number a → IsOutcomeAt d t planned number b → a ≡ b
-  outcome_at_once t planned number a b (p, at, k) (q, there, l) =
+  outcome_at_once : (asked : Bool) (t : Times) (planned : List Planned) (number : ℕ) (a b : OutcomeState)
+      → IsOutcomeAt asked d t planned number a → IsOutcomeAt asked d t planned number b → a ≡ b
+  outcome_at_once asked t planned number a b (p, at, k) (q, there, l) =
       let same : q ≡ p = same_Some q p (sym there ∙ at) in
-      outcome_once t number p a b k (subst (λ (r : Planned). IsOutcome d t number r b) same l)
+      outcome_once asked t number p a b k (subst (λ (r : Planned). IsOutcome asked d t number r b) same l)
 
   outcomes_once : (t : Times) (options : FaultsOptions) (planned : List Planned) (a b : List OutcomeState)
       → AreOutcomes d t options planned a → AreOutcomes d t options planned b → a ≡ b
   outcomes_once t options planned a b k l =
-      each_once (IsOutcomeAt d t planned) (outcome_at_once t planned)
+      each_once (IsOutcomeAt (tracks options) d t planned) (outcome_at_once (tracks options) t planned)
       (case_numbers options.parts options.part (length planned)) a b k l
 
 -- ---- what is planned
@@ -176,7 +176,7 @@ module _ (d : DocumentState) (options : FaultsOptions) where
         let told : k.told ≡ l.told =
         ranked_once l.outcomes k.told l.told
         (subst (λ (os : List OutcomeState). OutcomesAreRanked os k.told) outcomes k.are_told) l.are_told in (
-          k.are ∙ ap₂ (λ (t : Times) (os : List OutcomeState). table_lines options.limits t os) times told ∙ sym l.are,
+          k.are ∙ ap₂ (λ (t : Times) (os : List OutcomeState). table_lines options t os) times told ∙ sym l.are,
           k.exceeded_is ∙ ap (exceeds_limit options.limits) told ∙ sym l.exceeded_is,
         )
 

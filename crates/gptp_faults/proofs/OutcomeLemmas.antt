@@ -39,20 +39,20 @@ greatest_more e [] s = refl
 greatest_more e (x ∷ xs) s = greatest_more (greatest_of_two e (of_one x)) xs s
 
 -- Some runs of a case were made; so great is the worst of them, and so many systems follow which roots in the first.
-pub record AreTried (d : DocumentState) (t : Times) (p : Planned) (count : ℕ) (down back : Extremes)
-    (follow : List Follow) : Type 0 where
+pub record AreTried (asked : Bool) (d : DocumentState) (t : Times) (p : Planned) (count : ℕ)
+    (down back : Extremes) (follow : List Follow) : Type 0 where
   pub first : EndState × EndState
   pub others : List (EndState × EndState)
-  pub runs : Each (CaseRunEnds d t p) (range_with_len 0 count) (first ∷ others)
+  pub runs : Each (CaseRunEnds asked d t p) (range_with_len 0 count) (first ∷ others)
   pub down_is : down ≡ greatest_behind (of_one first.0.stretch) (downs others)
   pub back_is : back ≡ greatest_behind (of_one first.1.stretch) (backs others)
   pub follow_is : AreFollows first.0.roots follow
 
-module _ (d : DocumentState) (t : Times) (p : Planned) where
+module _ (asked : Bool) (d : DocumentState) (t : Times) (p : Planned) where
   pub one_tried : (first : EndState × EndState) (down back : Extremes) (follow : List Follow)
-      → CaseRunEnds d t p 0 first
+      → CaseRunEnds asked d t p 0 first
       → down ≡ of_one first.0.stretch → back ≡ of_one first.1.stretch → AreFollows first.0.roots follow
-      → AreTried d t p 1 down back follow
+      → AreTried asked d t p 1 down back follow
   one_tried first down back follow run down_is back_is follow_is = record {
     first = first;
     others = [];
@@ -63,16 +63,17 @@ module _ (d : DocumentState) (t : Times) (p : Planned) where
   }
 
   pub more_tried : (count : ℕ) (down back down_after back_after : Extremes) (follow : List Follow)
-      → AreTried d t p count down back follow → (ends : EndState × EndState) → CaseRunEnds d t p count ends
+      → AreTried asked d t p count down back follow → (ends : EndState × EndState) → CaseRunEnds asked d t p count ends
       → down_after ≡ greatest_of_two down (of_one ends.0.stretch)
       → back_after ≡ greatest_of_two back (of_one ends.1.stretch)
-      → AreTried d t p (count + 1) down_after back_after follow
+      → AreTried asked d t p (count + 1) down_after back_after follow
   more_tried count down back down_after back_after follow tried ends run down_is back_is = record {
     first = tried.first;
     others = tried.others ++ ends ∷ [];
-    runs = subst (λ ns. Each (CaseRunEnds d t p) ns (tried.first ∷ tried.others ++ ends ∷ []))
+    runs = subst (λ ns. Each (CaseRunEnds asked d t p) ns (tried.first ∷ tried.others ++ ends ∷ []))
         (sym (range_with_one count))
-        (each_more (CaseRunEnds d t p) (range_with_len 0 count) (tried.first ∷ tried.others) count ends tried.runs run);
+        (each_more (CaseRunEnds asked d t p) (range_with_len 0 count) (tried.first ∷ tried.others) count ends
+        tried.runs run);
     down_is = down_is ∙ ap (λ e. greatest_of_two e (of_one ends.0.stretch)) tried.down_is
         ∙ sym (greatest_more (of_one tried.first.0.stretch) (downs tried.others) ends.0.stretch)
         ∙ ap (greatest_behind (of_one tried.first.0.stretch))
@@ -86,13 +87,13 @@ module _ (d : DocumentState) (t : Times) (p : Planned) where
 
   -- all of them
   pub all_tried : (number count : ℕ) (down back : Extremes) (follow : List Follow) (o : OutcomeState)
-      → AreTried d t p count down back follow → count ≡ runs_of t
+      → AreTried asked d t p count down back follow → count ≡ runs_of t
       → o ≡ record { number = number; failing = p.failing; down = down; back = back; follow = follow }
-      → IsOutcome d t number p o
+      → IsOutcome asked d t number p o
   all_tried number count down back follow o tried all is = record {
     first = tried.first;
     others = tried.others;
-    runs = subst (λ n. Each (CaseRunEnds d t p) (range_with_len 0 n) (tried.first ∷ tried.others)) all tried.runs;
+    runs = subst (λ n. Each (CaseRunEnds asked d t p) (range_with_len 0 n) (tried.first ∷ tried.others)) all tried.runs;
     number_is = ap (λ (x : OutcomeState). x.number) is;
     failing = ap (λ (x : OutcomeState). x.failing) is;
     down = ap (λ (x : OutcomeState). x.down) is ∙ tried.down_is;
@@ -119,17 +120,18 @@ module _ (parts part count : ℕ) where
       numbers_more ∙ ap (λ ns. case_numbers parts part count ++ ns) (rw is refl)
       ∙ append-nil (case_numbers parts part count)
 
-module _ (d : DocumentState) (t : Times) (planned : List Planned) (parts part count : ℕ)
-    (tried : List OutcomeState) (so_far : Each (IsOutcomeAt d t planned) (case_numbers parts part count) tried) where
+module _ (asked : Bool) (d : DocumentState) (t : Times) (planned : List Planned) (parts part count : ℕ)
+    (tried : List OutcomeState)
+    (so_far : Each (IsOutcomeAt asked d t planned) (case_numbers parts part count) tried) where
   -- a case more that belongs to the part was tried
-  pub case_tried : is_of_part parts part count ≡ true → (o : OutcomeState) → IsOutcomeAt d t planned count o
-      → Each (IsOutcomeAt d t planned) (case_numbers parts part (count + 1)) (tried ++ o ∷ [])
+  pub case_tried : is_of_part parts part count ≡ true → (o : OutcomeState) → IsOutcomeAt asked d t planned count o
+      → Each (IsOutcomeAt asked d t planned) (case_numbers parts part (count + 1)) (tried ++ o ∷ [])
   case_tried is o outcome =
-      subst (λ ns. Each (IsOutcomeAt d t planned) ns (tried ++ o ∷ [])) (sym (one_number parts part count is))
-      (each_more (IsOutcomeAt d t planned) (case_numbers parts part count) tried count o so_far outcome)
+      subst (λ ns. Each (IsOutcomeAt asked d t planned) ns (tried ++ o ∷ [])) (sym (one_number parts part count is))
+      (each_more (IsOutcomeAt asked d t planned) (case_numbers parts part count) tried count o so_far outcome)
 
   -- it doesn't belong to it
   pub case_passed : is_of_part parts part count ≡ false
-      → Each (IsOutcomeAt d t planned) (case_numbers parts part (count + 1)) tried
+      → Each (IsOutcomeAt asked d t planned) (case_numbers parts part (count + 1)) tried
   case_passed is =
-      subst (λ ns. Each (IsOutcomeAt d t planned) ns tried) (sym (no_number parts part count is)) so_far
+      subst (λ ns. Each (IsOutcomeAt asked d t planned) ns tried) (sym (no_number parts part count is)) so_far

@@ -22,16 +22,16 @@ InjectsNothing (Inject name port octets) = ⊥
 InjectsNothing change = ⊤
 
 -- the last two stretches of a run of the document end in some way
-abbrev pub HasEnds : DocumentState → ℕ → Lcg → Type 0
-HasEnds d until fate = (two : EndState × EndState) × EndsOf draws d until fate (Some two)
+abbrev pub HasEnds : Bool → DocumentState → ℕ → Lcg → Type 0
+HasEnds asked d until fate = (two : EndState × EndState) × EndsOf draws asked d until fate (Some two)
 
 -- The last two stretches of each run of the document with two events more end in some way. These events inject nothing,
 -- and the document with them can be played. The second comes after the begin of the run and no later than its end.
 abbrev pub RunsEnd : DocumentState → Type 0
-RunsEnd d = (at later until : ℕ) (change other : Change) (fate : Lcg)
+RunsEnd d = (asked : Bool) (at later until : ℕ) (change other : Change) (fate : Lcg)
     → InjectsNothing change → InjectsNothing other → IsPlayable (with_event later other (with_event at change d))
     → 0 < later → later ≤ until → until ≤ 1000000000000000
-    → HasEnds (with_event later other (with_event at change d)) until fate
+    → HasEnds asked (with_event later other (with_event at change d)) until fate
 
 -- a table whose `follow` lines are those of the settled choice where faults stay by default and are bounded, or a
 -- refusal

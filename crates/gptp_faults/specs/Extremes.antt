@@ -1,12 +1,20 @@
 -- The greatest of several stretches (profile).
-use Rattle.std.specs.Prelude.{ℕ, max, nat_lt, if◌then◌else◌, List, [], ◌∷◌, Option, Some, None}
-use Rattle.gptp_timeline.specs.Limits.{choice_after}
-use Rattle.gptp_timeline.specs.Measures.{better_if}
+use Rattle.std.specs.Prelude.{ℕ, ◌-◌, max, nat_lt, if◌then◌else◌, List, [], ◌∷◌, Option, Some, None}
+use Rattle.std.specs.Option.{option_map}
+use Rattle.gptp_timeline.specs.Limits.{choice_after, first_amount}
+use Rattle.gptp_timeline.specs.Looks.{apart}
+use Rattle.gptp_timeline.specs.Measures.{better_if, one_at}
 use Rattle.gptp_timeline.specs.declared.counts.Counts.{Counts}
+use Rattle.gptp_timeline.specs.declared.looks.TimeMeasures.{TimeMeasures}
+use Rattle.gptp_timeline.specs.declared.measures.Greatest.{Greatest}
 use Rattle.gptp_timeline.specs.declared.stretch.Stretch.{Stretch}
+use Rattle.gptp_faults.specs.declared.extremes.Apart.{Apart}
 use Rattle.gptp_faults.specs.declared.extremes.Extremes.{Extremes}
+use Rattle.gptp_faults.specs.declared.extremes.TimeExtremes.{TimeExtremes}
 
--- the greater of two, none being below every number
+-- ---- the greater of two, of equals the first
+
+-- none is below every number
 abbrev pub greater_if : Option ℕ → Option ℕ → Option ℕ
 greater_if a None = a
 greater_if None (Some y) = Some y
@@ -19,6 +27,50 @@ greater_counts a b = record {
   alone = max a.alone b.alone;
 }
 
+-- with the sources of that stretch
+abbrev pub further : Apart → Apart → Apart
+further a b = if nat_lt a.amount b.amount then b else a
+
+-- ---- what systems read
+
+-- how long after a time a system changed its source last
+abbrev pub changed_since : ℕ → Option Greatest → Option Greatest
+changed_since from = option_map (λ (g : Greatest). one_at g.clock (g.amount - from))
+
+abbrev pub nothing_read : TimeExtremes
+nothing_read = record {
+  time = None;
+  apart = record { amount = 0; sources = None };
+  step = None;
+  first = None;
+  first_asked = None;
+}
+
+-- of a stretch of which this was measured
+abbrev pub times_measured : Stretch → TimeMeasures → TimeExtremes
+times_measured s m = record {
+  time = m.time;
+  apart = record { amount = apart m; sources = m.sources };
+  step = m.step;
+  first = changed_since s.from m.changed;
+  first_asked = first_amount s;
+}
+
+abbrev pub times_by : Stretch → Option TimeMeasures → TimeExtremes
+times_by s None = nothing_read
+times_by s (Some m) = times_measured s m
+
+abbrev pub times_of_two : TimeExtremes → TimeExtremes → TimeExtremes
+times_of_two a b = record {
+  time = better_if a.time b.time;
+  apart = further a.apart b.apart;
+  step = better_if a.step b.step;
+  first = better_if a.first b.first;
+  first_asked = greater_if a.first_asked b.first_asked;
+}
+
+-- ---- all amounts
+
 -- of one stretch
 abbrev pub of_one : Stretch → Extremes
 of_one s = record {
@@ -27,6 +79,7 @@ of_one s = record {
   error = s.measures.error;
   counts = s.counts;
   bound = s.bound;
+  times = times_by s s.times;
 }
 
 -- of two: each the greater, of equals the first; the bound of the first
@@ -37,6 +90,7 @@ greatest_of_two a b = record {
   error = better_if a.error b.error;
   counts = greater_counts a.counts b.counts;
   bound = a.bound;
+  times = times_of_two a.times b.times;
 }
 
 -- of those of several stretches, after others
@@ -52,4 +106,5 @@ of_none = record {
   error = None;
   counts = record { without = 0; roots = 0; alone = 0 };
   bound = None;
+  times = nothing_read;
 }

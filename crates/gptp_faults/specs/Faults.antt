@@ -31,7 +31,7 @@ pub record FaultsOf (d : DocumentState) (options : FaultsOptions) (lines : List 
     pub are_outcomes : AreOutcomes d times options planned outcomes
     pub told : List OutcomeState
     pub are_told : OutcomesAreRanked outcomes told
-    pub are : lines ≡ table_lines options.limits times told
+    pub are : lines ≡ table_lines options times told
     pub exceeded_is : exceeded ≡ exceeds_limit options.limits told
 
 -- the table of cases of which none is refused
@@ -39,7 +39,7 @@ abbrev pub IsTable : DocumentState → FaultsOptions → Times → List Planned 
 IsTable d options t planned (Refused fault) = ⊥
 IsTable d options t planned (Table text exceeded) =
     (outcomes told : List OutcomeState) × AreOutcomes d t options planned outcomes × OutcomesAreRanked outcomes told
-    × (string_bytes text ≡ text_of (table_lines options.limits t told)) × (exceeded ≡ exceeds_limit options.limits told)
+    × (string_bytes text ≡ text_of (table_lines options t told)) × (exceeded ≡ exceeds_limit options.limits told)
 
 -- the table, or why there is none
 abbrev pub AnswersFaultsOf : DocumentState → FaultsOptions → Answer → Type 0

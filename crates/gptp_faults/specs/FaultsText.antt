@@ -14,10 +14,12 @@ use Rattle.gptp_vector.specs.declared.port.PortId.{PortId}
 use Rattle.gptp_faults.specs.Extremes.{greatest_of_two, of_none}
 use Rattle.gptp_faults.specs.Outcomes.{OutcomeState}
 use Rattle.gptp_faults.specs.Ranking.{amount_or_0}
+use Rattle.gptp_faults.specs.TimeText.{times_lines, worst_times_lines}
 use Rattle.gptp_faults.specs.declared.cases.Case.{Case}
 use Rattle.gptp_faults.specs.declared.cases.Case.TheVariants as cases
 use Rattle.gptp_faults.specs.declared.extremes.Extremes.{Extremes}
 use Rattle.gptp_faults.specs.declared.follows.Follow.{Follow}
+use Rattle.gptp_faults.specs.declared.options.FaultsOptions.{FaultsOptions}
 use Rattle.gptp_faults.specs.declared.times.Times.{Times}
 
 -- how many cases there are, and in how many runs each is tried, from when on
@@ -58,14 +60,18 @@ abbrev pub extremes_line : List ℕ → Extremes → List ℕ
 extremes_line word e =
     amounts_words word e ++ counts_text e.counts ++ codes " bound " ++ or_none decimal e.bound
 
+-- and behind it that of what systems read, where it is asked for
+abbrev pub extremes_lines : Bool → List ℕ → Extremes → List (List ℕ)
+extremes_lines asked word e = extremes_line word e ∷ times_lines asked word e.times
+
 abbrev pub follow_line : Follow → List ℕ
 follow_line f = codes "follow " ++ identity_text f.root ++ codes " " ++ decimal f.systems
 
 -- while it is down, whom systems follow then, and when it is back
-abbrev pub outcome_lines : OutcomeState → List (List ℕ)
-outcome_lines o =
-    case_line o.number o.failing ∷ extremes_line (codes "down") o.down
-    ∷ map follow_line o.follow ++ extremes_line (codes "back") o.back ∷ []
+abbrev pub outcome_lines : Bool → OutcomeState → List (List ℕ)
+outcome_lines asked o =
+    case_line o.number o.failing ∷ extremes_lines asked (codes "down") o.down ++ map follow_line o.follow
+    ++ extremes_lines asked (codes "back") o.back
 
 -- ---- all cases
 
@@ -87,6 +93,9 @@ abbrev pub worst_line : Extremes → List ℕ
 worst_line e =
     worst_words e.choice (amount_or_0 (amount_of e.holdover)) (amount_or_0 (amount_of e.error)) ++ counts_text e.counts
 
+abbrev pub worst_lines : Bool → Extremes → List (List ℕ)
+worst_lines asked e = worst_line e ∷ worst_times_lines asked (codes "worst") e.times
+
 -- what a limit asks for in it
 abbrev pub worst_amount : Extremes → Limit → Option ℕ
 worst_amount e Choice = e.choice
@@ -95,10 +104,10 @@ worst_amount e Error = amount_of e.error
 worst_amount e Without = Some e.counts.without
 worst_amount e Roots = Some e.counts.roots
 worst_amount e Alone = Some e.counts.alone
-worst_amount e Time = None
-worst_amount e Apart = None
-worst_amount e Step = None
-worst_amount e First = None
+worst_amount e Time = amount_of e.times.time
+worst_amount e Apart = Some e.times.apart.amount
+worst_amount e Step = amount_of e.times.step
+worst_amount e First = e.times.first_asked
 
 -- the first limit that it exceeds
 abbrev pub exceeded_by : Limits → Extremes → Option Limit
@@ -108,8 +117,8 @@ abbrev pub exceeds_limit : Limits → List OutcomeState → Bool
 exceeds_limit limits outcomes = is_some (exceeded_by limits (worst_of_all outcomes))
 
 -- of cases in the order in which they are told
-abbrev pub table_lines : Limits → Times → List OutcomeState → List (List ℕ)
-table_lines limits t outcomes =
-    head_line (length outcomes) t ∷ flat_map outcome_lines outcomes
-    ++ worst_line (worst_of_all outcomes)
-    ∷ verdict_line (exceeded_by limits (worst_of_all outcomes)) ∷ []
+abbrev pub table_lines : FaultsOptions → Times → List OutcomeState → List (List ℕ)
+table_lines options t outcomes =
+    head_line (length outcomes) t ∷ flat_map (outcome_lines options.times) outcomes
+    ++ worst_lines options.times (worst_of_all outcomes)
+    ++ verdict_line (exceeded_by options.limits (worst_of_all outcomes)) ∷ []

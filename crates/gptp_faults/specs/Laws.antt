@@ -40,8 +40,9 @@ FollowLinesSettle = (d : DocumentState) (options : FaultsOptions) (lines : List 
 
 -- In each document with the network of this one the last two stretches of a run end in one way.
 abbrev pub RunsEndOnce : DocumentState → Type 0
-RunsEndOnce d = (e : DocumentState) (until : ℕ) (fate : Lcg) (two other : Option (EndState × EndState))
-    → e.network ≡ d.network → EndsOf draws e until fate two → EndsOf draws e until fate other → two ≡ other
+RunsEndOnce d = (asked : Bool) (e : DocumentState) (until : ℕ) (fate : Lcg)
+    (two other : Option (EndState × EndState)) → e.network ≡ d.network → EndsOf draws asked e until fate two
+    → EndsOf draws asked e until fate other → two ≡ other
 
 -- then two tables of a document are one
 abbrev pub OneTable : Type 0

@@ -1,3 +1,4 @@
+pub mod Options
 pub mod Cases
 pub mod Times
 pub mod Runs
@@ -6,6 +7,7 @@ pub mod Follows
 pub mod Outcomes
 pub mod Ranking
 pub mod Refusals
+pub mod TimeText
 pub mod FaultsText
 pub mod Progress
 pub mod Faults

@@ -6,6 +6,7 @@ use Rattle.gptp_timeline.specs.Ends.{EndState}
 use Rattle.gptp_timeline.specs.declared.stretch.Stretch.{Stretch}
 use Rattle.gptp_faults.specs.Extremes.{greatest_behind, of_one}
 use Rattle.gptp_faults.specs.Follows.{AreFollows}
+use Rattle.gptp_faults.specs.Options.{tracks}
 use Rattle.gptp_timeline.specs.Each.{Each}
 use Rattle.gptp_faults.specs.Runs.{CaseRunEnds, runs_of}
 use Rattle.gptp_faults.specs.declared.cases.Case.{Case}
@@ -31,10 +32,11 @@ abbrev pub backs : List (EndState × EndState) → List Stretch
 backs = map (λ (r : EndState × EndState). r.1.stretch)
 
 -- of a case by its number: the greatest of its runs, and whom systems follow where the first of them ends to be down
-pub record IsOutcome (d : DocumentState) (t : Times) (number : ℕ) (p : Planned) (o : OutcomeState) : Type 0 where
+pub record IsOutcome (asked : Bool) (d : DocumentState) (t : Times) (number : ℕ) (p : Planned) (o : OutcomeState)
+    : Type 0 where
   pub first : EndState × EndState
   pub others : List (EndState × EndState)
-  pub runs : Each (CaseRunEnds d t p) (range_with_len 0 (runs_of t)) (first ∷ others)
+  pub runs : Each (CaseRunEnds asked d t p) (range_with_len 0 (runs_of t)) (first ∷ others)
   pub number_is : o.number ≡ number
   pub failing : o.failing ≡ p.failing
   pub down : o.down ≡ greatest_behind (of_one first.0.stretch) (downs others)
@@ -51,11 +53,11 @@ abbrev pub case_numbers : ℕ → ℕ → ℕ → List ℕ
 case_numbers parts part count = filter (is_of_part parts part) (range_with_len 0 count)
 
 -- a case by its number, with how long it stays down
-abbrev pub IsOutcomeAt : DocumentState → Times → List Planned → ℕ → OutcomeState → Type 0
-IsOutcomeAt d t planned number o =
-    (p : Planned) × (slice_get planned number ≡ Some p) × IsOutcome d t number p o
+abbrev pub IsOutcomeAt : Bool → DocumentState → Times → List Planned → ℕ → OutcomeState → Type 0
+IsOutcomeAt asked d t planned number o =
+    (p : Planned) × (slice_get planned number ≡ Some p) × IsOutcome asked d t number p o
 
 -- those that belong to a part, in order
 abbrev pub AreOutcomes : DocumentState → Times → FaultsOptions → List Planned → List OutcomeState → Type 0
 AreOutcomes d t options planned outcomes =
-    Each (IsOutcomeAt d t planned) (case_numbers options.parts options.part (length planned)) outcomes
+    Each (IsOutcomeAt (tracks options) d t planned) (case_numbers options.parts options.part (length planned)) outcomes

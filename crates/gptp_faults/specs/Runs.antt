@@ -1,5 +1,5 @@
 -- The runs of a case (profile).
-use Rattle.std.specs.Prelude.{◌≡◌, ℕ, ◌+◌, ◌*◌, ◌/◌, ◌%◌, Option, Some}
+use Rattle.std.specs.Prelude.{◌≡◌, ℕ, Bool, ◌+◌, ◌*◌, ◌/◌, ◌%◌, Option, Some}
 use Rattle.rand_core.specs.Pcg32Seed.{pcg32_seed}
 use Rattle.rand_pcg.specs.Lcg.{Lcg}
 use Rattle.rand_pcg.specs.Pcg.{pcg64_of_seed}
@@ -35,7 +35,8 @@ runs_of t = t.moments * t.seeds
 abbrev pub with_case : ℕ → Planned → DocumentState → DocumentState
 with_case at p d = with_event (at + p.hold) (return_of p.failing) (with_event at (fault_of p.failing) d)
 
--- How the last two stretches of a run end, in which a case is down and is back.
-abbrev pub CaseRunEnds : DocumentState → Times → Planned → ℕ → EndState × EndState → Type 0
-CaseRunEnds d t p run ends = EndsOf draws (with_case (run_moment t run) p d) (run_moment t run + p.hold + t.behind)
-    (generator (seed_of t run)) (Some ends)
+-- How the last two stretches of a run end, in which a case is down and is back, where it is asked what systems read,
+-- or isn't.
+abbrev pub CaseRunEnds : Bool → DocumentState → Times → Planned → ℕ → EndState × EndState → Type 0
+CaseRunEnds asked d t p run ends = EndsOf draws asked (with_case (run_moment t run) p d)
+    (run_moment t run + p.hold + t.behind) (generator (seed_of t run)) (Some ends)

@@ -1,9 +1,33 @@
 //! The greatest of several stretches.
 
 ghost use Rattle.std.specs.Prelude.{◌≡◌};
-ghost use Rattle.gptp_faults.specs.Extremes.{greater_counts, greater_if, greatest_of_two, of_none, of_one};
+ghost use Rattle.gptp_faults.specs.Extremes.{changed_since, further, greater_counts, greater_if, greatest_of_two, of_one, times_by, times_measured, times_of_two};
 
-use gptp_timeline::{Counts, Greatest, Stretch, better_if};
+use gptp_timeline::{Counts, Difference, Greatest, Stretch, TimeMeasures, better_if};
+
+/// How far apart systems read in a stretch.
+#[derive(Clone, Copy, Debug)]
+pub(crate) struct Apart {
+    /// How far, in units of 2^-16 ns.
+    pub amount: u128,
+    /// The two sources that were told at once whose times differ the most, where any do.
+    pub sources: Option<Difference>,
+}
+
+/// The greatest of several stretches of what systems read, of each amount by itself.
+#[derive(Clone, Copy, Debug)]
+pub(crate) struct TimeExtremes {
+    /// How far off a system reads, in units of 2^-16 ns.
+    pub time: Option<Greatest>,
+    /// How far apart two systems read.
+    pub apart: Apart,
+    /// By how much what a system reads jumps, in units of 2^-16 ns.
+    pub step: Option<Greatest>,
+    /// How long after its begin a system changed its source last, in ns.
+    pub first: Option<Greatest>,
+    /// What a limit asks of that, in ns: the whole stretch where a live system has no time at its end.
+    pub first_asked: Option<u128>,
+}
 
 /// The greatest of several stretches, of each amount by itself.
 #[derive(Clone, Copy, Debug)]
@@ -18,7 +42,21 @@ pub(crate) struct Extremes {
     pub counts: Counts,
     /// How long the network takes at most to settle, in the first, in ns.
     pub bound: Option<u64>,
+    /// What systems read, where that is asked.
+    pub times: TimeExtremes,
 }
+
+/// Nothing is read.
+const NOTHING_READ: TimeExtremes = TimeExtremes {
+    time: None,
+    apart: Apart {
+        amount: 0,
+        sources: None,
+    },
+    step: None,
+    first: None,
+    first_asked: None,
+};
 
 /// Those of no stretch.
 pub(crate) const OF_NONE: Extremes = Extremes {
@@ -31,7 +69,47 @@ pub(crate) const OF_NONE: Extremes = Extremes {
         alone: 0,
     },
     bound: None,
+    times: NOTHING_READ,
 };
+
+/// How long after a time a system changed its source last.
+fn changed_since(from: u64, changed: Option<Greatest>) -> Option<Greatest>
+    ensures { result ≡ changed_since from changed }
+{
+    match changed {
+        Some(changed) => Some(Greatest {
+            amount: changed.amount.saturating_sub(u128::from(from)),
+            clock: changed.clock,
+        }),
+        None => None,
+    }
+}
+
+/// Those of a stretch of which this was measured.
+fn times_measured(stretch: &Stretch, measures: &TimeMeasures) -> TimeExtremes
+    ensures { result ≡ times_measured stretch.now measures.now }
+{
+    TimeExtremes {
+        time: measures.time,
+        apart: Apart {
+            amount: measures.apart(),
+            sources: measures.sources,
+        },
+        step: measures.step,
+        first: changed_since(stretch.from, measures.changed),
+        first_asked: stretch.first(),
+    }
+}
+
+/// Those of a stretch, where it was asked what systems read in it.
+fn times_of(stretch: &Stretch) -> TimeExtremes
+    ensures { result ≡ times_by stretch.now stretch.now.times }
+{
+    match stretch.times {
+        Some(measures) => times_measured(stretch, &measures),
+        None => NOTHING_READ,
+    }
+}
 
 /// Those of one.
 pub(crate) fn of_one(stretch: &Stretch) -> Extremes
@@ -43,6 +121,7 @@ pub(crate) fn of_one(stretch: &Stretch) -> Extremes
         error: stretch.measures.error,
         counts: stretch.counts,
         bound: stretch.bound,
+        times: times_of(stretch),
     }
 }
 
@@ -68,6 +147,26 @@ fn greater_counts(a: Counts, b: Counts) -> Counts
     }
 }
 
+/// The further apart of two, of equals the first.
+fn further(a: Apart, b: Apart) -> Apart
+    ensures { result ≡ further a b }
+{
+    if a.amount < b.amount { b } else { a }
+}
+
+/// What systems read in two, of equals the first.
+fn times_joined(a: &TimeExtremes, b: &TimeExtremes) -> TimeExtremes
+    ensures { result ≡ times_of_two a.now b.now }
+{
+    TimeExtremes {
+        time: better_if(a.time, b.time),
+        apart: further(a.apart, b.apart),
+        step: better_if(a.step, b.step),
+        first: better_if(a.first, b.first),
+        first_asked: greater_if(a.first_asked, b.first_asked),
+    }
+}
+
 /// Those of two, of equals the first.
 pub(crate) fn joined(a: &Extremes, b: &Extremes) -> Extremes
     ensures { result ≡ greatest_of_two a.now b.now }
@@ -78,5 +177,6 @@ pub(crate) fn joined(a: &Extremes, b: &Extremes) -> Extremes
         error: better_if(a.error, b.error),
         counts: greater_counts(a.counts, b.counts),
         bound: a.bound,
+        times: times_joined(&a.times, &b.times),
     }
 }

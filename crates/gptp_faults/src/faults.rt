@@ -4,6 +4,7 @@ ghost use Rattle.std.specs.Prelude.{◌≡◌, ◌≢◌, ◌≤◌, ◌+◌, �
 ghost use Rattle.std.specs.Io.KnownBytes.{Appends};
 ghost use Rattle.gptp_words.specs.Lines.{text_of};
 ghost use Rattle.gptp_faults.specs.Faults.{AnswersFaultsOf, IsTable};
+ghost use Rattle.gptp_faults.specs.Options.{tracks};
 ghost use Rattle.gptp_faults.specs.Outcomes.{AreOutcomes, is_of_part, IsOutcome, OutcomeState};
 ghost use Rattle.gptp_faults.specs.Progress.{TellsCases, begun, begun_line, part_begun, part_count};
 ghost use Rattle.gptp_faults.specs.Refusals.{any_late};
@@ -101,7 +102,7 @@ fn try_next<P: Sink>(
 ) -> Result<(), Cut>
     requires bounded { TimesAreBounded times.now }
     requires in_time { RunsEndInTime times.now planned.now }
-    ensures tried { OnOk result ((o : OutcomeState) × IsOutcome document.old times.now number planned.now o
+    ensures tried { OnOk result ((o : OutcomeState) × IsOutcome (tracks options.now) document.old times.now number planned.now o
         × (outcomes.new.items ≡ outcomes.old.items ++ (o ∷ []))) }
     ensures told { OnOk result (Appends (P.written progress.old) (P.written progress.new)
         (text_of (begun options.now.progress count (length outcomes.old.items + 1)))) }
@@ -110,7 +111,7 @@ fn try_next<P: Sink>(
     ensures fails { result ≡ Err Cut.Write → P.failures progress.new ≢ P.failures progress.old }
 {
     tell(alloc, options.progress, count, outcomes.len() + 1, progress)?;
-    let outcome = try_case(alloc, document, times, number, planned)?;
+    let outcome = try_case(alloc, document, times, options.tracks(), number, planned)?;
     push_outcome(outcomes, outcome)?;
     Ok(())
 }
@@ -174,7 +175,7 @@ fn table_of<P: Sink>(
     let mut outcomes = try_cases(alloc, document, options, times, planned, progress)?;
     rank(&mut outcomes)?;
     let mut text = String::new(alloc);
-    let exceeded = write_table(&mut text, &options.limits, times, &outcomes)?;
+    let exceeded = write_table(&mut text, options, times, &outcomes)?;
     Ok(Answer::Table { text, exceeded })
 }
 

@@ -16,6 +16,7 @@ mod ranking;
 mod refusals;
 mod runs;
 mod text;
+mod time_text;
 mod times;
 
 pub use faults::{Answer, fail_each};

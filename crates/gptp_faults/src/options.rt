@@ -32,6 +32,20 @@ pub struct FaultsOptions {
     pub part: u64,
     /// Whether it is told before each case that it begins.
     pub progress: bool,
+    /// Whether it is told what systems read.
+    pub times: bool,
     /// What is asked of the worst of all.
     pub limits: Limits,
+}
+
+impl FaultsOptions {
+    ghost use Rattle.std.specs.Prelude.{◌≡◌};
+    ghost use Rattle.gptp_faults.specs.Options.{tracks};
+
+    /// Whether it is asked what systems read: to tell it, or by a limit.
+    pub(crate) fn tracks(&self) -> bool
+        ensures { result ≡ tracks self.now }
+    {
+        self.times || self.limits.asks_times()
+    }
 }

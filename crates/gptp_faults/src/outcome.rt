@@ -115,26 +115,28 @@ pub(crate) fn push_outcome(outcomes: &mut Vec<Outcome>, outcome: Outcome) -> Res
     Ok(())
 }
 
-/// Lets a case fail and come back in each of its runs, and answers what becomes of it.
+/// Lets a case fail and come back in each of its runs, and answers what becomes of it: also what systems read, where
+/// that is asked.
 pub(crate) fn try_case(
     alloc: Global,
     document: &mut Document,
     times: &Times,
+    asked: bool,
     number: usize,
     planned: &Planned,
 ) -> Result<Outcome, Cut>
     requires bounded { TimesAreBounded times.now }
     requires in_time { RunsEndInTime times.now planned.now }
-    ensures outcome { IfOk result (IsOutcome document.old times.now number planned.now) }
+    ensures outcome { IfOk result (IsOutcome asked document.old times.now number planned.now) }
     ensures same { OnOk result (document.new ≡ document.old) }
     ensures memory { IfErr result (λ e. e ≡ Cut.Memory) }
 {
-    let (first_down, first_back) = run_case(alloc, document, times, planned, 0)?;
+    let (first_down, first_back) = run_case(alloc, document, times, asked, planned, 0)?;
     let follow = follows_of(alloc, first_down.roots())?;
     let mut down = of_one(first_down.stretch());
     let mut back = of_one(first_back.stretch());
     for run in 1..runs_of(times) {
-        let (next_down, next_back) = run_case(alloc, document, times, planned, run)?;
+        let (next_down, next_back) = run_case(alloc, document, times, asked, planned, run)?;
         down = joined(&down, &of_one(next_down.stretch()));
         back = joined(&back, &of_one(next_back.stretch()));
     }

@@ -52,18 +52,20 @@ fn both(ends: Option<(StretchEnd, StretchEnd)>) -> Result<(StretchEnd, StretchEn
     }
 }
 
-/// Lets a case fail and come back in a run, and answers how the stretches ended in which it was down and was back.
+/// Lets a case fail and come back in a run, and answers how the stretches ended in which it was down and was back: also
+/// what systems read in them, where that is asked.
 pub(crate) fn run_case(
     alloc: Global,
     document: &mut Document,
     times: &Times,
+    asked: bool,
     planned: &Planned,
     run: u64,
 ) -> Result<(StretchEnd, StretchEnd), Cut>
     requires bounded { TimesAreBounded times.now }
     requires run { run < runs_of times.now }
     requires in_time { RunsEndInTime times.now planned.now }
-    ensures run { IfOk result (CaseRunEnds document.old times.now planned.now run) }
+    ensures run { IfOk result (CaseRunEnds asked document.old times.now planned.now run) }
     ensures same { OnOk result (document.new ≡ document.old) }
     ensures memory { IfErr result (λ e. e ≡ Cut.Memory) }
 {
@@ -73,7 +75,7 @@ pub(crate) fn run_case(
     add(document, down, fault_of(&planned.failing))?;
     add(document, back, return_of(&planned.failing))?;
     let fate = PcgFate::new(seed_of(times, run));
-    let ends = last_stretches(alloc, document, fate, back + times.behind)?;
+    let ends = last_stretches(alloc, document, fate, back + times.behind, asked)?;
     document.truncate(count);
     both(ends)
 }

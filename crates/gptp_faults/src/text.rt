@@ -6,13 +6,15 @@ ghost use Rattle.std.specs.List.{flat_map};
 ghost use Rattle.gptp_words.specs.Lines.{text_of};
 ghost use Rattle.gptp_words.specs.Digits.{or_none};
 ghost use Rattle.gptp_timeline.specs.Limits.{first_exceeded};
-ghost use Rattle.gptp_faults.specs.FaultsText.{amounts_words, case_line, counts_text, exceeded_by, exceeds_limit, extremes_line, follow_line, head_line, outcome_lines, table_lines, worst_amount, worst_line, worst_of_all, worst_words};
+ghost use Rattle.gptp_faults.specs.FaultsText.{amounts_words, case_line, counts_text, exceeded_by, exceeds_limit, extremes_line, extremes_lines, follow_line, head_line, outcome_lines, table_lines, worst_amount, worst_line, worst_lines, worst_of_all, worst_words};
 
 use crate::cases::Case;
 use crate::extremes::{Extremes, OF_NONE, joined};
 use crate::follows::Follow;
+use crate::options::FaultsOptions;
 use crate::outcome::Outcome;
 use crate::ranking::amount_or_0;
+use crate::time_text::{write_times, write_worst_times};
 use crate::times::Times;
 use gptp_timeline::{
     Counts, Limit, Limits, Longest, Near, TimeOrNone, Worst, amount_of, write_first_exceeded,
@@ -57,7 +59,7 @@ impl fmt::Display for CaseText {
 
 /// An amount that may be absent.
 #[derive(Clone, Copy)]
-struct AmountOrNone(Option<u128>);
+pub(crate) struct AmountOrNone(pub Option<u128>);
 
 impl fmt::Display for AmountOrNone {
     ghost use Rattle.std.specs.Prelude.{Some};
@@ -142,6 +144,20 @@ fn write_extremes(text: &mut String, word: &str, extremes: &Extremes) -> Result<
     write_bound(text, extremes.counts, extremes.bound)
 }
 
+/// Appends that line, and behind it that of what systems read, where it is asked for.
+fn write_all_extremes(
+    text: &mut String,
+    asked: bool,
+    word: &str,
+    extremes: &Extremes,
+) -> Result<(), AllocError>
+    ensures { OnOk result (string_bytes text.new
+        ≡ string_bytes text.old ++ text_of (extremes_lines asked word.now extremes.now)) }
+{
+    write_extremes(text, word, extremes)?;
+    write_times(text, asked, word, &extremes.times)
+}
+
 /// Appends the line of how many systems follow a root.
 fn write_follow(text: &mut String, follow: &Follow) -> Result<(), AllocError>
     ensures { OnOk result (string_bytes text.new ≡ string_bytes text.old ++ (follow_line follow.now ++ 10 ∷ [])) }
@@ -165,21 +181,23 @@ fn write_follows(text: &mut String, follows: &[Follow]) -> Result<(), AllocError
 }
 
 /// Appends the lines of a case.
-fn write_outcome(text: &mut String, outcome: &Outcome) -> Result<(), AllocError>
-    ensures { OnOk result (string_bytes text.new ≡ string_bytes text.old ++ text_of (outcome_lines outcome.now)) }
+fn write_outcome(text: &mut String, asked: bool, outcome: &Outcome) -> Result<(), AllocError>
+    ensures { OnOk result (string_bytes text.new
+        ≡ string_bytes text.old ++ text_of (outcome_lines asked outcome.now)) }
 {
     write_case(text, outcome.number(), outcome.failing())?;
-    write_extremes(text, "down", outcome.down())?;
+    write_all_extremes(text, asked, "down", outcome.down())?;
     write_follows(text, outcome.follow())?;
-    write_extremes(text, "back", outcome.back())
+    write_all_extremes(text, asked, "back", outcome.back())
 }
 
 /// Appends the lines of all cases.
-fn write_outcomes(text: &mut String, outcomes: &[Outcome]) -> Result<(), AllocError>
-    ensures { OnOk result (string_bytes text.new ≡ string_bytes text.old ++ text_of (flat_map outcome_lines outcomes.now)) }
+fn write_outcomes(text: &mut String, asked: bool, outcomes: &[Outcome]) -> Result<(), AllocError>
+    ensures { OnOk result (string_bytes text.new
+        ≡ string_bytes text.old ++ text_of (flat_map (outcome_lines asked) outcomes.now)) }
 {
     for outcome in outcomes {
-        write_outcome(text, outcome)?;
+        write_outcome(text, asked, outcome)?;
     }
     Ok(())
 }
@@ -229,7 +247,17 @@ fn write_worst(text: &mut String, worst: &Extremes) -> Result<(), AllocError>
     write_counts(text, worst.counts)
 }
 
-/// The amount that a limit asks for in the greatest of all: times in ns, errors in units of 2^-16 ns.
+/// Appends that line, and behind it that of what systems read, where it is asked for.
+fn write_all_worst(text: &mut String, asked: bool, worst: &Extremes) -> Result<(), AllocError>
+    ensures { OnOk result (string_bytes text.new
+        ≡ string_bytes text.old ++ text_of (worst_lines asked worst.now)) }
+{
+    write_worst(text, worst)?;
+    write_worst_times(text, asked, "worst", &worst.times)
+}
+
+/// The amount that a limit asks for in the greatest of all: times in ns, errors and what systems read in units of
+/// 2^-16 ns.
 fn worst_amount(worst: &Extremes, limit: Limit) -> Option<u128>
     ensures { result ≡ worst_amount worst.now limit }
 {
@@ -240,7 +268,10 @@ fn worst_amount(worst: &Extremes, limit: Limit) -> Option<u128>
         Limit::Without => Some(u128::from(worst.counts.without)),
         Limit::Roots => Some(u128::from(worst.counts.roots)),
         Limit::Alone => Some(u128::from(worst.counts.alone)),
-        Limit::Time | Limit::Apart | Limit::Step | Limit::First => None,
+        Limit::Time => amount_of(worst.times.time),
+        Limit::Apart => Some(worst.times.apart.amount),
+        Limit::Step => amount_of(worst.times.step),
+        Limit::First => worst.times.first_asked,
     }
 }
 
@@ -266,17 +297,17 @@ fn exceeded_by(limits: &Limits, worst: &Extremes) -> Option<Limit>
 /// Appends the table of cases in the order in which they are told, and answers whether a limit is exceeded.
 pub(crate) fn write_table(
     text: &mut String,
-    limits: &Limits,
+    options: &FaultsOptions,
     times: &Times,
     outcomes: &[Outcome],
 ) -> Result<bool, AllocError>
     ensures text { OnOk result (string_bytes text.new
-        ≡ string_bytes text.old ++ text_of (table_lines limits.now times.now outcomes.now)) }
-    ensures exceeded { IfOk result (λ exceeded. exceeded ≡ exceeds_limit limits.now outcomes.now) }
+        ≡ string_bytes text.old ++ text_of (table_lines options.now times.now outcomes.now)) }
+    ensures exceeded { IfOk result (λ exceeded. exceeded ≡ exceeds_limit options.now.limits outcomes.now) }
 {
     let worst = worst_of_all(outcomes);
     write_head(text, outcomes.len(), times)?;
-    write_outcomes(text, outcomes)?;
-    write_worst(text, &worst)?;
-    write_first_exceeded(text, exceeded_by(limits, &worst))
+    write_outcomes(text, options.times, outcomes)?;
+    write_all_worst(text, options.times, &worst)?;
+    write_first_exceeded(text, exceeded_by(&options.limits, &worst))
 }

@@ -1,5 +1,5 @@
 -- The last two stretches of a run (profile).
-use Rattle.std.specs.Prelude.{◌≡◌, ℕ, List, [], ◌∷◌, map, Option, Some, None, false}
+use Rattle.std.specs.Prelude.{◌≡◌, ℕ, Bool, List, [], ◌∷◌, map, Option, Some, None, false}
 use Rattle.gptp_model.specs.Course.{Begun}
 use Rattle.gptp_model.specs.Views.{rising_clocks}
 use Rattle.gptp_model.specs.World.{WorldState}
@@ -36,9 +36,9 @@ last_two (a ∷ (b ∷ [])) = Some (a, b)
 last_two (a ∷ (b ∷ (c ∷ cs))) = last_two (b ∷ (c ∷ cs))
 
 -- The world of a document begins, all stretches of its run pass, and so ended the last two of them, if there are two.
--- How exact systems are isn't asked.
-pub record EndsOf {F : Type 0} (answers : Bounds → ℕ → F → Option ℕ → F → Type 0) (d : DocumentState) (until : ℕ)
-    (fate : F) (two : Option (EndState × EndState)) : Type 0 where
+-- It is asked what systems read, or isn't. How exact systems are isn't asked.
+pub record EndsOf {F : Type 0} (answers : Bounds → ℕ → F → Option ℕ → F → Type 0) (asked : Bool) (d : DocumentState)
+    (until : ℕ) (fate : F) (two : Option (EndState × EndState)) : Type 0 where
   pub started : F
   pub start : WorldState
   pub begun : Begun answers d.network fate started start
@@ -46,7 +46,7 @@ pub record EndsOf {F : Type 0} (answers : Bounds → ℕ → F → Option ℕ �
   pub fate_after : F
   pub after : WorldState
   pub pass : AllPass answers false d until 0 (events_by until d.events) started fate_after start after passages
-  pub are : two ≡ last_two (ends_in (rising_clocks start) (none_carried false (rising_clocks start)) passages)
+  pub are : two ≡ last_two (ends_in (rising_clocks start) (none_carried asked (rising_clocks start)) passages)
 
 -- ---- by what an observer keeps, and what is kept of each stretch
 

@@ -43,6 +43,9 @@ pub use laws::{
     timelines_are_runs,
 };
 pub use limits::{Limit, Limits, write_first_exceeded};
+pub use looks::TimeMeasures;
 pub use measures::{Greatest, Measures, better_if};
+pub use sources::Difference;
 pub use stretch::{Longest, Stretch, TimeOrNone, Worst, amount_of};
+pub use time_lines::Sources;
 pub use timeline::{TimelineOptions, last_stretches, write_timeline};

@@ -126,7 +126,7 @@ impl Limits {
     }
 
     /// Whether any limit is given that asks for what systems read.
-    pub(crate) fn asks_times(&self) -> bool
+    pub fn asks_times(&self) -> bool
         ensures { result ≡ asks_times self.now }
     {
         self.most_of(Limit::Time).is_some()

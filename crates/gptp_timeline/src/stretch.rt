@@ -132,7 +132,7 @@ impl Stretch {
 
     /// How long it took until a system changed its source last, in ns; the whole stretch where a live system has no
     /// time at its end.
-    fn first(&self) -> Option<u128>
+    pub fn first(&self) -> Option<u128>
         ensures { result ≡ first_amount self.now }
     {
         if self.counts.without != 0 {

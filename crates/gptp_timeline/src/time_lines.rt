@@ -19,7 +19,7 @@ use std::fmt;
 
 /// The sources whose times differ the most.
 #[derive(Clone, Copy)]
-struct Sources(Option<Difference>);
+pub struct Sources(pub Option<Difference>);
 
 impl fmt::Display for Sources {
     ghost use Rattle.std.specs.Prelude.{Some};

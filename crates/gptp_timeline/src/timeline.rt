@@ -533,42 +533,40 @@ pub fn write_timeline<F: Fate + Drop, K: Sink>(
     end_verdict(alloc, &options.limits, kept.exceeded, sink)
 }
 
-/// What is told where nothing is asked for.
-const NOTHING_TOLD: TimelineOptions = TimelineOptions {
-    summary: true,
-    offsets: false,
-    times: false,
-    limits: NO_LIMITS,
-};
+/// A summary, in which it is told what systems read, or isn't.
+fn summary_with(times: bool) -> TimelineOptions
+    ensures { tracks result ≡ times }
+{
+    TimelineOptions {
+        summary: true,
+        offsets: false,
+        times,
+        limits: NO_LIMITS,
+    }
+}
 
 /// Lets the world of a document run up to a time, at most 10^15 ns, and answers how the last two stretches between the
-/// times of events ended, where there are two. Nothing is written, and how exact systems are isn't asked. Refused for
-/// want of memory alone.
+/// times of events ended, where there are two: also what systems read in them, where that is asked. Nothing is written,
+/// and how exact systems are isn't asked. Refused for want of memory alone.
 pub fn last_stretches<F: Fate + Drop>(
     alloc: Global,
     document: &Document,
     fate: F,
     until: u64,
+    times: bool,
 ) -> Result<Option<(StretchEnd, StretchEnd)>, Cut>
     requires moment { until ≤ 1000000000000000 }
-    ensures ends { IfOk result (EndsOf F.answers document.now until fate) }
+    ensures ends { IfOk result (EndsOf F.answers times document.now until fate) }
     ensures memory { IfErr result (λ e. e ≡ Cut.Memory) }
 {
     let mut sink = NullSink;
-    let times = calm_times(alloc, document)?;
+    let options = summary_with(times);
+    let calm = calm_times(alloc, document)?;
     let mut world = begin(alloc, document, fate)?;
-    let mut watch = watch_before(alloc, &world, &NOTHING_TOLD)?;
+    let mut watch = watch_before(alloc, &world, &options)?;
     write_start(alloc, &world, &mut watch, &mut sink)?;
     let kept = all_stretches(
-        alloc,
-        document,
-        &times,
-        false,
-        &mut world,
-        until,
-        &NOTHING_TOLD,
-        &mut watch,
-        &mut sink,
+        alloc, document, &calm, false, &mut world, until, &options, &mut watch, &mut sink,
     )?;
     Ok(both_of(kept))
 }

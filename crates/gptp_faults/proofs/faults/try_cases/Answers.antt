@@ -4,6 +4,7 @@ use Rattle.std.proofs.lemmas.List.{length-append}
 use Rattle.std.proofs.lemmas.Option.{slice_get-get_or}
 use Rattle.gptp_network.specs.Document.{DocumentState}
 use Rattle.gptp_words.specs.Lines.{text_of}
+use Rattle.gptp_faults.specs.Options.{tracks}
 use Rattle.gptp_faults.specs.Progress.{all_begun, begun, part_count}
 use Rattle.gptp_faults.specs.Outcomes.{IsOutcome, IsOutcomeAt, case_numbers, OutcomeState}
 use Rattle.gptp_timeline.specs.Each.{Each}
@@ -20,19 +21,20 @@ loop-number-preserved g c =
     let number = c.loop-number.number in let before = c.loop-number.outcomes.items in
     let so_far = c.loop-number.invariant in let below = c.loop-number-test.true in
     let written = g.P.Sink.written in let start = written c.args.progress.now in
-    let asked = c.args.options.now.progress in let count = c.count_of-count.result in
+    let reads = tracks c.args.options.now in let asked = c.args.options.now.progress in
+    let count = c.count_of-count.result in
     elim c.if-belongs.branch [
       | then-belongs+in_ok-try_next w ↦
           let tried = w.in_ok-try_next.ensures.tried in let p = w.index-planned-number.result in
           let there : slice_get planned number ≡ Some p =
           slice_get-get_or planned number p c.loop-number-test.true
           ∙ ap (λ (q : Planned). Some q) (sym w.index-planned-number.is) in
-          let outcome : IsOutcome d t number p tried.0 =
-          subst (λ (e : DocumentState). IsOutcome e t number p tried.0) so_far.same tried.1 in
+          let outcome : IsOutcome reads d t number p tried.0 =
+          subst (λ (e : DocumentState). IsOutcome reads e t number p tried.0) so_far.same tried.1 in
           let after = ap (λ v. v.items) w.outcomes-is ∙ tried.2 in
           record {
-            tried = subst (Each (IsOutcomeAt d t planned) (case_numbers parts part (number + 1))) (sym after)
-                (case_tried d t planned parts part number before so_far.tried
+            tried = subst (Each (IsOutcomeAt reads d t planned) (case_numbers parts part (number + 1))) (sym after)
+                (case_tried reads d t planned parts part number before so_far.tried
                 (sym c.belongs.ensures ∙ w.if-belongs.true) tried.0 (p, there, outcome));
             told = told_more asked count (length before) _ start (written c.loop-number.progress) _
                 (ap length after ∙ length-append before (tried.0 ∷ [])) so_far.told
@@ -46,9 +48,9 @@ loop-number-preserved g c =
           }
       | else-belongs w ↦
           record {
-            tried = subst (Each (IsOutcomeAt d t planned) (case_numbers parts part (number + 1)))
+            tried = subst (Each (IsOutcomeAt reads d t planned) (case_numbers parts part (number + 1)))
                 (sym (ap (λ v. v.items) w.outcomes-is))
-                (case_passed d t planned parts part number before so_far.tried
+                (case_passed reads d t planned parts part number before so_far.tried
                 (sym c.belongs.ensures ∙ w.if-belongs.false));
             told = told_still asked count (length before) _ start _ (ap (λ v. length v.items) w.outcomes-is)
                 (subst (λ now. Appends start (written now) (text_of (all_begun asked count (length before))))

@@ -8,5 +8,6 @@ use Rattle.gptp_faults.proofs.text.write_outcomes.Given as goal
 
 abbrev pub invariant-loop-outcome : goal.invariant-loop-outcome
 invariant-loop-outcome l =
-    WrittenSoFar (flat_map outcome_lines l.outcomes) (flat_map outcome_lines (drop l.outcome-index l.outcomes))
+    WrittenSoFar (flat_map (outcome_lines l.asked) l.outcomes)
+    (flat_map (outcome_lines l.asked) (drop l.outcome-index l.outcomes))
     (string_bytes l.initial.text) (string_bytes l.text)

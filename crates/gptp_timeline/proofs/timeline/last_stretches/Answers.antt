@@ -3,9 +3,10 @@ use Rattle.std.proofs.lemmas.Result.{err_from_is_err_and}
 use Rattle.gptp_sink.specs.declared.cut.Cut.{Cut}
 use Rattle.gptp_sink.specs.declared.cut.Cut.TheVariants.{Memory, Write}
 use Rattle.gptp_model.specs.Views.{rising_clocks}
-use Rattle.gptp_timeline.specs.Timeline.{none_carried}
+use Rattle.gptp_timeline.specs.LastTwo.{ends_in, last_two}
+use Rattle.gptp_timeline.specs.Timeline.{none_carried, tracks}
 use Rattle.gptp_timeline.specs.Watch.{event_look, see_all}
-use Rattle.gptp_timeline.proofs.StretchesSoFarLemmas.{last_two_are, no_limits}
+use Rattle.gptp_timeline.proofs.StretchesSoFarLemmas.{last_two_are}
 use Rattle.gptp_timeline.proofs.timeline.last_stretches.Goals as goal
 
 pub all_stretches-requires-clause-begun : goal.all_stretches-requires-clause-begun
@@ -35,7 +36,8 @@ returns-in_err-kept-clause-memory g c =
 
 pub returns-clause-ends : goal.returns-clause-ends
 returns-clause-ends g c =
-    let passed = c.in_ok-kept.ensures.passed in
+    let passed = c.in_ok-kept.ensures.passed in let options = c.summary_with-options.result in
+    let names = rising_clocks c.in_ok-world.world.world_core in
     record {
       started = c.in_ok-world.world.fate;
       start = c.in_ok-world.world.world_core;
@@ -45,6 +47,6 @@ returns-clause-ends g c =
       after = c.all_stretches.new.world.world_core;
       pass = passed.1;
       are = c.both_of.ensures
-          ∙ last_two_are no_limits (rising_clocks c.in_ok-world.world.world_core) passed.0
-          (none_carried false (rising_clocks c.in_ok-world.world.world_core)) c.in_ok-kept.kept passed.2;
+          ∙ last_two_are options.limits names passed.0 (none_carried (tracks options) names) c.in_ok-kept.kept passed.2
+          ∙ ap (λ asked. last_two (ends_in names (none_carried asked names) passed.0)) c.summary_with-options.ensures;
     }
