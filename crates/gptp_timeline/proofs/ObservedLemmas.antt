@@ -1,5 +1,5 @@
 -- What an observer keeps and tells is what is defined over the acts: as systems start, and stretch by stretch.
-use Rattle.std.proofs.Common.{◌≡◌, ℕ, Bool, false, List, [], ◌∷◌, ◌++◌, map, Option, Some, None, inl, inr, length, option_map, refl, sym, ap, subst, ◌∙◌, append_assoc, append-nil}
+use Rattle.std.proofs.Common.{◌≡◌, ◌⊎◌, ℕ, Bool, true, false, List, [], ◌∷◌, ◌++◌, map, Option, Some, None, inl, inr, length, option_map, refl, sym, ap, subst, ◌∙◌, append_assoc, append-nil}
 use Rattle.std.specs.List.{filter_map, flat_map}
 use Rattle.std.proofs.lemmas.List.Folds.{flat_map-map}
 use Rattle.gptp_model.specs.declared.station.Station.{Station}
@@ -13,7 +13,10 @@ use Rattle.gptp_lists.specs.Members.{In}
 use Rattle.gptp_model.specs.declared.done.Done.{Done}
 use Rattle.gptp_scenario.specs.Network.{NetworkState}
 use Rattle.gptp_scenario.specs.declared.change.Act.{Act}
+use Rattle.gptp_scenario.specs.declared.change.Act.TheVariants.{Change as Changing, Deliver, Expire}
 use Rattle.gptp_scenario.specs.declared.change.Timed.{Timed}
+use Rattle.gptp_setup.specs.declared.timer.Timer.{Timer}
+use Rattle.gptp_setup.specs.declared.timer.Timer.TheVariants.{Age, Announce, Lapse, Pdelay, Relay, Respond, Sync}
 use Rattle.gptp_world.specs.Observing.{Tells}
 use Rattle.gptp_world.specs.Transitions.{ActTrace}
 use Rattle.gptp_report.specs.Transitions.{Courses, CoursesSoFar}
@@ -25,13 +28,14 @@ use Rattle.gptp_timeline.specs.LastTwo.{end_in, end_of}
 use Rattle.gptp_timeline.specs.Measures.{greatest, greatest_from, since_after}
 use Rattle.gptp_timeline.specs.Passing.{watch_before}
 use Rattle.gptp_timeline.specs.Shown.{is_expecting, live_among, shown, shown_of}
-use Rattle.gptp_timeline.specs.Stretch.{at_of, counted, ended, error_from, roots_of, shown_of_all, under_way, waits}
+use Rattle.gptp_timeline.specs.Stretch.{at_of, counted, ended, error_from, is_change, roots_of, shown_of_all, under_way, waits}
 use Rattle.gptp_timeline.specs.StretchText.{after_line, ended_stretch, error_among, system_accuracy, wait_of}
 use Rattle.gptp_timeline.specs.Looks.{measured_times}
-use Rattle.gptp_timeline.specs.Readings.{read_after, readings_after}
-use Rattle.gptp_timeline.specs.TimeWatch.{times_after}
+use Rattle.gptp_timeline.specs.Readings.{by_expiry, by_receipt, new_reading, read_after, readings_after}
+use Rattle.gptp_timeline.specs.Receipts.{received_by}
+use Rattle.gptp_timeline.specs.TimeWatch.{reading_lines, times_after, times_with, TimeState}
 use Rattle.gptp_timeline.specs.Timeline.{StretchTrace, accuracy_at, act_lines, acts_lines, asks_lines, Carried, carry, end_lines, ended_of, exact_time, is_begun, kept_accuracy, kept_accuracy_at, line_of_times, none_carried, none_waits, reads_if, reads_kept, start_lines, stretch_of, stretch_reading_lines, timeline_accuracy_lines, times_ended, tracks}
-use Rattle.gptp_timeline.specs.Watch.{WatchState, watch_begun, event_look, lines_all, see_act, see_all, see_times, seen_lines, tells_changes, TellsSeen, times_lines_if, unless, unseen, without_error}
+use Rattle.gptp_timeline.specs.Watch.{WatchState, watch_begun, event_look, is_sync, is_sync_expiry, lines_all, see_act, see_all, see_times, seen_lines, tells_changes, TellsSeen, times_lines_if, unless, unseen, without_error}
 use Rattle.gptp_timeline.specs.declared.counts.Counts.{Counts}
 use Rattle.gptp_timeline.specs.declared.looks.TimeMeasures.{TimeMeasures}
 use Rattle.gptp_timeline.specs.declared.measures.Greatest.{Greatest}
@@ -88,12 +92,47 @@ pub record IsOfPlan (plan : Plan) (p : StretchTrace) : Type 0 where
   pub bound_is : plan.bound ≡ p.bound
   pub errors_are : plan.errors ≡ p.errors
 
--- where there is no account, it sees nothing
-none_timed : (at : ℕ) (act : Act) (done : Done) (w : WorldState) (o : WatchState) → o.times ≡ None
-    → see_times at act done w o ≡ o
-none_timed at act done w o untimed =
-    ap (λ times. record o { times = option_map (times_after at act done w) times }) untimed
-    ∙ sym (ap (λ times. record o { times = times }) untimed)
+-- a system that didn't receive time, and whose Sync timer didn't expire, gets no reading
+nothing_new : (act : Act) (done : Done) (w : WorldState) (rs : List SystemReading) → is_change act ≡ false
+    → received_by done ≡ None → is_sync_expiry act ≡ false → new_reading act done w rs ≡ None
+nothing_new (Deliver link direction) done w rs other nobody quiet = ap (by_receipt w rs) nobody
+nothing_new (Expire name timer) done w rs other nobody quiet = by timer quiet
+  where
+    by : (timer : Timer) → is_sync timer ≡ false → by_expiry w rs name timer ≡ None
+    by (Announce port) quiet = refl
+    by (Age port) quiet = refl
+    by (Pdelay port) quiet = refl
+    by (Respond port) quiet = refl
+    by Sync quiet = absurd cc
+    by Relay quiet = refl
+    by Lapse quiet = refl
+nothing_new (Changing change) done w rs other nobody quiet = absurd cc
+
+-- an account keeps what it has by an act that is no event, and by which no system gets a reading
+none_with : (at : ℕ) (w : WorldState) (act : Act) (o : TimeState) → is_change act ≡ false
+    → times_with at w act None o ≡ o
+none_with at w (Deliver link direction) o other = refl
+none_with at w (Expire name timer) o other = refl
+none_with at w (Changing change) o other = absurd cc
+
+-- by an act that is passed over an observer has nothing to see of what systems read
+none_timed : (at : ℕ) (act : Act) (done : Done) (w : WorldState) (times : Option TimeState) → is_change act ≡ false
+    → received_by done ≡ None → (times ≡ None) ⊎ (is_sync_expiry act ≡ false)
+    → option_map (times_after at act done w) times ≡ times
+none_timed at act done w None other nobody why = refl
+none_timed at act done w (Some o) other nobody (inl none) = absurd cc
+none_timed at act done w (Some o) other nobody (inr quiet) =
+    ap (λ new. Some (times_with at w act new o)) (nothing_new act done w o.systems other nobody quiet)
+    ∙ ap Some (none_with at w act o other)
+
+-- and nothing to tell
+none_told : (at : ℕ) (act : Act) (done : Done) (w : WorldState) (times : Option TimeState) → is_change act ≡ false
+    → received_by done ≡ None → (times ≡ None) ⊎ (is_sync_expiry act ≡ false)
+    → times_lines_if at act done w times ≡ []
+none_told at act done w None other nobody why = refl
+none_told at act done w (Some o) other nobody (inl none) = absurd cc
+none_told at act done w (Some o) other nobody (inr quiet) =
+    ap (reading_lines o.told at w) (nothing_new act done w o.systems other nobody quiet)
 
 -- ---- systems start
 
@@ -299,10 +338,13 @@ module _ (options : TimelineOptions) (names : List ℕ) (carried : Carried) wher
         let (kept, told) = stays_seen options.summary options.offsets from names since
         (λ name. error_from name from ts) ts t o observes.tracks stays.same act t.told.done
         passes.leaves.is_other stays.nobody in (
-          is ∙ sym (none_timed (at_of t) act t.told.done t.after o passes.untimed)
+          is
+              ∙ sym (ap (λ times. record o { times = times })
+              (none_timed (at_of t) act t.told.done t.after o.times passes.leaves.is_other stays.nobody passes.untimed))
               ∙ sym (ap (see_times (at_of t) act t.told.done t.after) kept),
           none
-              ∙ sym (ap (times_lines_if (at_of t) act t.told.done t.after) passes.untimed)
+              ∙ sym (none_told (at_of t) act t.told.done t.after o.times passes.leaves.is_other stays.nobody
+              passes.untimed)
               ∙ sym (ap (λ ls. ls ++ times_lines_if (at_of t) act t.told.done t.after o.times) told),
         )
 

@@ -1,5 +1,5 @@
 -- What systems read of time, and by what (profile). Times of clocks are in units of 2^-16 ns.
-use Rattle.std.specs.Prelude.{ℕ, ◌==◌, ◌||◌, ◌&&◌, Bool, true, false, not, if◌then◌else◌, List, [], ◌∷◌, map, Option, Some, None, is_some, is_none, ℤ, ◌-ℤ◌, unsigned_abs}
+use Rattle.std.specs.Prelude.{ℕ, ◌==◌, ◌||◌, ◌&&◌, Bool, true, false, not, if◌then◌else◌, List, [], ◌∷◌, map, Option, Some, None, is_none, ℤ, ◌-ℤ◌, unsigned_abs}
 use Rattle.std.specs.List.{list_any}
 use Rattle.std.specs.Option.{option_and_then, option_map, option_map_or}
 use Rattle.gptp_accuracy.specs.TimeErrors.{root_is_capable}

@@ -1,5 +1,5 @@
 -- How far the times of told sources differ (profile). A source is told where a live system reads by it.
-use Rattle.std.specs.Prelude.{ℕ, ◌==◌, ◌<◌, ◌^◌, nat_lt, Bool, if◌then◌else◌, List, [], ◌∷◌, Option, Some, None, ℤ, ◌-ℤ◌, int_lt, unsigned_abs}
+use Rattle.std.specs.Prelude.{ℕ, ◌==◌, ◌<◌, ◌^◌, nat_lt, if◌then◌else◌, List, [], ◌∷◌, Option, Some, None, ◌-ℤ◌, int_lt, unsigned_abs}
 use Rattle.std.specs.Option.{option_and_then, option_map}
 use Rattle.gptp_model.specs.World.{WorldState}
 use Rattle.gptp_timeline.specs.Readings.{clock_time}

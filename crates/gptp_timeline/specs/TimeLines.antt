@@ -1,5 +1,5 @@
 -- The lines of what systems read (profile).
-use Rattle.std.specs.Prelude.{ℕ, ◌-◌, List, [], ◌∷◌, ◌++◌, codes, Option, Some, None, ℤ}
+use Rattle.std.specs.Prelude.{ℕ, ◌-◌, List, ◌++◌, codes, Option, Some, None, ℤ}
 use Rattle.std.specs.Fmt.{decimal}
 use Rattle.gptp_accuracy.specs.AccuracyText.{error_text, reading_at}
 use Rattle.gptp_accuracy.specs.declared.errors.SystemError.{SystemError}

@@ -10,6 +10,8 @@ use Rattle.gptp_model.specs.declared.done.Done.TheVariants.{Heard, Quiet}
 use Rattle.gptp_graph.specs.Order.{IsRising}
 use Rattle.gptp_scenario.specs.declared.change.Act.{Act}
 use Rattle.gptp_scenario.specs.declared.change.Act.TheVariants.{Change as Changing, Deliver, Expire}
+use Rattle.gptp_setup.specs.declared.timer.Timer.{Timer}
+use Rattle.gptp_setup.specs.declared.timer.Timer.TheVariants.{Sync}
 use Rattle.gptp_system.specs.State.{SystemState}
 use Rattle.gptp_timeline.specs.Changes.{change_lines}
 use Rattle.gptp_timeline.specs.EventLine.{event_line}
@@ -242,6 +244,16 @@ abbrev pub times_lines_if : ℕ → Act → Done → WorldState → Option TimeS
 times_lines_if at act done w None = []
 times_lines_if at act done w (Some times) = times_lines at act done w times
 
+-- a Sync timer expires
+abbrev pub is_sync : Timer → Bool
+is_sync Sync = true
+is_sync timer = false
+
+abbrev pub is_sync_expiry : Act → Bool
+is_sync_expiry (Deliver link direction) = false
+is_sync_expiry (Expire clock timer) = is_sync timer
+is_sync_expiry (Changing change) = false
+
 -- it is looked at what an act left
 abbrev pub TellsSeen : Told → WorldState → WatchState → WatchState → List (List ℕ) → Type 0
 TellsSeen told w o o_after lines =
@@ -250,10 +262,11 @@ TellsSeen told w o o_after lines =
     × (lines ≡ seen_lines told.timed.at told.timed.act told.done w o
     ++ times_lines_if told.timed.at told.timed.act told.done w o.times)
 
--- it isn't, where the act leaves all that is shown as it was, and there is no account
+-- it isn't, where the act leaves all that is shown as it was, and a system can take over by none such but an expiry of
+-- its Sync timer
 pub record PassesOver (act : Act) (done : Done) (o : WatchState) : Type 0 where
   pub leaves : LeavesAll act done
-  pub untimed : o.times ≡ None
+  pub untimed : (o.times ≡ None) ⊎ (is_sync_expiry act ≡ false)
 
 abbrev pub TellsNone : Told → WatchState → WatchState → List (List ℕ) → Type 0
 TellsNone told o o_after lines = PassesOver told.timed.act told.done o × (o_after ≡ o) × (lines ≡ [])

@@ -1,6 +1,6 @@
 //! What systems read from their first receipts on that count by themselves.
 
-ghost use Rattle.std.specs.Prelude.{◌≡◌, ◌≤◌, map, option_map, option_and_then, unsigned_abs};
+ghost use Rattle.std.specs.Prelude.{◌≡◌, ◌≤◌, map, option_map, unsigned_abs};
 ghost use Rattle.gptp_timeline.specs.ExactReads.{counts_new, greater_of, later_of, reads_among, reads_ended, reads_next, reads_with, without_reads};
 ghost use Rattle.gptp_timeline.specs.Looks.{error_before};
 ghost use Rattle.gptp_timeline.specs.Readings.{reading_error};

@@ -1,7 +1,7 @@
 //! What is looked at of what systems read, and what is measured of it.
 
-ghost use Rattle.std.specs.Prelude.{◌≡◌, ◌≤◌, ◌<◌, ◌^◌, [], IfSome, unsigned_abs};
-ghost use Rattle.gptp_timeline.specs.Looks.{apart, apart_errors, apart_sources, change_if, changed_after, error_before, error_in, listed, looked_all, looked_difference, looked_each, looked_error, looked_new, looked_step, measured_with, nothing_read, told_if};
+ghost use Rattle.std.specs.Prelude.{◌≡◌, ◌≤◌, ◌<◌, ◌^◌, IfSome, unsigned_abs};
+ghost use Rattle.gptp_timeline.specs.Looks.{apart, apart_errors, apart_sources, change_if, changed_after, error_before, error_in, listed, looked_all, looked_difference, looked_each, looked_error, looked_new, looked_step, measured_with, told_if};
 ghost use Rattle.gptp_timeline.specs.Readings.{changes_source};
 
 use crate::extremes::{Extremes, extremes_with};

@@ -1,12 +1,10 @@
 //! What became of a stretch: the line where it ends.
 
-ghost use Rattle.std.specs.Prelude.{◌≡◌, ◌≢◌, ◌≤◌, ◌++◌, ◌∷◌, ◌-◌, [], IfOk, OnOk, Some, None, is_some, map, option_map, slice_get, string_bytes};
+ghost use Rattle.std.specs.Prelude.{◌≡◌, ◌≤◌, ◌++◌, ◌∷◌, ◌-◌, [], IfOk, OnOk, Some, None, string_bytes};
 ghost use Rattle.std.specs.List.{filter_map, flat_map};
-ghost use Rattle.std.specs.Option.{option_map};
 ghost use Rattle.gptp_words.specs.Lines.{text_of};
 ghost use Rattle.gptp_timeline.specs.Limits.{amount_of};
 ghost use Rattle.gptp_timeline.specs.Measures.{greatest_from};
-ghost use Rattle.gptp_timeline.specs.Stretch.{shown_of_all};
 ghost use Rattle.gptp_timeline.specs.Timeline.{reads_kept};
 ghost use Rattle.gptp_timeline.specs.Watch.{WatchedRise};
 ghost use Rattle.gptp_timeline.specs.StretchText.{accuracy_line, after_line, behind, bound_words, changed_words, counted_words, ended_stretch, error_among, exact_words, greatest_words, system_accuracy, wait_of};

@@ -9,7 +9,7 @@ ghost use Rattle.gptp_timeline.specs.Stretch.{is_change};
 use crate::exact_reads::{
     ExactReads, SystemReads, amount_of, clear_reads, reads_among, reads_ended, take_reads,
 };
-use crate::looks::{NOTHING_READ, TimeMeasures, error_by, look_at_all, look_at_new, told_if};
+use crate::looks::{NOTHING_READ, TimeMeasures, look_at_all, look_at_new, told_if};
 use crate::readings::{
     NewReading, SystemReading, changes_source, failed_by, new_reading, put_reading, reading_among,
     reading_error,
@@ -124,7 +124,7 @@ impl TimeWatch {
     ghost use Rattle.gptp_model.specs.Views.{rising_clocks};
     ghost use Rattle.gptp_words.specs.Lines.{text_of};
     ghost use Rattle.gptp_timeline.specs.ExactReads.{ended_reads, unread};
-    ghost use Rattle.gptp_timeline.specs.Looks.{left_after, looked_all, looked_by, measured_with, nothing_read};
+    ghost use Rattle.gptp_timeline.specs.Looks.{left_after, looked_all, measured_with, nothing_read};
     ghost use Rattle.gptp_timeline.specs.Readings.{no_reading, reading_among, reading_error, without_failed};
     ghost use Rattle.gptp_timeline.specs.TimeWatch.{reading_lines, times_after, times_begun, times_lines, times_with};
 

@@ -1,8 +1,7 @@
 //! The timeline of a document.
 
-ghost use Rattle.std.specs.Prelude.{◌≡◌, ◌≢◌, ◌≤◌, ◌++◌, ◌⊎◌, List, [], ℕ, IfErr, IfOk, OnErr, OnOk, drop, length, string_bytes, take};
+ghost use Rattle.std.specs.Prelude.{◌≡◌, ◌≢◌, ◌≤◌, ◌++◌, List, [], ℕ, IfErr, IfOk, OnErr, OnOk, drop, length, string_bytes, take};
 ghost use Rattle.std.specs.Io.KnownBytes.{Appends};
-ghost use Rattle.std.specs.List.{flat_map};
 ghost use Rattle.gptp_model.specs.Course.{Begun};
 ghost use Rattle.gptp_model.specs.Prompt.{AllDelaysFitIntervals};
 ghost use Rattle.gptp_model.specs.Views.{rising_clocks};

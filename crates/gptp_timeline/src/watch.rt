@@ -5,7 +5,7 @@ ghost use Rattle.gptp_model.specs.Views.{rising_clocks};
 ghost use Rattle.gptp_words.specs.Lines.{text_of};
 ghost use Rattle.gptp_timeline.specs.Measures.{one_at};
 ghost use Rattle.gptp_timeline.specs.TimeWatch.{times_after, times_begun};
-ghost use Rattle.gptp_timeline.specs.Watch.{counts_from, times_lines_if, unseen, without_error};
+ghost use Rattle.gptp_timeline.specs.Watch.{counts_from, is_sync_expiry, times_lines_if, unseen, without_error};
 
 use crate::changes::write_changes;
 use crate::event_line::write_event;
@@ -20,6 +20,7 @@ use gptp_report::sink::Sink;
 use gptp_report::{Cut, Observer, write_whole};
 use gptp_scaled::ScaledNs;
 use gptp_scenario::Change;
+use gptp_setup::Timer;
 use gptp_system::System;
 use gptp_vector::ClockId;
 use gptp_world::{Act, Done, Timed, World};
@@ -28,7 +29,7 @@ use std::marker::Model;
 
 /// An observer that writes a line for each event, for each system and port that an act left another, and for each
 /// receipt of time, where they are asked for, and measures what became of a stretch. It passes over acts that leave all
-/// that is shown as it was. It is seen as what it keeps.
+/// that is shown as it was, and by which no system gets a reading. It is seen as what it keeps.
 #[derive(Drop)]
 pub(crate) struct Watch {
     // Whether events and changes are left out.
@@ -144,6 +145,19 @@ fn clear_errors(systems: &mut Vec<Watched>)
     }
 }
 
+/// Whether a Sync timer expires by an act.
+fn is_sync_expiry(act: &Act) -> bool
+    ensures { result ≡ is_sync_expiry act.now }
+{
+    match act {
+        Act::Expire { clock: _, timer } => match timer {
+            Timer::Sync => true,
+            _ => false,
+        },
+        _ => false,
+    }
+}
+
 /// A stretch begins in the account, where there is one.
 fn begin_times(times: &mut Option<TimeWatch>, exact_from: Option<u64>, events: usize)
     ensures { times.new ≡ option_map (times_begun exact_from events) times.old }
@@ -247,14 +261,14 @@ impl Watch {
         &self.times
     }
 
-    /// Whether an act is passed over: it leaves all that is shown as it was, and there is no account.
+    /// Whether an act is passed over: it leaves all that is shown as it was, and no system gets a reading by it.
     fn passes_over(&self, act: &Act, done: &Done) -> bool
         ensures { result ≡ true → PassesOver act.now done.now self.now }
     {
-        match self.times {
-            Some(_) => false,
-            None => leaves_all(act, done),
+        if self.times.is_some() && is_sync_expiry(act) {
+            return false;
         }
+        leaves_all(act, done)
     }
 
     /// Sees what an act does to what systems read.

@@ -1,5 +1,5 @@
 -- The closure gives a system's clock.
-use Rattle.std.proofs.Common.{◌≡◌, ℕ, Ok, Err, length, map, option_map, Option, Result, slice_set, unsigned_abs, rules, refl, ◌∙◌, ap, sym, subst}
+use Rattle.std.proofs.Common.{◌≡◌, ℕ, Ok, length, map, option_map, Option, Result, slice_set, unsigned_abs, rules, ◌∙◌, ap, sym, subst}
 use Rattle.std.specs.List.Sorted.{IsBinarySearchResult, IsSearchInRange}
 use Rattle.std.specs.Ordering.{nat_cmp}
 use Rattle.std.proofs.lemmas.List.Sorted.{answers_always}

@@ -1,4 +1,4 @@
-use Rattle.std.proofs.Common.{◌≡◌, ap, ◌∙◌}
+use Rattle.std.proofs.Common.{ap, ◌∙◌}
 use Rattle.gptp_timeline.specs.Looks.{looked_difference, looked_each, measured_with}
 use Rattle.gptp_timeline.proofs.looks.look_at_all.Goals as goal
 

@@ -1,6 +1,3 @@
-use Rattle.std.proofs.Common.{◌≡◌, ap, ◌∙◌}
-use Rattle.gptp_timeline.specs.Looks.{error_before, looked_difference, looked_error, looked_step, measured_with}
-use Rattle.gptp_timeline.specs.Readings.{reading_error, step_in}
 use Rattle.gptp_timeline.proofs.LookedLemmas.{new_measured}
 use Rattle.gptp_timeline.proofs.looks.look_at_new.Goals as goal
 

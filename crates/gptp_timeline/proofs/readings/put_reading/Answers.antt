@@ -1,5 +1,5 @@
 -- The closure gives a system's clock.
-use Rattle.std.proofs.Common.{◌≡◌, ℕ, Ok, Err, length, map, Result, slice_set, rules, refl, ◌∙◌, ap, sym, subst}
+use Rattle.std.proofs.Common.{◌≡◌, ℕ, Ok, length, map, Result, slice_set, rules, ◌∙◌, ap, sym, subst}
 use Rattle.std.specs.List.Sorted.{IsBinarySearchResult, IsSearchInRange}
 use Rattle.std.specs.Ordering.{nat_cmp}
 use Rattle.std.proofs.lemmas.List.Sorted.{answers_always}

@@ -1,6 +1,4 @@
-use Rattle.std.proofs.Common.{◌≡◌, map, sym, subst}
-use Rattle.gptp_model.specs.Views.{rising_clocks}
-use Rattle.gptp_timeline.specs.ExactReads.{unread}
+use Rattle.std.proofs.Common.{sym, subst}
 use Rattle.gptp_timeline.specs.TimeWatch.{AreRising}
 use Rattle.gptp_timeline.proofs.NameLemmas.{first_rise}
 use Rattle.gptp_timeline.proofs.time_watch.TimeWatch.new.Goals as goal

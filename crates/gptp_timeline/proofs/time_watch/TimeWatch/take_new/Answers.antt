@@ -1,4 +1,4 @@
-use Rattle.std.proofs.Common.{◌≡◌, ℕ, Some, Option, option_map, refl, subst, sym, unsigned_abs}
+use Rattle.std.proofs.Common.{Some, option_map, refl, subst, sym, unsigned_abs}
 use Rattle.gptp_timeline.specs.ExactReads.{counts_new, reads_next}
 use Rattle.gptp_timeline.specs.Looks.{error_before}
 use Rattle.gptp_timeline.specs.Readings.{reading_error}

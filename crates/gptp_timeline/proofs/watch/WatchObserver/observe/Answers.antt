@@ -1,4 +1,4 @@
-use Rattle.std.proofs.Common.{◌≡◌, ◌++◌, [], inl, inr, ap, ◌∙◌, refl, subst}
+use Rattle.std.proofs.Common.{◌++◌, [], inl, inr, ap, ◌∙◌, refl, subst}
 use Rattle.std.specs.Io.KnownBytes.{Appends}
 use Rattle.std.specs.Prelude.{string_bytes}
 use Rattle.gptp_sink.specs.Sink.{AppendsSome}
