@@ -1,24 +1,22 @@
 -- A document in which a case fails and comes back can be played.
-use Rattle.std.proofs.Common.{◌≡◌, ◌⊎◌, ◌≤◌, ◌||◌, ◌&&◌, ◌==◌, ℕ, zero, suc, Bool, true, false, if◌then◌else◌, List, [], ◌∷◌, ◌++◌, Option, Some, None, filter_map, map, slice_get, refl, sym, ap, subst, ◌∙◌, inl, inr, arith}
+use Rattle.std.proofs.Common.{◌≡◌, ◌≤◌, ◌||◌, ◌==◌, ℕ, Bool, true, false, if◌then◌else◌, List, [], ◌∷◌, Option, Some, None, filter_map, map, refl, sym, ap, subst, ◌∙◌, inl, inr, arith}
 use Rattle.std.specs.List.{list_any}
 use Rattle.std.proofs.lemmas.Bool.Decides.{nat_tests}
 use Rattle.std.proofs.lemmas.Option.{same_Some}
-use Rattle.gptp_graph.specs.Snapshot.{Link, Snapshot}
+use Rattle.gptp_graph.specs.Snapshot.{Snapshot}
 use Rattle.gptp_invariants.specs.WorldEncodableLaws.{SetsAnOctet}
 use Rattle.gptp_lists.specs.Members.{In}
 use Rattle.gptp_lists.proofs.SystemSpecLemmas.{from_map, In-parts}
 use Rattle.gptp_lists.proofs.PlaceLemmas.{behind}
 use Rattle.gptp_network.specs.Adding.{with_event}
 use Rattle.gptp_network.specs.Document.{DocumentState}
-use Rattle.gptp_network.specs.Events.{AreEvents, IsPossibleChange}
-use Rattle.gptp_network.specs.Links.{port_numbered}
+use Rattle.gptp_network.specs.Events.{IsPossibleChange}
 use Rattle.gptp_network.specs.Snapshot.{joins_two, link_of}
 use Rattle.gptp_network.proofs.EventLemmas.{event_added}
 use Rattle.gptp_network.proofs.SnapshotLemmas.{clock_after, from_filter, from_filter_map}
 use Rattle.gptp_scenario.specs.Calm.{last_change}
-use Rattle.gptp_scenario.specs.Change.{joined_after, link_after, live_after, system_after}
+use Rattle.gptp_scenario.specs.Change.{live_after, system_after}
 use Rattle.gptp_scenario.specs.Network.{members_have_clock, is_taken, same_port}
-use Rattle.gptp_scenario.specs.declared.change.Act.{Act}
 use Rattle.gptp_scenario.specs.declared.change.Act.TheVariants as acts
 use Rattle.gptp_scenario.specs.declared.change.Change.{Change}
 use Rattle.gptp_scenario.specs.declared.change.Timed.{Timed}

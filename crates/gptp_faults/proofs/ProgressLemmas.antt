@@ -1,5 +1,5 @@
 -- How many cases belong to a part, and what is told of them as they begin.
-use Rattle.std.proofs.Common.{◌≡◌, ◌+◌, ◌++◌, ◌∷◌, [], ℕ, suc, Bool, true, false, cond, not, List, Option, length, refl, sym, ap, subst, ◌∙◌, arith}
+use Rattle.std.proofs.Common.{◌≡◌, ◌+◌, ◌++◌, ◌∷◌, [], ℕ, suc, Bool, true, false, cond, List, Option, length, refl, sym, ap, subst, ◌∙◌, arith}
 use Rattle.std.specs.Io.KnownBytes.{Appends}
 use Rattle.std.proofs.lemmas.List.{length-append}
 use Rattle.std.proofs.lemmas.List.Concat.{flat_map-append}
@@ -9,7 +9,7 @@ use Rattle.gptp_words.specs.Lines.{text_of}
 use Rattle.gptp_timeline.specs.Each.{Each}
 use Rattle.gptp_faults.specs.Cases.{AreCases}
 use Rattle.gptp_faults.specs.Faults.{IsTable}
-use Rattle.gptp_faults.specs.Outcomes.{is_of_part, case_numbers, OutcomeState}
+use Rattle.gptp_faults.specs.Outcomes.{is_of_part, case_numbers}
 use Rattle.gptp_faults.specs.Progress.{all_begun, begun, part_begun, part_count, TellsCases}
 use Rattle.gptp_faults.specs.declared.cases.Case.{Case}
 use Rattle.gptp_faults.specs.declared.cases.Planned.{Planned}

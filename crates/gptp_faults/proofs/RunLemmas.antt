@@ -1,5 +1,5 @@
 -- A document gets two events and gives them back; runs by their numbers.
-use Rattle.std.proofs.Common.{◌≡◌, ◌≤◌, ◌<◌, ◌+◌, ◌*◌, ◌/◌, ◌%◌, ◌++◌, ◌∷◌, [], ℕ, zero, suc, List, length, take, refl, sym, ap, ◌∙◌, arith}
+use Rattle.std.proofs.Common.{◌≡◌, ◌≤◌, ◌<◌, ◌*◌, ◌/◌, ◌++◌, ◌∷◌, [], ℕ, List, length, take, refl, ap, arith}
 use Rattle.std.proofs.lemmas.Nat.{div_below}
 use Rattle.gptp_network.specs.Adding.{with_event, with_first}
 use Rattle.gptp_network.specs.Document.{DocumentState}

@@ -1,6 +1,6 @@
 -- Moments are within their bounds, and the last is the latest.
-use Rattle.std.proofs.Common.{◌≡◌, ◌≤◌, ◌<◌, ◌+◌, ◌-◌, ◌*◌, ◌/◌, ◌%◌, ℕ, arith}
-use Rattle.std.proofs.lemmas.Nat.{div-add-mod', div_below, le-div, mul-le}
+use Rattle.std.proofs.Common.{◌≤◌, ◌<◌, ◌-◌, ◌*◌, ◌/◌, ℕ, arith}
+use Rattle.std.proofs.lemmas.Nat.{div-add-mod', le-div, mul-le}
 use Rattle.gptp_faults.specs.Times.{TimesAreBounded, last_moment, moment}
 use Rattle.gptp_faults.specs.declared.times.Times.{Times}
 

@@ -1,4 +1,4 @@
-use Rattle.std.proofs.Common.{◌≡◌, ◌++◌, ◌∷◌, [], List, None, Some, map, option_map, slice_get, take, sym, ap, ◌∙◌}
+use Rattle.std.proofs.Common.{◌≡◌, ◌++◌, ◌∷◌, [], List, Some, map, option_map, slice_get, sym, ap, ◌∙◌}
 use Rattle.gptp_network.specs.Snapshot.{link_of}
 use Rattle.gptp_faults.specs.Cases.{link_case}
 use Rattle.gptp_vector.specs.declared.port.PortId.{PortId}

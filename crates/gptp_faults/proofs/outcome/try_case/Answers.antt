@@ -1,9 +1,9 @@
-use Rattle.std.proofs.Common.{◌≡◌, ◌+◌, arith, rules, subst, ◌∙◌}
+use Rattle.std.proofs.Common.{◌≡◌, arith, rules, subst, ◌∙◌}
 use Rattle.gptp_network.specs.Document.{DocumentState}
 use Rattle.gptp_timeline.specs.Ends.{EndState}
 use Rattle.gptp_faults.specs.Extremes.{greatest_of_two, of_one}
 use Rattle.gptp_faults.specs.Follows.{AreFollows}
-use Rattle.gptp_faults.specs.Runs.{CaseRunEnds, runs_of}
+use Rattle.gptp_faults.specs.Runs.{CaseRunEnds}
 use Rattle.gptp_faults.proofs.OutcomeLemmas.{all_tried, more_tried, one_tried}
 use Rattle.gptp_faults.proofs.outcome.try_case.Goals as goal
 
