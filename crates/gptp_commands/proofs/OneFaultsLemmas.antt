@@ -7,7 +7,6 @@ use Rattle.gptp_links.specs.declared.bounds.Bounds.{Bounds}
 use Rattle.gptp_network.specs.Document.{DocumentState}
 use Rattle.gptp_network.specs.Snapshot.{events_by}
 use Rattle.gptp_network.specs.declared.fault.DocumentFault.{DocumentFault}
-use Rattle.gptp_network.proofs.LawLemmas as network_laws
 use Rattle.gptp_scenario.specs.Network.{NetworkState}
 use Rattle.gptp_determinism.specs.Named.{AnswersOnce, IsNamed}
 use Rattle.gptp_determinism.proofs.CourseLemmas.{begins_once}

@@ -39,7 +39,6 @@ use Rattle.gptp_timeline.specs.Readings.{readings_after}
 use Rattle.gptp_timeline.specs.TimeLines.{reads_words}
 use Rattle.gptp_timeline.specs.Timeline.{AllPass, AreErrorsBy, AreErrorsIf, Carried, IsPassage, StretchTrace, TimelineOf, accuracy_at, all_exceeded, all_lines, carry, exact_time, is_begun, later_than, line_of_times, none_carried, passage_lines, reads_if, start_lines, stretch_of, timeline_accuracy_lines, tracks}
 use Rattle.gptp_timeline.specs.declared.limits.Limits.{Limits}
-use Rattle.gptp_timeline.specs.declared.readings.SystemReading.{SystemReading}
 use Rattle.gptp_timeline.specs.declared.timeline.TimelineOptions.{TimelineOptions}
 use Rattle.gptp_commands.specs.declared.failure.Status.{Status}
 use Rattle.gptp_commands.specs.declared.timeline.TimelineOrder.{TimelineOrder}
@@ -190,7 +189,7 @@ same_exact (Some t) None same = absurd same
 same_exact (Some t) (Some u) (from, systems) = from
 
 -- what systems read
-same_stretch_reads : (asked : Bool) (names : List ℕ) (readings : Option (List SystemReading)) (p q : StretchTrace)
+same_stretch_reads : (asked : Bool) (names : List ℕ) (readings : Option _) (p q : StretchTrace)
     → IsSamePassage p q → (s : SystemError) → reads_if asked names readings p s ≡ reads_if asked names readings q s
 same_stretch_reads false names readings p q k s = refl
 same_stretch_reads true names None p q k s = refl
@@ -202,7 +201,7 @@ same_stretch_reads true names (Some rs) p q k s =
     ∙ (λ i. ended_reads (k.to i) (k.after i) (readings_after q.acts rs)
     (reads_over (exact i) rs (map unread names) q.acts) s.clock))
 
-same_times_if : (readings : Option (List SystemReading)) (p q : StretchTrace) → IsSamePassage p q
+same_times_if : (readings : Option _) (p q : StretchTrace) → IsSamePassage p q
     → option_map (λ rs. measured_times rs (length p.events) p.acts p.to p.after) readings
     ≡ option_map (λ rs. measured_times rs (length q.events) q.acts q.to q.after) readings
 same_times_if None p q k = refl

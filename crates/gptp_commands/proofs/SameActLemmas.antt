@@ -17,16 +17,13 @@ use Rattle.gptp_timeline.specs.Limits.{amount_of}
 use Rattle.gptp_timeline.specs.Measures.{ended_by, greatest, one_at, since_after}
 use Rattle.gptp_timeline.specs.Receipts.{received_by, receiver_clock}
 use Rattle.gptp_timeline.specs.Shown.{is_expecting, same_choice, same_roles, shown}
-use Rattle.gptp_timeline.specs.Stretch.{at_of, counts_for, ended, ended_in, error_at, error_from, error_in, holdover, is_change, last_at, leaves_another, measured, same_known, under_way, waits, waits_after}
+use Rattle.gptp_timeline.specs.Stretch.{at_of, counts_for, ended, ended_in, error_at, error_from, error_in, is_change, last_at, leaves_another, measured, same_known, under_way, waits, waits_after}
 use Rattle.gptp_timeline.specs.ExactReads.{ended_reads, reads_by, reads_over}
 use Rattle.gptp_timeline.specs.Looks.{left_after, looked_all, looked_both, looked_by, looked_in, looked_over, measured_times, measured_with, nothing_read}
-use Rattle.gptp_timeline.specs.Readings.{by_expiry, by_receipt, new_in, new_reading, read_after, readings_after, readings_by}
+use Rattle.gptp_timeline.specs.Readings.{by_receipt, new_in, new_reading, read_after, readings_after, readings_by}
 use Rattle.gptp_timeline.specs.TimeWatch.{reading_lines}
 use Rattle.gptp_timeline.specs.Timeline.{act_lines, acts_lines, Carried, carry, event_lines, offset_lines, stretch_reading_lines}
 use Rattle.gptp_timeline.specs.Watch.{unless}
-use Rattle.gptp_timeline.specs.declared.exact_reads.SystemReads.{SystemReads}
-use Rattle.gptp_timeline.specs.declared.readings.NewReading.{NewReading}
-use Rattle.gptp_timeline.specs.declared.readings.SystemReading.{SystemReading}
 use Rattle.gptp_timeline.specs.declared.timeline.TimelineOptions.{TimelineOptions}
 
 -- ---- one act
@@ -87,50 +84,46 @@ same_counts name from t u k =
 
 -- ---- what systems read
 
--- the reading that a system gets, by who receives time
-abbrev new_by : Act → Option ℕ → WorldState → List SystemReading → Option NewReading
-new_by (Deliver link direction) received w rs = by_receipt w rs received
-new_by (Expire name timer) received w rs = by_expiry w rs name timer
-new_by (Changing change) received w rs = None
+-- `_` is what gptp_timeline keeps of each system, of types that it doesn't export.
 
-new_is : (act : Act) (done : Done) (w : WorldState) (rs : List SystemReading)
-    → new_reading act done w rs ≡ new_by act (received_by done) w rs
-new_is (Deliver link direction) done w rs = refl
-new_is (Expire name timer) done w rs = refl
-new_is (Changing change) done w rs = refl
+-- the reading that a system gets is the same, whatever else is told
+same_by_done : (act : Act) (done said : Done) (w : WorldState) (rs : _) → SameDone done said
+    → new_reading act done w rs ≡ new_reading act said w rs
+same_by_done (Deliver link direction) done said w rs k = ap (by_receipt w rs) (same_received done said k)
+same_by_done (Expire name timer) done said w rs k = refl
+same_by_done (Changing change) done said w rs k = refl
 
-pub same_new : (rs : List SystemReading) (t u : ActTrace) → IsSameTransition t u → new_in t rs ≡ new_in u rs
+pub same_new : (rs : _) (t u : ActTrace) → IsSameTransition t u → new_in t rs ≡ new_in u rs
 same_new rs t u k =
-    new_is t.told.timed.act t.told.done t.after rs
-    ∙ same_by (λ (timed : Timed) (received : Option ℕ) (w w' : WorldState). new_by timed.act received w' rs) t u k
-    ∙ sym (new_is u.told.timed.act u.told.done u.after rs)
+    same_by_done t.told.timed.act t.told.done u.told.done t.after rs k.done
+    ∙ (λ i. new_reading (k.timed i).act u.told.done (k.after i) rs)
 
-pub same_read : (rs : List SystemReading) (t u : ActTrace) → IsSameTransition t u → read_after t rs ≡ read_after u rs
+pub same_read : (rs : _) (t u : ActTrace) → IsSameTransition t u → read_after t rs ≡ read_after u rs
 same_read rs t u k =
     let new = same_new rs t u k in λ i. readings_by (k.timed i).act (new i) rs
 
-same_read_if : (readings : Option (List SystemReading)) (t u : ActTrace) → IsSameTransition t u
+same_read_if : (readings : Option _) (t u : ActTrace) → IsSameTransition t u
     → option_map (read_after t) readings ≡ option_map (read_after u) readings
 same_read_if None t u k = refl
 same_read_if (Some rs) t u k = ap Some (same_read rs t u k)
 
-same_reading_lines : (options : TimelineOptions) (readings : Option (List SystemReading)) (t u : ActTrace)
+same_reading_lines : (options : TimelineOptions) (readings : Option _) (t u : ActTrace)
     → IsSameTransition t u → stretch_reading_lines options readings t ≡ stretch_reading_lines options readings u
 same_reading_lines options None t u k = refl
 same_reading_lines options (Some rs) t u k =
     let new = same_new rs t u k in
     λ i. reading_lines (options.times && options.offsets) (k.timed i).at (k.after i) (new i)
 
-same_readings : (rs : List SystemReading) (ts us : List ActTrace) → SameTransitions ts us
+same_readings : (rs : _) (ts us : List ActTrace) → SameTransitions ts us
     → readings_after ts rs ≡ readings_after us rs
 same_readings rs [] [] k = refl
 same_readings rs [] (u ∷ us) k = absurd k
 same_readings rs (t ∷ ts) [] k = absurd k
 same_readings rs (t ∷ ts) (u ∷ us) (first, rest) =
-    ap (λ (xs : List SystemReading). readings_after ts xs) (same_read rs t u first)
+    ap (readings_after ts) (same_read rs t u first)
     ∙ same_readings (read_after u rs) ts us rest
 
-same_looked : (rs : List SystemReading) (left : ℕ) (ts us : List ActTrace) → SameTransitions ts us
+same_looked : (rs : _) (left : ℕ) (ts us : List ActTrace) → SameTransitions ts us
     → looked_over rs left ts ≡ looked_over rs left us
 same_looked rs left [] [] k = refl
 same_looked rs left [] (u ∷ us) k = absurd k
@@ -146,14 +139,14 @@ same_looked rs left (t ∷ ts) (u ∷ us) (first, rest) =
     ∙ same_looked (read_after u rs) (left_after u.told.timed.act left) ts us rest in
     λ i. looked_both (one i) (later i)
 
-pub same_times : (rs : List SystemReading) (left : ℕ) (ts us : List ActTrace) (to : ℕ) (w : WorldState)
+pub same_times : (rs : _) (left : ℕ) (ts us : List ActTrace) (to : ℕ) (w : WorldState)
     → SameTransitions ts us → measured_times rs left ts to w ≡ measured_times rs left us to w
 same_times rs left ts us to w k =
     let looked = same_looked rs left ts us k in
     let read = same_readings rs ts us k in
     λ i. measured_with (looked_both (looked i) (looked_all to w (read i))) nothing_read
 
-same_reads_over : (from : Option ℕ) (rs : List SystemReading) (xs : List SystemReads) (ts us : List ActTrace)
+same_reads_over : (from : Option ℕ) (rs : _) (xs : _) (ts us : List ActTrace)
     → SameTransitions ts us → reads_over from rs xs ts ≡ reads_over from rs xs us
 same_reads_over from rs xs [] [] k = refl
 same_reads_over from rs xs [] (u ∷ us) k = absurd k
@@ -165,7 +158,7 @@ same_reads_over from rs xs (t ∷ ts) (u ∷ us) (first, rest) =
     ∙ same_reads_over from (read_after u rs) (reads_by from (at_of u) u.after (new_in u rs) xs) ts us rest
 
 -- what a system read where a stretch ends
-pub same_ended_reads : (from : Option ℕ) (rs : List SystemReading) (xs : List SystemReads) (ts us : List ActTrace)
+pub same_ended_reads : (from : Option ℕ) (rs : _) (xs : _) (ts us : List ActTrace)
     (to : ℕ) (w : WorldState) (name : ℕ) → SameTransitions ts us
     → ended_reads to w (readings_after ts rs) (reads_over from rs xs ts) name
     ≡ ended_reads to w (readings_after us rs) (reads_over from rs xs us) name
@@ -176,15 +169,14 @@ same_ended_reads from rs xs ts us to w name k =
 
 -- ---- several acts
 
-pub same_acts : (options : TimelineOptions) (names : List ℕ) (readings : Option (List SystemReading))
+pub same_acts : (options : TimelineOptions) (names : List ℕ) (readings : Option _)
     (ts us : List ActTrace) → SameTransitions ts us
     → acts_lines options names readings ts ≡ acts_lines options names readings us
 same_acts options names readings [] [] k = refl
 same_acts options names readings [] (u ∷ us) k = absurd k
 same_acts options names readings (t ∷ ts) [] k = absurd k
 same_acts options names readings (t ∷ ts) (u ∷ us) (first, rest) =
-    let later = ap (λ (rs : Option (List SystemReading)). acts_lines options names rs ts)
-    (same_read_if readings t u first)
+    let later = ap (λ read. acts_lines options names read ts) (same_read_if readings t u first)
     ∙ same_acts options names (option_map (read_after u) readings) ts us rest in
     λ i. (same_act options names t u first i ++ same_reading_lines options readings t u first i) ++ later i
 
@@ -197,7 +189,7 @@ same_waits (t ∷ ts) (u ∷ us) since (first, rest) =
     ap (λ (begun : ℕ → Option ℕ). waits ts begun) (same_wait since t u first)
     ∙ same_waits ts us (waits_after u since) rest
 
-same_readings_if : (readings : Option (List SystemReading)) (ts us : List ActTrace) → SameTransitions ts us
+same_readings_if : (readings : Option _) (ts us : List ActTrace) → SameTransitions ts us
     → option_map (readings_after ts) readings ≡ option_map (readings_after us) readings
 same_readings_if None ts us k = refl
 same_readings_if (Some rs) ts us k = ap Some (same_readings rs ts us k)

@@ -1,7 +1,5 @@
-use Rattle.std.proofs.Common.{◌++◌, ◌&&◌, ◌∙◌, ap, subst}
+use Rattle.std.proofs.Common.{◌++◌, ◌∙◌, ap}
 use Rattle.gptp_words.specs.Lines.{text_of}
-use Rattle.gptp_scenario.specs.Network.{NetworkState}
-use Rattle.gptp_lint.specs.LintText.{AreLines}
 use Rattle.gptp_commands.specs.Failure.{status_by}
 use Rattle.gptp_commands.proofs.lint.tell_findings.Goals as goal
 

@@ -1,4 +1,4 @@
-use Rattle.std.proofs.Common.{sym, ap, subst, ◌∙◌, arith, length-take-le}
+use Rattle.std.proofs.Common.{sym, subst, arith, length-take-le}
 use Rattle.std.proofs.lemmas.Result.{IfOk-weaker}
 use Rattle.gptp_commands.specs.WhereText.{PlaceIsLine}
 use Rattle.gptp_commands.proofs.WhereLemmas.{located_end}

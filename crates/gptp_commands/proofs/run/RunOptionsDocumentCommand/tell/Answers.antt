@@ -1,5 +1,3 @@
-use Rattle.gptp_network.specs.Document.{DocumentState}
-use Rattle.gptp_scenario.specs.Network.{IsNetwork}
 use Rattle.gptp_sink.proofs.SinkLemmas.{after_error}
 use Rattle.gptp_theorem.proofs.OctetLemmas.{documents_playable}
 use Rattle.gptp_commands.proofs.RunSoFarLemmas.{runs_all, runs_some}

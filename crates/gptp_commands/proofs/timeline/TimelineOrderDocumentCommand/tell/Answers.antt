@@ -1,5 +1,4 @@
 use Rattle.std.proofs.Common.{◌≤◌, ◌^◌, [], arith, inl, inr, refl}
-use Rattle.std.proofs.lemmas.Result.{on_err_weaker}
 use Rattle.gptp_theorem.proofs.OctetLemmas.{documents_playable}
 use Rattle.gptp_sink.proofs.SinkLemmas.{after_error, none_of}
 use Rattle.gptp_timeline.proofs.RightLemmas.{timelines_are_right}
