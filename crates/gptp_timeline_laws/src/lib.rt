@@ -7,5 +7,7 @@
 #![tactic(auto)]
 
 mod looks;
+mod moments;
 
 pub use looks::looks_suffice;
+pub use moments::times_bound_moments;
