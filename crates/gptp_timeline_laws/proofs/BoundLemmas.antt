@@ -1,5 +1,5 @@
 -- What is measured of several looks bounds each of them; and what lies between them.
-use Rattle.std.proofs.Common.{◌≡◌, ◌≤◌, ◌+◌, ◌⊎◌, ℕ, ℤ, pos, neg_ℤ, ◌+ℤ◌, ◌-ℤ◌, ◌≤ℤ◌, int_lt, nat_lt, Bool, true, false, List, [], ◌∷◌, ◌++◌, map, Option, Some, None, unsigned_abs, if◌then◌else◌, refl, sym, ap, subst, ◌∙◌, inl, inr, arith}
+use Rattle.std.proofs.Common.{◌≡◌, ◌≤◌, ◌+◌, ℕ, ℤ, pos, neg_ℤ, ◌+ℤ◌, ◌-ℤ◌, ◌≤ℤ◌, int_lt, nat_lt, Bool, true, false, List, [], ◌∷◌, ◌++◌, map, Option, Some, None, unsigned_abs, if◌then◌else◌, refl, sym, ap, subst, inl, inr, arith}
 use Rattle.std.specs.Option.{option_map_or}
 use Rattle.std.proofs.lemmas.Bool.Decides.{nat_tests}
 use Rattle.std.proofs.lemmas.Int.{ints}
@@ -11,7 +11,6 @@ use Rattle.gptp_timeline.specs.Looks.{apart_errors, apart_sources, events_left, 
 use Rattle.gptp_timeline.specs.Measures.{better, greatest_from}
 use Rattle.gptp_timeline.specs.Readings.{clock_time, reading_among, reading_error, readings_after}
 use Rattle.gptp_timeline.specs.Sources.{DifferenceState, wider, widest_from}
-use Rattle.gptp_timeline.specs.declared.looks.TimeMeasures.{TimeMeasures}
 use Rattle.gptp_timeline.specs.declared.measures.Greatest.{Greatest}
 use Rattle.gptp_timeline.specs.declared.readings.KeptReading.{KeptReading}
 use Rattle.gptp_timeline.specs.declared.readings.SystemReading.{SystemReading}

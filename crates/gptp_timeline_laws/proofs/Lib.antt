@@ -5,4 +5,5 @@ pub mod StepLemmas
 pub mod SeenLemmas
 pub mod ToldLemmas
 pub mod BoundLemmas
+pub mod CourseLemmas
 pub mod MomentLemmas

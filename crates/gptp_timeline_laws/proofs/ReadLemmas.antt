@@ -1,5 +1,5 @@
 -- What is kept of what systems read, act by act.
-use Rattle.std.proofs.Common.{◌≡◌, ◌==◌, ◌||◌, ◌<◌, ◌^◌, ◌⊎◌, ℕ, ℤ, ◌+ℤ◌, Bool, true, false, not, List, [], ◌∷◌, map, Option, Some, None, option_map, option_and_then, if◌then◌else◌, refl, sym, ap, subst, ◌∙◌, inl, inr, arith}
+use Rattle.std.proofs.Common.{◌≡◌, ◌==◌, ◌||◌, ℕ, ℤ, ◌+ℤ◌, Bool, true, false, not, List, [], ◌∷◌, map, Option, Some, None, option_map, option_and_then, if◌then◌else◌, refl, sym, ap, subst, ◌∙◌, arith}
 use Rattle.std.specs.Option.{option_map_or}
 use Rattle.std.proofs.lemmas.Bool.Decides.{nat_tests}
 use Rattle.std.proofs.lemmas.Int.{clamps, ints}
@@ -12,7 +12,6 @@ use Rattle.gptp_roles.specs.Selection.{clock_of}
 use Rattle.gptp_scaled.specs.Rate.{FitsRate}
 use Rattle.gptp_scenario.specs.declared.change.Act.{Act}
 use Rattle.gptp_scenario.specs.declared.change.Act.TheVariants.{Change as Changing, Deliver, Expire}
-use Rattle.gptp_setup.specs.declared.timer.Timer.{Timer}
 use Rattle.gptp_setup.specs.declared.timer.Timer.TheVariants as timers
 use Rattle.gptp_system.specs.Reading.{reading_by}
 use Rattle.gptp_system.specs.State.{SystemState}

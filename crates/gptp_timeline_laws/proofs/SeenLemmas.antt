@@ -1,11 +1,11 @@
 -- Each reading of a system is looked at before every moment and after it.
-use Rattle.std.proofs.Common.{◌≡◌, ◌==◌, ◌≤◌, ◌+◌, ◌⊎◌, ◌&&◌, ℕ, ℤ, pos, ◌+ℤ◌, ◌-ℤ◌, ◌≤ℤ◌, Bool, true, false, List, [], ◌∷◌, ◌++◌, Option, Some, None, IfSome, option_map, option_and_then, if◌then◌else◌, refl, sym, ap, subst, ◌∙◌, inl, inr, arith}
+use Rattle.std.proofs.Common.{◌≡◌, ◌==◌, ◌≤◌, ℕ, ℤ, pos, ◌+ℤ◌, ◌-ℤ◌, ◌≤ℤ◌, Bool, true, false, List, [], ◌∷◌, ◌++◌, Option, Some, None, IfSome, option_map, option_and_then, if◌then◌else◌, refl, sym, ap, subst, ◌∙◌, inl, arith}
 use Rattle.std.specs.Option.{option_map_or}
 use Rattle.std.proofs.lemmas.Bool.Decides.{nat_tests}
 use Rattle.std.proofs.lemmas.Int.{ints}
 use Rattle.std.proofs.lemmas.Option.{none-some, same_Some}
 use Rattle.gptp_lists.specs.Members.{In}
-use Rattle.gptp_lists.proofs.SystemSpecLemmas.{In-left, In-parts, In-right}
+use Rattle.gptp_lists.proofs.SystemSpecLemmas.{In-left, In-right}
 use Rattle.gptp_model.specs.World.{WorldState}
 use Rattle.gptp_model.specs.declared.station.Station.{Station}
 use Rattle.gptp_scaled.specs.Rate.{FitsRate}
@@ -14,8 +14,8 @@ use Rattle.gptp_system.specs.Reading.{read_at}
 use Rattle.gptp_system.specs.State.{clock, local_time, SystemState}
 use Rattle.gptp_system.specs.declared.reading.Reading.{Reading}
 use Rattle.gptp_timeline.specs.Extremes.{Look}
-use Rattle.gptp_timeline.specs.Looks.{error_before, error_in, errors_all, events_left, look, look_if, looked_all, looked_both, looked_by, looked_in, looked_over, LookedAt, told_if}
-use Rattle.gptp_timeline.specs.Readings.{changes_source, clock_among, clock_time, new_in, put_reading, read_after, read_by, reading_among, reading_error, readings_after, readings_by}
+use Rattle.gptp_timeline.specs.Looks.{error_before, error_in, errors_all, events_left, look, look_if, looked_all, looked_both, looked_by, looked_in, looked_over, LookedAt}
+use Rattle.gptp_timeline.specs.Readings.{clock_among, new_in, put_reading, read_after, read_by, reading_among, reading_error, readings_after, readings_by}
 use Rattle.gptp_timeline.specs.Sources.{DifferenceState}
 use Rattle.gptp_timeline.specs.Stretch.{at_of}
 use Rattle.gptp_timeline.specs.declared.readings.KeptReading.{KeptReading}

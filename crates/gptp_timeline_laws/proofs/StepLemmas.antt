@@ -1,8 +1,7 @@
 -- Acts that are no events, one after another, and the clocks of systems meanwhile.
-use Rattle.std.proofs.Common.{◌≡◌, ◌==◌, ◌≤◌, ◌+◌, ◌⊎◌, ℕ, zero, suc, ℤ, Bool, true, false, List, [], ◌∷◌, ◌++◌, map, Option, Some, None, option_map, slice_get, if◌then◌else◌, refl, sym, ap, subst, ◌∙◌, arith}
-use Rattle.std.proofs.lemmas.Option.{same_Some}
+use Rattle.std.proofs.Common.{◌≡◌, ◌==◌, ◌≤◌, ℕ, suc, false, List, [], ◌∷◌, ◌++◌, Option, Some, slice_get, if◌then◌else◌, refl, sym, ap, ◌∙◌, arith}
 use Rattle.gptp_invariants.specs.ChoiceCalm.{setups_of}
-use Rattle.gptp_invariants.proofs.ChoiceCalmKeptLemmas.{acts_keep, KeepsNetwork}
+use Rattle.gptp_invariants.proofs.ChoiceCalmKeptLemmas.{acts_keep}
 use Rattle.gptp_links.specs.declared.bounds.Bounds.{Bounds}
 use Rattle.gptp_model.specs.Acts.{at}
 use Rattle.gptp_model.specs.World.{WorldState}
@@ -16,7 +15,7 @@ use Rattle.gptp_roles.specs.Selection.{clock_of}
 use Rattle.gptp_scenario.specs.declared.change.Act.{Act}
 use Rattle.gptp_scenario.specs.declared.change.Timed.{Timed}
 use Rattle.gptp_setup.specs.declared.setup.Setup.{Setup}
-use Rattle.gptp_system.specs.State.{clock, local_time, SystemState}
+use Rattle.gptp_system.specs.State.{clock, local_time}
 use Rattle.gptp_theorem.specs.PlayedLaws.{IsPlayable}
 use Rattle.gptp_timeline.specs.Readings.{clock_among, clock_time}
 use Rattle.gptp_timeline.specs.Stretch.{at_of, is_change}
@@ -86,7 +85,7 @@ world_same w v until since (t ∷ us) vs same steps = world_same w t.after until
 
 -- ---- acts that pass
 
-quiet_next : (item : Item) (act : Act) (w : WorldState) → IsActOf item w act → is_change act ≡ false
+pub quiet_next : (item : Item) (act : Act) (w : WorldState) → IsActOf item w act → is_change act ≡ false
 quiet_next (Arrival link direction) act w is = ap is_change is
 quiet_next (Expiry place timer) act w (station, here, is) = ap is_change is
 
@@ -126,10 +125,13 @@ module _ {F : Type 0} (answers : Bounds → ℕ → F → Option ℕ → F → T
       let first = happens.early in
       let more = passes_step events until (at_of t) ts drawn fate_after base t.after w' next (omega (arith, moment))
       (omega (arith, moment, first)) rest on in (
-        (record {
-          later = omega (arith, late, now);
-          quiet = quiet_next happens.next.item timed.act w happens.next.act;
-          same = next;
-        }, more.0),
+        (
+          record {
+            later = omega (arith, late, now);
+            quiet = quiet_next happens.next.item timed.act w happens.next.act;
+            same = next;
+          },
+          more.0,
+        ),
         more.1,
       )

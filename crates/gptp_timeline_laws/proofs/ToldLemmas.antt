@@ -1,5 +1,5 @@
 -- The sources of systems are looked at together before every moment and after it.
-use Rattle.std.proofs.Common.{◌≡◌, ◌==◌, ◌≤◌, ◌+◌, ◌⊎◌, ◌&&◌, ℕ, ℤ, pos, ◌+ℤ◌, ◌-ℤ◌, ◌≤ℤ◌, int_lt, nat_lt, not, Bool, true, false, List, [], ◌∷◌, ◌++◌, Option, Some, None, IfSome, option_map, option_and_then, unsigned_abs, if◌then◌else◌, refl, sym, ap, subst, ◌∙◌, inl, inr, arith}
+use Rattle.std.proofs.Common.{◌≡◌, ◌==◌, ◌≤◌, ◌+◌, ℕ, ℤ, ◌-ℤ◌, ◌≤ℤ◌, int_lt, nat_lt, not, Bool, true, false, List, [], ◌∷◌, ◌++◌, Option, Some, None, option_map, option_and_then, unsigned_abs, if◌then◌else◌, refl, sym, ap, subst, ◌∙◌, inl, arith}
 use Rattle.std.specs.Option.{option_map_or}
 use Rattle.std.proofs.lemmas.Bool.Decides.{nat_tests}
 use Rattle.std.proofs.lemmas.Int.{ints}
@@ -9,7 +9,7 @@ use Rattle.gptp_lists.proofs.SystemSpecLemmas.{In-left, In-right}
 use Rattle.gptp_model.specs.World.{WorldState}
 use Rattle.gptp_scenario.specs.declared.change.Act.{Act}
 use Rattle.gptp_system.specs.State.{local_time, SystemState}
-use Rattle.gptp_timeline.specs.Looks.{events_left, listed, looked_all, looked_both, looked_by, looked_in, looked_over, LookedAt, told_if}
+use Rattle.gptp_timeline.specs.Looks.{events_left, listed, looked_all, looked_by, looked_in, looked_over, LookedAt, told_if}
 use Rattle.gptp_timeline.specs.Readings.{changes_source, clock_time, new_in, put_reading, read_after, reading_among, readings_after, readings_by}
 use Rattle.gptp_timeline.specs.Sources.{difference_if, difference_of, DifferenceState, ends_from, ends_with, further_ahead, further_behind, source_at, told_difference, told_time}
 use Rattle.gptp_timeline.specs.Stretch.{at_of}
@@ -18,7 +18,6 @@ use Rattle.gptp_timeline.specs.declared.readings.NewReading.{NewReading}
 use Rattle.gptp_timeline.specs.declared.readings.SystemReading.{SystemReading}
 use Rattle.gptp_timeline.specs.declared.sources.Ends.{Ends}
 use Rattle.gptp_timeline.specs.declared.sources.SourceTime.{SourceTime}
-use Rattle.gptp_timeline_laws.specs.Looks.{ahead_by}
 use Rattle.gptp_timeline_laws.specs.Moments.{last_time, next_time}
 use Rattle.gptp_timeline_laws.proofs.LookLemmas.{clock_within}
 use Rattle.gptp_timeline_laws.proofs.ReadLemmas.{is_new, put_other, put_own, put_there, quiet_reads}
@@ -166,7 +165,7 @@ same_source : (before : Option KeptReading) (u : NewReading) → u.before ≡ be
     → (k : KeptReading) × (before ≡ Some k) × (k.source ≡ u.after.source)
 same_source None u is same =
     absurd (let no : true ≡ false =
-        sym (ap (λ b. option_map_or (λ (k : KeptReading). not (k.source == u.after.source)) b true) is) ∙ same in cc)
+    sym (ap (λ b. option_map_or (λ (k : KeptReading). not (k.source == u.after.source)) b true) is) ∙ same in cc)
 same_source (Some k) u is same =
     let test : not (k.source == u.after.source) ≡ false =
     sym (ap (λ b. option_map_or (λ (x : KeptReading). not (x.source == u.after.source)) b true) is) ∙ same in
