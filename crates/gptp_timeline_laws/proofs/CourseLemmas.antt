@@ -16,8 +16,10 @@ use Rattle.gptp_timeline.specs.Looks.{events_left, looked_all, looked_by, looked
 use Rattle.gptp_timeline.specs.Readings.{new_reading, read_after, readings_after, readings_by}
 use Rattle.gptp_timeline.specs.Stretch.{at_of, is_change}
 use Rattle.gptp_timeline.specs.declared.readings.SystemReading.{SystemReading}
+use Rattle.gptp_timeline.proofs.BehindLemmas.{all_both}
+use Rattle.gptp_timeline.proofs.PastLemmas.{PastBy}
 use Rattle.gptp_timeline.proofs.EventLemmas.{Each}
-use Rattle.gptp_timeline.proofs.SettlingLemmas.{IsFitEvent, Keeps, keeps_made}
+use Rattle.gptp_timeline.proofs.SettlingLemmas.{early_makes, IsFitEvent, Keeps, keeps_made}
 use Rattle.gptp_timeline_laws.specs.Moments.{last_time, world_after}
 use Rattle.gptp_timeline_laws.proofs.BoundLemmas.{readings_both}
 use Rattle.gptp_timeline_laws.proofs.SeenLemmas.{good_after, good_first, GoodLooks}
@@ -133,6 +135,7 @@ module _ {F : Type 0} (answers : Bounds → ℕ → F → Option ℕ → F → T
     pub ends : EndsEvents (length es) head
     pub leads : (v : WorldState) → world_after head v ≡ middle
     pub last : (from : ℕ) → last_time from head ≡ middle.time
+    pub soon : (last : ℕ) → PastBy last es → AllByRecursion (λ (t : ActTrace). at_of t ≤ last) head
     pub looks : (low high : ℤ) (most : ℕ) (vs : List ActTrace)
         → GoodLooks low high most (looked_over rs (length es) (head ++ vs))
         → GoodLooks low high most (looked_all middle.time middle (readings_after head rs))
@@ -191,6 +194,11 @@ module _ {F : Type 0} (answers : Bounds → ℕ → F → Option ℕ → F → T
     first_last from =
         ap (last_time from) k.are ∙ last_both from k.first (transition event k.done k.between between) ∙ sym time_is
 
+    first_soon : (last : ℕ) → event.at ≤ last → AllByRecursion (λ (t : ActTrace). at_of t ≤ last) first
+    first_soon last past =
+        early_makes answers d playable names (λ (t : ActTrace). at_of t ≤ last) event first fate drawn w between
+        (λ t by_then. omega (arith, past, by_then)) k
+
     -- where it is the last
     first_looks : (rs : List SystemReading) (low high : ℤ) (most : ℕ) (vs : List ActTrace)
         → GoodLooks low high most (looked_over rs 1 (first ++ vs))
@@ -224,6 +232,7 @@ module _ {F : Type 0} (answers : Bounds → ℕ → F → Option ℕ → F → T
         ends = subst (EndsEvents 1) (append-nil first) (first_ends event first fate drawn w between fits k 0 [] refl);
         leads = first_leads event first fate drawn w between fits k;
         last = first_last event first fate drawn w between fits k;
+        soon = λ last past. first_soon event first fate drawn w between fits k last past.0;
         looks = first_looks event first fate drawn w between fits k rs;
       }
   parts before event (e ∷ es) rs until ts fate fate_after w w' fit keeps (first, rest, drawn, between, k, on, are) =
@@ -242,6 +251,8 @@ module _ {F : Type 0} (answers : Bounds → ℕ → F → Option ℕ → F → T
         ends = first_ends event first fate drawn w between fits k (length (e ∷ es)) more.head more.ends;
         leads = λ v. world_on first more.head v ∙ more.leads (world_after first v);
         last = λ from. last_on from first more.head ∙ more.last (last_time from first);
+        soon = λ last past. all_both (λ (t : ActTrace). at_of t ≤ last) first more.head
+            (first_soon event first fate drawn w between fits k last past.0) (more.soon last past.1);
         looks = λ low high most vs good.
             (let over = good_after low high most rs (suc (length (e ∷ es))) first (more.head ++ vs)
             (subst (λ us. GoodLooks low high most (looked_over rs (suc (length (e ∷ es))) us))

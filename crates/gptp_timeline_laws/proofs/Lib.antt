@@ -7,3 +7,7 @@ pub mod ToldLemmas
 pub mod BoundLemmas
 pub mod CourseLemmas
 pub mod MomentLemmas
+pub mod OriginLemmas
+pub mod HeldLemmas
+pub mod ReadsLemmas
+pub mod ExactLemmas

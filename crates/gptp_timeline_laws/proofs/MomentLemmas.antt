@@ -13,9 +13,10 @@ use Rattle.gptp_scenario.specs.declared.change.Timed.{Timed}
 use Rattle.gptp_theorem.specs.PlayedLaws.{IsPlayable}
 use Rattle.gptp_timeline.specs.Looks.{apart_sources, events_left, looked_all, looked_both, looked_over, LookedAt, measured_times, measured_with, nothing_read}
 use Rattle.gptp_timeline.specs.Readings.{clock_time, no_reading, read_by, reading_among, reading_error, readings_after}
-use Rattle.gptp_timeline.specs.Timeline.{AllPass, Carried, carry, end_before, IsPassage, later_than, none_carried, now_of, stretch_of, StretchTrace, tracks}
+use Rattle.gptp_timeline.specs.Timeline.{AllPass, Carried, carry, end_before, IsPassage, later_than, none_carried, now_of, stretch_of, StretchTrace, TimelineOf, tracks}
 use Rattle.gptp_timeline.specs.declared.looks.TimeMeasures.{TimeMeasures}
 use Rattle.gptp_timeline.specs.declared.readings.SystemReading.{SystemReading}
+use Rattle.gptp_timeline.specs.declared.timeline.TimelineOptions.{TimelineOptions}
 use Rattle.gptp_timeline.proofs.EventLemmas.{Each, filter_each}
 use Rattle.gptp_timeline.proofs.SettlingLemmas.{IsFitEvent, IsLeft, Keeps, keeps_first, keeps_one, left_first, left_next}
 use Rattle.gptp_timeline_laws.specs.Moments.{AreBounds, BeginsWith, greatest_error, last_time, Moment, next_time, ReadsAt, TimesBoundMoments, world_after}
@@ -293,12 +294,21 @@ module _ {F : Type 0} (answers : Bounds → ℕ → F → Option ℕ → F → T
       idle (inl none) are = inl (none rs has)
       idle (inr some) are = inr (subst (λ es. es ≢ []) are some)
 
-pub times_bound_moments : {F : Type 0} (answers : Bounds → ℕ → F → Option ℕ → F → Type 0) → TimesBoundMoments answers
-times_bound_moments answers d until options fate lines exceeded t playable p w c all rs m time moment begins has is =
+-- how a stretch of a timeline begins
+pub timeline_found : {F : Type 0} (answers : Bounds → ℕ → F → Option ℕ → F → Type 0) (d : DocumentState) (until : ℕ)
+    (options : TimelineOptions) (fate : F) (lines : List (List ℕ)) (exceeded : Bool)
+    (t : TimelineOf answers d until options fate lines exceeded) (playable : IsPlayable d) (p : StretchTrace)
+    (w : WorldState) (c : Carried)
+    → BeginsWith t.passages t.start (none_carried (tracks options) (rising_clocks t.start)) p w c
+    → Found answers d playable (rising_clocks t.start) until p w c
+timeline_found answers d until options fate lines exceeded t playable p w c begins =
     let names = rising_clocks t.start in
     let first = first_fit answers d playable names (tracks options) names in
-    bounds_found answers d playable names until p w c all rs m time moment
-    (found answers d playable names until t.passages 0 [] (events_by until d.events) t.started t.fate_after t.start
+    found answers d playable names until t.passages 0 [] (events_by until d.events) t.started t.fate_after t.start
     t.after (none_carried (tracks options) names) p w c (left_first answers d playable names until)
-    (keeps_first answers d playable names fate t.started t.start refl t.begun) t.pass first.0 (inl first.1) begins)
-    has is
+    (keeps_first answers d playable names fate t.started t.start refl t.begun) t.pass first.0 (inl first.1) begins
+
+pub times_bound_moments : {F : Type 0} (answers : Bounds → ℕ → F → Option ℕ → F → Type 0) → TimesBoundMoments answers
+times_bound_moments answers d until options fate lines exceeded t playable p w c all rs m time moment begins has is =
+    bounds_found answers d playable (rising_clocks t.start) until p w c all rs m time moment
+    (timeline_found answers d until options fate lines exceeded t playable p w c begins) has is

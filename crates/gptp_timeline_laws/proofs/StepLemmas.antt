@@ -100,7 +100,7 @@ module _ {F : Type 0} (answers : Bounds → ℕ → F → Option ℕ → F → T
       }
 
   -- where the network stays the clocks do
-  clocks_stay : (events : List Timed) (v w : WorldState) → Keeps answers d playable names events v
+  pub clocks_stay : (events : List Timed) (v w : WorldState) → Keeps answers d playable names events v
       → Keeps answers d playable names events w → setups_of w.stations ≡ setups_of v.stations → SameClocks v w
   clocks_stay events v w before after same name time =
       same_among v.stations w.stations (clocked events v before) (clocked events w after) same name time

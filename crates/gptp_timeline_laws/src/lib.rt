@@ -6,8 +6,10 @@
 //! Each function of this crate is a law: it does nothing, and its contract is a theorem about the definitions.
 #![tactic(auto)]
 
+mod exact;
 mod looks;
 mod moments;
 
+pub use exact::timelines_read_exactly;
 pub use looks::looks_suffice;
 pub use moments::times_bound_moments;
