@@ -143,7 +143,8 @@ module _ {F : Type 0} (answers : Bounds → ℕ → F → Option ℕ → F → T
               }
 
           by : (new : Option NewReading) → new_in t rs ≡ new
-              → Track base (readings_by t.told.timed.act new rs) (reads_by (Some from) (at_of t) t.after new xs) (at_of t)
+              → Track base (readings_by t.told.timed.act new rs) (reads_by (Some from) (at_of t) t.after new xs)
+              (at_of t)
           by None is r there =
               let quiet = quiet_next happens.next.item t.told.timed.act w happens.next.act in
               still (readings_by t.told.timed.act None rs) r
@@ -197,7 +198,8 @@ module _ {F : Type 0} (answers : Bounds → ℕ → F → Option ℕ → F → T
                   absurd (no_takeover answers d playable names events g name from bound has until t fate drawn w happens
                   keeps late early u (sym mine) taken)
               received late mine (inl own) =
-                  let bounded = receipt_bounds answers d playable names events g name from bound has until t fate drawn w
+                  let bounded = receipt_bounds answers d playable names events g name from bound has until t fate
+                  drawn w
                   happens keeps late early u (sym mine) own base same same' in
                   let counts = counts_so from (at_of t) u late own.received in
                   let error : reading_error (at_of t) t.after u.clock u.after
@@ -254,7 +256,7 @@ module _ {F : Type 0} (answers : Bounds → ℕ → F → Option ℕ → F → T
 
     -- ---- acts that pass
 
-    same_on : (t : ActTrace) (until : ℕ) (fate drawn : F) (base w : WorldState)
+    pub same_on : (t : ActTrace) (until : ℕ) (fate drawn : F) (base w : WorldState)
         → Happens answers until t.told fate drawn w t.after → Keeps answers d playable names events w
         → SameClocks base w → SameClocks base t.after
     same_on t until fate drawn base w happens keeps same n time =
@@ -299,7 +301,7 @@ module _ {F : Type 0} (answers : Bounds → ℕ → F → Option ℕ → F → T
 
     -- ---- a stretch
 
-    less_each : (last : ℕ) (ts : List ActTrace) → last < from → AllByRecursion (λ (t : ActTrace). at_of t ≤ last) ts
+    pub less_each : (last : ℕ) (ts : List ActTrace) → last < from → AllByRecursion (λ (t : ActTrace). at_of t ≤ last) ts
         → AllByRecursion (λ (t : ActTrace). at_of t < from) ts
     less_each last [] less each = tt
     less_each last (t ∷ ts) less each =
@@ -373,7 +375,7 @@ module _ {F : Type 0} (answers : Bounds → ℕ → F → Option ℕ → F → T
 
   -- ---- what the errors say
 
-  bound_is : (time later most : ℕ) (errors : TimeErrors) (name from bound : ℕ) (are : AreTimeErrors d time errors)
+  pub bound_is : (time later most : ℕ) (errors : TimeErrors) (name from bound : ℕ) (are : AreTimeErrors d time errors)
       (says : SayBound errors name from bound) → reading_at says.system later ≡ Some most
       → most ≡ error_by_then answers d playable names (events_by time d.events) are.snapshot name from bound
       (has_bound answers d playable names time errors name from bound are says) later
@@ -389,8 +391,8 @@ module _ {F : Type 0} (answers : Bounds → ℕ → F → Option ℕ → F → T
 
 pub timelines_read_exactly : {F : Type 0} (answers : Bounds → ℕ → F → Option ℕ → F → Type 0)
     → TimelinesReadExactly answers
-timelines_read_exactly answers d until options fate lines exceeded t playable early p w c rs errors name from bound worst
-    most r says begins has_readings are reads worst_is most_is =
+timelines_read_exactly answers d until options fate lines exceeded t playable early p w c rs errors name from bound
+    worst most r says begins has_readings are reads worst_is most_is =
     let names = rising_clocks t.start in
     let b = timeline_found answers d until options fate lines exceeded t playable p w c begins in
     let hold : AreErrorsBy d b.from p.to (Some errors) =

@@ -1,7 +1,7 @@
 -- What a near system reads by a receipt, once the time errors of its network hold, is as exact as they say.
-use Rattle.std.proofs.Common.{◌≡◌, ◌==◌, ◌≤◌, ◌+◌, ◌-◌, ◌*◌, ◌^◌, ◌&&◌, ℕ, suc, ℤ, ◌-ℤ◌, Bool, true, false, List, Option, Some, None, option_map, option_and_then, unsigned_abs, refl, sym, ap, subst, ◌∙◌, arith}
+use Rattle.std.proofs.Common.{◌≡◌, ◌==◌, ◌≤◌, ◌+◌, ◌-◌, ◌*◌, ◌^◌, ◌&&◌, ℕ, suc, ℤ, ◌-ℤ◌, Bool, true, false, List, Option, Some, None, option_map, option_and_then, unsigned_abs, refl, sym, ap, subst, ◌∙◌, arith, if◌then◌else◌}
 use Rattle.std.specs.Option.{option_map_or}
-use Rattle.std.specs.Prelude.{is_none}
+use Rattle.std.specs.Prelude.{is_none, IsSome}
 use Rattle.std.proofs.Math.Nat.{mul-le-mul_right}
 use Rattle.std.proofs.lemmas.Bool.Decides.{nat_tests}
 use Rattle.std.proofs.lemmas.Option.{none-some, same_Some}
@@ -26,28 +26,32 @@ use Rattle.gptp_model.specs.declared.done.Done.{Done}
 use Rattle.gptp_model.specs.declared.done.Done.TheVariants.{Heard, Quiet}
 use Rattle.gptp_network.specs.Document.{DocumentState}
 use Rattle.gptp_pdelay.specs.GoodLink.{ceil_div}
+use Rattle.gptp_roles.specs.Selection.{clock_of}
 use Rattle.gptp_scenario.specs.declared.change.Act.{Act}
 use Rattle.gptp_scenario.specs.declared.change.Act.TheVariants.{Change as Changing, Deliver, Expire}
 use Rattle.gptp_scenario.specs.declared.change.Timed.{Timed}
 use Rattle.gptp_setup.specs.SettlingParams.{SettlingParams}
 use Rattle.gptp_sync_machine.specs.Tree.{IsWayTo}
-use Rattle.gptp_system.specs.Reading.{read_at}
+use Rattle.gptp_correction.specs.declared.sync_in.SyncInfo.{SyncInfo}
+use Rattle.gptp_system.specs.Reading.{held_reading, read_at, reading_by}
 use Rattle.gptp_system.specs.State.{clock, local_time, SystemState}
 use Rattle.gptp_system.specs.declared.reading.Reading.{Reading}
 use Rattle.gptp_theorem.specs.Headline.{HasComeDown, UsesFollowUp, WorldIsCalm}
 use Rattle.gptp_theorem.specs.PlayedLaws.{IsPlayable}
 use Rattle.gptp_reading.specs.Reading.{reading}
-use Rattle.gptp_reading.proofs.ExactLemmas.{worlds_read_exactly}
+use Rattle.gptp_reading.proofs.ExactLemmas.{used_shows, worlds_have_readings, worlds_read_exactly}
 use Rattle.gptp_reading.proofs.HeldLemmas.{held_is_read}
-use Rattle.gptp_timeline.specs.Readings.{clock_time, read_by, reading_error}
+use Rattle.gptp_timeline.specs.Readings.{by_receipt, clock_time, gets, new_in, new_reading, read_by, reading_among, reading_error, received_from, received_reading}
 use Rattle.gptp_timeline.specs.Receipts.{is_follow_up, received_by}
 use Rattle.gptp_timeline.specs.Shown.{live_system}
-use Rattle.gptp_timeline.specs.Stretch.{at_of}
+use Rattle.gptp_timeline.specs.Stretch.{at_of, receives}
+use Rattle.gptp_timeline.specs.declared.readings.SystemReading.{SystemReading}
+use Rattle.gptp_timeline.proofs.ShownLemmas.{found}
 use Rattle.gptp_timeline.specs.declared.readings.KeptReading.{KeptReading}
 use Rattle.gptp_timeline.specs.declared.readings.NewReading.{NewReading}
 use Rattle.gptp_timeline.proofs.HeardLemmas.{heard_follow_up, receipt_of, receives_by}
 use Rattle.gptp_timeline.proofs.RestLemmas.{lives_there, shows_live, stands_there}
-use Rattle.gptp_timeline.proofs.SettlingLemmas.{Keeps}
+use Rattle.gptp_timeline.proofs.SettlingLemmas.{Keeps, keeps_act}
 use Rattle.gptp_timeline.proofs.WayLemmas.{way_there}
 use Rattle.gptp_timeline.proofs.WithinLemmas.{alike, all, calm, far, has_best, HasBound, near, paths_bounded, rest, same, size_within, well}
 use Rattle.gptp_timeline_laws.proofs.OriginLemmas.{IsReceived, IsTakenOver, live_time}
@@ -67,7 +71,8 @@ uses_follow_up name time (Deliver link direction) w draws (Heard number port ans
     let (receipt, same) = receipt_of name number answer frame.items own in
     let d = k.delivers in
     let (m, reads) = heard_follow_up d.place (to direction d.channel).port k.octets (record (at time w) { net = d.net })
-    draws k.answer w' d.hears (sym tells ∙ receipt.used) (subst (λ o. is_follow_up o ≡ true) octets receipt.follow_up) in
+    draws k.answer w' d.hears (sym tells ∙ receipt.used) (subst (λ o. is_follow_up o ≡ true) octets
+    receipt.follow_up) in
     (same, receipt.used, (m, subst (λ o. Reads o (messages.FollowUp m)) (sym octets) reads))
 uses_follow_up name time (Expire number timer) w draws done w' (quiet, more) told =
     absurd (none-some name (sym (ap received_by quiet) ∙ told))
@@ -89,6 +94,35 @@ error_grows way steps soon late less =
     ≤ (late + jitter_at way steps) * rates_error_at way steps =
     mul-le-mul_right (rates_error_at way steps) (omega (arith, less)) in
     adds (time_error_at way (suc steps)) _ _ (ceil_more _ _ product)
+
+-- what a receipt leaves is read
+
+held_some : (s : SystemState) → IsSome (reading s 0) → (r : Reading) × (held_reading s ≡ Some r)
+held_some s some = by s.known s.offset some
+  where
+    by : (known : Option SyncInfo) (offset : Option ℤ)
+        → IsSome (option_and_then (λ k. option_map (λ o. read_at (reading_by s k o) (local_time s 0)) offset) known)
+        → (r : Reading) × (option_and_then (λ k. option_map (λ o. reading_by s k o) offset) known ≡ Some r)
+    by None offset some = absurd cc
+    by (Some k) None some = absurd cc
+    by (Some k) (Some o) some = (reading_by s k o, refl)
+
+read_by_receipt : (act : Act) (w : WorldState) (draws : List Draw) (done : Done) (w' : WorldState)
+    (rs : List SystemReading) (name : ℕ) (s : SystemState) (r : Reading) → Acts act w draws done w'
+    → received_by done ≡ Some name → live_system name w' ≡ Some s → held_reading s ≡ Some r
+    → (u : NewReading) × (new_reading act done w' rs ≡ Some u) × (u.clock ≡ name)
+read_by_receipt (Deliver link direction) w draws done w' rs name s r k told lives held = (
+  gets name true (reading_among rs name) (received_from (clock_of s.root) r),
+  ap (by_receipt w' rs) told
+      ∙ ap (λ l. option_map (gets name true (reading_among rs name)) (option_and_then received_reading l)) lives
+      ∙ ap (λ h. option_map (gets name true (reading_among rs name))
+      (option_map (received_from (clock_of s.root)) h)) held,
+  refl,
+)
+read_by_receipt (Expire number timer) w draws done w' rs name s r (quiet, more) told lives held =
+    absurd (none-some name (sym (ap received_by quiet) ∙ told))
+read_by_receipt (Changing change) w draws done w' rs name s r (quiet, more) told lives held =
+    absurd (none-some name (sym (ap received_by quiet) ∙ told))
 
 -- ---- an act once the errors hold
 
@@ -120,7 +154,8 @@ module _ {F : Type 0} (answers : Bounds → ℕ → F → Option ℕ → F → T
 
     world_calm : WorldIsCalm pace w
     world_calm =
-        let c = (calm answers d playable names events g name from bound has until t fate drawn w happens keeps late).0 in
+        let c = (calm answers d playable names events g name from bound has until t fate drawn w happens keeps
+        late).0 in
         record {
           of = c.set;
           links = λ link member used.
@@ -131,8 +166,28 @@ module _ {F : Type 0} (answers : Bounds → ℕ → F → Option ℕ → F → T
 
     come_down : HasComeDown pace (path_bound g) (suc has.steps) (at_of t) w
     come_down =
-        let c = (calm answers d playable names events g name from bound has until t fate drawn w happens keeps late).0 in
+        let c = (calm answers d playable names events g name from bound has until t fate drawn w happens keeps
+        late).0 in
         let passed = c.late in omega (arith, passed)
+
+    leads_there : (phase : ℕ → ℕ)
+        × IsWayTo (follower_parts pace.params w) (snapshot_of w) (suc has.steps) name has.way phase
+    leads_there =
+        let claimed = keeps.claimed.world in
+        let (phase, leads) = way_there d.network playable.network events w keeps.stands claimed.sound claimed.encodable
+        g (alike answers d playable names events g name from bound has until t fate drawn w happens keeps late)
+        (suc has.steps) name has.way
+        (well answers d playable names events g name from bound has until t fate drawn w happens keeps late) has.far
+        has.leads in (
+          phase,
+          subst (λ (p : SettlingParams). IsWayTo (follower_parts p.params w) (snapshot_of w) (suc has.steps) name
+              has.way phase)
+              (sym (calm answers d playable names events g name from bound has until t fate drawn w happens keeps
+              late).1) leads,
+        )
+
+    in_time : at_of t ≤ 10 ^ 18
+    in_time = let soon = happens.early in omega (arith, soon, early)
 
     -- its system doesn't take over: it has a Slave port
     pub no_takeover : (u : NewReading) → u.clock ≡ name → IsTakenOver t.after u → ⊥
@@ -141,7 +196,8 @@ module _ {F : Type 0} (answers : Bounds → ℕ → F → Option ℕ → F → T
         subst (λ n. live_system n t.after ≡ Some taken.own) named taken.lives in
         let rests = rest answers d playable names events g name from bound has until t fate drawn w happens keeps late
         taken.own lives in
-        let none : taken.own.slave ≡ None = none_is taken.own.slave (and_first (is_none taken.own.slave) _ taken.sends) in
+        let none : taken.own.slave ≡ None = none_is taken.own.slave (and_first (is_none taken.own.slave) _
+        taken.sends) in
         let (x, member, clock_is, ports, is_named) = stands_there t.after name taken.own lives in
         let (l, parent) = parent_exists (snapshot_of w) name has.steps
         (well answers d playable names events g name from bound has until t fate drawn w happens keeps late)
@@ -167,30 +223,21 @@ module _ {F : Type 0} (answers : Bounds → ℕ → F → Option ℕ → F → T
         within : (time : ℕ) (error : ℤ) → at_of t ≤ time → reading_error time base name u.after ≡ Some error
             → unsigned_abs error ≤ error_by_then (time - at_of t)
         within time error behind is =
-            let b = has_best answers d playable names events g name from bound has until t fate drawn w happens keeps late
+            let b = has_best answers d playable names events g name from bound has until t fate drawn w happens keeps
+            late
             r.own lives in
             let own = keeps.claimed.world.sound.wired.clocks in
             let (root, leads) = lives_there w b.best.clock b.best own b.is_best.live refl in
             let later : ℕ = time - at_of t in
             let sum : at_of t + later ≡ time = omega (arith, behind) in
-            let moment : at_of t ≤ 10 ^ 18 = (let in_time = happens.early in omega (arith, in_time, early)) in
-            let claimed = keeps.claimed.world in
-            let ways = way_there d.network playable.network events w keeps.stands claimed.sound claimed.encodable g
-            (alike answers d playable names events g name from bound has until t fate drawn w happens keeps late)
-            (suc has.steps) name has.way
-            (well answers d playable names events g name from bound has until t fate drawn w happens keeps late) has.far
-            has.leads in
-            let leads_to : IsWayTo (follower_parts pace.params w) (snapshot_of w) (suc has.steps) name has.way ways.0 =
-            subst (λ (p : SettlingParams). IsWayTo (follower_parts p.params w) (snapshot_of w) (suc has.steps) name
-            has.way ways.0)
-            (sym (calm answers d playable names events g name from bound has until t fate drawn w happens keeps late).1)
-            ways.1 in
             let read : ℤ = read_at r.reading (local_time r.own time) in
             let shown : ℤ = local_time root time in
             let exact = worlds_read_exactly answers t.told.timed fate drawn w t.after t.told.done
             (all answers d playable names events g name from bound has until t fate drawn w happens keeps late)
-            happens.was_done moment pace (path_bound g) has.steps name later (error_by_then later) read shown world_calm
-            (paths_bounded answers d playable names events g name from bound has until t fate drawn w happens keeps late)
+            happens.was_done in_time pace (path_bound g) has.steps name later (error_by_then later) read shown
+            world_calm
+            (paths_bounded answers d playable names events g name from bound has until t fate drawn w happens keeps
+            late)
             come_down (record {
               uses = uses_follow_up name (at_of t) t.told.timed.act w happens.was_done.draws t.told.done t.after
                   happens.was_done.acts (r.told ∙ ap Some named);
@@ -199,7 +246,7 @@ module _ {F : Type 0} (answers : Bounds → ℕ → F → Option ℕ → F → T
               is = subst (λ m. reading r.own m ≡ Some read) (sym sum) (held_is_read r.own time r.reading r.held);
             })
             (near answers d playable names events g name from bound has until t fate drawn w happens keeps late)
-            (record { way = has.way; phase = ways.0; leads = leads_to; is = refl })
+            (record { way = has.way; phase = leads_there.0; leads = leads_there.1; is = refl })
             (record {
               best = b.best;
               is_best = b.is_best;
@@ -221,3 +268,38 @@ module _ {F : Type 0} (answers : Bounds → ℕ → F → Option ℕ → F → T
             let error_is : read -ℤ shown ≡ error = same_Some (read -ℤ shown) error (sym found ∙ is) in
             subst (λ z. unsigned_abs z ≤ error_by_then later) error_is
             (size_within (error_by_then later) read shown exact)
+
+    -- and one leaves a reading
+    pub receipt_reads : (rs : List SystemReading) → receives name t ≡ true
+        → (u : NewReading) × (new_in t rs ≡ Some u) × (u.clock ≡ name)
+    receipt_reads rs own = by (received_by t.told.done) refl own
+      where
+        read : received_by t.told.done ≡ Some name → (u : NewReading) × (new_in t rs ≡ Some u) × (u.clock ≡ name)
+        read told =
+            let was = happens.was_done in
+            let uses = uses_follow_up name (at_of t) t.told.timed.act w was.draws t.told.done t.after was.acts told in
+            let (s, shows) = used_shows answers t.told.timed fate drawn w t.after t.told.done name was uses in
+            let alone = (keeps_act answers d playable names events until t fate drawn w happens
+            keeps).claimed.world.sound.wired.clocks in
+            let lives : live_system name t.after ≡ Some s =
+            found name shows.place t.after.stations shows.station shows.is.here shows.is.named
+            (λ other x there same. alone other shows.place x shows.station there shows.is.here
+            (same ∙ sym shows.is.named))
+            ∙ ap (λ l. if l then Some shows.station.system else None) shows.live ∙ ap Some (sym shows.state) in
+            let some = worlds_have_readings answers t.told.timed fate drawn w t.after t.told.done
+            (all answers d playable names events g name from bound has until t fate drawn w happens keeps late) was
+            in_time pace (path_bound g) has.steps name s has.way leads_there.0 world_calm
+            (paths_bounded answers d playable names events g name from bound has until t fate drawn w happens keeps
+            late)
+            come_down uses shows
+            (near answers d playable names events g name from bound has until t fate drawn w happens keeps late)
+            leads_there.1 0 in
+            let (r, held) = held_some s some in
+            read_by_receipt t.told.timed.act (at (at_of t) w) was.draws t.told.done t.after rs name s r was.acts told
+            lives held
+
+        by : (told : Option ℕ) → received_by t.told.done ≡ told → option_map_or (λ c. c == name) told false ≡ true
+            → (u : NewReading) × (new_in t rs ≡ Some u) × (u.clock ≡ name)
+        by None none is = absurd cc
+        by (Some c) told is =
+            let same : c ≡ name = grind (arith, nat_tests) in read (told ∙ ap Some same)

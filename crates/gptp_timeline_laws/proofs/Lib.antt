@@ -11,3 +11,4 @@ pub mod OriginLemmas
 pub mod HeldLemmas
 pub mod ReadsLemmas
 pub mod ExactLemmas
+pub mod ReceiptLemmas

@@ -40,6 +40,17 @@ apart_by low high a b x y most first second near =
     let p = first.above in let q = first.below in let r = second.above in let s = second.below in
     omega (arith, ints, p, q, r, s, near)
 
+-- ---- what is read at a moment
+
+-- its error, by the clocks of another world that are the same
+pub error_read : (w v : WorldState) → SameClocks w v → (time : ℕ) (rs : List SystemReading) (name : ℕ)
+    (read source : ℤ) (r : ReadsAt time v rs name read source)
+    → reading_error time w name r.kept ≡ Some (read -ℤ source)
+error_read w v same time rs name read source r =
+    (λ i. option_and_then (λ shown. option_map (λ t. read_by r.kept shown -ℤ t)
+    ((sym (same r.kept.source time) ∙ r.source_shows) i)) ((sym (same name time) ∙ r.shows) i))
+    ∙ ap (λ z. Some (z -ℤ source)) (sym r.read_is)
+
 -- ---- moments, by looks
 
 -- what looks that lie between bounds say of the last event of a stretch and of the acts after it
@@ -61,19 +72,13 @@ module _ (l : LookedAt) (w v : WorldState) (until since left : ℕ) (rs : List S
   abbrev held : List SystemReading
   held = readings_after us rs
 
-  error_of : (name : ℕ) (read source : ℤ) → (r : ReadsAt time v held name read source)
-      → reading_error time w name r.kept ≡ Some (read -ℤ source)
-  error_of name read source r =
-      (λ i. option_and_then (λ shown. option_map (λ t. read_by r.kept shown -ℤ t)
-      ((sym (same r.kept.source time) ∙ r.source_shows) i)) ((sym (same name time) ∙ r.shows) i))
-      ∙ ap (λ z. Some (z -ℤ source)) (sym r.read_is)
-
   between_of : (low high : ℤ) (most : ℕ) → GoodLooks low high most l → (name : ℕ) (read source : ℤ)
       → ReadsAt time v held name read source → Between (low -ℤ pos 3) (high +ℤ pos 3) (read -ℤ source)
   between_of low high most good name read source r =
       let k = looks low high most good in
-      error_then_is low high most w until since left rs us vs end steps same_end k.over k.last fit time late early k.seen
-      name r.kept (read -ℤ source) r.has (error_of name read source r)
+      error_then_is low high most w until since left rs us vs end steps same_end k.over k.last fit time late early
+      k.seen
+      name r.kept (read -ℤ source) r.has (error_read w v same time held name read source r)
 
   bounds : AreBounds m time v held
   bounds = record {
@@ -91,7 +96,8 @@ module _ (l : LookedAt) (w v : WorldState) (until since left : ℕ) (rs : List S
         source source' (sym (same r.kept.source time) ∙ r.source_shows)
         (sym (same r'.kept.source time) ∙ r'.source_shows) in
         let sum = apart_by low high read read' source source' most
-        (between_of low high most good name read source r) (between_of low high most good other read' source' r') near in
+        (between_of low high most good name read source r) (between_of low high most good other read' source' r')
+        near in
         let errors = apart_is m.errors in
         (omega (arith, sum, errors)));
   }
@@ -102,7 +108,7 @@ module _ (l : LookedAt) (w v : WorldState) (until since left : ℕ) (rs : List S
 abbrev HaveNoTime : List SystemReading → Type 0
 HaveNoTime rs = (name : ℕ) → reading_among rs name ≡ None
 
-last_less : (from : ℕ) (us : List ActTrace) → last_time 0 us ≤ last_time from us
+pub last_less : (from : ℕ) (us : List ActTrace) → last_time 0 us ≤ last_time from us
 last_less from [] = omega arith
 last_less from (t ∷ us) = omega arith
 
@@ -165,7 +171,8 @@ module _ {F : Type 0} (answers : Bounds → ℕ → F → Option ℕ → F → T
       subst (λ v. AreBounds (measured_times rs n acts to after) time v (readings_after done rs)) (sym world)
       (subst (λ xs. AreBounds (measured_times rs n acts to after) time (world_after b.more p.middle) xs) (sym reads)
       (bounds (looked_both (looked_over rs n acts) (looked_all to after (readings_after acts rs))) p.middle
-      (world_after b.more p.middle) to p.middle.time (events_left p.head n) (readings_after p.head rs) b.more ahead after
+      (world_after b.more p.middle) to p.middle.time (events_left p.head n) (readings_after p.head rs) b.more ahead
+      after
       steps' end (world_same p.middle p.middle to p.middle.time b.more ahead (same_itself p.middle) steps')
       (acts_fit p.head rs fit) time (subst (λ t. t ≤ time) since late) early
       (λ low high most good.
@@ -200,7 +207,8 @@ module _ {F : Type 0} (answers : Bounds → ℕ → F → Option ℕ → F → T
       by (Some us) fits is =
           subst RatesFit (same_Some (readings_after ts us) rs is) (acts_fit ts us (fits us refl))
 
-  first_fit : (asked : Bool) (all : List ℕ) → CarriedFit (none_carried asked all) × CarriedNoTime (none_carried asked all)
+  first_fit : (asked : Bool) (all : List ℕ)
+      → CarriedFit (none_carried asked all) × CarriedNoTime (none_carried asked all)
   first_fit true all = (
     λ rs is. subst RatesFit (same_Some (map no_reading all) rs is) (fit_at_first all),
     λ rs is. subst HaveNoTime (same_Some (map no_reading all) rs is) (none_at_first all),

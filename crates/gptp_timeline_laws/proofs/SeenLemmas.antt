@@ -291,7 +291,8 @@ module _ (low high : ℤ) (most : ℕ) (w : WorldState) where
           → LookedAfter name kept (next_time until vs))
           → LookedAfter name kept (at_of t)
       by None is one last good next =
-          still (next (readings_by act None rs) good last (ap (λ xs. reading_among xs name) (quiet_reads act rs steps.0.quiet) ∙ has))
+          still (next (readings_by act None rs) good last (ap (λ xs. reading_among xs name) (quiet_reads act rs
+          steps.0.quiet) ∙ has))
       by (Some u) is one last good next = own (name == u.clock) refl
         where
           own : (test : Bool) → name == u.clock ≡ test → LookedAfter name kept (at_of t)
@@ -311,7 +312,8 @@ module _ (low high : ℤ) (most : ℕ) (w : WorldState) where
               }
           own false test =
               let apart : name ≡ u.clock → ⊥ = grind (arith, nat_tests) in
-              still (next (readings_by act (Some u) rs) good last (put_other u.clock (Some u.after) rs name apart ∙ has))
+              still (next (readings_by act (Some u) rs) good last (put_other u.clock (Some u.after) rs name apart ∙
+              has))
 
   -- ---- a moment between two looks
 

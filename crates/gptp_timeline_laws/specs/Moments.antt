@@ -87,8 +87,8 @@ pub record AreBounds (m : TimeMeasures) (time : ℕ) (w : WorldState) (rs : List
 
 -- so it is at every moment of these stretches after their events
 abbrev pub BoundAll : WorldState → Carried → List StretchTrace → Type 0
-BoundAll start first passages = (p : StretchTrace) (w : WorldState) (c : Carried) (names : List ℕ) (rs : List SystemReading)
-    (m : TimeMeasures) (time : ℕ) (moment : Moment p time)
+BoundAll start first passages = (p : StretchTrace) (w : WorldState) (c : Carried) (names : List ℕ)
+    (rs : List SystemReading) (m : TimeMeasures) (time : ℕ) (moment : Moment p time)
     → BeginsWith passages start first p w c → c.readings ≡ Some rs → (stretch_of names c p).times ≡ Some m
     → AreBounds m time (world_after moment.done w) (readings_after moment.done rs)
 
