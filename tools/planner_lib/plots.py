@@ -1,4 +1,4 @@
-"""The errors of receipts: over steps, and over time."""
+"""Errors: those of receipts over steps, and those of what is read over time."""
 
 from decimal import Decimal
 from math import ceil, nan
@@ -69,10 +69,11 @@ def _bounds(axes: Axes, stretch: Stretch, bounds: Mapping[str, Decimal], limit: 
 def over_time(document: Document, stretches: Sequence[Stretch], clocks: Sequence[str], sync: int) -> bytes | None:
     """Errors in ns over time, as SVG, with events as upright lines. None without any.
 
+    They are those of what is read before and after each receipt, where the stretches have readings, else of receipts.
     Of all systems the envelope, greatest and least; of systems that are named each error as a point. Over more than two
     Sync intervals (in ns) without an error nothing is drawn.
     """
-    samples = [sample for stretch in stretches for sample in stretch.samples
+    samples = [sample for stretch in stretches for sample in stretch.readings or stretch.samples
                if not clocks or sample.clock in clocks]
     if not samples:
         return None
