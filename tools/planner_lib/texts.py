@@ -128,7 +128,7 @@ def _group(field: re.Match[str]) -> str:
 def _pattern(template: str) -> re.Pattern[str]:
     """The lines that a template makes."""
     optional = re.sub(r"\[(.*?)\]", r"(?:\1)?", template)
-    return re.compile(re.sub(r"[A-Z_]+", _group, optional))
+    return re.compile(re.sub(r"[A-Z][A-Z_]*", _group, optional))
 
 
 def _by_first_word() -> dict[str, list[tuple[str, re.Pattern[str]]]]:
