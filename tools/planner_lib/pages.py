@@ -130,12 +130,14 @@ class _Page:
         return Table((), [[Cell(what, "text"), Cell(value), Cell(where, "text")] for what, value, where in rows])
 
     def _first_time(self) -> tuple[str, str]:
-        """When the last system has got its time, in the first stretch and in those that are one with it; and which."""
-        times = [stretch.times for stretch in self._told.stretches
-                 if stretch.times and stretch.begin < self._joined[0].end]
-        at, clock = max(((line["from"] + line["first"], line["first_clock"]) for line in times
-                         if line["first"] is not None), default=(None, None))
-        return _units(at), f"{self._whose(clock)} after the start".strip()
+        """When the last system got its time, up to the first stretch at whose end all live and have time; and which."""
+        at, clock = None, None
+        for stretch in self._told.stretches:
+            if stretch.times and stretch.times["first"] is not None:
+                at, clock = stretch.begin + stretch.times["first"], stretch.times["first_clock"]
+            if not stretch.measures["without"] and not any(system.failed for system in stretch.ended.values()):
+                return _units(at), f"{self._whose(clock)} after the start".strip()
+        return _NONE, "at the end of no stretch"
 
     def _greatest(self, lines: Sequence[tuple[Line, str]], name: str) -> tuple[str, str]:
         """The greatest of a measure, and whose and where it is."""
