@@ -17,23 +17,23 @@ use Rattle.gptp_faults.specs.declared.times.Times.{Times}
 -- the lines of a case: its own, those of down, of the roots that are followed, and of back
 pub case_text : (before a b c d first : List ℕ) (down follows back : List (List ℕ))
     → a ≡ before ++ (first ++ 10 ∷ []) → b ≡ a ++ text_of down → c ≡ b ++ text_of follows → d ≡ c ++ text_of back
-    → d ≡ before ++ text_of (first ∷ down ++ follows ++ back)
+    → d ≡ before ++ text_of (first ∷ down ++ (follows ++ back))
 case_text before a b c d first down follows back one two three four =
-    line_on before a d first (down ++ follows ++ back) one
+    line_on before a d first (down ++ (follows ++ back)) one
     (lines_on a b d down (follows ++ back) two (lines_on b c d follows back three four))
 
 -- the lines of a table: its head, those of cases, of the worst of all, and the verdict
 pub table_text : (before a b c d head verdict : List ℕ) (cases worst : List (List ℕ))
     → a ≡ before ++ (head ++ 10 ∷ []) → b ≡ a ++ text_of cases → c ≡ b ++ text_of worst
-    → d ≡ c ++ text_of (verdict ∷ []) → d ≡ before ++ text_of (head ∷ cases ++ worst ++ verdict ∷ [])
+    → d ≡ c ++ text_of (verdict ∷ []) → d ≡ before ++ text_of (head ∷ cases ++ (worst ++ verdict ∷ []))
 table_text before a b c d head verdict cases worst one two three four =
-    line_on before a d head (cases ++ worst ++ verdict ∷ []) one
+    line_on before a d head (cases ++ (worst ++ verdict ∷ [])) one
     (lines_on a b d cases (worst ++ verdict ∷ []) two (lines_on b c d worst (verdict ∷ []) three four))
 
 abbrev lines_by : Bool → ℕ → Case → Extremes → List Follow → Extremes → List (List ℕ)
 lines_by asked number failing down follow back =
-    case_line number failing ∷ extremes_lines asked (codes "down") down ++ map follow_line follow
-    ++ extremes_lines asked (codes "back") back
+    case_line number failing ∷ extremes_lines asked (codes "down") down
+    ++ (map follow_line follow ++ extremes_lines asked (codes "back") back)
 
 -- the lines of a case, by its parts
 pub outcome_text : (asked : Bool) (o : OutcomeState) (number : ℕ) (failing : Case) (down back : Extremes)

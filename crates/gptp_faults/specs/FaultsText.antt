@@ -70,8 +70,8 @@ follow_line f = codes "follow " ++ identity_text f.root ++ codes " " ++ decimal 
 -- while it is down, whom systems follow then, and when it is back
 abbrev pub outcome_lines : Bool → OutcomeState → List (List ℕ)
 outcome_lines asked o =
-    case_line o.number o.failing ∷ extremes_lines asked (codes "down") o.down ++ map follow_line o.follow
-    ++ extremes_lines asked (codes "back") o.back
+    case_line o.number o.failing ∷ extremes_lines asked (codes "down") o.down
+    ++ (map follow_line o.follow ++ extremes_lines asked (codes "back") o.back)
 
 -- ---- all cases
 
@@ -120,5 +120,5 @@ exceeds_limit limits outcomes = is_some (exceeded_by limits (worst_of_all outcom
 abbrev pub table_lines : FaultsOptions → Times → List OutcomeState → List (List ℕ)
 table_lines options t outcomes =
     head_line (length outcomes) t ∷ flat_map (outcome_lines options.times) outcomes
-    ++ worst_lines options.times (worst_of_all outcomes)
-    ++ verdict_line (exceeded_by options.limits (worst_of_all outcomes)) ∷ []
+    ++ (worst_lines options.times (worst_of_all outcomes)
+    ++ verdict_line (exceeded_by options.limits (worst_of_all outcomes)) ∷ [])
