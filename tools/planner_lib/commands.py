@@ -15,7 +15,7 @@ from .called import CALL, NAME
 from .documents import MOST_PORTS, MOST_SYSTEMS, RANGES, Document
 from .happenings import KINDS
 from .naming import Names
-from .options import FAULTS_OPTIONS, delay, setting, time, whole
+from .options import FAULTS_FLAGS, FAULTS_OPTIONS, delay, setting, time, whole
 from .packages import need
 from .plans import Plan
 from .program import ask
@@ -92,9 +92,9 @@ def _draw(arguments: Arguments) -> None:
     _write(arguments, drawn.svg(view) if as_svg else drawn.dot(view))
 
 
-def _timeline(arguments: Arguments, octets: bytes) -> tuple[list[timelines.Stretch], Document]:
-    """The stretches of a document, and what is read of it."""
-    told = _asked(arguments, octets, "timeline", "--offsets", *_options(arguments))
+def _timeline(arguments: Arguments, octets: bytes, *times: str) -> tuple[list[timelines.Stretch], Document]:
+    """The stretches of a document, and what is read of it; with `--times` also what systems read in them."""
+    told = _asked(arguments, octets, "timeline", "--offsets", *times, *_options(arguments))
     return timelines.read(told), documents.parse(octets, arguments.doc)
 
 
@@ -110,12 +110,12 @@ def _report(arguments: Arguments) -> None:
     need("report", {"jinja2": "python3-jinja2", "matplotlib": "python3-matplotlib"})
     from . import pages
     octets = documents.read_file(arguments.doc)
-    stretches, document = _timeline(arguments, octets)
+    stretches, document = _timeline(arguments, octets, "--times")
     bounds = _bounds(arguments, octets)
     judgement = _judged(arguments, octets, document) if arguments.require else None
     table = judgement.faults if judgement else None
     if arguments.faults and table is None:
-        table = faults.in_parts(partial(_asked, arguments, octets), ["faults"], arguments.jobs)
+        table = faults.in_parts(partial(_asked, arguments, octets), ["faults", "--times"], arguments.jobs)
     shown = [_shown(arguments, octets, table, *it) for it in cases.worst(document, table)] if table else []
     told = pages.Told(_name(arguments.doc), document, stretches, bounds, table, judgement, shown, arguments.calls,
                       1 if arguments.seed is None else arguments.seed)
@@ -150,8 +150,9 @@ def _plot(arguments: Arguments) -> None:
     octets = documents.read_file(arguments.doc)
     names = Names(documents.parse(octets, arguments.doc))
     clocks = [names.clock(word) for word in arguments.system]
-    stretches, document = _timeline(arguments, octets)
-    if arguments.over == "steps":
+    over_steps = arguments.over == "steps"
+    stretches, document = _timeline(arguments, octets, *([] if over_steps else ["--times"]))
+    if over_steps:
         svg = plots.over_steps(document, stretches, clocks, _bounds(arguments, octets))
     else:
         svg = plots.over_time(document, stretches, clocks, document.sync)
@@ -252,7 +253,8 @@ def _jobs(arguments: Arguments) -> None:
     folder = Path(arguments.o or f"{'document' if arguments.doc == '-' else arguments.doc}.parts")
     copy = jobs.folder(folder, name, octets, arguments.parts)
     given = [(option, getattr(arguments, option[2:].replace("-", "_"))) for option in FAULTS_OPTIONS]
-    words = [word for option, value in given if value is not None for word in (option, str(value))]
+    words = [flag for flag in FAULTS_FLAGS if getattr(arguments, flag[2:])]
+    words += [word for option, value in given if value is not None for word in (option, str(value))]
     script = jobs.parallel if arguments.for_ == "parallel" else jobs.slurm
     sys.stdout.write(script(asking.shell_word(), copy, arguments.parts, words))
 
@@ -427,5 +429,7 @@ def _add_jobs(commands: _Command) -> None:
     parser.add_argument("--parts", type=whole(1, jobs.MOST_PARTS), default=64, metavar="N", help="by default 64")
     parser.add_argument("--for", dest="for_", choices=("parallel", "slurm"), default="parallel",
                         help="GNU parallel (by default) or Slurm's sbatch")
+    for flag in FAULTS_FLAGS:
+        parser.add_argument(flag, action="store_true", help="as of `faults`")
     for option, kind in FAULTS_OPTIONS.items():
         parser.add_argument(option, type=kind, metavar=option.rpartition("-")[2].upper(), help="as of `faults`")

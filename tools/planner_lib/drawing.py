@@ -113,7 +113,7 @@ class Drawing:
         if not systems:
             return f"label={quoted(self._called(box), 'failed')}, {_DOWN}"
         alone = len(box.clocks) > 1 and systems[0].slave is None
-        words = [self._called(box), "each its own root" if alone else place(systems[0])]
+        words = [self._called(box), *(["each its own root"] if alone else place(systems[0]).split(", "))]
         if len(systems) < len(box.clocks):
             words.append(f"{len(box.clocks) - len(systems)} failed")
         for sign, values in (("+-", view.seen.bounds), ("seen ", view.seen.errors)):
@@ -158,7 +158,7 @@ def _graph(lines: list[str]) -> str:
     return "\n".join([
         "digraph network {",
         "  node [shape=box, fontname=Helvetica, fontsize=11];",
-        "  edge [fontname=Helvetica, fontsize=9, labeldistance=1.6];",
+        "  edge [fontname=Helvetica, fontsize=9, labeldistance=2.2, labelangle=-32];",
         *lines, "}", ""])
 
 

@@ -9,19 +9,26 @@ from typing import Any, Callable, Iterable, Sequence
 
 from . import jobs
 from .refusal import Refused
-from .texts import Line, Value, read_line
+from .texts import Line, read_line
 
 _WORDS = ("choice", "holdover", "error", "without", "roots", "alone")
+_TIMES = ("time", "apart", "step", "first")
+# what a verdict may name, in the order in which it looks; cut, astray and bound the program doesn't have yet
+VERDICTS = (*_WORDS, "cut", "astray", "bound", *_TIMES)
 _ORDER = ("without", "roots", "holdover", "choice", "alone")
 
 
 @dataclass(frozen=True)
 class Case:
-    """A link or a system that fails and comes back: its lines, and of these `down` and `back`."""
+    """A link or a system that fails and comes back: its lines, and of these `down` and `back`.
+
+    `times` are `down_times` and `back_times`, where they are there.
+    """
 
     lines: tuple[Line, ...]
     down: Line
     back: Line
+    times: tuple[Line, ...] = ()
 
     @property
     def number(self) -> int:
@@ -47,16 +54,19 @@ class Faults:
     cases: tuple[Case, ...]
     worst: Line
     verdict: Line
+    worst_times: Line | None = None
 
     def text(self) -> str:
         """The lines as `faults` writes them."""
-        lines = [self.head, *(line for case in self.cases for line in case.lines), self.worst, self.verdict]
+        lines = [self.head, *(line for case in self.cases for line in case.lines), self.worst,
+                 *([self.worst_times] if self.worst_times else []), self.verdict]
         return "".join(f"{line.text}\n" for line in lines)
 
 
 def measure(line: Line, word: str) -> int | Decimal | None:
     """A measure of a line; None where there is none, as of `choice none` and of `holdover 0 none`."""
-    return None if line.fields.get(f"{word}_clock", "") is None else line[word]
+    nobody = line.fields.get(f"{word}_clock", "") is None
+    return None if nobody and not line[word] else line[word]
 
 
 def size(line: Line, word: str) -> int | Decimal:
@@ -70,23 +80,26 @@ def read(lines: Sequence[Line], source: str) -> Faults:
     kinds = [line.kind for line in lines]
     if kinds[:1] != ["cases"]:
         raise Refused(f"{source}: line 1: isn't a text of `faults`")
-    if len(lines) < 3 or kinds[-2] != "worst" or kinds[-1] not in ("within", "exceeded"):
+    worst_times = lines[-2] if kinds[-2:-1] == ["worst_times"] else None
+    last = len(lines) - (3 if worst_times else 2)
+    ends = kinds[-1] == "within" or kinds[-1] == "exceeded" and lines[-1]["word"] in VERDICTS
+    if last < 1 or kinds[last] != "worst" or not ends:
         raise Refused(f"{source}: line {len(lines)}: isn't the end of a text of `faults`")
     begins = [place for place, kind in enumerate(kinds) if kind in ("case link", "case system")]
-    if begins[:1] != [1] and len(lines) > 3:
+    if begins[:1] != [1] and last > 1:
         raise Refused(f"{source}: line 2: `{lines[1].text}` is before any case")
-    cases = [_case(lines[begin:end], f"{source}: line {begin + 1}")
-             for begin, end in zip(begins, [*begins[1:], len(lines) - 2])]
-    return Faults(lines[0], tuple(cases), lines[-2], lines[-1])
+    cases = [_case(lines[begin:end], f"{source}: line {begin + 1}") for begin, end in zip(begins, [*begins[1:], last])]
+    return Faults(lines[0], tuple(cases), lines[last], lines[-1], worst_times)
 
 
 def _case(lines: Sequence[Line], where: str) -> Case:
-    """A case of its lines: its head, `down`, `follow` lines, `back`, `follow` lines."""
+    """A case of its lines: its head, `down`, `follow` lines, `back`, `follow` lines; times after `down` and `back`."""
     kinds = [kind for kind, _ in groupby(line.kind for line in lines if line.kind != "follow")]
-    if kinds[1:] != ["down", "back"]:
+    if kinds[1:] not in (["down", "back"], ["down", "down_times", "back", "back_times"]):
         raise Refused(f"{where}: `{lines[0].text}` isn't followed by `down` and `back`")
-    down, back = (next(line for line in lines if line.kind == kind) for kind in ("down", "back"))
-    return Case(tuple(lines), down, back)
+    found = {line.kind: line for line in reversed(lines)}
+    return Case(tuple(lines), found["down"], found["back"],
+                tuple(found[kind] for kind in ("down_times", "back_times") if kind in found))
 
 
 def in_parts(ask: Callable[..., list[Line]], words: list[str], jobs: int) -> Faults:
@@ -111,8 +124,10 @@ def merge(parts: Sequence[tuple[str, Faults]], counts: range) -> Faults:
     cases = tuple(sorted((case for _, part in parts for case in part.cases), key=Case.rank))
     _whole(sorted(case.number for case in cases), parts, counts)
     head = _line("cases", f"cases {len(cases)} {heads.pop()}")
-    worst = " ".join(f"{word} {_worst([part for _, part in parts], word)}" for word in _WORDS)
-    return Faults(head, cases, _line("worst", f"worst {worst}"), _verdict([part for _, part in parts]))
+    worst = _worst("worst", [part.worst for _, part in parts], _WORDS)
+    times = [part.worst_times for _, part in parts if part.worst_times]
+    return Faults(head, cases, worst, _verdict([part for _, part in parts]),
+                  _worst("worst_times", times, _TIMES) if len(times) == len(parts) else None)
 
 
 def _line(kind: str, text: str) -> Line:
@@ -150,13 +165,14 @@ def _could_have(case: int, parts: Sequence[tuple[str, Faults]], counts: range) -
     return sorted(could - there.keys())
 
 
-def _worst(parts: Iterable[Faults], word: str) -> Value:
-    """The greatest of a measure."""
-    value = max((part.worst for part in parts), key=lambda line: size(line, word))[word]
-    return "none" if value is None else value
+def _worst(kind: str, lines: Sequence[Line], words: Sequence[str]) -> Line:
+    """The line of a kind with the greatest of each measure of some."""
+    greatest = {word: max(lines, key=lambda line: size(line, word))[word] for word in words}
+    told = " ".join(f"{word} {'none' if value is None else value}" for word, value in greatest.items())
+    return _line(kind, f"{kind} {told}")
 
 
 def _verdict(parts: Iterable[Faults]) -> Line:
     """The first word that is exceeded in any part: each part names its first."""
     exceeded = [part.verdict["word"] for part in parts if part.verdict.kind == "exceeded"]
-    return _line("exceeded", f"exceeded {min(exceeded, key=_WORDS.index)}") if exceeded else _line("within", "within")
+    return _line("exceeded", f"exceeded {min(exceeded, key=VERDICTS.index)}") if exceeded else _line("within", "within")

@@ -1,37 +1,25 @@
 """Whether a document keeps what is required of it: a file of requirements, and what the program says."""
 
-import re
 from dataclasses import dataclass
 from decimal import Decimal
 from typing import Any, Callable, Iterable, Iterator, Sequence
 
 from . import faults, parting
-from .documents import Document, Event, read_text, read_toml
+from .documents import Document, Event
 from .faults import Case, Faults
-from .naming import Names, nearest
-from .quantities import in_seconds, in_units, nanoseconds
-from .refusal import Refused
+from .naming import Names
+from .quantities import in_seconds, in_units
+from .requirements import ANSWERED, Requirements
 from .texts import Line
 
-# the keys in the order in which they are answered
-_ANSWERED = ("after_fault", "settle", "shared", "cut", "grandmaster", "accuracy")
-_HOW = ("kept_by", "moments", "seeds", "hold", "at")
-# the keys that are decided by what the program doesn't print yet; each is decided where the others are once it does
-_LATER = {
-    "first": "timeline --times",
-    "time": "timeline --times",
-    "apart": "timeline --times",
-    "step": "timeline --times",
-    "bound": "timeline --max-bound",
-    "detect": "faults --detect",
-}
-_KINDS = ("links", "systems")
-_TIMES = {"after_fault": 0, "settle": 0, "accuracy": 0, "hold": 1, "at": 0}  # with the least of each, in ns
-_LONGEST = 10**15  # ns
-_COUNTS = {"cut": (0, 10**15), "moments": (1, 1000), "seeds": (1, 1000)}
 _AT = 60 * 10**9  # ns: by then timers that start in step have drifted apart
+# the keys that limit a word of the program's lines
+_LIMITED = {"settle": "choice", "after_fault": "holdover", "time": "time", "apart": "apart", "step": "step"}
+_AT_ANY_MOMENT = ("time", "apart", "step")
+_DOWN = "down"  # what is got of `first` where somebody has failed
 
 Ask = Callable[..., list[Line]]
+Value = int | Decimal | None
 
 
 @dataclass(frozen=True)
@@ -48,7 +36,8 @@ class Verdict:
     @property
     def text(self) -> str:
         """The verdict as a line."""
-        words = ["met" if self.met else "broken", self.key, self.got, "of", self.asked, self.who, self.where]
+        told = [self.who, _DOWN] if self.got == _DOWN else [self.got, "of", self.asked, self.who]
+        words = ["met" if self.met else "broken", self.key, *told, self.where]
         return " ".join(word for word in words if word)
 
 
@@ -76,92 +65,6 @@ class Judgement:
         return "".join(f"{line}\n" for line in [*(verdict.text for verdict in self.lines), self.last_line])
 
 
-class Requirements:
-    """What a file requires: times in ns, numbers, and who is to lead, by clock, in order."""
-
-    def __init__(self, path: str, document: Document) -> None:
-        self._path = path
-        self._text = read_text(path)
-        top = read_toml(self._text, path)
-        for name in top:
-            if name != "require":
-                raise self._at(name, f"{name} isn't the table [require]")
-        table = top.get("require")
-        if not isinstance(table, dict):
-            raise Refused(f"{path}: line 1: there is no table [require]")
-        self.asked: dict[str, Any] = {"kept_by": [*_KINDS, "power"]}
-        self.asked |= {key: self._read(key, value, document) for key, value in table.items()}
-        if "power" in self.asked["kept_by"]:
-            raise self._at("kept_by", 'kept_by "power" takes faults --power, which the program doesn\'t have: give '
-                                      'kept_by = ["links", "systems"]')
-
-    def _at(self, key: str, why: str) -> Refused:
-        """A refusal at the line of a key."""
-        lines = self._text.splitlines()
-        here = rf"""\s*\[?\s*["']?{re.escape(key)}["']?\s*[=\]]"""
-        line = next((number for number, line in enumerate(lines, 1) if re.match(here, line)), 1)
-        return Refused(f"{self._path}: line {line}: {why}")
-
-    def _read(self, key: str, value: object, document: Document) -> object:
-        """The value of a key."""
-        if key in _LATER:
-            raise self._at(key, f"{key} takes {_LATER[key]}, which the program doesn't have")
-        if key not in (*_ANSWERED, *_HOW):
-            near = nearest(key, (*_ANSWERED, *_HOW, *_LATER))
-            raise self._at(key, f"no key {key}" + (f": {near} is near" if near else ""))
-        try:
-            if key in _TIMES and isinstance(value, str | int) and not isinstance(value, bool):
-                return self._time(key, str(value))
-            if key in _COUNTS and isinstance(value, int) and not isinstance(value, bool):
-                return self._count(key, value)
-            if key == "shared" and isinstance(value, bool):
-                return value
-            if key in ("grandmaster", "kept_by") and isinstance(value, list) and all(
-                    isinstance(word, str) for word in value):
-                return self._leaders(value, document) if key == "grandmaster" else self._kept_by(value)
-        except Refused as why:
-            raise self._at(key, str(why)) from why
-        kind = ("a time" if key in _TIMES else "a whole number" if key in _COUNTS
-                else "true or false" if key == "shared" else "a list of texts")
-        raise self._at(key, f"{key} isn't {kind}")
-
-    @staticmethod
-    def _time(key: str, value: str) -> int:
-        """A time in ns of the range of its key."""
-        time = nanoseconds(value)
-        if not _TIMES[key] <= time <= _LONGEST:
-            raise Refused(f"{key} {value} isn't {in_units(_TIMES[key])} to {in_units(_LONGEST)}")
-        return time
-
-    @staticmethod
-    def _count(key: str, value: int) -> int:
-        """A number of the range of its key."""
-        least, most = _COUNTS[key]
-        if not least <= value <= most:
-            raise Refused(f"{key} {value} isn't {least} to {most}")
-        return value
-
-    @staticmethod
-    def _leaders(names: list[str], document: Document) -> list[str]:
-        """The clocks of those who are to lead."""
-        known, identity = Names(document), parting.Parting(document).identity
-        clocks = [known.clock(name) for name in names]
-        for name, clock in zip(names, clocks):
-            if identity[clock][0] == parting.NEVER:
-                raise Refused(f"{name} can't be grandmaster: its priority1 is 255")
-        if not clocks:
-            raise Refused("grandmaster is empty")
-        return clocks
-
-    @staticmethod
-    def _kept_by(kinds: list[str]) -> list[str]:
-        """The kinds of single faults that are tried."""
-        for kind in kinds:
-            if kind not in (*_KINDS, "power"):
-                raise Refused(f"kept_by {kind} isn't one of {', '.join((*_KINDS, 'power'))}")
-        return kinds
-
-
 class _Judge:
     """The program's words against what is required."""
 
@@ -174,72 +77,93 @@ class _Judge:
 
     def judge(self, ask: Ask, jobs: int) -> Judgement:
         """Makes the calls, each once, and compares."""
-        limits = [word for key, option in (("settle", "--max-choice"), ("after_fault", "--max-holdover"))
-                  if key in self._asked for word in (option, str(self._asked[key]))]
-        self._timeline = ask("timeline", "--summary", *limits)
+        limits = [word for key, limited in _LIMITED.items() if key in self._asked
+                  for word in (f"--max-{limited}", str(self._asked[key]))]
+        times = ["--times"] if self._asked.keys() & {*_AT_ANY_MOMENT} else []
+        self._timeline = ask("timeline", "--summary", *(["--times"] if "first" in self._asked else times), *limits)
         self._choice = ask("choice")
         error = self._asked.get("accuracy")
         self._exact = [] if error is None else ask("accuracy", "--always", "--max-error", str(error))
-        self._faults = self._tried(ask, jobs, limits) if self._asked["kept_by"] else None
+        self._faults = self._tried(ask, jobs, [*times, *limits]) if self._asked["kept_by"] else None
         lines = []
-        for key in _ANSWERED:
+        for key in ANSWERED:
             if self._asked.get("shared", True) if key == "shared" else key in self._asked:
-                lines.append(getattr(self, f"_{key}")())
+                lines.append(self._worst(key) if key in _LIMITED else getattr(self, f"_{key}")())
+        error = self._asked.get("time") if error is None else error
         return Judgement(lines, self._faults, None if error is None else Decimal(error))
 
-    def _tried(self, ask: Ask, jobs: int, limits: list[str]) -> Faults:
+    def _tried(self, ask: Ask, jobs: int, options: list[str]) -> Faults:
         """What `faults` says, so many parts at a time."""
         kinds = self._asked["kept_by"]
-        words = ["faults", "--at", str(self._last + self._asked.get("at", _AT)), *limits]
+        words = ["faults", "--at", str(self._last + self._asked.get("at", _AT)), *options]
         words += [word for key in ("moments", "seeds", "hold") if key in self._asked
                   for word in (f"--{key}", str(self._asked[key]))]
         words += ["--only", kinds[0]] if len(set(kinds)) == 1 else []
         return faults.in_parts(ask, words, jobs)
 
-    def _exceeded(self, key: str, word: str) -> bool:
-        """Whether the program itself says that a limit in ns is exceeded after a fault.
+    def _since(self, key: str) -> int:
+        """From which time on, in ns, a stretch has to begin for a key to be asked of it.
 
-        It asks a limit of each stretch that begins with an event, so of one from 0 too. Where that is above it the
-        verdict says nothing of the others, and their lines decide: these times are whole.
+        All have to have time by `first`, 0 where it isn't there: what is read counts from the stretch of that time on,
+        and so does who has time. A wait for time or for the choice counts from the next event on.
         """
-        limit = self._asked[key]
-        at_start = any(line[word] is not None and line[word] > limit for line in self._timeline
-                       if line.kind == "after" and line["from"] == 0)
-        verdicts = [*([] if at_start else [self._timeline[-1]]), *([self._faults.verdict] if self._faults else [])]
-        return any(line.kind == "exceeded" and line["word"] == word for line in verdicts)
+        first = int(self._asked.get("first", 0))
+        if key in ("settle", "after_fault"):
+            return first + 1
+        return max(int(line["from"]) for line in self._timeline if line.kind == "after" and line["from"] <= first)
 
-    def _measured(self) -> Iterator[tuple[Line, str]]:
-        """The lines of a fault, with where it is: the document's own events, and the single faults."""
-        for line in self._timeline:
-            if line.kind == "after" and line["from"] > 0:
-                told = ", ".join(self._event(event) for event in self._document.events if event.at == line["from"])
-                yield line, f"after {in_seconds(line['from'])}s {told}"
-        for case in self._cases():
-            for line in (case.down, case.back):
-                yield line, self._fault(case)
+    def _where(self, line: Line) -> str:
+        """Where a stretch is: the start, or its events."""
+        told = ", ".join(self._event(event) for event in self._document.events if event.at == line["from"])
+        return f"after {in_seconds(line['from'])}s {told}" if line["from"] else "start"
 
     def _cases(self) -> Iterable[Case]:
         """The single faults that were tried."""
         return self._faults.cases if self._faults else ()
 
-    def _worst(self, key: str, word: str) -> Verdict:
-        """The greatest of a measure in ns after faults, of equals the first."""
-        limit, within = self._asked[key], not self._exceeded(key, word)
-        known = [it for it in self._measured() if faults.measure(it[0], word) is not None]
-        if not known:
-            return Verdict(key, within, "none", in_units(limit), "always")
-        line, where = max(known, key=lambda it: faults.size(it[0], word))
-        clock = line.fields.get(f"{word}_clock")
-        return Verdict(key, within and line[word] <= limit, in_units(line[word]), in_units(limit), where,
-                       self._name(clock) if isinstance(clock, str) else "")
+    def _worst(self, key: str) -> Verdict:
+        """The greatest of what a key limits, in ns, of equals the first: the document's own stretches come first."""
+        word, limit = _LIMITED[key], self._asked[key]
+        stretches = [line for line in self._timeline if line.kind == ("times" if key in _AT_ANY_MOMENT else "after")]
+        lines = [(line, self._where(line)) for line in stretches if line["from"] >= self._since(key)]
+        lines += [(line, self._fault(case)) for case in self._cases()
+                  for line in (case.times if key in _AT_ANY_MOMENT else (case.down, case.back))]
+        line, where = max(lines, key=lambda it: faults.size(it[0], word), default=(None, "always"))
+        value = None if line is None else faults.measure(line, word)
+        passed_over = [faults.size(line, word) for line in stretches if line["from"] < self._since(key)]
+        exceeded = self._exceeded(word, limit, value, passed_over)
+        if line is None or value is None:
+            return Verdict(key, not exceeded, "none", in_units(limit), "always")
+        clocks = [line.fields.get(f"{word}_clock"), line.fields.get("behind_clock") if word == "apart" else None]
+        return Verdict(key, not exceeded and value <= limit, in_units(value), in_units(limit), where,
+                       ",".join(self._name(clock) for clock in clocks if isinstance(clock, str)))
 
-    def _after_fault(self) -> Verdict:
-        """The longest wait for time, in ns, after a fault."""
-        return self._worst("after_fault", "holdover")
+    def _exceeded(self, word: str, limit: int, value: Value, passed_over: Sequence[Value]) -> bool:
+        """Whether the program itself says that a limit in ns is exceeded, or may have left that unsaid.
 
-    def _settle(self) -> Verdict:
-        """How long after a fault, in ns, the choice was still made."""
-        return self._worst("settle", "choice")
+        It asks a limit also of stretches that are passed over here. Where one of those may be above it the verdict says
+        nothing of the others, and their lines decide. Of a value with decimals that is the limit they don't tell.
+        """
+        told = [_says(self._timeline[-1], word)]
+        if told[0] and any(limit < size or limit == size and isinstance(size, Decimal) for size in passed_over):
+            told[0] = None
+        if self._faults:
+            told.append(_says(self._faults.verdict, word))
+        return True in told or None in told and isinstance(value, Decimal) and value == limit
+
+    def _first(self) -> Verdict:
+        """When all have time after power-up: by the stretch in which they have to have it."""
+        limit = self._asked["first"]
+        live, told = parting.Parting(self._document, limit).live, in_units(limit)
+        down = next((system.clock for system in self._document.systems if system.clock not in live), None)
+        if down is not None:
+            return Verdict("first", False, _DOWN, told, f"at {told}", self._name(down))
+        begun = [line for line in self._timeline if line.fields.get("from") == self._since("first")]
+        after, times = (next(line for line in begun if line.kind == kind) for kind in ("after", "times"))
+        if after["without"] > 0:
+            return Verdict("first", False, "none", told, self._where(after))
+        at, clock = times["from"] + (times["first"] or 0), times["first_clock"]
+        return Verdict("first", at <= limit, in_units(at), told, self._where(after), self._name(clock) if clock else "")
 
     def _shared(self) -> Verdict:
         """Everybody who isn't cut off has time from one root, component by component."""
@@ -250,11 +174,9 @@ class _Judge:
     def _unshared(self) -> Iterator[tuple[int, str]]:
         """At least how many systems are astray, where each stretch and each single fault ends."""
         for line in self._timeline:
-            if line.kind == "after":
+            if line.kind == "after" and line["from"] >= self._since("shared"):
                 components = len(parting.Parting(self._document, line["from"]).components)
-                told = ", ".join(self._event(event) for event in self._document.events if event.at == line["from"])
-                where = f"after {in_seconds(line['from'])}s {told}" if line["from"] else "start"
-                yield max(line["without"], line["roots"] + line["alone"] - components), where
+                yield max(line["without"], line["roots"] + line["alone"] - components), self._where(line)
         for case in self._cases():
             bound, hold = case.down["bound"], self._asked.get("hold")
             settled = hold is None or bound is not None and bound <= hold
@@ -296,7 +218,7 @@ class _Judge:
                     yield most["root_id"][12:] if most else None, wanted, self._fault(case)
 
     def _accuracy(self) -> Verdict:
-        """By how much what a system reads may be off, in ns, at any moment once all have settled: the program decides."""
+        """By how much what a system reads may be off, in ns, once all have settled: the program decides."""
         within = self._exact[-1].kind == "within"
         systems = [line for line in self._exact if line.kind in ("system bound", "system bound far")]
         unknown = next((line for line in systems if line["always"] is None), None)
@@ -329,3 +251,11 @@ class _Judge:
 def judge(path: str, document: Document, ask: Ask, jobs: int) -> Judgement:
     """What the program says against the requirements of a file; `ask` gives the lines of a call of the program."""
     return _Judge(document, Requirements(path, document).asked).judge(ask, jobs)
+
+
+def _says(verdict: Line, word: str) -> bool | None:
+    """Whether a verdict says that the limit of a word is exceeded; None where it names an earlier word alone."""
+    if verdict.kind != "exceeded":
+        return False
+    named, asked = faults.VERDICTS.index(verdict["word"]), faults.VERDICTS.index(word)
+    return None if named < asked else named == asked

@@ -12,7 +12,7 @@ from . import plots
 from .cases import Shown
 from .documents import Document, interval
 from .drawing import Drawing, Seen, View
-from .faults import Case, Faults, size
+from .faults import Case, Faults, measure, size
 from .judging import Judgement
 from .naming import Names
 from .pictures import inline, width
@@ -24,6 +24,8 @@ from .timelines import Stretch, joined
 
 _NONE = "\u2013"
 _MOST_EVENTS = 6  # that are shown of a stretch
+# the heads of what a line of times says
+_TIMES = ("off by at most", "apart by at most", "greatest jump", "last has its time after")
 _DEFAULTS = {"announce": 0, "sync": -3, "pdelay": 0, "timeout": 3, "lost": 9, "threshold": 800, "turnaround": 1000,
              "residence": 1000, "sync_timeout": 0}
 
@@ -94,6 +96,7 @@ class _Page:
             "calls": told.calls,
             "network": self._network(),
             "stretches": self._stretches(),
+            "read": self._read(),
             "roots": [{"fill": _fill(look.colour, look.hatched), "name": self._root(root)}
                       for root, look in self._colours.roots.items()],
             "strips": list(self._strips()),
@@ -113,23 +116,28 @@ class _Page:
 
     def _measured(self) -> Table:
         """Without requirements: when all have time, the worst wait for it, the worst error, and the worst bound."""
-        first, later = self._told.stretches[0], self._told.stretches[1:]
-        rows = [("all have time", _units(self._first_time()), "after the start")]
-        waits = [(stretch.measures, f"after {self._events(stretch)}") for stretch in later]
         tried = self._told.faults.cases if self._told.faults else ()
+        waits = [(stretch.measures, f"after {self._events(stretch)}") for stretch in self._told.stretches[1:]]
         waits += [(line, f"fault {self._what(case)}") for case in tried for line in (case.down, case.back)]
-        errors = [(first.measures, "after the start"), *waits]
+        errors = [(stretch.times, f"after {self._events(stretch)}")
+                  for stretch in self._told.stretches if stretch.times]
+        errors += [(line, f"fault {self._what(case)}") for case in tried for line in case.times]
+        rows = [("all have time", *self._first_time())]
         rows.append(("longest wait for time", *self._greatest(waits, "holdover")))
-        rows.append(("greatest error", *self._greatest(errors, "error")))
+        rows.append(("greatest error of what is read, at any moment", *self._greatest(errors, "time")))
         bound = max(self._told.bounds.items(), key=lambda it: it[1], default=("", None))
         rows.append(("greatest bound of an error as it comes", _units(bound[1]), self._whose(bound[0] or None)))
         return Table((), [[Cell(what, "text"), Cell(value), Cell(where, "text")] for what, value, where in rows])
 
-    def _first_time(self) -> int | None:
-        """When the last system has got time, in ns, in the first stretch and in those that are one with it."""
-        got = ((stretch.begin, stretch.measures["offsets"]) for stretch in self._told.stretches
-               if stretch.begin < self._joined[0].end)
-        return max((begin + offsets for begin, offsets in got if offsets is not None), default=None)
+    def _first_time(self) -> tuple[str, str]:
+        """When the last system got its time, up to the first stretch at whose end all live and have time; and which."""
+        at, clock = None, None
+        for stretch in self._told.stretches:
+            if stretch.times and stretch.times["first"] is not None:
+                at, clock = stretch.begin + stretch.times["first"], stretch.times["first_clock"]
+            if not stretch.measures["without"] and not any(system.failed for system in stretch.ended.values()):
+                return _units(at), f"{self._whose(clock)} after the start".strip()
+        return _NONE, "at the end of no stretch"
 
     def _greatest(self, lines: Sequence[tuple[Line, str]], name: str) -> tuple[str, str]:
         """The greatest of a measure, and whose and where it is."""
@@ -185,6 +193,20 @@ class _Page:
             *self._measures(line),
         ]
 
+    def _read(self) -> Table | None:
+        """The table of what systems read, stretch by stretch."""
+        rows = [[Cell(f"{in_seconds(stretch.begin)}s"), Cell(f"{in_seconds(stretch.end)}s"),
+                 Cell(self._events(stretch), "text"), *self._times(stretch.times)]
+                for stretch in self._told.stretches if stretch.times]
+        return Table(("from", "to", "events", *_TIMES), rows) if rows else None
+
+    def _times(self, line: Line) -> Iterator[Cell]:
+        """The words of a line of times, each with its systems."""
+        for name in ("time", "apart", "step", "first"):
+            whose = [line[f"{name}_clock"], line["behind_clock"] if name == "apart" else None]
+            named = ", ".join(self._document.name(clock) for clock in whose if clock)
+            yield Cell(f"{_units(measure(line, name))} {named}".strip())
+
     def _measures(self, line: Line) -> Iterator[Cell]:
         """The words of a line that have a system, and its counts."""
         for name in ("holdover", "error"):
@@ -236,13 +258,20 @@ class _Page:
     def _in_words(self, case: Case) -> str:
         """What a fault does, in a sentence for each of down and back."""
         told = []
-        for what, line in (("While it is down", case.down), ("When it is back", case.back)):
+        for what, line, times in zip(("While it is down", "When it is back"), (case.down, case.back),
+                                     case.times or (None, None)):
             choice, clock = line["choice"], line["holdover_clock"]
             stands = "no choice changes" if choice is None else f"the choice is made after {_units(choice)}"
             wait = f"{self._whose(clock)} waits {_units(line['holdover'])}" if clock else "nobody waits"
             none = f"; at its end {line['without']} have no time" if line["without"] else ""
-            told.append(f"{what} {stands}, and {wait} for time at most{none}.")
+            read = f"; what is read is {self._off(times)}" if times else ""
+            told.append(f"{what} {stands}, and {wait} for time at most{none}{read}.")
         return " ".join(told)
+
+    def _off(self, times: Line) -> str:
+        """By how much what is read is off, and jumps."""
+        error, step = (f"{_units(times[name])} at most{self._of(times[f'{name}_clock'])}" for name in ("time", "step"))
+        return f"off by {error}, and jumps by {step}"
 
     def _details(self) -> Iterator[dict[str, object]]:
         """What is folded away: all faults, all accuracy lines, and the network at the end of each stretch."""
@@ -250,9 +279,12 @@ class _Page:
             faults = self._told.faults
             yield {"title": f"All {len(faults.cases)} faults", "table": self._faults(faults),
                    "told": f"{self._readable.line(faults.worst.text)}: {faults.verdict.text}"}
+            if faults.worst_times:
+                yield {"title": f"What is read in all {len(faults.cases)} faults", "table": self._read_in(faults),
+                       "told": self._readable.line(faults.worst_times.text)}
         lines = [(stretch, line) for stretch in self._told.stretches for line in stretch.accuracy]
         if lines:
-            yield {"title": f"All {len(lines)} bounds of errors as they come", "table": self._accuracy(lines)}
+            yield {"title": f"All {len(lines)} bounds of errors", "table": self._accuracy(lines)}
         yield from self._trees()
 
     def _trees(self) -> Iterator[dict[str, object]]:
@@ -267,9 +299,10 @@ class _Page:
 
     def _accuracy(self, lines: Iterable[tuple[Stretch, Line]]) -> Table:
         """The table of bounds of errors."""
-        return Table(("after", "system", "greatest error", "bound", "from"),
+        return Table(("after", "system", "greatest error", "bound", "of what is read", "bound", "from"),
                      [[Cell(self._events(stretch), "text"), Cell(self._document.name(line["clock"]), "text"),
-                       Cell(_units(line["error"])), Cell(_units(line["bound"])), Cell(f"{in_seconds(line['from'])}s")]
+                       *(Cell(_units(line.fields.get(name))) for name in ("error", "bound", "reads", "reads_bound")),
+                       Cell(f"{in_seconds(line['from'])}s")]
                       for stretch, line in lines])
 
     def _faults(self, faults: Faults) -> Table:
@@ -286,6 +319,12 @@ class _Page:
                              Cell(followed, "text")])
         return Table(head, rows)
 
+    def _read_in(self, faults: Faults) -> Table:
+        """What is read in the cases, two rows each."""
+        return Table(("case", "what fails", "", *_TIMES),
+                     [[Cell(str(case.number)), Cell(self._what(case), "text"), Cell(when, "text"), *self._times(line)]
+                      for case in faults.cases for when, line in zip(("down", "back"), case.times)])
+
     def _what(self, case: Case) -> str:
         """The link or the system that fails."""
         line = case.lines[0]
@@ -297,6 +336,10 @@ class _Page:
     def _whose(self, clock: str | None) -> str:
         """What a system is called, where there is one."""
         return "" if clock is None else self._document.name(clock)
+
+    def _of(self, clock: str | None) -> str:
+        """A system in brackets, where there is one."""
+        return f" ({self._document.name(clock)})" if clock else ""
 
     def _root(self, root: str) -> str:
         """A root by name, with its priority1."""

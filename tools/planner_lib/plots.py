@@ -1,4 +1,4 @@
-"""The errors of receipts: over steps, and over time."""
+"""Errors: those of receipts over steps, and those of what is read over time."""
 
 from decimal import Decimal
 from math import ceil, nan
@@ -21,12 +21,14 @@ def over_steps(document: Document, stretches: Sequence[Stretch], clocks: Sequenc
     Of all systems median, 99.9 % and greatest; of systems that are named each error as a point. None without any.
     """
     of_steps: dict[int, list[float]] = {}
+    shown: dict[int, set[str]] = {}
     for stretch in stretches:
         last = max((change.at for change in stretch.changes), default=stretch.begin)
         for sample in stretch.samples:
             standing = stretch.ended.get(sample.clock)
             if sample.at > last and standing and not standing.failed and (not clocks or sample.clock in clocks):
                 of_steps.setdefault(standing.steps, []).append(abs(float(sample.error)))
+                shown.setdefault(standing.steps, set()).add(sample.clock)
     if not of_steps:
         return None
     figure = Figure(figsize=_SIZE, layout="constrained")
@@ -38,7 +40,7 @@ def over_steps(document: Document, stretches: Sequence[Stretch], clocks: Sequenc
     else:
         for part, label in ((0.5, "median"), (0.999, "99.9 %"), (1.0, "greatest")):
             axes.plot(steps, [_least_above(of_steps[step], part) for step in steps], ".-", label=label)
-    _bounds(axes, stretches[-1], bounds, limit)
+    _bounds(axes, bounds_by_steps(stretches[-1], bounds, shown), limit)
     axes.set_xlabel("steps from the root")
     axes.set_ylabel("error in ns")
     axes.set_xlim(0, steps[-1] + 1)
@@ -53,13 +55,17 @@ def _least_above(errors: list[float], part: float) -> float:
     return sorted(errors)[max(ceil(part * len(errors)), 1) - 1]
 
 
-def _bounds(axes: Axes, stretch: Stretch, bounds: Mapping[str, Decimal], limit: Decimal | None) -> None:
+def bounds_by_steps(stretch: Stretch, bounds: Mapping[str, Decimal],
+                    shown: Mapping[int, set[str]]) -> dict[int, float]:
+    """The bound in ns at each number of steps, where all systems that are shown there have one at a stretch's end."""
+    there = {clock: standing.steps for clock, standing in stretch.ended.items()
+             if not standing.failed and standing.slave is not None}
+    return {steps: max(float(bounds[clock]) for clock in clocks) for steps, clocks in shown.items()
+            if all(clock in bounds and there.get(clock) == steps for clock in clocks)}
+
+
+def _bounds(axes: Axes, of_steps: Mapping[int, float], limit: Decimal | None) -> None:
     """The bound at each number of steps, and what is required, as lines."""
-    of_steps: dict[int, float] = {}
-    for clock, bound in bounds.items():
-        standing = stretch.ended.get(clock)
-        if standing and not standing.failed and standing.slave is not None:
-            of_steps[standing.steps] = max(of_steps.get(standing.steps, 0.0), float(bound))
     if of_steps:
         axes.plot(sorted(of_steps), [of_steps[step] for step in sorted(of_steps)], "k_--", label="bound")
     if limit is not None:
@@ -69,10 +75,11 @@ def _bounds(axes: Axes, stretch: Stretch, bounds: Mapping[str, Decimal], limit: 
 def over_time(document: Document, stretches: Sequence[Stretch], clocks: Sequence[str], sync: int) -> bytes | None:
     """Errors in ns over time, as SVG, with events as upright lines. None without any.
 
+    They are those of what is read before and after each receipt, where the stretches have readings, else of receipts.
     Of all systems the envelope, greatest and least; of systems that are named each error as a point. Over more than two
     Sync intervals (in ns) without an error nothing is drawn.
     """
-    samples = [sample for stretch in stretches for sample in stretch.samples
+    samples = [sample for stretch in stretches for sample in stretch.readings or stretch.samples
                if not clocks or sample.clock in clocks]
     if not samples:
         return None

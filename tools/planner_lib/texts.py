@@ -17,6 +17,7 @@ _MEASURES = f"holdover HOLDOVER HOLDOVER_CLOCK error ERROR ERROR_CLOCK {_COUNTS}
 _LINK = "A_CLOCK A_PORT B_CLOCK B_PORT"
 _SHOWN = "root ROOT_ID steps STEPS gm GM slave SLAVE offset OFFSET"
 _BY = "[ by FIELD FIRST SECOND]"
+_TIMES = "time TIME TIME_CLOCK apart APART APART_CLOCK BEHIND_CLOCK step STEP STEP_CLOCK first FIRST FIRST_CLOCK"
 
 _TEMPLATES = (
     # run
@@ -48,8 +49,10 @@ _TEMPLATES = (
     ("at system failed", "at AT system CLOCK failed"),
     ("at port", "at AT port CLOCK PORT ROLE capable CAPABLE"),
     ("offset", "offset AT CLOCK OFFSET error ERROR"),
+    ("reading", "reading AT CLOCK from SOURCE_CLOCK before BEFORE after AFTER step STEP"),
     ("after", f"after FROM to TO choice CHOICE roles ROLES offsets OFFSETS {_MEASURES}"),
-    ("accuracy", "accuracy CLOCK error ERROR bound BOUND from FROM"),
+    ("times", f"times FROM to TO {_TIMES}"),
+    ("accuracy", "accuracy CLOCK error ERROR bound BOUND from FROM[ reads READS bound READS_BOUND]"),
     ("within", "within"),
     ("exceeded", "exceeded WORD"),
     # faults
@@ -58,8 +61,11 @@ _TEMPLATES = (
     ("case system", "case CASE system CLOCK"),
     ("down", f"down choice CHOICE {_MEASURES}"),
     ("back", f"back choice CHOICE {_MEASURES}"),
+    ("down_times", f"down_times {_TIMES}"),
+    ("back_times", f"back_times {_TIMES}"),
     ("follow", "follow ROOT_ID SYSTEMS"),
     ("worst", f"worst choice CHOICE holdover HOLDOVER error ERROR {_COUNTS}"),
+    ("worst_times", "worst_times time TIME apart APART step STEP first FIRST"),
     # lint
     ("unknown", "unknown PLACE key KEY[ near NEAR]"),
     ("long", "long link LINK line LINE max MAX needs NEEDS threshold THRESHOLD at AT"),
@@ -96,7 +102,8 @@ _SHAPES = {
     "ROLE": r"disabled|master|slave|passive",
     "NEVER": r"never",
 }
-_TEXTS = re.compile(r"(?:^|_)(?:clock|id|hex|key|near|first|second)$")
+_TEXTS = re.compile(r"(?:^|_)(?:clock|id|hex|key|near)$")
+_COMPARED = ("first", "second")  # of lines that name a field: its two values, as texts
 _CONSTANTS: dict[str, Value] = {"none": None, "yes": True, "no": False}
 
 
@@ -121,7 +128,7 @@ def _group(field: re.Match[str]) -> str:
 def _pattern(template: str) -> re.Pattern[str]:
     """The lines that a template makes."""
     optional = re.sub(r"\[(.*?)\]", r"(?:\1)?", template)
-    return re.compile(re.sub(r"[A-Z_]+", _group, optional))
+    return re.compile(re.sub(r"[A-Z][A-Z_]*", _group, optional))
 
 
 def _by_first_word() -> dict[str, list[tuple[str, re.Pattern[str]]]]:
@@ -135,11 +142,11 @@ def _by_first_word() -> dict[str, list[tuple[str, re.Pattern[str]]]]:
 _PATTERNS = _by_first_word()
 
 
-def _value(name: str, word: str) -> Value:
+def _value(name: str, word: str, is_text: bool) -> Value:
     """What a field holds: a number, a truth value, nothing, words, or text."""
     if name == "words":
         return word.split(" ")
-    if _TEXTS.search(name):
+    if is_text:
         return None if word == "none" else word
     if re.fullmatch(r"-?\d+", word):
         return int(word)
@@ -152,7 +159,9 @@ def read_line(text: str) -> Line | None:
     """The line that a text is, or None where it is none."""
     for kind, pattern in _PATTERNS.get(text.partition(" ")[0], []):
         if found := pattern.fullmatch(text):
-            return Line(kind, {name: _value(name, word) for name, word in found.groupdict().items() if word}, text)
+            words = {name: word for name, word in found.groupdict().items() if word}
+            texts = {name for name in words if _TEXTS.search(name) or name in _COMPARED and "field" in words}
+            return Line(kind, {name: _value(name, word, name in texts) for name, word in words.items()}, text)
     return None
 
 

@@ -11,7 +11,7 @@ from .texts import Line
 
 @dataclass(frozen=True)
 class Sample:
-    """The error of a receipt, in ns."""
+    """The error of a receipt, or of what is read just before or after one, in ns."""
 
     at: int
     clock: str
@@ -29,7 +29,10 @@ class Change:
 
 @dataclass
 class Stretch:
-    """What happens between two times of events; its measures are those of its `after` line."""
+    """What happens between two times of events; its measures are those of its `after` line, its times of `times`.
+
+    Samples are the errors of receipts, readings those of what is read before and after each receipt and takeover.
+    """
 
     began: Standing
     events: list[Line] = field(default_factory=list)
@@ -38,6 +41,8 @@ class Stretch:
     measures: Line = Line("after", {}, "")
     ended: Standing = field(default_factory=dict)
     accuracy: list[Line] = field(default_factory=list)
+    readings: list[Sample] = field(default_factory=list)
+    times: Line | None = None
 
     @cached_property
     def changes_of(self) -> dict[str, list[Change]]:
@@ -84,10 +89,15 @@ def read(lines: Iterable[Line]) -> list[Stretch]:
         elif line.kind == "offset":
             if line["error"] is not None:
                 stretch.samples.append(Sample(line["at"], line["clock"], line["error"]))
+        elif line.kind == "reading":
+            stretch.readings += [Sample(line["at"], line["clock"], error) for error in (line["before"], line["after"])
+                                 if error is not None]
         elif line.kind == "after":
             stretch.measures, stretch.ended = line, dict(now)
             stretches.append(stretch)
             stretch = Stretch(dict(now))
+        elif line.kind == "times":
+            stretches[-1].times = line
         elif line.kind == "accuracy":
             stretches[-1].accuracy.append(line)
     return stretches
@@ -115,4 +125,5 @@ def _joined(group: Sequence[Stretch]) -> Stretch:
         measures,
         group[-1].ended,
         group[-1].accuracy,
+        [reading for stretch in group for reading in stretch.readings],
     )

@@ -94,7 +94,7 @@ follow_up_read (octet ∷ octets) m is reads =
     )
 
 -- what a system uses reads as a message
-heard_follow_up : (place port : ℕ) (octets : List ℕ) (w : WorldState) (draws : List Draw) (answer : Option Answer)
+pub heard_follow_up : (place port : ℕ) (octets : List ℕ) (w : WorldState) (draws : List Draw) (answer : Option Answer)
     (w' : WorldState) → Hears place port octets w draws answer w' → answer ≡ Some answers.Used
     → is_follow_up octets ≡ true → AreFollowUp octets
 heard_follow_up place port octets w draws None w' hears used is = absurd (none-some answers.Used used)
@@ -111,7 +111,7 @@ heard_follow_up place port octets w draws (Some told) w' hears used is = by hear
 abbrev pub receives_by : ℕ → Done → Bool
 receives_by name done = option_map_or (λ clock. clock == name) (received_by done) false
 
-nobody : {X : Type 0} (name : ℕ) (done : Done) → done ≡ Quiet → receives_by name done ≡ true → X
+pub nobody : {X : Type 0} (name : ℕ) (done : Done) → done ≡ Quiet → receives_by name done ≡ true → X
 nobody name done quiet own = absurd (let no : false ≡ true = sym (ap (receives_by name) quiet) ∙ own in cc)
 
 -- where each Follow_Up that is used leaves an exact offset, so does each act by which a system receives time

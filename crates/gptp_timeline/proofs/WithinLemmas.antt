@@ -70,7 +70,7 @@ use Rattle.gptp_world.specs.Transitions.{Passes, ActTrace}
 -- ---- an error
 
 -- how far an offset is from what it ought to be
-size_within : (bound : ℕ) (offset ahead : ℤ) → AreWithin bound offset ahead → unsigned_abs (offset -ℤ ahead) ≤ bound
+pub size_within : (bound : ℕ) (offset ahead : ℤ) → AreWithin bound offset ahead → unsigned_abs (offset -ℤ ahead) ≤ bound
 size_within bound offset ahead within = omega (arith, ints, within.low, within.high)
 
 -- It is that of the offset of a live system, by its clock and that of the live system whose clock its root names.
@@ -132,7 +132,7 @@ shown_by p w claimed name s is time =
 -- ---- times
 
 -- a system has fewer steps than a path has systems
-late_enough : (change span from time most steps each : ℕ) → from ≡ change + span + most * each → from ≤ time
+pub late_enough : (change span from time most steps each : ℕ) → from ≡ change + span + most * each → from ≤ time
     → steps ≤ most → change + (span + steps * each) ≤ time
 late_enough change span from time most steps each is late few =
     let product : steps * each ≤ most * each = mul-le-mul few (le_refl each) in omega (arith, is, late, product)
@@ -149,40 +149,40 @@ span_positive p paths m log =
 
 module _ {F : Type 0} (answers : Bounds → ℕ → F → Option ℕ → F → Type 0) (d : DocumentState)
     (playable : IsPlayable d) (names : List ℕ) where
-  abbrev n : NetworkState
+  abbrev pub n : NetworkState
   n = d.network
 
-  abbrev pace : SettlingParams
+  abbrev pub pace : SettlingParams
   pace = pace_of n
 
   -- a world that keeps to these events
-  abbrev StretchesSoFar : List Timed → WorldState → Type 0
+  abbrev pub StretchesSoFar : List Timed → WorldState → Type 0
   StretchesSoFar events w = Keeps answers d playable names events w
 
   -- what is said of a system that isn't its own root, by the network as it stands after these events
-  record HasBound (events : List Timed) (g : Snapshot) (name from bound : ℕ) : Type 0 where
-    calm : IsCalm n events
-    stands : StandsAfter n events g
-    steps : ℕ
-    far : IsDistance g name (suc steps)
-    near : suc steps < 255
-    way : Way
-    leads : IsWay n events g (suc steps) name way
-    bound_is : bound ≡ time_error way
-    from_is : from ≡ exact_from n events g
+  pub record HasBound (events : List Timed) (g : Snapshot) (name from bound : ℕ) : Type 0 where
+    pub calm : IsCalm n events
+    pub stands : StandsAfter n events g
+    pub steps : ℕ
+    pub far : IsDistance g name (suc steps)
+    pub near : suc steps < 255
+    pub way : Way
+    pub leads : IsWay n events g (suc steps) name way
+    pub bound_is : bound ≡ time_error way
+    pub from_is : from ≡ exact_from n events g
 
   module _ (events : List Timed) (g : Snapshot) (name from bound : ℕ) (has : HasBound events g name from bound) where
-    abbrev span : ℕ
+    abbrev pub span : ℕ
     span = span_after answers d playable names events g
 
     module _ (until : ℕ) (t : ActTrace) (fate drawn : F) (w : WorldState)
         (happens : Happens answers until t.told fate drawn w t.after) (keeps : StretchesSoFar events w)
         (late : from ≤ at_of t)
       where
-        abbrev then : WorldState
+        abbrev pub then : WorldState
         then = at (at_of t) w
 
-        keeps_then : StretchesSoFar events then
+        pub keeps_then : StretchesSoFar events then
         keeps_then =
             let timely = happens.was_done.ready.timely in
             keeps_later answers d playable names events w (at_of t) timely.now timely.first keeps
@@ -196,22 +196,22 @@ module _ {F : Type 0} (answers : Bounds → ℕ → F → Option ℕ → F → T
             acts_keep timed.act then happens.was_done.draws t.told.done t.after
             (no_change happens.next.item timed.act w happens.next.act) happens.was_done.acts
 
-        same : snapshot_of t.after ≡ snapshot_of w
+        pub same : snapshot_of t.after ≡ snapshot_of w
         same = same_snapshot then t.after network
 
-        alike : AreAlike (snapshot_of w) g
+        pub alike : AreAlike (snapshot_of w) g
         alike = alike_after answers d playable names events g w has.stands keeps
 
-        well : IsWellFormed (snapshot_of w)
+        pub well : IsWellFormed (snapshot_of w)
         well = let is = keeps.claimed.world in stands_well w is.sound is.between is.encodable
 
-        far : IsDistance (snapshot_of w) name (suc has.steps)
+        pub far : IsDistance (snapshot_of w) name (suc has.steps)
         far = distance g (snapshot_of w) (turned (snapshot_of w) g alike) name (suc has.steps) has.far
 
-        near : IsNear (snapshot_of w) name
+        pub near : IsNear (snapshot_of w) name
         near = (suc has.steps, far, has.near)
 
-        paths_bounded : BoundsPaths (snapshot_of w) (path_bound g)
+        pub paths_bounded : BoundsPaths (snapshot_of w) (path_bound g)
         paths_bounded =
             bounded answers d playable names events (last_change events) span g has.calm has.stands (omega arith) refl w
             keeps
@@ -222,14 +222,14 @@ module _ {F : Type 0} (answers : Bounds → ℕ → F → Option ℕ → F → T
             let less = paths_bounded far.best.clock name us path in
             omega (arith, long, less)
 
-        calm : (is : IsCalmFor (exact_span (path_bound g) (suc has.steps)) then) × (is.pace ≡ pace)
+        pub calm : (is : IsCalmFor (exact_span (path_bound g) (suc has.steps)) then) × (is.pace ≡ pace)
         calm =
             calm_since answers d playable names events (last_change events) span g has.calm has.stands (omega arith)
             refl (exact_span (path_bound g) (suc has.steps)) then keeps_then
             (late_enough (last_change events) span from (at_of t) (path_bound g) (suc has.steps)
             (n.params.threshold + n.params.residence) has.from_is late few)
 
-        rest : (s : SystemState) → live_system name t.after ≡ Some s → IsAtRest (snapshot_of t.after) s
+        pub rest : (s : SystemState) → live_system name t.after ≡ Some s → IsAtRest (snapshot_of t.after) s
         rest s is =
             let moment = act_time answers d playable names until t fate drawn w keeps.claimed.world.sound happens in
             let from_is = has.from_is in
@@ -238,7 +238,7 @@ module _ {F : Type 0} (answers : Bounds → ℕ → F → Option ℕ → F → T
             (subst (λ h. IsNear h name) (sym same) near) s is
 
         -- the act leaves clocks as they were
-        same_time : (number : ℕ) (s s' : SystemState) → live_system number t.after ≡ Some s'
+        pub same_time : (number : ℕ) (s s' : SystemState) → live_system number t.after ≡ Some s'
             → live_system number w ≡ Some s → local_time s' (at_of t) ≡ local_time s (at_of t)
         same_time number s s' behind before =
             shown_by pace t.after keeps_after.claimed number s' behind (at_of t)
@@ -246,7 +246,7 @@ module _ {F : Type 0} (answers : Bounds → ℕ → F → Option ℕ → F → T
             (same_parts pace.params then t.after network)
             ∙ sym (shown_by pace w keeps.claimed number s before (at_of t))
 
-        all : WorldInvariant w
+        pub all : WorldInvariant w
         all = record { pace = pace; is = keeps.claimed; carries = keeps.carries }
 
         error_is : IsWayError calm.0.pace.params w name (suc has.steps) bound
@@ -258,12 +258,12 @@ module _ {F : Type 0} (answers : Bounds → ℕ → F → Option ℕ → F → T
             (record { way = has.way; phase = phase; leads = leads; is = has.bound_is })
 
         -- the best of the component, whose clock the root of the system names
-        record HasBest (s : SystemState) : Type 0 where
-          best : System
-          is_best : IsBest (snapshot_of w) name best
-          named : clock_of s.root ≡ best.clock
+        pub record HasBest (s : SystemState) : Type 0 where
+          pub best : System
+          pub is_best : IsBest (snapshot_of w) name best
+          pub named : clock_of s.root ≡ best.clock
 
-        has_best : (s : SystemState) → live_system name t.after ≡ Some s → HasBest s
+        pub has_best : (s : SystemState) → live_system name t.after ≡ Some s → HasBest s
         has_best s is =
             let (best, is_best, root_is) = (rest s is).settled.root in
             let (x, member, clock_is, ports, named) = stands_there t.after name s is in
@@ -343,7 +343,7 @@ module _ {F : Type 0} (answers : Bounds → ℕ → F → Option ℕ → F → T
       (keeps_made answers d playable names before event first fate drawn w between (fit 0 event refl) makes keeps)))
 
   -- bounds hold some time after the last change
-  holds_later : (events : List Timed) (g : Snapshot) (name from bound : ℕ) → IsLog pace.largest
+  pub holds_later : (events : List Timed) (g : Snapshot) (name from bound : ℕ) → IsLog pace.largest
       → HasBound events g name from bound → last_change events < from
   holds_later events g name from bound log has =
       let positive = span_positive pace (sync_paths n events) (path_bound g) log in
@@ -351,12 +351,12 @@ module _ {F : Type 0} (answers : Bounds → ℕ → F → Option ℕ → F → T
       omega (arith, positive, from_is)
 
   -- what is so of all is so of those after
-  past_behind : (time : ℕ) (before events : List Timed) → PastBy time (before ++ events) → PastBy time events
+  pub past_behind : (time : ℕ) (before events : List Timed) → PastBy time (before ++ events) → PastBy time events
   past_behind time [] events past = past
   past_behind time (e ∷ es) events past = past_behind time es events past.1
 
   -- what time errors say
-  has_bound : (time : ℕ) (errors : TimeErrors) (name from bound : ℕ) (are : AreTimeErrors d time errors)
+  pub has_bound : (time : ℕ) (errors : TimeErrors) (name from bound : ℕ) (are : AreTimeErrors d time errors)
       → SayBound errors name from bound → HasBound (events_by time d.events) are.snapshot name from bound
   has_bound time errors name from bound are says =
       by_steps says.system.steps refl

@@ -14,7 +14,7 @@ use gptp_world::World;
 
 /// What is kept of what a system reads from its first receipt on that counts by itself.
 #[derive(Clone, Copy, Debug)]
-pub(crate) struct ExactReads {
+pub struct ExactReads {
     /// When its last receipt was, in ns.
     pub last: u64,
     /// The longest time from one of them to the next, in ns.
@@ -25,7 +25,7 @@ pub(crate) struct ExactReads {
 
 /// That of the system with a clock; nothing before there was such a receipt.
 #[derive(Clone, Copy, Debug)]
-pub(crate) struct SystemReads {
+pub struct SystemReads {
     /// Its clock.
     pub clock: ClockId,
     /// What is kept.

@@ -38,6 +38,7 @@ pub use amounts::Near;
 pub use counts::{Counts, times};
 pub use end::end_by_default;
 pub use ends::StretchEnd;
+pub use exact_reads::{ExactReads, SystemReads};
 pub use laws::{
     errors_are_within, last_lines_tell, stretches_follow, stretches_settle, timelines_are_right,
     timelines_are_runs,
@@ -45,7 +46,8 @@ pub use laws::{
 pub use limits::{Limit, Limits, write_first_exceeded};
 pub use looks::TimeMeasures;
 pub use measures::{Greatest, Measures, better_if};
-pub use sources::Difference;
+pub use readings::{KeptReading, NewReading, SystemReading};
+pub use sources::{Difference, Ends, SourceTime};
 pub use stretch::{Longest, Stretch, TimeOrNone, Worst, amount_of};
 pub use time_lines::Sources;
 pub use timeline::{TimelineOptions, last_stretches, write_timeline};

@@ -21,7 +21,7 @@ use gptp_world::{Act, Done, World};
 
 /// What a system reads time by.
 #[derive(Clone, Copy, Debug, PartialEq, Eq)]
-pub(crate) struct KeptReading {
+pub struct KeptReading {
     /// The clock that is its source.
     pub source: ClockId,
     /// What the Follow_Up left that was used; where the system took over, nothing: it reads its own clock.
@@ -30,7 +30,7 @@ pub(crate) struct KeptReading {
 
 /// What is kept of what a system reads.
 #[derive(Clone, Copy, Debug)]
-pub(crate) struct SystemReading {
+pub struct SystemReading {
     /// Its clock.
     pub clock: ClockId,
     /// What it reads time by; nothing where it has no time.
@@ -39,7 +39,7 @@ pub(crate) struct SystemReading {
 
 /// A reading that a system gets.
 #[derive(Clone, Copy, Debug)]
-pub(crate) struct NewReading {
+pub struct NewReading {
     /// The system.
     pub clock: ClockId,
     /// What it read time by before.

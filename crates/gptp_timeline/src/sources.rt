@@ -13,7 +13,7 @@ use std::marker::Model;
 
 /// A source that is told.
 #[derive(Clone, Copy, Debug)]
-pub(crate) struct SourceTime {
+pub struct SourceTime {
     /// Its clock.
     pub clock: ClockId,
     /// What that shows.
@@ -22,7 +22,7 @@ pub(crate) struct SourceTime {
 
 /// The sources whose times are the greatest and the least of several.
 #[derive(Clone, Copy, Debug)]
-pub(crate) struct Ends {
+pub struct Ends {
     /// That whose time is the greatest.
     pub ahead: SourceTime,
     /// That whose time is the least.

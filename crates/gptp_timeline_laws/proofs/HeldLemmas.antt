@@ -1,0 +1,305 @@
+-- What a near system reads by a receipt, once the time errors of its network hold, is as exact as they say.
+use Rattle.std.proofs.Common.{◌≡◌, ◌==◌, ◌≤◌, ◌+◌, ◌-◌, ◌*◌, ◌^◌, ◌&&◌, ℕ, suc, ℤ, ◌-ℤ◌, Bool, true, false, List, Option, Some, None, option_map, option_and_then, unsigned_abs, refl, sym, ap, subst, ◌∙◌, arith, if◌then◌else◌}
+use Rattle.std.specs.Option.{option_map_or}
+use Rattle.std.specs.Prelude.{is_none, IsSome}
+use Rattle.std.proofs.Math.Nat.{mul-le-mul_right}
+use Rattle.std.proofs.lemmas.Bool.Decides.{nat_tests}
+use Rattle.std.proofs.lemmas.Option.{none-some, same_Some}
+use Rattle.gptp_error_laws.specs.TimeError.{jitter_at, rates_error_at, reading_error_at, time_error_at, Way}
+use Rattle.gptp_graph.specs.Parent.{IsParent}
+use Rattle.gptp_graph.specs.PathBound.{path_bound}
+use Rattle.gptp_graph.specs.Snapshot.{Snapshot}
+use Rattle.gptp_graph.proofs.ParentLemmas.{parent_exists}
+use Rattle.gptp_bmca_machine.specs.Settled.{IsSlaveOf}
+use Rattle.gptp_invariants.specs.WorldStanding.{snapshot_of}
+use Rattle.gptp_invariants.specs.SyncFollowers.{follower_parts}
+use Rattle.gptp_links.specs.declared.bounds.Bounds.{Bounds}
+use Rattle.gptp_links.specs.Fate.{Draw}
+use Rattle.gptp_lists.proofs.SystemSpecLemmas.{slice_get-In}
+use Rattle.gptp_messages.specs.declared.message.Message.TheVariants as messages
+use Rattle.gptp_messages.specs.Grammar.{Reads}
+use Rattle.gptp_model.specs.Acts.{Acts, at}
+use Rattle.gptp_model.specs.Advancing.{Happens}
+use Rattle.gptp_model.specs.World.{WorldState}
+use Rattle.gptp_model.specs.World.{receiver as to}
+use Rattle.gptp_model.specs.declared.done.Done.{Done}
+use Rattle.gptp_model.specs.declared.done.Done.TheVariants.{Heard, Quiet}
+use Rattle.gptp_network.specs.Document.{DocumentState}
+use Rattle.gptp_pdelay.specs.GoodLink.{ceil_div}
+use Rattle.gptp_roles.specs.Selection.{clock_of}
+use Rattle.gptp_scenario.specs.declared.change.Act.{Act}
+use Rattle.gptp_scenario.specs.declared.change.Act.TheVariants.{Change as Changing, Deliver, Expire}
+use Rattle.gptp_scenario.specs.declared.change.Timed.{Timed}
+use Rattle.gptp_setup.specs.SettlingParams.{SettlingParams}
+use Rattle.gptp_sync_machine.specs.Tree.{IsWayTo}
+use Rattle.gptp_correction.specs.declared.sync_in.SyncInfo.{SyncInfo}
+use Rattle.gptp_system.specs.Reading.{held_reading, read_at, reading_by}
+use Rattle.gptp_system.specs.State.{clock, local_time, SystemState}
+use Rattle.gptp_system.specs.declared.reading.Reading.{Reading}
+use Rattle.gptp_theorem.specs.Headline.{HasComeDown, UsesFollowUp, WorldIsCalm}
+use Rattle.gptp_theorem.specs.PlayedLaws.{IsPlayable}
+use Rattle.gptp_reading.specs.Reading.{reading}
+use Rattle.gptp_reading.proofs.ExactLemmas.{used_shows, worlds_have_readings, worlds_read_exactly}
+use Rattle.gptp_reading.proofs.HeldLemmas.{held_is_read}
+use Rattle.gptp_timeline.specs.Readings.{by_receipt, clock_time, gets, new_in, new_reading, read_by, reading_among, reading_error, received_from, received_reading}
+use Rattle.gptp_timeline.specs.Receipts.{is_follow_up, received_by}
+use Rattle.gptp_timeline.specs.Shown.{live_system}
+use Rattle.gptp_timeline.specs.Stretch.{at_of, receives}
+use Rattle.gptp_timeline.specs.declared.readings.SystemReading.{SystemReading}
+use Rattle.gptp_timeline.proofs.ShownLemmas.{found}
+use Rattle.gptp_timeline.specs.declared.readings.KeptReading.{KeptReading}
+use Rattle.gptp_timeline.specs.declared.readings.NewReading.{NewReading}
+use Rattle.gptp_timeline.proofs.HeardLemmas.{heard_follow_up, receipt_of, receives_by}
+use Rattle.gptp_timeline.proofs.RestLemmas.{lives_there, shows_live, stands_there}
+use Rattle.gptp_timeline.proofs.SettlingLemmas.{Keeps, keeps_act}
+use Rattle.gptp_timeline.proofs.WayLemmas.{way_there}
+use Rattle.gptp_timeline.proofs.WithinLemmas.{alike, all, calm, far, has_best, HasBound, near, paths_bounded, rest, same, size_within, well}
+use Rattle.gptp_timeline_laws.proofs.OriginLemmas.{IsReceived, IsTakenOver, live_time}
+use Rattle.gptp_timeline_laws.proofs.StepLemmas.{SameClocks}
+use Rattle.gptp_world.specs.Transitions.{ActTrace}
+
+-- ---- a receipt is the use of a Follow_Up
+
+uses_follow_up : (name time : ℕ) (act : Act) (w : WorldState) (draws : List Draw) (done : Done) (w' : WorldState)
+    → Acts act (at time w) draws done w' → received_by done ≡ Some name → UsesFollowUp name done
+uses_follow_up name time (Deliver link direction) w draws Quiet w' k told = absurd k.told
+uses_follow_up name time (Deliver link direction) w draws (Heard number port answer frame) w' k told =
+    let itself : name == name ≡ true = grind (arith, nat_tests) in
+    let own : receives_by name (Heard number port answer frame) ≡ true =
+    ap (λ o. option_map_or (λ c. c == name) o false) told ∙ itself in
+    let (clock_is, port_is, tells, octets) = k.told in
+    let (receipt, same) = receipt_of name number answer frame.items own in
+    let d = k.delivers in
+    let (m, reads) = heard_follow_up d.place (to direction d.channel).port k.octets (record (at time w) { net = d.net })
+    draws k.answer w' d.hears (sym tells ∙ receipt.used) (subst (λ o. is_follow_up o ≡ true) octets
+    receipt.follow_up) in
+    (same, receipt.used, (m, subst (λ o. Reads o (messages.FollowUp m)) (sym octets) reads))
+uses_follow_up name time (Expire number timer) w draws done w' (quiet, more) told =
+    absurd (none-some name (sym (ap received_by quiet) ∙ told))
+uses_follow_up name time (Changing change) w draws done w' (quiet, more) told =
+    absurd (none-some name (sym (ap received_by quiet) ∙ told))
+
+-- ---- the error grows with the time since a receipt
+
+adds : (a x y : ℕ) → x ≤ y → a + x ≤ a + y
+adds a x y less = omega (arith, less)
+
+ceil_more : (x y : ℕ) → x ≤ y → ceil_div x 33550000 ≤ ceil_div y 33550000
+ceil_more x y less = omega (arith, less)
+
+pub error_grows : (way : Way) (steps soon late : ℕ) → soon ≤ late
+    → reading_error_at way steps soon ≤ reading_error_at way steps late
+error_grows way steps soon late less =
+    let product : (soon + jitter_at way steps) * rates_error_at way steps
+    ≤ (late + jitter_at way steps) * rates_error_at way steps =
+    mul-le-mul_right (rates_error_at way steps) (omega (arith, less)) in
+    adds (time_error_at way (suc steps)) _ _ (ceil_more _ _ product)
+
+-- what a receipt leaves is read
+
+held_some : (s : SystemState) → IsSome (reading s 0) → (r : Reading) × (held_reading s ≡ Some r)
+held_some s some = by s.known s.offset some
+  where
+    by : (known : Option SyncInfo) (offset : Option ℤ)
+        → IsSome (option_and_then (λ k. option_map (λ o. read_at (reading_by s k o) (local_time s 0)) offset) known)
+        → (r : Reading) × (option_and_then (λ k. option_map (λ o. reading_by s k o) offset) known ≡ Some r)
+    by None offset some = absurd cc
+    by (Some k) None some = absurd cc
+    by (Some k) (Some o) some = (reading_by s k o, refl)
+
+read_by_receipt : (act : Act) (w : WorldState) (draws : List Draw) (done : Done) (w' : WorldState)
+    (rs : List SystemReading) (name : ℕ) (s : SystemState) (r : Reading) → Acts act w draws done w'
+    → received_by done ≡ Some name → live_system name w' ≡ Some s → held_reading s ≡ Some r
+    → (u : NewReading) × (new_reading act done w' rs ≡ Some u) × (u.clock ≡ name)
+read_by_receipt (Deliver link direction) w draws done w' rs name s r k told lives held = (
+  gets name true (reading_among rs name) (received_from (clock_of s.root) r),
+  ap (by_receipt w' rs) told
+      ∙ ap (λ l. option_map (gets name true (reading_among rs name)) (option_and_then received_reading l)) lives
+      ∙ ap (λ h. option_map (gets name true (reading_among rs name))
+      (option_map (received_from (clock_of s.root)) h)) held,
+  refl,
+)
+read_by_receipt (Expire number timer) w draws done w' rs name s r (quiet, more) told lives held =
+    absurd (none-some name (sym (ap received_by quiet) ∙ told))
+read_by_receipt (Changing change) w draws done w' rs name s r (quiet, more) told lives held =
+    absurd (none-some name (sym (ap received_by quiet) ∙ told))
+
+-- ---- an act once the errors hold
+
+and_first : (a b : Bool) → a && b ≡ true → a ≡ true
+and_first true b is = refl
+and_first false b is = absurd cc
+
+none_is : (o : Option ℕ) → is_none o ≡ true → o ≡ None
+none_is None is = refl
+none_is (Some x) is = absurd cc
+
+module _ {F : Type 0} (answers : Bounds → ℕ → F → Option ℕ → F → Type 0) (d : DocumentState)
+    (playable : IsPlayable d) (names : List ℕ) (events : List Timed) (g : Snapshot) (name from bound : ℕ)
+    (has : HasBound answers d playable names events g name from bound) where
+  -- the error of what the system reads so long after a receipt
+  abbrev pub error_by_then : ℕ → ℕ
+  error_by_then later = reading_error_at has.way has.steps later
+
+  -- what the system reads by this is off by no more, from a receipt then on
+  pub record IsBounded (base : WorldState) (kept : KeptReading) (last : ℕ) : Type 0 where
+    pub each : (time : ℕ) (error : ℤ) → last ≤ time → reading_error time base name kept ≡ Some error
+        → unsigned_abs error ≤ error_by_then (time - last)
+
+  module _ (until : ℕ) (t : ActTrace) (fate drawn : F) (w : WorldState)
+      (happens : Happens answers until t.told fate drawn w t.after) (keeps : Keeps answers d playable names events w)
+      (late : from ≤ at_of t) (early : until ≤ 10 ^ 18) where
+    abbrev pace : SettlingParams
+    pace = (calm answers d playable names events g name from bound has until t fate drawn w happens keeps late).0.pace
+
+    world_calm : WorldIsCalm pace w
+    world_calm =
+        let c = (calm answers d playable names events g name from bound has until t fate drawn w happens keeps
+        late).0 in
+        record {
+          of = c.set;
+          links = λ link member used.
+              (let (place, there) = slice_get-In link w.net.channels member in
+              let is = c.quiet.links place link there used in (is.lossless, is.good));
+          lapses = c.quiet.lapses;
+        }
+
+    come_down : HasComeDown pace (path_bound g) (suc has.steps) (at_of t) w
+    come_down =
+        let c = (calm answers d playable names events g name from bound has until t fate drawn w happens keeps
+        late).0 in
+        let passed = c.late in omega (arith, passed)
+
+    leads_there : (phase : ℕ → ℕ)
+        × IsWayTo (follower_parts pace.params w) (snapshot_of w) (suc has.steps) name has.way phase
+    leads_there =
+        let claimed = keeps.claimed.world in
+        let (phase, leads) = way_there d.network playable.network events w keeps.stands claimed.sound claimed.encodable
+        g (alike answers d playable names events g name from bound has until t fate drawn w happens keeps late)
+        (suc has.steps) name has.way
+        (well answers d playable names events g name from bound has until t fate drawn w happens keeps late) has.far
+        has.leads in (
+          phase,
+          subst (λ (p : SettlingParams). IsWayTo (follower_parts p.params w) (snapshot_of w) (suc has.steps) name
+              has.way phase)
+              (sym (calm answers d playable names events g name from bound has until t fate drawn w happens keeps
+              late).1) leads,
+        )
+
+    in_time : at_of t ≤ 10 ^ 18
+    in_time = let soon = happens.early in omega (arith, soon, early)
+
+    -- its system doesn't take over: it has a Slave port
+    pub no_takeover : (u : NewReading) → u.clock ≡ name → IsTakenOver t.after u → ⊥
+    no_takeover u named taken =
+        let lives : live_system name t.after ≡ Some taken.own =
+        subst (λ n. live_system n t.after ≡ Some taken.own) named taken.lives in
+        let rests = rest answers d playable names events g name from bound has until t fate drawn w happens keeps late
+        taken.own lives in
+        let none : taken.own.slave ≡ None = none_is taken.own.slave (and_first (is_none taken.own.slave) _
+        taken.sends) in
+        let (x, member, clock_is, ports, is_named) = stands_there t.after name taken.own lives in
+        let (l, parent) = parent_exists (snapshot_of w) name has.steps
+        (well answers d playable names events g name from bound has until t fate drawn w happens keeps late)
+        (far answers d playable names events g name from bound has until t fate drawn w happens keeps late) in
+        let there : IsParent (snapshot_of t.after) (clock taken.own) l =
+        subst (λ v. IsParent (snapshot_of t.after) v l) (sym is_named)
+        (subst (λ h. IsParent h name l)
+        (sym (same answers d playable names events g name from bound has until t fate drawn w happens keeps late))
+        parent) in
+        subst (IsSlaveOf (snapshot_of t.after) (clock taken.own)) none rests.settled.slave l there
+
+    -- and each receipt leaves an exact reading
+    pub receipt_bounds : (u : NewReading) → u.clock ≡ name → IsReceived t.told.done t.after u → (base : WorldState)
+        → SameClocks base w → SameClocks base t.after → IsBounded base u.after (at_of t)
+    receipt_bounds u named r base before after = record { each = within }
+      where
+        s : SystemState
+        s = r.own
+
+        lives : live_system name t.after ≡ Some r.own
+        lives = subst (λ n. live_system n t.after ≡ Some r.own) named r.lives
+
+        within : (time : ℕ) (error : ℤ) → at_of t ≤ time → reading_error time base name u.after ≡ Some error
+            → unsigned_abs error ≤ error_by_then (time - at_of t)
+        within time error behind is =
+            let b = has_best answers d playable names events g name from bound has until t fate drawn w happens keeps
+            late
+            r.own lives in
+            let own = keeps.claimed.world.sound.wired.clocks in
+            let (root, leads) = lives_there w b.best.clock b.best own b.is_best.live refl in
+            let later : ℕ = time - at_of t in
+            let sum : at_of t + later ≡ time = omega (arith, behind) in
+            let read : ℤ = read_at r.reading (local_time r.own time) in
+            let shown : ℤ = local_time root time in
+            let exact = worlds_read_exactly answers t.told.timed fate drawn w t.after t.told.done
+            (all answers d playable names events g name from bound has until t fate drawn w happens keeps late)
+            happens.was_done in_time pace (path_bound g) has.steps name later (error_by_then later) read shown
+            world_calm
+            (paths_bounded answers d playable names events g name from bound has until t fate drawn w happens keeps
+            late)
+            come_down (record {
+              uses = uses_follow_up name (at_of t) t.told.timed.act w happens.was_done.draws t.told.done t.after
+                  happens.was_done.acts (r.told ∙ ap Some named);
+              system = r.own;
+              shows = shows_live name t.after r.own lives;
+              is = subst (λ m. reading r.own m ≡ Some read) (sym sum) (held_is_read r.own time r.reading r.held);
+            })
+            (near answers d playable names events g name from bound has until t fate drawn w happens keeps late)
+            (record { way = has.way; phase = leads_there.0; leads = leads_there.1; is = refl })
+            (record {
+              best = b.best;
+              is_best = b.is_best;
+              root = root;
+              shows = shows_live b.best.clock w root leads;
+              is = ap (local_time root) (sym sum);
+            }) in
+            let source_shows : clock_time u.after.source time base ≡ Some shown =
+            ap (λ c. clock_time c time base) (r.source ∙ b.named) ∙ sym (before b.best.clock time)
+            ∙ live_time b.best.clock time w.stations root leads in
+            let own_shows : clock_time name time base ≡ Some (local_time r.own time) =
+            sym (after name time) ∙ live_time name time t.after.stations r.own lives in
+            let reads : read_by u.after (local_time r.own time) ≡ read =
+            ap (λ o. option_map_or (λ (q : Reading). read_at q (local_time r.own time)) o (local_time r.own time))
+            r.left in
+            let found : reading_error time base name u.after ≡ Some (read -ℤ shown) =
+            (λ i. option_and_then (λ z. option_map (λ x. read_by u.after z -ℤ x) (source_shows i)) (own_shows i))
+            ∙ ap (λ z. Some (z -ℤ shown)) reads in
+            let error_is : read -ℤ shown ≡ error = same_Some (read -ℤ shown) error (sym found ∙ is) in
+            subst (λ z. unsigned_abs z ≤ error_by_then later) error_is
+            (size_within (error_by_then later) read shown exact)
+
+    -- and one leaves a reading
+    pub receipt_reads : (rs : List SystemReading) → receives name t ≡ true
+        → (u : NewReading) × (new_in t rs ≡ Some u) × (u.clock ≡ name)
+    receipt_reads rs own = by (received_by t.told.done) refl own
+      where
+        read : received_by t.told.done ≡ Some name → (u : NewReading) × (new_in t rs ≡ Some u) × (u.clock ≡ name)
+        read told =
+            let was = happens.was_done in
+            let uses = uses_follow_up name (at_of t) t.told.timed.act w was.draws t.told.done t.after was.acts told in
+            let (s, shows) = used_shows answers t.told.timed fate drawn w t.after t.told.done name was uses in
+            let alone = (keeps_act answers d playable names events until t fate drawn w happens
+            keeps).claimed.world.sound.wired.clocks in
+            let lives : live_system name t.after ≡ Some s =
+            found name shows.place t.after.stations shows.station shows.is.here shows.is.named
+            (λ other x there same. alone other shows.place x shows.station there shows.is.here
+            (same ∙ sym shows.is.named))
+            ∙ ap (λ l. if l then Some shows.station.system else None) shows.live ∙ ap Some (sym shows.state) in
+            let some = worlds_have_readings answers t.told.timed fate drawn w t.after t.told.done
+            (all answers d playable names events g name from bound has until t fate drawn w happens keeps late) was
+            in_time pace (path_bound g) has.steps name s has.way leads_there.0 world_calm
+            (paths_bounded answers d playable names events g name from bound has until t fate drawn w happens keeps
+            late)
+            come_down uses shows
+            (near answers d playable names events g name from bound has until t fate drawn w happens keeps late)
+            leads_there.1 0 in
+            let (r, held) = held_some s some in
+            read_by_receipt t.told.timed.act (at (at_of t) w) was.draws t.told.done t.after rs name s r was.acts told
+            lives held
+
+        by : (told : Option ℕ) → received_by t.told.done ≡ told → option_map_or (λ c. c == name) told false ≡ true
+            → (u : NewReading) × (new_in t rs ≡ Some u) × (u.clock ≡ name)
+        by None none is = absurd cc
+        by (Some c) told is =
+            let same : c ≡ name = grind (arith, nat_tests) in read (told ∙ ap Some same)

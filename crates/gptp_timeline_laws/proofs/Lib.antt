@@ -1,0 +1,14 @@
+pub mod LineLemmas
+pub mod LookLemmas
+pub mod ReadLemmas
+pub mod StepLemmas
+pub mod SeenLemmas
+pub mod ToldLemmas
+pub mod BoundLemmas
+pub mod CourseLemmas
+pub mod MomentLemmas
+pub mod OriginLemmas
+pub mod HeldLemmas
+pub mod ReadsLemmas
+pub mod ExactLemmas
+pub mod ReceiptLemmas

@@ -1,0 +1,243 @@
+-- Since its last receipt what a near system reads is within the error for so long.
+use Rattle.std.proofs.Common.{◌≡◌, ◌==◌, ◌≤◌, ◌<◌, ◌-◌, ◌^◌, ◌⊎◌, ◌-ℤ◌, ℕ, Bool, true, false, nat_le, List, [], ◌∷◌, ◌++◌, length, Option, Some, None, if◌then◌else◌, unsigned_abs, refl, sym, ap, subst, ◌∙◌, inl, inr, append-nil, arith}
+use Rattle.std.specs.List.{AllByRecursion}
+use Rattle.std.specs.Option.{option_map_or}
+use Rattle.std.proofs.lemmas.Bool.Decides.{nat_tests}
+use Rattle.std.proofs.lemmas.Option.{none-some, same_Some}
+use Rattle.gptp_graph.specs.Snapshot.{Snapshot}
+use Rattle.gptp_links.specs.declared.bounds.Bounds.{Bounds}
+use Rattle.gptp_model.specs.Advancing.{Happens}
+use Rattle.gptp_model.specs.Views.{rising_clocks}
+use Rattle.gptp_model.specs.World.{WorldState}
+use Rattle.gptp_network.specs.Document.{DocumentState}
+use Rattle.gptp_network.specs.Snapshot.{events_by}
+use Rattle.gptp_report.specs.Transitions.{Courses, Passes}
+use Rattle.gptp_scenario.specs.Calm.{last_change}
+use Rattle.gptp_scenario.specs.declared.change.Timed.{Timed}
+use Rattle.gptp_theorem.specs.PlayedLaws.{IsPlayable}
+use Rattle.gptp_timeline.specs.Looks.{events_left}
+use Rattle.gptp_timeline.specs.Readings.{new_in, put_reading, read_after, reading_among, readings_after, readings_by}
+use Rattle.gptp_timeline.specs.Stretch.{at_of, receives}
+use Rattle.gptp_timeline.specs.Timeline.{AreErrorsBy, now_of}
+use Rattle.gptp_timeline.specs.declared.readings.KeptReading.{KeptReading}
+use Rattle.gptp_timeline.specs.declared.readings.NewReading.{NewReading}
+use Rattle.gptp_timeline.specs.declared.readings.SystemReading.{SystemReading}
+use Rattle.gptp_timeline.proofs.EventLemmas.{Each, filter_each, filter_in_order}
+use Rattle.gptp_timeline.proofs.PastLemmas.{all_past, PastBy}
+use Rattle.gptp_timeline.proofs.SettlingLemmas.{act_time, ends_by, events_then, IsFitEvent, Keeps, keeps_act}
+use Rattle.gptp_timeline.proofs.WithinLemmas.{has_bound, HasBound, holds_later, past_behind}
+use Rattle.gptp_timeline_laws.specs.Exact.{last_receipt, TimelinesBoundReceipts}
+use Rattle.gptp_timeline_laws.specs.Moments.{last_time, world_after}
+use Rattle.gptp_timeline_laws.proofs.BoundLemmas.{readings_both}
+use Rattle.gptp_timeline_laws.proofs.CourseLemmas.{last_on, parted, parts, world_on}
+use Rattle.gptp_timeline_laws.proofs.ExactLemmas.{bound_is, less_each, same_on}
+use Rattle.gptp_timeline_laws.proofs.HeldLemmas.{IsBounded, no_takeover, receipt_bounds, receipt_reads}
+use Rattle.gptp_timeline_laws.proofs.MomentLemmas.{error_read, last_less, timeline_found}
+use Rattle.gptp_timeline_laws.proofs.OriginLemmas.{IsReceived, IsTakenOver, origin}
+use Rattle.gptp_timeline_laws.proofs.ReadLemmas.{put_other, put_own, quiet_reads}
+use Rattle.gptp_timeline_laws.proofs.StepLemmas.{quiet_next, SameClocks}
+use Rattle.gptp_world.specs.Transitions.{ActTrace}
+
+-- ---- the last receipt
+
+last_both : (name : ℕ) (l : Option ℕ) (us vs : List ActTrace)
+    → last_receipt name l (us ++ vs) ≡ last_receipt name (last_receipt name l us) vs
+last_both name l [] vs = refl
+last_both name l (t ∷ us) vs = last_both name (if receives name t then Some (at_of t) else l) us vs
+
+-- by acts before a time it is before that
+last_early : (name from : ℕ) (l : Option ℕ) (ts : List ActTrace)
+    → AllByRecursion (λ (t : ActTrace). at_of t < from) ts → ((last : ℕ) → l ≡ Some last → last < from)
+    → (last : ℕ) → last_receipt name l ts ≡ Some last → last < from
+last_early name from l [] each old last is = old last is
+last_early name from l (t ∷ ts) each old last is =
+    last_early name from (if receives name t then Some (at_of t) else l) ts each.1 (by (receives name t)) last is
+  where
+    by : (own : Bool) → (one : ℕ) → (if own then Some (at_of t) else l) ≡ Some one → one < from
+    by true one same =
+        let at : at_of t ≡ one = same_Some (at_of t) one same in
+        let first = each.0 in omega (arith, at, first)
+    by false one same = old one same
+
+module _ {F : Type 0} (answers : Bounds → ℕ → F → Option ℕ → F → Type 0) (d : DocumentState)
+    (playable : IsPlayable d) (names : List ℕ) (events : List Timed) (g : Snapshot) (name from bound : ℕ)
+    (has : HasBound answers d playable names events g name from bound) where
+  abbrev Bounded : WorldState → KeptReading → ℕ → Type 0
+  Bounded = IsBounded answers d playable names events g name from bound has
+
+  -- what is read is bounded from the last receipt on
+  abbrev TrackLast : WorldState → List SystemReading → Option ℕ → ℕ → Type 0
+  TrackLast base rs l now = (last : ℕ) → l ≡ Some last → from ≤ last
+      → (last ≤ now) × ((kept : KeptReading) → reading_among rs name ≡ Some kept → Bounded base kept last)
+
+  module _ (until : ℕ) (t : ActTrace) (fate drawn : F) (w : WorldState)
+      (happens : Happens answers until t.told fate drawn w t.after) (keeps : Keeps answers d playable names events w)
+      (early : until ≤ 10 ^ 18) (base : WorldState) (same : SameClocks base w) (same' : SameClocks base t.after)
+      (rs : List SystemReading) where
+    -- a receipt
+    received : (late : from ≤ at_of t) → receives name t ≡ true → (kept : KeptReading)
+        → reading_among (read_after t rs) name ≡ Some kept → Bounded base kept (at_of t)
+    received late own kept reads =
+        let (u, new, named) = receipt_reads answers d playable names events g name from bound has until t fate drawn w
+        happens keeps late early rs own in
+        let put : reading_among (put_reading u.clock (Some u.after) rs) u.clock ≡ Some kept =
+        ap (λ n. reading_among (put_reading u.clock (Some u.after) rs) n) named
+        ∙ ap (λ o. reading_among (readings_by t.told.timed.act o rs) name) (sym new) ∙ reads in
+        let after = same_Some u.after kept (put_own u.clock (Some u.after) rs kept put) in
+        subst (λ k. Bounded base k (at_of t)) after
+        (by u named (origin t.told.timed.act t.told.done t.after rs u new))
+      where
+        by : (u : NewReading) → u.clock ≡ name → IsReceived t.told.done t.after u ⊎ IsTakenOver t.after u
+            → Bounded base u.after (at_of t)
+        by u named (inl r) =
+            receipt_bounds answers d playable names events g name from bound has until t fate drawn w happens keeps late
+            early u named r base same same'
+        by u named (inr taken) =
+            absurd (no_takeover answers d playable names events g name from bound has until t fate drawn w happens keeps
+            late early u named taken)
+
+    -- another act leaves what it reads
+    stays : (late : from ≤ at_of t) → receives name t ≡ false
+        → reading_among (read_after t rs) name ≡ reading_among rs name
+    stays late none = by (new_in t rs) refl
+      where
+        not_it : (u : NewReading) → name ≡ u.clock → IsReceived t.told.done t.after u ⊎ IsTakenOver t.after u → ⊥
+        not_it u mine (inl r) =
+            let itself : u.clock == name ≡ true = grind (arith, nat_tests) in
+            let own : receives name t ≡ true = ap (λ o. option_map_or (λ c. c == name) o false) r.told ∙ itself in
+            let no : true ≡ false = sym own ∙ none in cc
+        not_it u mine (inr taken) =
+            no_takeover answers d playable names events g name from bound has until t fate drawn w happens keeps late
+            early
+            u (sym mine) taken
+
+        by : (new : Option NewReading) → new_in t rs ≡ new
+            → reading_among (readings_by t.told.timed.act new rs) name ≡ reading_among rs name
+        by None is =
+            ap (λ us. reading_among us name) (quiet_reads t.told.timed.act rs
+            (quiet_next happens.next.item t.told.timed.act w happens.next.act))
+        by (Some u) is = own (name == u.clock) refl
+          where
+            own : (test : Bool) → name == u.clock ≡ test
+                → reading_among (put_reading u.clock (Some u.after) rs) name ≡ reading_among rs name
+            own true test =
+                let mine : name ≡ u.clock = grind (arith, nat_tests) in
+                absurd (not_it u mine (origin t.told.timed.act t.told.done t.after rs u is))
+            own false test =
+                let apart : name ≡ u.clock → ⊥ = grind (arith, nat_tests) in
+                put_other u.clock (Some u.after) rs name apart
+
+    step_last : (l : Option ℕ) (now : ℕ) → now ≤ at_of t → TrackLast base rs l now
+        → TrackLast base (read_after t rs) (if receives name t then Some (at_of t) else l) (at_of t)
+    step_last l now on track = by (receives name t) refl
+      where
+        by : (own : Bool) → receives name t ≡ own
+            → TrackLast base (read_after t rs) (if own then Some (at_of t) else l) (at_of t)
+        by true own last is late =
+            let now_is : at_of t ≡ last = same_Some (at_of t) last is in
+            let late_now : from ≤ at_of t = omega (arith, late, now_is) in
+            (omega (arith, now_is), λ kept reads. subst (Bounded base kept) now_is (received late_now own kept reads))
+        by false none last is late =
+            let (first, bounded) = track last is late in
+            let late_now : from ≤ at_of t = omega (arith, late, first, on) in
+            (omega (arith, first, on), λ kept reads. bounded kept (sym (stays late_now none) ∙ reads))
+
+  -- ---- acts that pass
+
+  record TrackedLast (rs : List SystemReading) (l : Option ℕ) (time : ℕ) (w : WorldState) : Type 0 where
+    base : WorldState
+    clocks : SameClocks base w
+    now : ℕ
+    soon : now ≤ time
+    track : TrackLast base rs l now
+
+  passes_last : (until now time : ℕ) (us vs : List ActTrace) (fate fate_after : F) (base w w' : WorldState)
+      (rs : List SystemReading) (l : Option ℕ) → until ≤ 10 ^ 18 → SameClocks base w → now ≤ w.time
+      → Passes answers until (us ++ vs) fate fate_after w w' → Keeps answers d playable names events w
+      → TrackLast base rs l now → last_time now us ≤ time
+      → TrackedLast (readings_after us rs) (last_receipt name l us) time (world_after us w)
+  passes_last until now time [] vs fate fate_after base w w' rs l early same soon k keeps track late =
+      record { base = base; clocks = same; now = now; soon = late; track = track }
+  passes_last until now time (t ∷ us) vs fate fate_after base w w' rs l early same soon (drawn, before, happens, rest)
+      keeps track late =
+      let moment = act_time answers d playable names until t fate drawn w keeps.claimed.world.sound happens in
+      let same' = same_on answers d playable names events g name from bound has t until fate drawn base w happens keeps
+      same in
+      let on = happens.was_done.ready.timely.now in
+      passes_last until (at_of t) time us vs drawn fate_after base t.after w' (read_after t rs)
+      (if receives name t then Some (at_of t) else l) early same' (omega (arith, moment)) rest
+      (keeps_act answers d playable names events until t fate drawn w happens keeps)
+      (step_last until t fate drawn w happens keeps early base same same' rs l now (omega (arith, soon, on)) track) late
+
+  -- ---- a stretch
+
+  moment_last : (before es : List Timed) (first to last time : ℕ) (rs : List SystemReading)
+      (acts done ahead : List ActTrace) (fate fate_after : F) (w after : WorldState) → events ≡ before ++ es
+      → to ≤ 10 ^ 18 → last < from → PastBy last es → Each (IsFitEvent answers d playable names) es
+      → Keeps answers d playable names before w → Courses answers to es acts fate fate_after w after
+      → acts ≡ done ++ ahead → events_left done (length es) ≡ 0 → last_time first done ≤ time
+      → TrackedLast (readings_after done rs) (last_receipt name None done) time (world_after done w)
+  moment_last before [] first to last time rs acts done ahead fate fate_after w after are early less past fits keeps k
+      acts_are none late =
+      let kept = subst (λ fs. Keeps answers d playable names fs w) (sym (are ∙ append-nil before)) keeps in
+      let sooner = last_less first done in
+      passes_last to 0 time done ahead fate fate_after w w k.between rs None early (λ n t. refl) (omega arith)
+      (subst (λ us. Passes answers to us fate fate_after w k.between) acts_are k.passes) kept
+      (λ one is on. absurd (none-some one is)) (omega (arith, late, sooner))
+  moment_last before (e ∷ es) first to last time rs acts done ahead fate fate_after w after are early less past fits
+      keeps k acts_are none late =
+      let p = parts answers d playable names before e es rs to acts fate fate_after w after fits keeps k in
+      let b = parted (length (e ∷ es)) p.head p.tail done ahead p.ends (sym p.are ∙ acts_are) none in
+      let kept = subst (λ fs. Keeps answers d playable names fs p.middle) (sym are) p.keeps in
+      let l = last_receipt name None p.head in
+      let soon = less_each answers d playable names events g name from bound has last p.head less (p.soon last past) in
+      let since : last_time first done ≡ last_time p.middle.time b.more =
+      ap (last_time first) b.done_is ∙ last_on first p.head b.more ∙ ap (λ t. last_time t b.more) (p.last first) in
+      let on = passes_last to p.middle.time time b.more ahead p.drawn fate_after p.middle p.middle p.passes.between
+      (readings_after p.head rs) l early (λ n t. refl) (omega arith)
+      (subst (λ us. Passes answers to us p.drawn fate_after p.middle p.passes.between) b.tail_is p.passes.passes) kept
+      (λ one is late_one. absurd
+      (let sooner = last_early name from None p.head soon (λ x no. absurd (none-some x no)) one is in
+      (omega (arith, sooner, late_one)))) (subst (λ t. t ≤ time) since late) in
+      let reads = ap (λ us. readings_after us rs) b.done_is ∙ readings_both p.head b.more rs in
+      let lasts = ap (last_receipt name None) b.done_is ∙ last_both name None p.head b.more in
+      let world = ap (λ us. world_after us w) b.done_is ∙ world_on p.head b.more w ∙ ap (world_after b.more) (p.leads
+      w) in
+      subst (λ v. TrackedLast (readings_after done rs) (last_receipt name None done) time v) (sym world)
+      (subst (λ o. TrackedLast (readings_after done rs) o time (world_after b.more p.middle)) (sym lasts)
+      (subst (λ us. TrackedLast us (last_receipt name l b.more) time (world_after b.more p.middle)) (sym reads) on))
+
+pub timelines_bound_receipts : {F : Type 0} (answers : Bounds → ℕ → F → Option ℕ → F → Type 0)
+    → TimelinesBoundReceipts answers
+timelines_bound_receipts answers d until options fate lines exceeded t playable early p w c rs errors name from bound
+    last time read source most moment says begins has_readings are received late r most_is =
+    let names = rising_clocks t.start in
+    let b = timeline_found answers d until options fate lines exceeded t playable p w c begins in
+    let hold : AreErrorsBy d b.from p.to (Some errors) =
+    subst (AreErrorsBy d b.from p.to) are b.passage.errors_are in
+    let ends : p.to ≤ until =
+    subst (λ to. to ≤ until) (sym b.passage.to_is) (ends_by answers d playable names until b.from b.before b.left
+    b.is_left) in
+    let events = events_by b.from d.events in
+    let g = hold.0.snapshot in
+    let has = has_bound answers d playable names b.from errors name from bound hold.0 says in
+    let made = events_then answers d playable names until b.from b.before b.left b.is_left in
+    let change = last_change events in
+    let past = all_past change events
+    (filter_in_order (λ (e : Timed). nat_le e.at b.from) d.events playable.events.in_order) (omega arith) in
+    let on = moment_last answers d playable names events g name from bound has b.before (now_of b.from b.left) p.from
+    p.to change time rs p.acts moment.done moment.ahead b.fate b.fate_after w p.after made (omega (arith, ends, early))
+    (holds_later answers d playable names events g name from bound b.keeps.claimed.pace.largest has)
+    (past_behind answers d playable names change b.before (now_of b.from b.left) (subst (PastBy change) made past))
+    (filter_each (IsFitEvent answers d playable names) (λ (e : Timed). nat_le e.at b.from) b.left b.is_left.fits)
+    b.keeps
+    (subst (λ es. Courses answers p.to es p.acts b.fate b.fate_after w p.after) b.passage.events_are
+    b.passage.courses) moment.are
+    (subst (λ es. events_left moment.done (length es) ≡ 0) b.passage.events_are moment.no_event_left) moment.late in
+    let (first, bounded) = on.track last received late in
+    let soon = on.soon in
+    let small = (bounded r.kept r.has).each time (read -ℤ source) (omega (arith, first, soon))
+    (error_read on.base (world_after moment.done w) on.clocks time (readings_after moment.done rs) name read source
+    r) in
+    subst (λ m. unsigned_abs (read -ℤ source) ≤ m)
+    (sym (bound_is answers d playable names b.from (time - last) most errors name from bound hold.0 says most_is)) small

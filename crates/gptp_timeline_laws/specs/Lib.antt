@@ -1,0 +1,4 @@
+pub mod Looks
+pub mod Moments
+pub mod Exact
+pub mod Right

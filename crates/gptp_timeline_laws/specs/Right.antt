@@ -1,0 +1,33 @@
+-- What the lines of a timeline say of the time that systems read is right.
+use Rattle.std.specs.Prelude.{◌≤◌, ◌^◌, ℕ, Bool, List, Option}
+use Rattle.gptp_links.specs.declared.bounds.Bounds.{Bounds}
+use Rattle.gptp_model.specs.Views.{rising_clocks}
+use Rattle.gptp_network.specs.Document.{DocumentState}
+use Rattle.gptp_theorem.specs.PlayedLaws.{IsPlayable}
+use Rattle.gptp_timeline.specs.Timeline.{Carried, none_carried, TimelineOf, tracks}
+use Rattle.gptp_timeline.specs.declared.timeline.TimelineOptions.{TimelineOptions}
+use Rattle.gptp_timeline_laws.specs.Exact.{ReadsAreWithin, ReceiptsBoundMoments}
+use Rattle.gptp_timeline_laws.specs.Moments.{BoundAll}
+
+-- what is carried over to the first stretch of a timeline
+abbrev pub first_carried : {F : Type 0} → (answers : Bounds → ℕ → F → Option ℕ → F → Type 0) → (d : DocumentState)
+    → (until : ℕ) → (options : TimelineOptions) → (fate : F) → (lines : List (List ℕ)) → (exceeded : Bool)
+    → TimelineOf answers d until options fate lines exceeded → Carried
+first_carried answers d until options fate lines exceeded t = none_carried (tracks options) (rising_clocks t.start)
+
+-- What a timeline says of the time that systems read is right: its `times` lines bound what is read at every moment;
+-- its `accuracy` lines do from the receipts of each system on; and what these say was read off is within their bounds.
+pub record TimelineReadsRight {F : Type 0} (answers : Bounds → ℕ → F → Option ℕ → F → Type 0) (d : DocumentState)
+    (until : ℕ)
+    (options : TimelineOptions) (fate : F) (lines : List (List ℕ)) (exceeded : Bool)
+    (t : TimelineOf answers d until options fate lines exceeded) : Type 0 where
+  pub moments : BoundAll t.start (first_carried answers d until options fate lines exceeded t) t.passages
+  pub receipts : ReceiptsBoundMoments t.start (first_carried answers d until options fate lines exceeded t) t.passages
+  pub accuracy : ReadsAreWithin (rising_clocks t.start) t.start
+      (first_carried answers d until options fate lines exceeded t) t.passages
+
+-- So it is of every timeline of a document that is playable, as long as clocks can show the time.
+abbrev pub TimelinesReadRight : {F : Type 0} → (Bounds → ℕ → F → Option ℕ → F → Type 0) → Type 0
+TimelinesReadRight {F} answers = (d : DocumentState) (until : ℕ) (options : TimelineOptions) (fate : F)
+    (lines : List (List ℕ)) (exceeded : Bool) (t : TimelineOf answers d until options fate lines exceeded)
+    → IsPlayable d → until ≤ 10 ^ 18 → TimelineReadsRight answers d until options fate lines exceeded t

@@ -1,0 +1,19 @@
+//! What the lines of a timeline say of the time that systems read, at every moment of a run.
+//!
+//! A timeline looks at what systems read where a stretch begins and ends, and where a system gets another reading. The
+//! laws of this crate say what follows of all moments between. `specs/Looks.antt` says why such looks suffice.
+//! `specs/Moments.antt` is what the `times` line of a stretch says of each of its moments, and `specs/Exact.antt` what
+//! `accuracy` lines say of what is read from a receipt on. `specs/Right.antt` has all of it at once.
+//!
+//! Each function of this crate is a law: it does nothing, and its contract is a theorem about the definitions.
+#![tactic(auto)]
+
+mod exact;
+mod looks;
+mod moments;
+mod right;
+
+pub use exact::{timelines_bound_receipts, timelines_read_exactly};
+pub use looks::looks_suffice;
+pub use moments::times_bound_moments;
+pub use right::timelines_read_right;
