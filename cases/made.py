@@ -59,9 +59,14 @@ def line_that_breaks():
     return f'{line(257)}[[event]]\nat = 10000000000\nkind = "fail"\nclock = "{clock(255)}"\n'
 
 
+def vehicle():
+    """The example."""
+    return (EXAMPLES / "vehicle.toml").read_text()
+
+
 def vehicle_with_timeout():
     """The example, where what a Slave port holds lapses after three sync intervals without time."""
-    return (EXAMPLES / "vehicle.toml").read_text().replace("\ntimeout = 3", "\nsync_timeout = 3\ntimeout = 3", 1)
+    return vehicle().replace("\ntimeout = 3", "\nsync_timeout = 3\ntimeout = 3", 1)
 
 
 def root(number, first_role):
@@ -132,6 +137,7 @@ def files():
         "inexact_line_of_512.toml": line(512, INEXACT, 1, 998_000_000, FASTEST),
         "drifting_line_of_31.toml": line(31, FREQUENT, 392, 400, FASTEST),
         "sure_line_of_31.toml": line(31, FREQUENT, 400, 400, -FASTEST),
+        "vehicle.toml": vehicle(),
         "vehicle_with_timeout.toml": vehicle_with_timeout(),
         "right.certificate": right(),
         "step_too_many.certificate": other(far(257, 256), far(257, 257)),
