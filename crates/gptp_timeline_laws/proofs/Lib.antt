@@ -12,3 +12,4 @@ pub mod HeldLemmas
 pub mod ReadsLemmas
 pub mod ExactLemmas
 pub mod ReceiptLemmas
+pub mod SourceLemmas
