@@ -35,6 +35,7 @@ use Rattle.gptp_timeline.specs.Timeline.{AreErrorsBy, HoldsBy, Carried, StretchT
 use Rattle.gptp_timeline.specs.declared.limits.Limit.{Limit}
 use Rattle.gptp_timeline.specs.declared.timeline.TimelineOptions.{TimelineOptions}
 use Rattle.gptp_timeline.proofs.RightLemmas.{timelines_are_right}
+use Rattle.gptp_timeline_laws.proofs.RightLemmas.{timelines_read_right}
 use Rattle.gptp_determinism.specs.ExistenceLaws.{AllInject}
 use Rattle.gptp_determinism.proofs.DocumentExistLemmas.{documents_unfold}
 use Rattle.gptp_commands.specs.declared.timeline.TimelineOrder.{TimelineOrder}
@@ -182,6 +183,8 @@ module _ (input : List ℕ) (d : DocumentState) (means : Means input d) where
           exceeded = exceeded;
           timeline = timeline;
           right = timelines_are_right draws d until order.options (generator order.seed) lines exceeded timeline
+              playable (omega (arith, early));
+          reads = timelines_read_right draws d until order.options (generator order.seed) lines exceeded timeline
               playable (omega (arith, early));
           status_is = refl;
         },

@@ -4,6 +4,7 @@ use Rattle.gptp_network.specs.Document.{DocumentState}
 use Rattle.gptp_timeline.specs.End.{IsDefaultEnd}
 use Rattle.gptp_timeline.specs.Laws.{TimelineIsRight}
 use Rattle.gptp_timeline.specs.Timeline.{BeginsTimeline, TimelineOf}
+use Rattle.gptp_timeline_laws.specs.Right.{TimelineReadsRight}
 use Rattle.gptp_commands.specs.declared.failure.Status.{Status}
 use Rattle.gptp_commands.specs.declared.timeline.TimelineOrder.{TimelineOrder}
 use Rattle.gptp_commands.specs.Failure.{status_by}
@@ -16,8 +17,8 @@ EndsAt (Some asked) d until = until ≡ asked
 EndsAt None d until = IsDefaultEnd d until
 
 -- The timeline of a document, with delays and losses drawn from the generator of the seed, which is right: as a run of
--- the document, in its last lines, its bounds, whom systems follow then, and its errors. It is refused where a limit is
--- exceeded.
+-- the document, in its last lines, its bounds, whom systems follow then, and its errors, and in what it says of the
+-- time that systems read. It is refused where a limit is exceeded.
 pub record PlaysTimeline (d : DocumentState) (order : TimelineOrder) (output : List (List ℕ)) (status : Status) : Type
     0 where
   pub until : ℕ
@@ -25,6 +26,7 @@ pub record PlaysTimeline (d : DocumentState) (order : TimelineOrder) (output : L
   pub exceeded : Bool
   pub timeline : TimelineOf draws d until order.options (generator order.seed) output exceeded
   pub right : TimelineIsRight draws d until order.options (generator order.seed) output exceeded timeline
+  pub reads : TimelineReadsRight draws d until order.options (generator order.seed) output exceeded timeline
   pub status_is : status ≡ status_by exceeded
 
 abbrev pub TellsTimeline : TimelineOrder → DocumentState → List (List ℕ) → Status → Type 0

@@ -15,10 +15,11 @@ use Rattle.gptp_timeline.specs.declared.measures.Greatest.{Greatest}
 use Rattle.gptp_timeline.specs.declared.readings.KeptReading.{KeptReading}
 use Rattle.gptp_timeline.specs.declared.readings.SystemReading.{SystemReading}
 use Rattle.gptp_timeline_laws.specs.Moments.{greatest_error, last_time, next_time}
+use Rattle.gptp_timeline_laws.specs.Sources.{ReadsFrom}
 use Rattle.gptp_timeline_laws.proofs.ReadLemmas.{acts_fit, RatesFit}
 use Rattle.gptp_timeline_laws.proofs.SeenLemmas.{Between, error_at_moment, good_after, GoodLooks, Seen, seen_later, seen_on}
 use Rattle.gptp_timeline_laws.proofs.StepLemmas.{SameClocks, Steps, steps_after}
-use Rattle.gptp_timeline_laws.proofs.ToldLemmas.{HasSource, SeenTogether, sources_at_moment, together_later, together_on}
+use Rattle.gptp_timeline_laws.proofs.ToldLemmas.{SeenTogether, sources_at_moment, together_later, together_on}
 use Rattle.gptp_world.specs.Transitions.{ActTrace}
 
 -- ---- the greatest
@@ -204,7 +205,7 @@ module _ (low high : ℤ) (most : ℕ) (w : WorldState) (until since left : ℕ)
       last_then name kept has) late early error is
 
   pub sources_then_are : SeenTogether low high most w rs since → (name other source source' : ℕ)
-      → HasSource held name source → HasSource held other source' → (x y : ℤ) → clock_time source time w ≡ Some x
+      → ReadsFrom held name source → ReadsFrom held other source' → (x y : ℤ) → clock_time source time w ≡ Some x
       → clock_time source' time w ≡ Some y → unsigned_abs (x -ℤ y) ≤ most + 1
   sources_then_are seen name other source source' first second x y shows shows' =
       sources_at_moment low high most w source source' (last_time since us) (next_time until vs) time

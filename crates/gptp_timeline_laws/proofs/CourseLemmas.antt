@@ -54,7 +54,7 @@ parted left (h ∷ hs) tail (t ∷ ts) ahead ends are none =
       tail_is = b.tail_is;
     }
 
-abbrev IsQuiet : ActTrace → Type 0
+abbrev pub IsQuiet : ActTrace → Type 0
 IsQuiet t = is_change t.told.timed.act ≡ false
 
 quiet_leaves : (left : ℕ) (t : ActTrace) → IsQuiet t → events_left (t ∷ []) left ≡ left
@@ -96,7 +96,7 @@ world_on (u ∷ us) vs w = world_on us vs u.after
 
 module _ {F : Type 0} (answers : Bounds → ℕ → F → Option ℕ → F → Type 0) (d : DocumentState)
     (playable : IsPlayable d) (names : List ℕ) where
-  passes_quiet : (until : ℕ) (ts : List ActTrace) (fate fate_after : F) (w w' : WorldState)
+  pub passes_quiet : (until : ℕ) (ts : List ActTrace) (fate fate_after : F) (w w' : WorldState)
       → Passes answers until ts fate fate_after w w' → AllByRecursion IsQuiet ts
   passes_quiet until [] fate fate_after w w' k = tt
   passes_quiet until (t ∷ ts) fate fate_after w w' (drawn, before, happens, rest) = (

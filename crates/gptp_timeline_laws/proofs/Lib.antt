@@ -2,6 +2,7 @@ pub mod LineLemmas
 pub mod LookLemmas
 pub mod ReadLemmas
 pub mod StepLemmas
+pub mod RightLemmas
 pub mod SeenLemmas
 pub mod ToldLemmas
 pub mod BoundLemmas
@@ -12,3 +13,4 @@ pub mod HeldLemmas
 pub mod ReadsLemmas
 pub mod ExactLemmas
 pub mod ReceiptLemmas
+pub mod SourceLemmas

@@ -19,6 +19,7 @@ use Rattle.gptp_timeline.specs.declared.readings.SystemReading.{SystemReading}
 use Rattle.gptp_timeline.specs.declared.sources.Ends.{Ends}
 use Rattle.gptp_timeline.specs.declared.sources.SourceTime.{SourceTime}
 use Rattle.gptp_timeline_laws.specs.Moments.{last_time, next_time}
+use Rattle.gptp_timeline_laws.specs.Sources.{ReadsFrom}
 use Rattle.gptp_timeline_laws.proofs.LookLemmas.{clock_within}
 use Rattle.gptp_timeline_laws.proofs.ReadLemmas.{is_new, put_other, put_own, put_there, quiet_reads}
 use Rattle.gptp_timeline_laws.proofs.SeenLemmas.{clock_of_system, good_first, good_second, GoodLooks, system_among}
@@ -154,12 +155,6 @@ told_apart time w rs name other kept kept' x y has has' shows shows' =
 
 -- ---- looks at told sources
 
--- a system reads by this source
-pub record HasSource (rs : List SystemReading) (name source : ℕ) : Type 0 where
-  pub kept : KeptReading
-  pub has : reading_among rs name ≡ Some kept
-  pub is : kept.source ≡ source
-
 -- a change of a reading that is no change of source
 same_source : (before : Option KeptReading) (u : NewReading) → u.before ≡ before → changes_source u ≡ false
     → (k : KeptReading) × (before ≡ Some k) × (k.source ≡ u.after.source)
@@ -170,6 +165,57 @@ same_source (Some k) u is same =
     let test : not (k.source == u.after.source) ≡ false =
     sym (ap (λ b. option_map_or (λ (x : KeptReading). not (x.source == u.after.source)) b true) is) ∙ same in
     (k, refl, grind (arith, nat_tests))
+
+-- who has a source after a reading that changes none had it before
+pub had_source : (u : NewReading) (rs : List SystemReading) (name source : ℕ) → u.before ≡ reading_among rs u.clock
+    → changes_source u ≡ false → ReadsFrom (put_reading u.clock (Some u.after) rs) name source
+    → ReadsFrom rs name source
+had_source u rs name source before same now = own (name == u.clock) refl
+  where
+    own : (test : Bool) → name == u.clock ≡ test → ReadsFrom rs name source
+    own true test =
+        let mine : name ≡ u.clock = grind (arith, nat_tests) in
+        let (k, is, source_is) = same_source (reading_among rs u.clock) u before same in
+        let kept : u.after ≡ now.kept =
+        same_Some u.after now.kept (put_own u.clock (Some u.after) rs now.kept
+        (subst (λ n. reading_among (put_reading u.clock (Some u.after) rs) n ≡ Some now.kept) mine now.has)) in
+        record {
+          kept = k;
+          has = ap (reading_among rs) mine ∙ is;
+          is = source_is ∙ ap (λ (x : KeptReading). x.source) kept ∙ now.is;
+        }
+    own false test =
+        let apart : name ≡ u.clock → ⊥ = grind (arith, nat_tests) in
+        record {
+          kept = now.kept;
+          has = sym (put_other u.clock (Some u.after) rs name apart) ∙ now.has;
+          is = now.is;
+        }
+
+-- and has it after that
+pub keeps_source : (u : NewReading) (rs : List SystemReading) (name source : ℕ) → u.before ≡ reading_among rs u.clock
+    → changes_source u ≡ false → ReadsFrom rs name source
+    → ReadsFrom (put_reading u.clock (Some u.after) rs) name source
+keeps_source u rs name source before same now = own (name == u.clock) refl
+  where
+    own : (test : Bool) → name == u.clock ≡ test → ReadsFrom (put_reading u.clock (Some u.after) rs) name source
+    own true test =
+        let mine : name ≡ u.clock = grind (arith, nat_tests) in
+        let (k, is, source_is) = same_source (reading_among rs u.clock) u before same in
+        let old : k ≡ now.kept = same_Some k now.kept (sym is ∙ ap (reading_among rs) (sym mine) ∙ now.has) in
+        record {
+          kept = u.after;
+          has = ap (reading_among (put_reading u.clock (Some u.after) rs)) mine
+              ∙ put_there u.clock u.after k rs is;
+          is = sym source_is ∙ ap (λ (x : KeptReading). x.source) old ∙ now.is;
+        }
+    own false test =
+        let apart : name ≡ u.clock → ⊥ = grind (arith, nat_tests) in
+        record {
+          kept = now.kept;
+          has = put_other u.clock (Some u.after) rs name apart ∙ now.has;
+          is = now.is;
+        }
 
 module _ (low high : ℤ) (most : ℕ) (w : WorldState) where
   -- two clocks differ at a time by no more than that
@@ -189,7 +235,7 @@ module _ (low high : ℤ) (most : ℕ) (w : WorldState) where
 
   -- the sources of two systems were looked at together by a time
   abbrev pub SeenTogether : List SystemReading → ℕ → Type 0
-  SeenTogether rs since = (name other source source' : ℕ) → HasSource rs name source → HasSource rs other source'
+  SeenTogether rs since = (name other source source' : ℕ) → ReadsFrom rs name source → ReadsFrom rs other source'
       → NearBefore source source' since
 
   amount_within : (d : Option DifferenceState) → ((x : DifferenceState) → In x (listed d) → x.amount ≤ most)
@@ -198,7 +244,7 @@ module _ (low high : ℤ) (most : ℕ) (w : WorldState) where
   amount_within (Some d) good = good d (inl refl)
 
   told_near : (time : ℕ) (v : WorldState) (rs : List SystemReading) (name other source source' : ℕ)
-      → SameClocks w v → HasSource rs name source → HasSource rs other source'
+      → SameClocks w v → ReadsFrom rs name source → ReadsFrom rs other source'
       → ((x : DifferenceState) → In x (listed (told_difference time v rs)) → x.amount ≤ most)
       → AreNear source source' time
   told_near time v rs name other source source' same first second good x y shows shows' =
@@ -217,57 +263,6 @@ module _ (low high : ℤ) (most : ℕ) (w : WorldState) where
   }
 
   -- ---- one more act
-
-  -- who has a source after a reading that changes none had it before
-  had_source : (u : NewReading) (rs : List SystemReading) (name source : ℕ) → u.before ≡ reading_among rs u.clock
-      → changes_source u ≡ false → HasSource (put_reading u.clock (Some u.after) rs) name source
-      → HasSource rs name source
-  had_source u rs name source before same now = own (name == u.clock) refl
-    where
-      own : (test : Bool) → name == u.clock ≡ test → HasSource rs name source
-      own true test =
-          let mine : name ≡ u.clock = grind (arith, nat_tests) in
-          let (k, is, source_is) = same_source (reading_among rs u.clock) u before same in
-          let kept : u.after ≡ now.kept =
-          same_Some u.after now.kept (put_own u.clock (Some u.after) rs now.kept
-          (subst (λ n. reading_among (put_reading u.clock (Some u.after) rs) n ≡ Some now.kept) mine now.has)) in
-          record {
-            kept = k;
-            has = ap (reading_among rs) mine ∙ is;
-            is = source_is ∙ ap (λ (x : KeptReading). x.source) kept ∙ now.is;
-          }
-      own false test =
-          let apart : name ≡ u.clock → ⊥ = grind (arith, nat_tests) in
-          record {
-            kept = now.kept;
-            has = sym (put_other u.clock (Some u.after) rs name apart) ∙ now.has;
-            is = now.is;
-          }
-
-  -- and has it after that
-  keeps_source : (u : NewReading) (rs : List SystemReading) (name source : ℕ) → u.before ≡ reading_among rs u.clock
-      → changes_source u ≡ false → HasSource rs name source
-      → HasSource (put_reading u.clock (Some u.after) rs) name source
-  keeps_source u rs name source before same now = own (name == u.clock) refl
-    where
-      own : (test : Bool) → name == u.clock ≡ test → HasSource (put_reading u.clock (Some u.after) rs) name source
-      own true test =
-          let mine : name ≡ u.clock = grind (arith, nat_tests) in
-          let (k, is, source_is) = same_source (reading_among rs u.clock) u before same in
-          let old : k ≡ now.kept = same_Some k now.kept (sym is ∙ ap (reading_among rs) (sym mine) ∙ now.has) in
-          record {
-            kept = u.after;
-            has = ap (reading_among (put_reading u.clock (Some u.after) rs)) mine
-                ∙ put_there u.clock u.after k rs is;
-            is = sym source_is ∙ ap (λ (x : KeptReading). x.source) old ∙ now.is;
-          }
-      own false test =
-          let apart : name ≡ u.clock → ⊥ = grind (arith, nat_tests) in
-          record {
-            kept = now.kept;
-            has = put_other u.clock (Some u.after) rs name apart ∙ now.has;
-            is = now.is;
-          }
 
   step_together : (rs : List SystemReading) (since left : ℕ) (t : ActTrace) → IsStep w since t
       → GoodLooks low high most (looked_in rs left t) → SeenTogether rs since
@@ -288,7 +283,7 @@ module _ (low high : ℤ) (most : ℕ) (w : WorldState) where
       by None is good name other source source' first second =
           let same = quiet_reads act rs step.quiet in
           later source source' (seen name other source source'
-          (subst (λ xs. HasSource xs name source) same first) (subst (λ xs. HasSource xs other source') same second))
+          (subst (λ xs. ReadsFrom xs name source) same first) (subst (λ xs. ReadsFrom xs other source') same second))
       by (Some u) is good name other source source' first second = changed (changes_source u) refl
         where
           before : u.before ≡ reading_among rs u.clock
@@ -326,7 +321,7 @@ module _ (low high : ℤ) (most : ℕ) (w : WorldState) where
   pub together_later : (until since left : ℕ) (rs : List SystemReading) (vs : List ActTrace) (end : WorldState)
       → Steps w until since vs → SameClocks w end → GoodLooks low high most (looked_over rs left vs)
       → GoodLooks low high most (looked_all until end (readings_after vs rs)) → (name other source source' : ℕ)
-      → HasSource rs name source → HasSource rs other source' → NearAfter source source' (next_time until vs)
+      → ReadsFrom rs name source → ReadsFrom rs other source' → NearAfter source source' (next_time until vs)
   together_later until since left rs [] end steps same good last name other source source' first second = record {
     time = until;
     late = omega arith;
@@ -354,13 +349,13 @@ module _ (low high : ℤ) (most : ℕ) (w : WorldState) where
           → GoodLooks low high most (looked_all until end (readings_after vs (readings_by act new rs)))
           → GoodLooks low high most (looked_over (readings_by act new rs) (events_left (t ∷ []) left) vs)
           → ((us : List SystemReading) → GoodLooks low high most (looked_over us (events_left (t ∷ []) left) vs)
-          → GoodLooks low high most (looked_all until end (readings_after vs us)) → HasSource us name source
-          → HasSource us other source' → NearAfter source source' (next_time until vs))
+          → GoodLooks low high most (looked_all until end (readings_after vs us)) → ReadsFrom us name source
+          → ReadsFrom us other source' → NearAfter source source' (next_time until vs))
           → NearAfter source source' (at_of t)
       by None is one last good next =
           let same = sym (quiet_reads act rs steps.0.quiet) in
-          still (next (readings_by act None rs) good last (subst (λ xs. HasSource xs name source) same first)
-          (subst (λ xs. HasSource xs other source') same second))
+          still (next (readings_by act None rs) good last (subst (λ xs. ReadsFrom xs name source) same first)
+          (subst (λ xs. ReadsFrom xs other source') same second))
       by (Some u) is one last good next = changed (changes_source u) refl
         where
           before : u.before ≡ reading_among rs u.clock

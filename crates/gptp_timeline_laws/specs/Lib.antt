@@ -1,4 +1,5 @@
 pub mod Looks
 pub mod Moments
 pub mod Exact
+pub mod Sources
 pub mod Right

@@ -2,6 +2,7 @@ use Rattle.std.proofs.Common.{◌≤◌, ◌^◌, [], arith, inl, inr, refl}
 use Rattle.gptp_theorem.proofs.OctetLemmas.{documents_playable}
 use Rattle.gptp_sink.proofs.SinkLemmas.{after_error, none_of}
 use Rattle.gptp_timeline.proofs.RightLemmas.{timelines_are_right}
+use Rattle.gptp_timeline_laws.proofs.RightLemmas.{timelines_read_right}
 use Rattle.gptp_commands.specs.RunText.{draws, generator}
 use Rattle.gptp_commands.proofs.timeline.TimelineOrderDocumentCommand.tell.Goals as goal
 
@@ -35,6 +36,8 @@ returns-clause-whole g c =
         exceeded = c.in_ok-exceeded.exceeded;
         timeline = whole.1;
         right = timelines_are_right draws c.args.document.now until c.args.self.now.options
+            (generator c.args.self.now.seed) whole.0 c.in_ok-exceeded.exceeded whole.1 playable early;
+        reads = timelines_read_right draws c.args.document.now until c.args.self.now.options
             (generator c.args.self.now.seed) whole.0 c.in_ok-exceeded.exceeded whole.1 playable early;
         status_is = c.of_refusal.ensures;
       },

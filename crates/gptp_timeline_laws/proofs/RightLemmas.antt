@@ -1,0 +1,17 @@
+-- What a timeline says of the time that systems read is right.
+use Rattle.std.proofs.Common.{ℕ, Option}
+use Rattle.gptp_links.specs.declared.bounds.Bounds.{Bounds}
+use Rattle.gptp_timeline_laws.specs.Right.{TimelinesReadRight}
+use Rattle.gptp_timeline_laws.proofs.ExactLemmas.{timelines_read_exactly}
+use Rattle.gptp_timeline_laws.proofs.MomentLemmas.{times_bound_moments}
+use Rattle.gptp_timeline_laws.proofs.ReceiptLemmas.{timelines_bound_receipts}
+use Rattle.gptp_timeline_laws.proofs.SourceLemmas.{timelines_keep_sources}
+
+pub timelines_read_right : {F : Type 0} → (answers : Bounds → ℕ → F → Option ℕ → F → Type 0)
+    → TimelinesReadRight answers
+timelines_read_right answers d until options fate lines exceeded t playable early = record {
+  moments = times_bound_moments answers d until options fate lines exceeded t playable;
+  sources = timelines_keep_sources answers d until options fate lines exceeded t playable;
+  receipts = timelines_bound_receipts answers d until options fate lines exceeded t playable early;
+  accuracy = timelines_read_exactly answers d until options fate lines exceeded t playable early;
+}

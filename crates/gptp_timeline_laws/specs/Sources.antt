@@ -1,0 +1,44 @@
+-- From which sources systems read, once none changes its source any more.
+use Rattle.std.specs.Prelude.{◌≡◌, ◌<◌, ◌↔◌, ⊤, ℕ, Bool, List, Option, Some, None}
+use Rattle.std.specs.List.{AllByRecursion}
+use Rattle.gptp_links.specs.declared.bounds.Bounds.{Bounds}
+use Rattle.gptp_model.specs.Views.{rising_clocks}
+use Rattle.gptp_model.specs.World.{WorldState}
+use Rattle.gptp_network.specs.Document.{DocumentState}
+use Rattle.gptp_theorem.specs.PlayedLaws.{IsPlayable}
+use Rattle.gptp_timeline.specs.Readings.{reading_among, readings_after}
+use Rattle.gptp_timeline.specs.Stretch.{at_of}
+use Rattle.gptp_timeline.specs.Timeline.{Carried, none_carried, stretch_of, StretchTrace, TimelineOf, tracks}
+use Rattle.gptp_timeline.specs.declared.looks.TimeMeasures.{TimeMeasures}
+use Rattle.gptp_timeline.specs.declared.measures.Greatest.{Greatest}
+use Rattle.gptp_timeline.specs.declared.readings.KeptReading.{KeptReading}
+use Rattle.gptp_timeline.specs.declared.readings.SystemReading.{SystemReading}
+use Rattle.gptp_timeline.specs.declared.timeline.TimelineOptions.{TimelineOptions}
+use Rattle.gptp_timeline_laws.specs.Moments.{BeginsWith, Moment}
+use Rattle.gptp_world.specs.Transitions.{ActTrace}
+
+-- a system has time, from this source
+pub record ReadsFrom (rs : List SystemReading) (name source : ℕ) : Type 0 where
+  pub kept : KeptReading
+  pub has : reading_among rs name ≡ Some kept
+  pub is : kept.source ≡ source
+
+-- these acts are all later than a change of source, where there was one
+abbrev pub AreLater : Option Greatest → List ActTrace → Type 0
+AreLater None ts = ⊤
+AreLater (Some change) ts = AllByRecursion (λ (t : ActTrace). change.amount < at_of t) ts
+
+-- At each moment of a stretch after its events, once all acts of the time of its last change of source are done, each
+-- system reads from the source from which it reads where the stretch ends, and has no time where it has none there.
+abbrev pub SourcesStand : WorldState → Carried → List StretchTrace → Type 0
+SourcesStand start first passages = (p : StretchTrace) (w : WorldState) (c : Carried) (names : List ℕ)
+    (rs : List SystemReading) (m : TimeMeasures) (time : ℕ) (moment : Moment p time)
+    → BeginsWith passages start first p w c → c.readings ≡ Some rs → (stretch_of names c p).times ≡ Some m
+    → AreLater m.changed moment.ahead
+    → (name source : ℕ)
+    → ReadsFrom (readings_after moment.done rs) name source ↔ ReadsFrom (readings_after p.acts rs) name source
+
+abbrev pub TimelinesKeepSources : {F : Type 0} → (Bounds → ℕ → F → Option ℕ → F → Type 0) → Type 0
+TimelinesKeepSources {F} answers = (d : DocumentState) (until : ℕ) (options : TimelineOptions) (fate : F)
+    (lines : List (List ℕ)) (exceeded : Bool) (t : TimelineOf answers d until options fate lines exceeded)
+    → IsPlayable d → SourcesStand t.start (none_carried (tracks options) (rising_clocks t.start)) t.passages
