@@ -100,7 +100,7 @@ class Drawing:
 
     def _size(self, box: Box) -> str:
         """The size of a box."""
-        width = max(14, len(self._called(box)) + 2) * _LETTER / _POINTS
+        width = max(15, len(self._called(box)) + 2) * _LETTER / _POINTS
         return f"width={width:.2f}, height={(_MOST_WORDS + 0.4) * _LINE / _POINTS:.2f}, fixedsize=true"
 
     def _at(self, box: Box) -> str:
