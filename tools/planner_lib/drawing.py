@@ -1,6 +1,7 @@
 """Pictures of a network: laid out once, of all links, and drawn as it is at some time."""
 
 import json
+from collections import Counter
 from dataclasses import dataclass, field
 from decimal import Decimal
 from typing import Mapping
@@ -20,6 +21,7 @@ _DOWN = "style=dotted, color=red, fontcolor=red"
 _POINTS = 72  # an inch
 _LETTER, _LINE = 7.0, 13.5  # points at the size of 11
 _MOST_WORDS = 4  # the lines of a box
+_MOST_NAMED = 8  # ends of edges at a box of a folded picture that are named
 
 
 @dataclass(frozen=True)
@@ -47,8 +49,11 @@ class Drawing:
     def __init__(self, document: Document, fold: bool) -> None:
         self._document = document
         self._names = Names(document)
-        self._boxes = folding.boxes(document, fold or len(document.systems) > folding.MOST_UNFOLDED)
+        folded = fold or len(document.systems) > folding.MOST_UNFOLDED
+        self._boxes = folding.boxes(document, folded)
         self._edges = folding.edges(document, self._boxes)
+        ends = Counter(box.identity for edge in self._edges for box in (edge.a, edge.b))
+        self._crowded = {box for box, count in ends.items() if folded and count > _MOST_NAMED}
         self._places: dict[str, str] = {}
 
     def dot(self, view: View) -> str:
@@ -144,8 +149,10 @@ class Drawing:
         return f"{between} [dir=none, {'style=dashed' if passive else 'color=gray60'}, {ports}]"
 
     def _ports(self, box: Box, ends: tuple[End, ...]) -> str:
-        """The text at an end of an edge: its ports; of several stations nothing."""
-        return "" if len(box.clocks) > 1 else ", ".join(runs([self._names.port(end.clock, end.port) for end in ends]))
+        """The text at an end of an edge: its ports; of several stations, and at a box with too many ends, nothing."""
+        if len(box.clocks) > 1 or box.identity in self._crowded:
+            return ""
+        return ", ".join(runs([self._names.port(end.clock, end.port) for end in ends]))
 
 
 def _role(system: SystemStanding, port: int) -> str:
