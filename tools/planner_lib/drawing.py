@@ -21,6 +21,7 @@ _DOWN = "style=dotted, color=red, fontcolor=red"
 _POINTS = 72  # an inch
 _LETTER, _LINE = 7.0, 13.5  # points at the size of 11
 _MOST_WORDS = 4  # the lines of a box
+_MOST_LETTERS = 6  # of the name of a port that stands close to its edge
 _MOST_NAMED = 8  # ends of edges at a box of a folded picture that are named
 
 
@@ -170,5 +171,6 @@ def _graph(lines: list[str]) -> str:
 
 
 def _ends(tail: str, head: str) -> str:
-    """What is written at both ends of an edge."""
-    return f"taillabel={quoted(tail)}, headlabel={quoted(head)}"
+    """What is written at both ends of an edge; long texts stand further from it."""
+    apart = ", labelangle=-62, labeldistance=3" if max(len(tail), len(head)) > _MOST_LETTERS else ""
+    return f"taillabel={quoted(tail)}, headlabel={quoted(head)}{apart}"
