@@ -1,6 +1,7 @@
 """Pictures of a network: laid out once, of all links, and drawn as it is at some time."""
 
 import json
+from collections import Counter
 from dataclasses import dataclass, field
 from decimal import Decimal
 from typing import Mapping
@@ -20,6 +21,8 @@ _DOWN = "style=dotted, color=red, fontcolor=red"
 _POINTS = 72  # an inch
 _LETTER, _LINE = 7.0, 13.5  # points at the size of 11
 _MOST_WORDS = 4  # the lines of a box
+_MOST_LETTERS = 6  # of the name of a port that stands close to its edge
+_MOST_NAMED = 8  # ends of edges at a box of a folded picture that are named
 
 
 @dataclass(frozen=True)
@@ -47,8 +50,11 @@ class Drawing:
     def __init__(self, document: Document, fold: bool) -> None:
         self._document = document
         self._names = Names(document)
-        self._boxes = folding.boxes(document, fold or len(document.systems) > folding.MOST_UNFOLDED)
+        folded = fold or len(document.systems) > folding.MOST_UNFOLDED
+        self._boxes = folding.boxes(document, folded)
         self._edges = folding.edges(document, self._boxes)
+        ends = Counter(box.identity for edge in self._edges for box in (edge.a, edge.b))
+        self._crowded = {box for box, count in ends.items() if folded and count > _MOST_NAMED}
         self._places: dict[str, str] = {}
 
     def dot(self, view: View) -> str:
@@ -100,7 +106,7 @@ class Drawing:
 
     def _size(self, box: Box) -> str:
         """The size of a box."""
-        width = max(14, len(self._called(box)) + 2) * _LETTER / _POINTS
+        width = max(15, len(self._called(box)) + 2) * _LETTER / _POINTS
         return f"width={width:.2f}, height={(_MOST_WORDS + 0.4) * _LINE / _POINTS:.2f}, fixedsize=true"
 
     def _at(self, box: Box) -> str:
@@ -144,8 +150,10 @@ class Drawing:
         return f"{between} [dir=none, {'style=dashed' if passive else 'color=gray60'}, {ports}]"
 
     def _ports(self, box: Box, ends: tuple[End, ...]) -> str:
-        """The text at an end of an edge: its ports; of several stations nothing."""
-        return "" if len(box.clocks) > 1 else ", ".join(runs([self._names.port(end.clock, end.port) for end in ends]))
+        """The text at an end of an edge: its ports; of several stations, and at a box with too many ends, nothing."""
+        if len(box.clocks) > 1 or box.identity in self._crowded:
+            return ""
+        return ", ".join(runs([self._names.port(end.clock, end.port) for end in ends]))
 
 
 def _role(system: SystemStanding, port: int) -> str:
@@ -163,5 +171,6 @@ def _graph(lines: list[str]) -> str:
 
 
 def _ends(tail: str, head: str) -> str:
-    """What is written at both ends of an edge."""
-    return f"taillabel={quoted(tail)}, headlabel={quoted(head)}"
+    """What is written at both ends of an edge; long texts stand further from it."""
+    apart = ", labelangle=-62, labeldistance=3" if max(len(tail), len(head)) > _MOST_LETTERS else ""
+    return f"taillabel={quoted(tail)}, headlabel={quoted(head)}{apart}"
