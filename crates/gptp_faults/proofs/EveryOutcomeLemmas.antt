@@ -106,7 +106,8 @@ module _ (d : DocumentState) (playable : IsPlayable d) (runs : RunsEnd d) (optio
       (omega (arith, behind, from)) (omega arith) (omega (arith, last, back)) in
       let nothing = injects_nothing p.failing in
       runs (tracks options) (run_moment t run) (run_moment t run + p.hold) (run_moment t run + p.hold + t.behind)
-      (fault_of p.failing) (return_of p.failing) (generator (seed_of t run)) nothing.0 nothing.1 can (omega (arith, some)) (omega arith)
+      (fault_of p.failing) (return_of p.failing) (generator (seed_of t run)) nothing.0 nothing.1 can
+      (omega (arith, some)) (omega arith)
       (omega (arith, last, end))
 
   module _ (planned : List Planned) (are_planned : ArePlanned d options t all planned)

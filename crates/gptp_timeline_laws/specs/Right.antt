@@ -16,9 +16,9 @@ abbrev pub first_carried : {F : Type 0} → (answers : Bounds → ℕ → F → 
     → TimelineOf answers d until options fate lines exceeded → Carried
 first_carried answers d until options fate lines exceeded t = none_carried (tracks options) (rising_clocks t.start)
 
--- What a timeline says of the time that systems read is right: its `times` lines bound what is read at every moment, and
--- say when sources stand. Its `accuracy` lines bound it from the receipts of each system on; and what these lines say
--- was read off is within their bounds.
+-- What a timeline says of the time that systems read is right: its `times` lines bound what is read at every moment,
+-- and say when sources stand. Its `accuracy` lines bound it from the receipts of each system on; and what these lines
+-- say was read off is within their bounds.
 pub record TimelineReadsRight {F : Type 0} (answers : Bounds → ℕ → F → Option ℕ → F → Type 0) (d : DocumentState)
     (until : ℕ)
     (options : TimelineOptions) (fate : F) (lines : List (List ℕ)) (exceeded : Bool)
