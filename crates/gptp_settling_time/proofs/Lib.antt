@@ -11,3 +11,11 @@ pub mod BegunLemmas
 pub mod FindsLemmas
 pub mod CutLemmas
 pub mod DocumentLemmas
+pub mod ToldLemmas
+pub mod MasterLemmas
+pub mod OrderedLemmas
+pub mod UntoldLemmas
+pub mod SinceStartLemmas
+pub mod SeenSettledLemmas
+pub mod StartLemmas
+pub mod StartDocumentLemmas

@@ -2,3 +2,5 @@ pub mod Exactly
 pub mod Gains
 pub mod Documents
 pub mod Idle
+pub mod HowSoon
+pub mod Starts

@@ -15,7 +15,9 @@
 mod documents;
 mod exactly;
 mod idle;
+mod starts;
 
 pub use documents::{documents_settle_soon, runs_are_exact_soon, runs_begin_so};
 pub use exactly::news_are_exact;
 pub use idle::idle_changes_leave_settled;
+pub use starts::starts_settle_at_once;
