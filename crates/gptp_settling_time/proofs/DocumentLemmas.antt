@@ -31,7 +31,9 @@ use Rattle.gptp_settling_time.specs.Exactly.{AreExactFrom, SettlesBy}
 use Rattle.gptp_settling_time.specs.Gains.{GainsFromRest, GainsFromStart}
 use Rattle.gptp_settling_time.proofs.SoonOffsetLemmas.{act_exact}
 use Rattle.gptp_settling_time.proofs.TimedNewsLemmas.{CanSettle, has_settled}
-use Rattle.gptp_settling_time.proofs.KeptToLemmas.{IsLastTo, KeepsTo}
+use Rattle.gptp_settling_time.proofs.KeptToLemmas.{IsLastTo, KeepsTo, last_later_to}
+use Rattle.gptp_settling_time.specs.Unchanged.{AllAreNear, LeavesShown}
+use Rattle.gptp_settling_time.proofs.StepLemmas.{step_leaves}
 use Rattle.gptp_settling_time.proofs.BegunLemmas.{begun_keeps, begun_last, begun_news}
 use Rattle.gptp_settling_time.proofs.CutLemmas.{acts_by, runs_begin_so}
 use Rattle.gptp_settling_time.proofs.FindsLemmas.{Finds, finds_gains, finds_rested}
@@ -111,6 +113,13 @@ module _ {F : Type 0} (answers : Bounds → ℕ → F → Option ℕ → F → T
       let time = step.time in
       settled_as t.after step.after (omega (arith, on, time))
 
+  pub act_leaves : (t : ActTrace) → In t ts → settled ≤ t.told.timed.at → last_change all < t.told.timed.at
+      → AllAreNear (snapshot_of t.after) → LeavesShown t.before t.after
+  act_leaves t member on later near =
+      step_leaves p answers (IsLastTo d m start settled all) settled (last_later_to d all m start settled)
+      (λ v so. so.keeps.claim.world) (λ v so late. (has_settled p m start settled v so.news (can_settle v so.keeps) late).0)
+      t (found.each t member later) on near
+
   pub act_is_exact : (t : ActTrace) → In t ts → until ≤ 10 ^ 18 → last_change all + largest_interval p ≤ settled
       → AreExactFrom p settled t.before t.told.timed.at t.after t.told.done
   act_is_exact t member shown old = λ steps number error offset ahead late leaves near way is_ahead.
@@ -132,13 +141,13 @@ module _ {F : Type 0} (answers : Bounds → ℕ → F → Option ℕ → F → T
       document_settles answers d until start settled fate first w ts playable k is on
 
   -- a run up to the time of an act of it, in which that act is done
-  record IsRunTo (d : DocumentState) (fate : F) (first : WorldState) (t : ActTrace) : Type 0 where
-    ts : List ActTrace
-    w : WorldState
-    unfolds : Unfolds answers d t.told.timed.at fate first ts w
-    member : In t ts
+  pub record IsRunTo (d : DocumentState) (fate : F) (first : WorldState) (t : ActTrace) : Type 0 where
+    pub ts : List ActTrace
+    pub w : WorldState
+    pub unfolds : Unfolds answers d t.told.timed.at fate first ts w
+    pub member : In t ts
 
-  run_to : (d : DocumentState) (until : ℕ) (fate : F) (first w : WorldState) (ts : List ActTrace) (t : ActTrace)
+  pub run_to : (d : DocumentState) (until : ℕ) (fate : F) (first w : WorldState) (ts : List ActTrace) (t : ActTrace)
       → IsPlayable d → Unfolds answers d until fate first ts w → In t ts → IsRunTo d fate first t
   run_to d until fate first w ts t playable k member =
       let soon = acts_by answers d until fate first w ts k t member in

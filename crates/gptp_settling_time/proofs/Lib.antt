@@ -19,3 +19,6 @@ pub mod SinceStartLemmas
 pub mod SeenSettledLemmas
 pub mod StartLemmas
 pub mod StartDocumentLemmas
+pub mod SameShownLemmas
+pub mod StepLemmas
+pub mod UnchangedLemmas

@@ -39,7 +39,7 @@ use Rattle.gptp_bmca_machine.proofs.TimesLemmas.{times_fit}
 use Rattle.gptp_invariants.specs.ChoiceCalm.{HaveQuietLinks, clock_place, delay_in, lane_of}
 use Rattle.gptp_invariants.specs.ChoiceSeenLaws.{IsNoChange}
 use Rattle.gptp_invariants.specs.ChoiceSettlesAsMachine.{IsWorld}
-use Rattle.gptp_invariants.specs.ChoiceView.{frame_view, held_view, lane_view, lanes_view, port_identity_number, says_announce, span_at, view}
+use Rattle.gptp_invariants.specs.ChoiceView.{lane_place, frame_view, held_view, lane_view, lanes_view, port_identity_number, says_announce, span_at, view}
 use Rattle.gptp_invariants.specs.DelayLinkView.{IsLinkOf, LinkPlace, least_delay, link_frame_view, link_setting, meter, other_direction, pair, reads_as_reply}
 use Rattle.gptp_invariants.specs.DelayMeasured.{LinkStandsAt}
 use Rattle.gptp_invariants.specs.WorldEncodableLaws.{SetsAnOctet}
@@ -448,9 +448,12 @@ seen_first : {X Y Z : Type 0} (f : X → Y) (g : X → Z) (xs : List X) (y : Y) 
 seen_first f g [] y ys same = absurd cc
 seen_first f g (x ∷ xs) y ys same = (x, map g xs, cc, refl)
 
-other_twice : (direction : Direction) → other_direction (other_direction direction) ≡ direction
-other_twice FromA = refl
-other_twice FromB = refl
+-- the lane back of the link in the other direction is the lane itself
+turned_queue : (direction : Direction) (c d : Channel) → c ≡ d
+    → map link_frame_view (world_queue (other_direction (other_direction direction)) c)
+    ≡ map link_frame_view (world_queue direction d)
+turned_queue FromA c d same = ap (λ x. map link_frame_view (world_queue FromA x)) same
+turned_queue FromB c d same = ap (λ x. map link_frame_view (world_queue FromB x)) same
 
 -- ---- early ports hear what comes, and stay on
 
@@ -485,9 +488,9 @@ module _ (p : SettlingParams) (start m : ℕ) (w : WorldState) (news : IsNews p 
       ap (λ (z : Lane). z.frames) (sym lane) ∙ frames in
       let (first, rest, is_first, seen_back) = seen_first frame_view link_frame_view
       (world_queue way.direction way.channel) f fs queue in
-      let turned_back : other_direction back.direction ≡ way.direction = other_twice way.direction in
       let comes : (pair (place_of_way p w now_world quiet to from back) w link).back ≡ link_frame_view first ∷ rest =
-      (λ j. map link_frame_view (world_queue (turned_back j) (same_channel j))) ∙ seen_back in
+      subst (λ fs. fs ≡ link_frame_view first ∷ rest) (sym (turned_queue way.direction link.channel way.channel
+      same_channel)) seen_back in
       let few : VariesLittle link.channel =
       subst VariesLittle (sym same_channel) (little way.link way.channel way.here way.used) in
       let tells_now : tells (link_frame_view first).octets =

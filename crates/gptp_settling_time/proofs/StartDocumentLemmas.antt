@@ -1,5 +1,6 @@
 -- A document before its first event is settled as soon as a network that starts is.
-use Rattle.std.proofs.Common.{◌≡◌, ◌<◌, ◌≤◌, ◌+◌, ◌*◌, ℕ, pred, [], Option, sym, ap, subst, arith}
+use Rattle.std.proofs.Common.{◌≡◌, ◌<◌, ◌≤◌, ◌+◌, ◌*◌, ℕ, pred, [], Option, sym, ap, subst, arith, List}
+use Rattle.gptp_lists.specs.Members.{In}
 use Rattle.gptp_lists.proofs.MappedLemmas.{alike}
 use Rattle.gptp_lists.proofs.SystemSpecLemmas.{In-slice_get}
 use Rattle.gptp_graph.specs.PathBound.{BoundsPaths}
@@ -19,8 +20,10 @@ use Rattle.gptp_world.specs.Transitions.{ActTrace}
 use Rattle.gptp_world.proofs.SettlingInvariantLemmas.{next_octet}
 use Rattle.gptp_network.specs.Document.{DocumentState}
 use Rattle.gptp_network.specs.Snapshot.{events_by}
-use Rattle.gptp_report.specs.Transitions.{Courses}
+use Rattle.gptp_report.specs.Transitions.{Courses, Unfolds}
 use Rattle.gptp_invariants.specs.ChoiceCalm.{sync_paths_of}
+use Rattle.gptp_invariants.specs.ChoiceSettled.{Settled}
+use Rattle.gptp_invariants.specs.WorldBounded.{IsBoundedWorld}
 use Rattle.gptp_invariants.specs.WorldStanding.{snapshot_of}
 use Rattle.gptp_invariants.proofs.WorldStandsLemmas.{stands_well}
 use Rattle.gptp_theorem.specs.PlayedLaws.{IsPlayable}
@@ -35,7 +38,7 @@ use Rattle.gptp_settling_time.specs.Gains.{exchanged_from}
 use Rattle.gptp_settling_time.specs.Starts.{DelaysVaryLittle, DocumentsStartAtOnce, StartsBy}
 use Rattle.gptp_settling_time.proofs.BegunLemmas.{begun_keeps}
 use Rattle.gptp_settling_time.proofs.KeptToLemmas.{KeepsTo, keeps_act, keeps_later}
-use Rattle.gptp_settling_time.proofs.PassLemmas.{passes_to}
+use Rattle.gptp_settling_time.proofs.PassLemmas.{IsStep, passes_to}
 use Rattle.gptp_settling_time.proofs.SinceStartLemmas.{IsSinceStart, since_acts, since_later}
 use Rattle.gptp_settling_time.proofs.StartLemmas.{begun_since, since_settles}
 
@@ -45,7 +48,7 @@ pub record StartsTo (d : DocumentState) (start : ℕ) (w : WorldState) : Type 0 
   pub since : IsSinceStart (pace_of d.network) start w
 
 module _ (d : DocumentState) (start : ℕ) where
-  starts_later : (w : WorldState) (time : ℕ) → w.time ≤ time → NothingBefore time w.net.pending → StartsTo d start w
+  pub starts_later : (w : WorldState) (time : ℕ) → w.time ≤ time → NothingBefore time w.net.pending → StartsTo d start w
       → StartsTo d start (at time w)
   starts_later w time later first so = record {
     keeps = keeps_later d [] w time later first so.keeps;
@@ -79,27 +82,34 @@ module _ (d : DocumentState) (start : ℕ) where
         subst (λ (b : Bounds). b.max < 2 * b.min) (ap (λ (x : LinkSpec). x.bounds) same)
         (is.little v (In-slice_get v d.network.links link there))
 
-    starts_settled : IsSettledAs d until w
-    starts_settled =
+    pub start_settled : Settled w × IsBoundedWorld w
+    start_settled =
         let world = so.keeps.claim.world in
-        let both = since_settles (pace_of d.network) start (sync_paths d.network []).systems w so.since
+        since_settles (pace_of d.network) start (sync_paths d.network []).systems w so.since
         (quiet_stands d.network [] w playable.network so.keeps.stands world.sound is.calm).links
         (subst (BoundsPaths (snapshot_of w)) (sym (ap (λ (x : SyncPaths). x.systems) paths))
         (paths_within (snapshot_of w) (stands_well w world.sound world.between world.encodable)))
         is.nothing little
         (subst (λ delay. start + pred (sync_paths d.network []).systems * delay ≤ w.time)
-        (ap (λ (x : SyncPaths). x.delay) paths) late) in
-        record {
-          settled = is_settled w (record { pace = pace_of d.network; is = so.keeps.claim }) both.0 both.1;
-          snapshot = λ g stands.
-              let (systems, links) = snapshots_stand d.network (events_by until d.events) w g
-              (subst (λ es. StandsAsPlanned d.network es w) (sym is.none) so.keeps.stands) world.sound stands in
-              record { systems = systems; links = links };
-        }
+        (ap (λ (x : SyncPaths). x.delay) paths) late)
 
-pub documents_start_at_once : {F : Type 0} (answers : Bounds → ℕ → F → Option ℕ → F → Type 0)
-    → DocumentsStartAtOnce answers
-documents_start_at_once answers d until settled fate first w ts t playable k is member late =
+    starts_settled : IsSettledAs d until w
+    starts_settled = record {
+      settled = is_settled w (record { pace = pace_of d.network; is = so.keeps.claim }) start_settled.0
+          start_settled.1;
+      snapshot = λ g stands.
+          let (systems, links) = snapshots_stand d.network (events_by until d.events) w g
+          (subst (λ es. StandsAsPlanned d.network es w) (sym is.none) so.keeps.stands) so.keeps.claim.world.sound
+          stands in
+          record { systems = systems; links = links };
+    }
+
+-- each act of its run is done in such worlds
+pub starts_passed : {F : Type 0} (answers : Bounds → ℕ → F → Option ℕ → F → Type 0) (d : DocumentState) (until : ℕ)
+    (fate : F) (first w : WorldState) (ts : List ActTrace) → IsPlayable d → Unfolds answers d until fate first ts w
+    → {settled : ℕ} → StartsBy d until settled → (t : ActTrace) → In t ts
+    → IsStep answers (StartsTo d (exchanged_from (pace_of d.network) (sync_paths d.network []) 0)) t
+starts_passed answers d until fate first w ts playable k is t member =
     let p = pace_of d.network in
     let start = exchanged_from p (sync_paths d.network []) 0 in
     let keeps = begun_keeps answers d playable fate k.started first k.begun in
@@ -111,7 +121,13 @@ documents_start_at_once answers d until settled fate first w ts t playable k is 
     let passed = passes_to answers (StartsTo d start) (starts_later d start)
     (λ t one drawn v next was so. starts_act d start answers t one drawn v next was so) until ts k.started k.drawn first w
     course (record { keeps = keeps; since = since }) in
-    let step = passed.each t member in
+    passed.each t member
+
+pub documents_start_at_once : {F : Type 0} (answers : Bounds → ℕ → F → Option ℕ → F → Type 0)
+    → DocumentsStartAtOnce answers
+documents_start_at_once answers d until settled fate first w ts t playable k is member late =
+    let start = exchanged_from (pace_of d.network) (sync_paths d.network []) 0 in
+    let step = starts_passed answers d until fate first w ts playable k is t member in
     let time = step.time in
     let settles = is.settles in
     starts_settled d start t.after step.after playable until settled is (omega (arith, late, time, settles))

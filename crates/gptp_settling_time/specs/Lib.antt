@@ -4,3 +4,4 @@ pub mod Documents
 pub mod Idle
 pub mod HowSoon
 pub mod Starts
+pub mod Unchanged
