@@ -35,7 +35,7 @@ use Rattle.gptp_network_tests.proofs.ExactLemmas.{playable}
 use Rattle.gptp_network_tests.proofs.PairLemmas.{bounded, calm as is_calm, comes_to, lives, near, pace_is, paths_are, root_is, slave_is, steps_are}
 
 -- the frames of their link take 500 ns
-few : LinksVaryLittle pair_network
+few : LinksVaryLittle pair_network []
 few v (inl same) = subst (λ (x : LinkSpec). x.bounds.max < 2 * x.bounds.min) (sym same) (omega arith)
 few v (inr none) = absurd none
 

@@ -58,7 +58,7 @@ module _ (n : NetworkState) (events : List Timed) (w : WorldState) (so : StandsA
       sym (lives_as place station of) ∙ live place of.member of.there
 
   -- a link that is down in the network is down in the world
-  down_so : (port : PortId) → IsDownAfter n events port → IsDownAt port w
+  pub down_so : (port : PortId) → IsDownAfter n events port → IsDownAt port w
   down_so port down place channel is =
       let (v, there, same) = alike (link_after events) channel_wire n.links w.net.channels (sym so.links) place channel
       is.here in

@@ -24,6 +24,7 @@ use Rattle.gptp_model.specs.Acts.{Acts, at as at_time}
 use Rattle.gptp_model.specs.declared.done.Done.{Done}
 use Rattle.gptp_model.specs.declared.station.Station.{Station}
 use Rattle.gptp_model.specs.Pending.{NothingBefore}
+use Rattle.gptp_model.specs.Sound.{IsSound}
 use Rattle.gptp_model.specs.World.{Channel, WorldState, receiver, sender, world_queue}
 use Rattle.gptp_pdelay_machine.specs.Facts.{Facts}
 use Rattle.gptp_pdelay_machine.specs.First.{InvFirst}
@@ -43,10 +44,9 @@ use Rattle.gptp_invariants.specs.ChoiceView.{frame_view, lane_place, lane_view, 
 use Rattle.gptp_invariants.specs.DelayLinkActs.{IsOneAct}
 use Rattle.gptp_invariants.specs.DelayLinkView.{IsLinkOf, LinkPlace, least_delay, link_frame_view, link_setting, meter, other_direction, pair, reads_as_reply, reads_as_request}
 use Rattle.gptp_invariants.specs.DelayMeasured.{LinkStandsAt}
-use Rattle.gptp_invariants.proofs.ChoiceCalmKeptLemmas.{acts_keep}
 use Rattle.gptp_invariants.proofs.ChoiceSeenActLemmas as choices
 use Rattle.gptp_invariants.proofs.ChoiceSeenLaneLemmas.{lane_there}
-use Rattle.gptp_invariants.proofs.DelayCapableKeptLemmas.{no_change, stood}
+use Rattle.gptp_invariants.proofs.DelayCapableKeptLemmas.{no_change}
 use Rattle.gptp_invariants.proofs.DelayLinkActLemmas.{acts_seen}
 use Rattle.gptp_invariants.proofs.DelayLinkFactLemmas.{nothing_late}
 use Rattle.gptp_invariants.proofs.DelayLinkLemmas.{sender_opposite}
@@ -89,10 +89,6 @@ pub record IsOrderedAt (first : ℕ) (at : LinkPlace) (w : WorldState) : Type 0 
   pub order : VariesLittle timely.link.channel
       → IsOrdered (link_setting at w timely.link) tells reads_as_reply first (pair at w timely.link).asker
       (pair at w timely.link).back
-
--- each link that is up between two live systems, loses nothing and is good is such a one
-abbrev pub AreOrdered : ℕ → WorldState → Type 0
-AreOrdered first w = (at : LinkPlace) → LinkStandsAt at w → IsOrderedAt first at w
 
 -- the link in the other direction
 abbrev pub opposite : LinkPlace → LinkPlace
@@ -153,25 +149,25 @@ module _ (at : LinkPlace) (first : ℕ) (w w' : WorldState) (x : IsTimelyAt firs
     abbrev m' : Meter
     m' = meter at w' seen.after
 
-    facts' : Facts k first m'.pair
+    pub facts' : Facts k first m'.pair
     facts' =
         facts_kept k first reads_as_request reads_as_reply m.pair m'.pair
         (act_of k reads_as_request reads_as_reply m m' seen.so.acts) seen.so.out seen.so.back x.facts
 
-    same_least : least ≡ least_delay at w' seen.after
+    pub same_least : least ≡ least_delay at w' seen.after
     same_least = ap (λ (b : Bounds). b.min) (sym seen.bounds)
 
-    inv' : InvFirst k least reads_as_request reads_as_reply first m'
+    pub inv' : InvFirst k least reads_as_request reads_as_reply first m'
     inv' =
         first_kept k least reads_as_request reads_as_reply first first m m' x.short (omega arith) x.facts facts'
         seen.so.out_late seen.so.back_late seen.so.acts x.inv
 
-    before' : IsNotBefore k least first m'.pair
+    pub before' : IsNotBefore k least first m'.pair
     before' =
         not_before_kept k least reads_as_request reads_as_reply first first m m' x.short x.facts seen.so.acts x.inv
         x.before
 
-    timely_acted : IsTimelyAt first at w'
+    unfoldable pub timely_acted : IsTimelyAt first at w'
     timely_acted = record {
       link = seen.after;
       short = subst (λ (y : Setting). exchange_span y < y.period) (sym seen.settled) x.short;
@@ -193,7 +189,7 @@ module _ (at : LinkPlace) (first : ℕ) (w w' : WorldState) (x : IsTimelyAt firs
     abbrev from : ℕ
     from = first + k.period + least_exchange k least
 
-    order_acted : ((f : LaneFrame) → In f m'.pair.back → tells f.octets → In f m.pair.back ⊎ (from ≤ w.time))
+    unfoldable pub order_acted : ((f : LaneFrame) → In f m'.pair.back → tells f.octets → In f m.pair.back ⊎ (from ≤ w.time))
         → (VariesLittle x.link.channel → IsOrdered k tells reads_as_reply first m.pair.asker m.pair.back)
         → IsOrderedAt first at w'
     unfolding timely_acted
@@ -287,7 +283,7 @@ module _ (p : SettlingParams) (first : ℕ) (act : Act) (w : WorldState) (draws 
         let same_time = time_is in
         omega (arith, late, least_is, period, turnaround, same_time)
 
-    sent_late : (f : LaneFrame) → In f (pair at w' after).back → tells f.octets
+    pub sent_late : (f : LaneFrame) → In f (pair at w' after).back → tells f.octets
         → In f (pair at w x.link).back ⊎ (from at first w w' x (link_seen at x.link) ≤ w.time)
     sent_late f member (a, said) =
         let (frame, among, same) = from_map link_frame_view f (world_queue back_way after.channel) member in
@@ -320,51 +316,18 @@ module _ (p : SettlingParams) (first : ℕ) (act : Act) (w : WorldState) (draws 
             subst (λ h. In h (pair at w x.link).back) one
             (In-map link_frame_view g (world_queue back_way x.link.channel) g_in)
 
-  pub ordered_acts : AreOrdered first w → AreOrdered first w'
-  ordered_acts ordered at stands' =
-      let keeps = acts_keep act w draws done w' none acts in
-      let stands = stood p w w' is is' keeps at stands' in
-      let x = ordered at stands in
-      let y = ordered (opposite at) (turned p w is at stands) in
-      order_acted at first w w' x.timely (link_seen at x.timely.link) (sent_late at x.timely y.timely) x.order
-
 -- ---- time
 
-pub ordered_later : (first time : ℕ) (w : WorldState) (p : SettlingParams) → IsWorld p w → w.time ≤ time
-    → NothingBefore time w.net.pending → AreOrdered first w → AreOrdered first (at_time time w)
-ordered_later first time w p is later nothing ordered at stands =
-    let x = ordered at (record {
-      channel = stands.channel;
-      here = stands.here;
-      up = stands.up;
-      lossless = stands.lossless;
-      asking = record {
-        station = stands.asking.station;
-        here = stands.asking.here;
-        live = stands.asking.live;
-        named = stands.asking.named;
-      };
-      answering = record {
-        station = stands.answering.station;
-        here = stands.answering.here;
-        live = stands.answering.live;
-        named = stands.answering.named;
-      };
-      apart = stands.apart;
-      good = stands.good;
-    }) in
-    let t = x.timely in
+unfoldable pub timely_later : (first : ℕ) (at : LinkPlace) (time : ℕ) (w : WorldState) → IsSound w → w.time ≤ time
+    → NothingBefore time w.net.pending → IsTimelyAt first at w → IsTimelyAt first at (at_time time w)
+timely_later first at time w sound later nothing t =
     let k = link_setting at w t.link in
     record {
-      timely = record {
-        link = t.link;
-        short = t.short;
-        facts = facts_later k first time (pair at w t.link) later (nothing_late at time w t.link is.sound nothing)
-            t.facts;
-        inv = first_later k (least_delay at w t.link) reads_as_request reads_as_reply first (meter at w t.link) _
-            (time, later, refl) t.inv;
-        before = not_before_later k (least_delay at w t.link) reads_as_request reads_as_reply first (meter at w t.link) _
-            (time, later, refl) t.before;
-      };
-      order = x.order;
+      link = t.link;
+      short = t.short;
+      facts = facts_later k first time (pair at w t.link) later (nothing_late at time w t.link sound nothing) t.facts;
+      inv = first_later k (least_delay at w t.link) reads_as_request reads_as_reply first (meter at w t.link) _
+          (time, later, refl) t.inv;
+      before = not_before_later k (least_delay at w t.link) reads_as_request reads_as_reply first (meter at w t.link) _
+          (time, later, refl) t.before;
     }

@@ -1,12 +1,16 @@
 -- How soon a network that starts has settled where delays vary little.
-use Rattle.std.proofs.Common.{◌≡◌, ◌≤◌, ◌+◌, ◌*◌, ℕ, ℤ, zero, suc, pred, false, List, [], ◌∷◌, Option, Some, is_some, slice_get, refl, sym, ap, subst, ◌∙◌, arith}
+use Rattle.std.proofs.Common.{◌≡◌, ◌<◌, ◌≤◌, ◌+◌, ◌*◌, ℕ, ℤ, zero, suc, pred, false, List, [], ◌∷◌, Option, Some, is_some, slice_get, refl, sym, ap, subst, ◌∙◌, inl, arith}
 use Rattle.gptp_lists.specs.Members.{In}
 use Rattle.gptp_lists.proofs.SystemSpecLemmas.{from_map}
 use Rattle.gptp_graph.specs.PathBound.{BoundsPaths}
 use Rattle.gptp_links.specs.declared.bounds.Bounds.{Bounds}
 use Rattle.gptp_pdelay.specs.declared.progress.Progress.{Progress}
 use Rattle.gptp_pdelay.specs.declared.progress.Progress.TheVariants as progresses
+use Rattle.gptp_setup.specs.declared.setup.Params.{Params}
 use Rattle.gptp_setup.specs.Intervals.{interval_of}
+use Rattle.gptp_invariants.specs.WorldStanding.{live_stations}
+use Rattle.gptp_invariants.proofs.WorldGreatestDelayLemmas.{delay_of_used}
+use Rattle.gptp_invariants.proofs.WorldNewsLemmas.{link_used}
 use Rattle.gptp_setup.specs.SettlingParams.{SettlingParams}
 use Rattle.gptp_scenario.specs.Calm.{NothingLapses}
 use Rattle.gptp_scenario.specs.Network.{IsNetwork, NetworkState, pace_of}
@@ -30,7 +34,8 @@ use Rattle.gptp_invariants.specs.ChoiceCalm.{HaveQuietLinks, delay_in}
 use Rattle.gptp_invariants.specs.ChoiceSettled.{Settled}
 use Rattle.gptp_invariants.specs.ChoiceSettlesAsMachine.{IsWorld}
 use Rattle.gptp_invariants.specs.ChoiceView.{frame_view, held_view, lane_place, lane_view, says_announce, span_at, station_view, view}
-use Rattle.gptp_invariants.specs.DelayLinkView.{LinkPlace, link_frame_view, other_direction, pair, progress_view}
+use Rattle.gptp_invariants.specs.DelayLinkView.{link_setting, LinkPlace, link_frame_view, other_direction, pair, progress_view}
+use Rattle.gptp_invariants.specs.DelayMeasured.{LinkStandsAt}
 use Rattle.gptp_invariants.specs.WorldBounded.{IsBoundedWorld}
 use Rattle.gptp_invariants.specs.WorldStanding.{snapshot_of}
 use Rattle.gptp_invariants.proofs.ChoiceCalmKeptLemmas.{KeepsNetwork, acts_keep, delay_kept, keeps_on}
@@ -58,15 +63,20 @@ use Rattle.gptp_invariants.specs.WorldNewsCourse.{capable_from}
 use Rattle.gptp_invariants.proofs.SyncFollowClaimLemmas.{acts_time}
 use Rattle.gptp_settling_time.specs.Starts.{DelaysVaryLittle, StartsSettleAtOnce}
 use Rattle.gptp_settling_time.proofs.ExactlyLemmas.{later_keeps}
-use Rattle.gptp_settling_time.proofs.OrderedLemmas.{AreOrdered}
+use Rattle.gptp_settling_time.proofs.OrderedLemmas.{IsOrderedAt, opposite, turned}
 use Rattle.gptp_settling_time.proofs.SeenSettledLemmas.{seen_settles}
-use Rattle.gptp_settling_time.proofs.SinceStartLemmas.{ExchangesAreOver, IsSinceStart, since_acts, since_later, start_calm, start_net, start_network}
+use Rattle.gptp_settling_time.proofs.AlwaysClaimedLemmas.{AreHeard, IsClaimedAlways, since_acts, since_later, start_calm, start_net, start_network}
 use Rattle.gptp_settling_time.proofs.UntoldLemmas.{IsUntold, IsUnmeasured, begun_untold, is_answered, unmeasured_off}
 
 -- ---- a network begins
 
+-- by then two exchanges are over
+abbrev pub ExchangesAreOver : SettlingParams → ℕ → WorldState → Type 0
+ExchangesAreOver p start w =
+    interval_of p.params.pdelay + (delay_in w + p.params.turnaround + delay_in w) < start
+
 -- no response is recorded
-not_answered : (progress : Progress) (sequence : ℕ) (source : PortIdentity)
+pub not_answered : (progress : Progress) (sequence : ℕ) (source : PortIdentity)
     (t1 t2 t4 : ℤ) → is_answered progress ≡ false → progress_view progress ≡ Answered sequence source t1 t2 t4 → ⊥
 not_answered progresses.Closed sequence source t1 t2 t4 none same = cc
 not_answered (progresses.Sent request) sequence source t1 t2 t4 none same = cc
@@ -86,8 +96,8 @@ module _ {F : Type 0} (answers : Bounds → ℕ → F → Option ℕ → F → T
   untold : IsUntold w
   untold = begun_untold answers n fate fate_after w network sound k
 
-  begun_ordered : AreOrdered 0 w
-  begun_ordered at stands =
+  begun_timely : (at : LinkPlace) → LinkStandsAt at w → IsOrderedAt 0 at w
+  begun_timely at stands =
       let one = start_first answers n fate fate_after w network sound k world at stands in
       let l = one.link in
       let e = l.asking in
@@ -129,6 +139,28 @@ module _ {F : Type 0} (answers : Bounds → ℕ → F → Option ℕ → F → T
           (In-map frame_view frame (world_queue way l.channel) among)
           (subst (λ (o : List ℕ). says_announce o a) (ap (λ (g : LaneFrame). g.octets) (sym same)) said)
 
+  -- what is told over each link is heard
+  begun_heard : (start : ℕ) → ExchangesAreOver p start w → AreHeard p start w
+  begun_heard start over at stands =
+      let one = begun_timely at stands in
+      let l = one.timely.link in
+      let asks = (world.known.set at.asking l.asking.station l.asking.here).starts.params in
+      let answers_params = (world.known.set at.answering l.answering.station l.answering.here).starts.params in
+      let period : (link_setting at w l).period ≡ interval_of p.params.pdelay =
+      ap (λ (y : Params). interval_of y.pdelay) asks in
+      let turnaround : (link_setting at w l).turnaround ≡ p.params.turnaround =
+      ap (λ (y : Params). y.turnaround) answers_params in
+      let most : l.channel.bounds.max ≤ delay_in w =
+      delay_of_used (live_stations w.stations) w.net.channels at.link l.channel l.here (link_used at w l) in
+      inl (
+        0,
+        record {
+          one = one;
+          other = (begun_timely (opposite at) (turned p w world at stands)).timely;
+          by = omega (arith, period, turnaround, most, over);
+        },
+      )
+
   -- no port is on
   all_off : (place : ℕ) (s : SeenStation) (i : ℕ) (q : SeenPort) → slice_get (view w).stations place ≡ Some s
       → slice_get s.ports i ≡ Some q → q.held ≡ Disabled
@@ -143,13 +175,12 @@ module _ {F : Type 0} (answers : Bounds → ℕ → F → Option ℕ → F → T
       ∙ ap (held_view (span_at state))
       (shown.off (unmeasured_off port.port.peer (untold.measured place at.station at.here i port.port port.port_there)))
 
-  pub begun_since : (start : ℕ) → ExchangesAreOver p start w → IsSinceStart p start w
+  pub begun_since : (start : ℕ) → ExchangesAreOver p start w → IsClaimedAlways p start w
   begun_since start over =
       let news = start_news answers n fate fate_after w start network sound k world over in
       record {
         news = news;
-        ordered = begun_ordered;
-        over = over;
+        heard = begun_heard start over;
         settling = λ m bounded quiet off little.
             let net = start_net p m start w world bounded in
             record {
@@ -163,7 +194,7 @@ module _ {F : Type 0} (answers : Bounds → ℕ → F → Option ℕ → F → T
 
 -- ---- it settles
 
-module _ (p : SettlingParams) (start m : ℕ) (w : WorldState) (is : IsSinceStart p start w)
+module _ (p : SettlingParams) (start m : ℕ) (w : WorldState) (is : IsClaimedAlways p start w)
     (quiet : HaveQuietLinks p.params w) (bounded : BoundsPaths (snapshot_of w) m) (off : NothingLapses p.params)
     (little : DelaysVaryLittle w) (late : start + pred m * delay_in w ≤ w.time) where
   abbrev seen : Network
@@ -173,7 +204,7 @@ module _ (p : SettlingParams) (start m : ℕ) (w : WorldState) (is : IsSinceStar
   net = start_net p m start w is.news.world bounded
 
   state : Calm seen (view w)
-  state = start_calm p start w is.news is.ordered is.over quiet m
+  state = start_calm p start w is.news is.heard quiet m
 
   invariant : Invariant says_announce seen (view w)
   invariant = is.settling m bounded quiet off little
@@ -198,10 +229,10 @@ module _ {F : Type 0} (answers : Bounds → ℕ → F → Option ℕ → F → T
     -- the world goes on, and stays one since its start
     record GoesOn (w w' : WorldState) : Type 0 where
       keeps : KeepsNetwork w w'
-      since : IsSinceStart p start w'
+      since : IsClaimedAlways p start w'
 
     advances_since : (told : List Told) (fate fate_after : F) (w w' : WorldState)
-        → Advances answers until told fate fate_after w w' → IsSinceStart p start w → GoesOn w w'
+        → Advances answers until told fate fate_after w w' → IsClaimedAlways p start w → GoesOn w w'
     advances_since [] fate fate_after w w' (same, is) since =
         subst (GoesOn w) (sym is) (record { keeps = later_keeps w.time w; since = since })
     advances_since (one ∷ told) fate fate_after w w' (drawn, between, happens, rest) since =
@@ -231,7 +262,7 @@ module _ {F : Type 0} (answers : Bounds → ℕ → F → Option ℕ → F → T
         ends_by told drawn fate_after between w' rest (omega (arith, time, soon))
 
     advanced_since : (told : List Told) (fate fate_after : F) (w w' : WorldState)
-        → Advanced answers until told fate fate_after w w' → IsSinceStart p start w → GoesOn w w'
+        → Advanced answers until told fate fate_after w w' → IsClaimedAlways p start w → GoesOn w w'
     advanced_since told fate fate_after w w' k since =
         let on = advances_since told fate fate_after w k.between k.advances since in
         let early = ends_by told fate fate_after w k.between k.advances k.ahead in
@@ -248,7 +279,7 @@ module _ {F : Type 0} (answers : Bounds → ℕ → F → Option ℕ → F → T
 since_begun : {F : Type 0} (answers : Bounds → ℕ → F → Option ℕ → F → Type 0) (n : NetworkState)
     (fate begun fate_after : F) (until : ℕ) (told : List Told) (w w' : WorldState) → IsNetwork n
     → Begun answers n fate begun w → Advanced answers until told begun fate_after w w'
-    → IsSinceStart (pace_of n) (capable_from (pace_of n) w' 0) w'
+    → IsClaimedAlways (pace_of n) (capable_from (pace_of n) w' 0) w'
 since_begun answers n fate begun fate_after until told w w' network k course =
     let p = pace_of n in
     let start = capable_from p w 0 in
@@ -257,7 +288,7 @@ since_begun answers n fate begun fate_after until told w w' network k course =
     let delay = delay_kept w w' on.keeps in
     let same : start ≡ capable_from p w' 0 =
     ap (λ most. 0 + interval_of p.params.pdelay + (most + p.params.turnaround + most) + 1) (sym delay) in
-    subst (λ t. IsSinceStart p t w') same on.since
+    subst (λ t. IsClaimedAlways p t w') same on.since
 
 pub starts_settle_at_once : {F : Type 0} (answers : Bounds → ℕ → F → Option ℕ → F → Type 0)
     → StartsSettleAtOnce answers

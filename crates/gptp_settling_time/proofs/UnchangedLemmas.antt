@@ -2,7 +2,6 @@
 use Rattle.std.proofs.Common.{◌≡◌, ◌<◌, ◌≤◌, ◌+◌, inl, inr, ℕ, List, [], ◌∷◌, ◌++◌, Option, refl, sym, subst, ◌∙◌, append_assoc, append-nil, arith}
 use Rattle.std.specs.List.{AllByRecursion}
 use Rattle.gptp_lists.specs.Members.{In}
-use Rattle.gptp_lists.proofs.SystemSpecLemmas.{In-parts}
 use Rattle.gptp_graph.specs.PathBound.{path_bound}
 use Rattle.gptp_graph.proofs.PathBoundLemmas.{paths_within}
 use Rattle.gptp_links.specs.declared.bounds.Bounds.{Bounds}
@@ -15,7 +14,7 @@ use Rattle.gptp_scenario.specs.SyncWait.{sync_paths}
 use Rattle.gptp_scenario.specs.declared.change.Timed.{Timed}
 use Rattle.gptp_scenario.specs.declared.sync_wait.SyncPaths.{SyncPaths}
 use Rattle.gptp_model.specs.World.{WorldState}
-use Rattle.gptp_world.specs.Transitions.{ActTrace, transition}
+use Rattle.gptp_world.specs.Transitions.{ActTrace}
 use Rattle.gptp_network.specs.Document.{DocumentState}
 use Rattle.gptp_network.specs.Snapshot.{events_by}
 use Rattle.gptp_report.specs.Transitions.{Courses, Unfolds}
@@ -33,9 +32,11 @@ use Rattle.gptp_settling_time.specs.Unchanged.{ActsLeaveShown, HasSettledAt, Lea
 use Rattle.gptp_settling_time.proofs.BegunLemmas.{begun_keeps, begun_last}
 use Rattle.gptp_settling_time.proofs.DocumentLemmas.{act_leaves, run_to}
 use Rattle.gptp_settling_time.proofs.KeptToLemmas.{KeepsTo, keeps_act, keeps_later}
+use Rattle.gptp_settling_time.proofs.LaterLemmas.{AreSteps, steps_more}
 use Rattle.gptp_settling_time.proofs.MadeLemmas.{made_keeps, made_last, made_time}
 use Rattle.gptp_settling_time.proofs.PassLemmas.{IsStep, passes_to}
-use Rattle.gptp_settling_time.proofs.StartDocumentLemmas.{StartsTo, start_settled, starts_later, starts_passed}
+use Rattle.gptp_settling_time.proofs.StartDocumentLemmas.{starts_passed}
+use Rattle.gptp_settling_time.proofs.ClaimedToLemmas.{IsClaimedTo, claimed_later, claimed_settled}
 use Rattle.gptp_settling_time.proofs.StepLemmas.{step_leaves}
 
 -- ---- from any past
@@ -43,13 +44,10 @@ use Rattle.gptp_settling_time.proofs.StepLemmas.{step_leaves}
 module _ {F : Type 0} (answers : Bounds → ℕ → F → Option ℕ → F → Type 0) (d : DocumentState) (playable : IsPlayable d)
     (all : List Timed) (until : ℕ) where
   -- each act that is later than all events is done in a world that stands as the network does after them
-  record Keeps (ts : List ActTrace) (w : WorldState) : Type 0 where
-    early : w.time ≤ last_change all
-    each : (t : ActTrace) → In t ts → last_change all < t.told.timed.at → IsStep answers (KeepsTo d all) t
-
   keeps_all : (made events : List Timed) (ts : List ActTrace) (fate fate_after : F) (w w' : WorldState)
       → made ++ events ≡ all → AllByRecursion IsMade events → AllByRecursion (IsFitEvent (least_of d)) events
-      → Courses answers until events ts fate fate_after w w' → KeepsTo d made w → w.last_change ≡ w.time → Keeps ts w
+      → Courses answers until events ts fate fate_after w w' → KeepsTo d made w → w.last_change ≡ w.time
+      → AreSteps answers (KeepsTo d all) all ts w
   keeps_all made [] ts fate fate_after w w' are is fit k keeps now =
       let same : made ≡ all = sym (append-nil made) ∙ are in
       let there : KeepsTo d all w = subst (λ es. KeepsTo d es w) same keeps in
@@ -63,30 +61,12 @@ module _ {F : Type 0} (answers : Bounds → ℕ → F → Option ℕ → F → T
       let passed = passes_to answers (KeepsTo d made) (keeps_later d made)
       (λ t one other v next was v_is. keeps_act d made answers t one other v next was v_is) event.at k.first fate
       k.drawn w k.between k.passes keeps in
-      let time = made_time answers d playable made event k.drawn drawn k.between between k.done is.0 fit.0 k.made in
-      let ahead = k.passes.ahead in
-      let more = keeps_all (made ++ event ∷ []) events rest drawn fate_after between w'
+      steps_more answers (KeepsTo d all) all event first rest ts fate drawn w between k passed.soon
+      (made_time answers d playable made event k.drawn drawn k.between between k.done is.0 fit.0 k.made) split
+      (keeps_all (made ++ event ∷ []) events rest drawn fate_after between w'
       (append_assoc made (event ∷ []) events ∙ are) is.1 fit.1 on
       (made_keeps answers d playable made event k.drawn drawn k.between between k.done is.0 fit.0 k.made passed.end)
-      (made_last answers d playable made event k.drawn drawn k.between between k.done is.0 fit.0 k.made) in
-      let early = more.early in
-      record {
-        early = omega (arith, ahead, time, early);
-        each = λ t member late. more.each t
-            (elim (In-parts t first rest (subst (In t) split member)) [
-              | inl here ↦ (let soon : t.told.timed.at ≤ event.at =
-                  elim (In-parts t k.first (transition event k.done k.between between ∷ [])
-                  (subst (In t) k.are here)) [
-                    | inl before ↦ passed.soon t before
-                    | inr made_now ↦ elim made_now [
-                      | inl same ↦ subst (λ (v : ActTrace). v.told.timed.at ≤ event.at) (sym same) (omega arith)
-                      | inr none ↦ absurd none
-                    ]
-                  ] in
-                  absurd (omega (arith, soon, time, early, late)))
-              | inr behind ↦ behind
-            ]) late;
-      }
+      (made_last answers d playable made event k.drawn drawn k.between between k.done is.0 fit.0 k.made))
 
   -- such a world settles by the span
   module _ (calm : IsCalm d.network all) (w : WorldState) (keeps : KeepsTo d all w) where
@@ -154,11 +134,11 @@ module _ {F : Type 0} (answers : Bounds → ℕ → F → Option ℕ → F → T
           let step = starts_passed answers d t.told.timed.at fate first w ts playable k starts t member in
           let settles = starts.settles in
           step_leaves (pace_of d.network) answers
-          (StartsTo d (exchanged_from (pace_of d.network) (sync_paths d.network []) 0)) t.told.timed.at
-          (starts_later d (exchanged_from (pace_of d.network) (sync_paths d.network []) 0))
+          (IsClaimedTo d [] (exchanged_from (pace_of d.network) (sync_paths d.network []) 0)) t.told.timed.at
+          (claimed_later d [] (exchanged_from (pace_of d.network) (sync_paths d.network []) 0))
           (λ v so. so.keeps.claim.world)
-          (λ v so on. (start_settled d (exchanged_from (pace_of d.network) (sync_paths d.network []) 0) v so playable
-          t.told.timed.at t.told.timed.at starts (omega (arith, settles, on))).0) t step (omega arith) near
+          (λ v so on. (claimed_settled d [] (exchanged_from (pace_of d.network) (sync_paths d.network []) 0) v so playable
+          starts.calm starts.nothing starts.little (omega (arith, settles, on))).0) t step (omega arith) near
       by ts w k member (inr (inr (inl rests))) =
           let settled = rests.settled in
           step_leaves (pace_of d.network) answers (KeepsTo d (events_by t.told.timed.at d.events)) t.told.timed.at

@@ -67,7 +67,7 @@ abbrev pub HasMeasuredNothing : Station → Type 0
 HasMeasuredNothing station = (i : ℕ) (q : Port) → slice_get station.system.ports i ≡ Some q → IsUnmeasured q.peer
 
 -- it has come up
-part_unmeasured : (s : SystemState) (now p n : ℕ) (x : Part) → IsUnmeasured x.peer
+pub part_unmeasured : (s : SystemState) (now p n : ℕ) (x : Part) → IsUnmeasured x.peer
     → IsUnmeasured (only_at p (part_asked s now reset_peer) n x).peer
 part_unmeasured s now p n x un = by (n == p) refl
   where

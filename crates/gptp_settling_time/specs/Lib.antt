@@ -5,3 +5,4 @@ pub mod Idle
 pub mod HowSoon
 pub mod Starts
 pub mod Unchanged
+pub mod LinksUp

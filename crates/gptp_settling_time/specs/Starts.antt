@@ -9,8 +9,10 @@ use Rattle.gptp_lists.specs.Members.{In}
 use Rattle.gptp_graph.specs.PathBound.{BoundsPaths}
 use Rattle.gptp_links.specs.declared.bounds.Bounds.{Bounds}
 use Rattle.gptp_scenario.specs.Calm.{IsCalm, NothingLapses}
+use Rattle.gptp_scenario.specs.Change.{link_after}
 use Rattle.gptp_scenario.specs.Network.{IsNetwork, NetworkState, pace_of}
 use Rattle.gptp_scenario.specs.SyncWait.{sync_paths}
+use Rattle.gptp_scenario.specs.declared.change.Timed.{Timed}
 use Rattle.gptp_scenario.specs.declared.network.LinkSpec.{LinkSpec}
 use Rattle.gptp_model.specs.Advancing.{Advanced, Told}
 use Rattle.gptp_model.specs.Course.{Begun}
@@ -44,16 +46,17 @@ StartsSettleAtOnce {F} answers = (n : NetworkState) (fate begun fate_after : F) 
 
 -- ---- documents
 
--- over each link of the network the greatest delay is below twice the least
-abbrev pub LinksVaryLittle : NetworkState → Type 0
-LinksVaryLittle n = (v : LinkSpec) → In v n.links → v.bounds.max < 2 * v.bounds.min
+-- after these events the greatest delay is below twice the least over each link of the network
+abbrev pub LinksVaryLittle : NetworkState → List Timed → Type 0
+LinksVaryLittle n events = (v : LinkSpec) → In v n.links
+    → (link_after events v).bounds.max < 2 * (link_after events v).bounds.min
 
 -- A document that is calm before its first event, and in which nothing lapses, starts so by a time.
 pub record StartsBy (d : DocumentState) (until settled : ℕ) : Type 0 where
   pub none : events_by until d.events ≡ []
   pub calm : IsCalm d.network []
   pub nothing : NothingLapses d.network.params
-  pub little : LinksVaryLittle d.network
+  pub little : LinksVaryLittle d.network []
   pub settles : exchanged_from (pace_of d.network) (sync_paths d.network []) 0
       + pred (sync_paths d.network []).systems * (sync_paths d.network []).delay
       ≤ settled

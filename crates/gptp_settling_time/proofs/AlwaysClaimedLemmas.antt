@@ -1,4 +1,4 @@
--- A world since its network started: no announce interval has to pass.
+-- A world of which claims are made of all links always: no announce interval has to pass.
 use Rattle.std.proofs.Common.{◌≡◌, ◌≢◌, ◌<◌, ◌≤◌, ◌+◌, ◌*◌, ℕ, suc, Bool, true, false, List, [], ◌∷◌, map, Some, slice_get, refl, sym, ap, subst, ◌∙◌, inl, inr, arith}
 use Rattle.gptp_lists.specs.Members.{In}
 use Rattle.gptp_lists.proofs.MappedLemmas.{alike, same_there, some_same}
@@ -40,7 +40,7 @@ use Rattle.gptp_invariants.specs.ChoiceCalm.{HaveQuietLinks, clock_place, delay_
 use Rattle.gptp_invariants.specs.ChoiceSeenLaws.{IsNoChange}
 use Rattle.gptp_invariants.specs.ChoiceSettlesAsMachine.{IsWorld}
 use Rattle.gptp_invariants.specs.ChoiceView.{lane_place, frame_view, held_view, lane_view, lanes_view, port_identity_number, says_announce, span_at, view}
-use Rattle.gptp_invariants.specs.DelayLinkView.{IsLinkOf, LinkPlace, least_delay, link_frame_view, link_setting, meter, other_direction, pair, reads_as_reply}
+use Rattle.gptp_invariants.specs.DelayLinkView.{IsLinkOf, LinkPlace, link_frame_view, other_direction, pair}
 use Rattle.gptp_invariants.specs.DelayMeasured.{LinkStandsAt}
 use Rattle.gptp_invariants.specs.WorldEncodableLaws.{SetsAnOctet}
 use Rattle.gptp_invariants.specs.WorldNews.{IsNews, at_news, news_network}
@@ -59,16 +59,10 @@ use Rattle.gptp_invariants.proofs.WorldNewsLemmas.{news_are_kept, news_go_on}
 use Rattle.gptp_invariants.proofs.WorldStandsLemmas.{stands_well}
 use Rattle.gptp_invariants.proofs.WorldWayLemmas.{IsWay, one_way, way_of}
 use Rattle.gptp_settling_time.specs.Starts.{DelaysVaryLittle}
-use Rattle.gptp_settling_time.proofs.OrderedLemmas.{AreOrdered, VariesLittle}
 use Rattle.gptp_graph.proofs.LinkLemmas.{Joins-sym}
 use Rattle.gptp_links.specs.declared.bounds.Bounds.{Bounds}
-use Rattle.gptp_setup.specs.declared.setup.Params.{Params}
-use Rattle.gptp_setup.specs.Intervals.{interval_of}
 use Rattle.gptp_system.specs.State.{own}
-use Rattle.gptp_pdelay_machine.specs.Order.{IsOrdered}
 use Rattle.gptp_pdelay_machine.specs.Setting.{Setting}
-use Rattle.gptp_pdelay_machine.proofs.FirstLemmas.{exchange_full}
-use Rattle.gptp_invariants.specs.DelayLinkView.{reads_as_request}
 use Rattle.gptp_invariants.specs.ChoiceCalm.{AreCapableFrom, network_with}
 use Rattle.gptp_invariants.specs.FailedUnanswered.{StandsUnanswered}
 use Rattle.gptp_invariants.proofs.ChoiceCalmFactLemmas.{facts, frame_from}
@@ -79,9 +73,10 @@ use Rattle.gptp_invariants.proofs.WorldStandsLemmas.{used_up}
 use Rattle.gptp_model.proofs.BareLemmas.{bare}
 use Rattle.gptp_setup.specs.SettlingParams.{largest_interval}
 use Rattle.gptp_settling_time.proofs.ExactlyLemmas.{later_keeps}
+use Rattle.gptp_settling_time.proofs.HeardLemmas.{IsHeardAt, heard_acts, heard_due, heard_later, heard_link, heard_now, heard_on}
+use Rattle.gptp_settling_time.proofs.OrderedLemmas.{VariesLittle, link_seen, receiver_opposite, tells}
+use Rattle.gptp_invariants.proofs.DelayCapableKeptLemmas.{stood}
 use Rattle.gptp_settling_time.proofs.NewsMeasuredLemmas.{LivesSomewhere, receiver_lives}
-use Rattle.gptp_settling_time.proofs.OrderedLemmas.{IsOrderedAt, link_seen, ordered_acts, ordered_later, receiver_opposite, stays_capable, tells, tells_no_reply}
-use Rattle.gptp_settling_time.proofs.ToldLemmas.{told_capable}
 
 -- ---- where the link of a way stands
 
@@ -238,7 +233,7 @@ start_net p m start w is bounded =
       link = λ d port linked. inl (refl, refl);
     }))
 
-same_start : (p : SettlingParams) (m start : ℕ) (w w' : WorldState) → KeepsNetwork w w'
+pub same_start : (p : SettlingParams) (m start : ℕ) (w w' : WorldState) → KeepsNetwork w w'
     → start_network p m start w' ≡ start_network p m start w
 same_start p m start w w' keeps =
     ap (λ (n : Network). record n {
@@ -271,13 +266,12 @@ silent_off p start w news late at s q there =
     ap (λ (x : Port). is_capable x.peer) port
     ∙ become_incapable at p change w news.world.sound news.world.known news.pace.requests one (omega (arith, soon, late))
 
--- by then two exchanges are over
-abbrev pub ExchangesAreOver : SettlingParams → ℕ → WorldState → Type 0
-ExchangesAreOver p start w =
-    interval_of p.params.pdelay + (delay_in w + p.params.turnaround + delay_in w) < start
+-- over each link that is up between two live systems, loses nothing and is good, what is told is heard
+abbrev pub AreHeard : SettlingParams → ℕ → WorldState → Type 0
+AreHeard p start w = (at : LinkPlace) → LinkStandsAt at w → IsHeardAt p start at w
 
-module _ (p : SettlingParams) (start : ℕ) (w : WorldState) (news : IsNews p start w) (ordered : AreOrdered 0 w)
-    (over : ExchangesAreOver p start w) (quiet : HaveQuietLinks p.params w) where
+module _ (p : SettlingParams) (start : ℕ) (w : WorldState) (news : IsNews p start w) (heard : AreHeard p start w)
+    (quiet : HaveQuietLinks p.params w) where
   world : IsWorld p w
   world = news.world
 
@@ -287,16 +281,15 @@ module _ (p : SettlingParams) (start : ℕ) (w : WorldState) (news : IsNews p st
       → (way : IsWay w (port_identity_number (own station.system (suc i))) to) → is_capable q.peer ≡ true
   linked_capable late place station here i q to there joins way =
       let from = port_identity_number (own station.system (suc i)) in
-      let x = (ordered (place_of_way p w world quiet from to way) (way_stands p w world quiet from to way joins)).timely
-      in
-      let l = x.link in
+      let at = place_of_way p w world quiet from to way in
+      let x = heard at (way_stands p w world quiet from to way joins) in
+      let l = heard_link p start at w x in
       let asking = l.asking in
       let same_channel = same_there w.net.channels way.link l.channel way.channel l.here way.here in
       let begins : sender way.direction l.channel ≡ sender way.direction way.channel =
       ap (sender way.direction) same_channel in
       let named : clock asking.station.system ≡ clock station.system =
       asking.named ∙ ap (λ (y : PortId). y.clock) begins ∙ ap (λ (y : PortIdentity). y.clock) way.from in
-      let at = place_of_way p w world quiet from to way in
       let same_place = world.sound.wired.clocks at.asking place asking.station station asking.here here named in
       let same_station = same_there w.stations place asking.station station
       (ap (slice_get w.stations) (sym same_place) ∙ asking.here) here in
@@ -307,18 +300,7 @@ module _ (p : SettlingParams) (start : ℕ) (w : WorldState) (news : IsNews p st
       ∙ ap (number asking.station.system.ports) port
       ∙ ap (λ (y : Station). slice_get y.system.ports i) same_station
       ∙ there in
-      let asks_params = (world.known.set at.asking asking.station asking.here).starts.params in
-      let answers_params = (world.known.set at.answering l.answering.station l.answering.here).starts.params in
-      let period : (link_setting at w l).period ≡ interval_of p.params.pdelay =
-      ap (λ (y : Params). interval_of y.pdelay) asks_params in
-      let turnaround : (link_setting at w l).turnaround ≡ p.params.turnaround =
-      ap (λ (y : Params). y.turnaround) answers_params in
-      let most : l.channel.bounds.max ≤ delay_in w =
-      subst (λ (c : Channel). c.bounds.max ≤ delay_in w) (sym same_channel)
-      (delay_of_used (live_stations w.stations) w.net.channels way.link way.channel way.here way.used) in
-      let full = exchange_full (link_setting at w l) (least_delay at w l) reads_as_request reads_as_reply 0 0
-      (meter at w l) x.facts x.inv (omega (arith, period, turnaround, most, over, late)) in
-      ap (λ (y : Port). is_capable y.peer) (sym (some_same asking.state q found)) ∙ full.0
+      ap (λ (y : Port). is_capable y.peer) (sym (some_same asking.state q found)) ∙ heard_on p start at w world x late
 
   are_capable : AreCapableFrom start w
   are_capable late place station here lives i h q stands there =
@@ -338,16 +320,16 @@ module _ (p : SettlingParams) (start : ℕ) (w : WorldState) (news : IsNews p st
 
 -- ---- what is known of a world since its start
 
-module _ (p : SettlingParams) (start : ℕ) (w : WorldState) (news : IsNews p start w) (ordered : AreOrdered 0 w)
-    (over : ExchangesAreOver p start w) (quiet : HaveQuietLinks p.params w) where
+module _ (p : SettlingParams) (start : ℕ) (w : WorldState) (news : IsNews p start w) (heard : AreHeard p start w)
+    (quiet : HaveQuietLinks p.params w) where
   is : IsWorld p w
   is = news.world
 
   -- a link of the snapshot
   on_way : (from to : PortIdentity) → (joins : Joins (snapshot_of w) from to) → (way : IsWay w from to)
-      → IsOrderedAt 0 (place_of_way p w is quiet from to way) w
+      → IsHeardAt p start (place_of_way p w is quiet from to way) w
   on_way from to joins way =
-      ordered (place_of_way p w is quiet from to way) (way_stands p w is quiet from to way joins)
+      heard (place_of_way p w is quiet from to way) (way_stands p w is quiet from to way joins)
 
   -- what is in flight there is due within the greatest delay
   due_soon : (j : ℕ) (l : Lane) (f : SeenFrame) → slice_get (lanes_view w.net.channels) j ≡ Some l → In f l.frames
@@ -357,17 +339,19 @@ module _ (p : SettlingParams) (start : ℕ) (w : WorldState) (news : IsNews p st
       let way = way_of w l.from l.to joins in
       let one = one_way w is.sound is.encodable way.link at.link way.direction at.direction way.channel at.channel
       way.here at.here (way.from ∙ ap (λ (z : Lane). z.from) at.lane_is) in
-      let x = (on_way l.from l.to joins way).timely in
-      let same_channel : x.link.channel ≡ way.channel =
-      same_there w.net.channels way.link x.link.channel way.channel x.link.here way.here in
-      let short : x.link.channel.bounds.max ≤ delay_in w =
+      let place = place_of_way p w is quiet l.from l.to way in
+      let x = on_way l.from l.to joins way in
+      let link = heard_link p start place w x in
+      let same_channel : link.channel ≡ way.channel =
+      same_there w.net.channels way.link link.channel way.channel link.here way.here in
+      let short : link.channel.bounds.max ≤ delay_in w =
       subst (λ (c : Channel). c.bounds.max ≤ delay_in w) (sym same_channel)
       (delay_of_used (live_stations w.stations) w.net.channels way.link way.channel way.here way.used) in
-      let among : In at.frame (world_queue way.direction x.link.channel) =
+      let among : In at.frame (world_queue way.direction link.channel) =
       subst (λ (c : Channel). In at.frame (world_queue way.direction c)) (sym (same_channel ∙ one.same_channel))
       (subst (λ d. In at.frame (world_queue d at.channel)) (sym one.same_way) at.among) in
-      let latest = (x.facts.out (link_frame_view at.frame)
-      (In-map link_frame_view at.frame (world_queue way.direction x.link.channel) among)).latest in
+      let latest = heard_due p start place w x (link_frame_view at.frame)
+      (In-map link_frame_view at.frame (world_queue way.direction link.channel) among) in
       let is_due : f.due ≡ at.frame.due = ap (λ (g : SeenFrame). g.due) at.is in
       omega (arith, latest, short, is_due)
 
@@ -412,7 +396,7 @@ module _ (p : SettlingParams) (start : ℕ) (w : WorldState) (news : IsNews p st
   start_calm m =
       let c : Calm (news_network p m start w) (view w) =
       calm p m start (at_news p w) w is.sound is.encodable is.known quiet (news_facts m)
-      (are_capable p start w news ordered over quiet) in
+      (are_capable p start w news heard quiet) in
       record {
         facts = start_facts m;
         stations = λ i s there lives.
@@ -457,7 +441,7 @@ turned_queue FromB c d same = ap (λ x. map link_frame_view (world_queue FromB x
 
 -- ---- early ports hear what comes, and stay on
 
-module _ (p : SettlingParams) (start m : ℕ) (w : WorldState) (news : IsNews p start w) (ordered : AreOrdered 0 w)
+module _ (p : SettlingParams) (start m : ℕ) (w : WorldState) (news : IsNews p start w) (heard : AreHeard p start w)
     (quiet : HaveQuietLinks p.params w) (little : DelaysVaryLittle w) where
   abbrev now_world : IsWorld p w
   now_world = news.world
@@ -473,9 +457,9 @@ module _ (p : SettlingParams) (start m : ℕ) (w : WorldState) (news : IsNews p 
       let to = port_of u (suc i) in
       let way = way_of w from to joins in
       let back = way_back w from to way in
-      let x = ordered (place_of_way p w now_world quiet to from back)
-      (way_stands p w now_world quiet to from back (Joins-sym (snapshot_of w) from to joins)) in
-      let link = x.timely.link in
+      let at = place_of_way p w now_world quiet to from back in
+      let x = heard at (way_stands p w now_world quiet to from back (Joins-sym (snapshot_of w) from to joins)) in
+      let link = heard_link p start at w x in
       let same_channel : link.channel ≡ way.channel =
       same_there w.net.channels way.link link.channel way.channel link.here way.here in
       let asks_there = asks_back w from to way link.channel same_channel in
@@ -488,28 +472,23 @@ module _ (p : SettlingParams) (start m : ℕ) (w : WorldState) (news : IsNews p 
       ap (λ (z : Lane). z.frames) (sym lane) ∙ frames in
       let (first, rest, is_first, seen_back) = seen_first frame_view link_frame_view
       (world_queue way.direction way.channel) f fs queue in
-      let comes : (pair (place_of_way p w now_world quiet to from back) w link).back ≡ link_frame_view first ∷ rest =
+      let comes : (pair at w link).back ≡ link_frame_view first ∷ rest =
       subst (λ fs. fs ≡ link_frame_view first ∷ rest) (sym (turned_queue way.direction link.channel way.channel
       same_channel)) seen_back in
       let few : VariesLittle link.channel =
       subst VariesLittle (sym same_channel) (little way.link way.channel way.here way.used) in
       let tells_now : tells (link_frame_view first).octets =
       (a, subst (λ (o : List ℕ). says_announce o a) (ap (λ (g : SeenFrame). g.octets) (sym is_first)) said) in
-      let capable = told_capable (link_setting (place_of_way p w now_world quiet to from back) w link) tells
-      reads_as_reply 0 (pair (place_of_way p w now_world quiet to from back) w link).asker (link_frame_view first) rest
-      tells_no_reply
-      (subst (λ b. IsOrdered (link_setting (place_of_way p w now_world quiet to from back) w link) tells reads_as_reply 0
-      (pair (place_of_way p w now_world quiet to from back) w link).asker b) comes (x.order few)) tells_now in
-      capable_is_on p w now_world (place_of_way p w now_world quiet to from back) link u i asks_there s q there port
-      capable
+      capable_is_on p w now_world at link u i asks_there s q there port
+      (heard_now p start at w now_world x few (link_frame_view first) rest comes tells_now)
 
 -- time that passes leaves each port as it is
-early_later : (p : SettlingParams) (start m time : ℕ) (w : WorldState) → IsNews p start w → AreOrdered 0 w
+early_later : (p : SettlingParams) (start m time : ℕ) (w : WorldState) → IsNews p start w → AreHeard p start w
     → HaveQuietLinks p.params w → DelaysVaryLittle w
     → EarlyPortsHear says_announce (start_network p m start w) (view w) (view (at_time time w))
-early_later p start m time w news ordered quiet little = record {
+early_later p start m time w news heard quiet little = record {
   hears = λ d from u i joins claims early l f fs a s q on_lane frames due said there port.
-      hears p start m w news ordered quiet little from u i joins l f fs a s q on_lane frames said there port;
+      hears p start m w news heard quiet little from u i joins l f fs a s q on_lane frames said there port;
   stays = λ d from u i joins claims early s s' q q' there port there' port' on.
       let station : s ≡ s' = same_there (view w).stations (clock_place w.stations u) s s' there there' in
       let same : q ≡ q' =
@@ -519,55 +498,58 @@ early_later p start m time w news ordered quiet little = record {
 
 module _ (p : SettlingParams) (start m : ℕ) (act : Act) (w : WorldState) (draws : List Draw) (done : Done)
     (w' : WorldState) (none : IsNoChange act) (acts : Acts act w draws done w') (news : IsNews p start w)
-    (news' : IsNews p start w') (ordered : AreOrdered 0 w) (quiet : HaveQuietLinks p.params w)
+    (news' : IsNews p start w') (heard : AreHeard p start w) (quiet : HaveQuietLinks p.params w)
     (little : DelaysVaryLittle w) where
   keeps : KeepsNetwork w w'
   keeps = acts_keep act w draws done w' none acts
 
-  stays_on : (from : PortIdentity) (u i : ℕ) → Joins (snapshot_of w) from (port_of u (suc i))
+  stays_then : (from : PortIdentity) (u i : ℕ) → Joins (snapshot_of w) from (port_of u (suc i))
       → (s s' : SeenStation) (q q' : SeenPort) → slice_get (view w).stations (clock_place w.stations u) ≡ Some s
       → slice_get s.ports i ≡ Some q
       → slice_get (view w').stations (clock_place w.stations u) ≡ Some s' → slice_get s'.ports i ≡ Some q'
       → q.held ≢ Disabled → q'.held ≢ Disabled
   unfolding way_back
-  stays_on from u i joins s s' q q' there port there' port' on =
+  stays_then from u i joins s s' q q' there port there' port' on =
       let to = port_of u (suc i) in
       let way = way_of w from to joins in
       let back = way_back w from to way in
       let at = place_of_way p w news.world quiet to from back in
-      let x = (ordered at (way_stands p w news.world quiet to from back (Joins-sym (snapshot_of w) from to joins))).timely
-      in
-      let same_channel : x.link.channel ≡ way.channel =
-      same_there w.net.channels way.link x.link.channel way.channel x.link.here way.here in
-      let asks_there = asks_back w from to way x.link.channel same_channel in
-      let seen_link = link_seen p 0 act w draws done w' none acts news.world news'.world at x.link in
-      let asks_then : port_identity_number (sender back.direction seen_link.after.channel) ≡ to =
-      ap (λ (k : Setting). k.asking) seen_link.settled ∙ asks_there in
-      capable_is_on p w' news'.world at seen_link.after u i asks_then s' q'
+      let x = heard at (way_stands p w news.world quiet to from back (Joins-sym (snapshot_of w) from to joins)) in
+      let link = heard_link p start at w x in
+      let same_channel : link.channel ≡ way.channel =
+      same_there w.net.channels way.link link.channel way.channel link.here way.here in
+      let asks_there = asks_back w from to way link.channel same_channel in
+      let seen_link = link_seen p 0 act w draws done w' none acts news.world news'.world at link in
+      let then = heard_acts p start act w draws done w' none acts news.world news'.world news.measured at x in
+      let after = heard_link p start at w' then.after in
+      let same_after : after.channel ≡ seen_link.after.channel =
+      same_there w'.net.channels way.link after.channel seen_link.after.channel after.here seen_link.after.here in
+      let asks_then : port_identity_number (sender back.direction after.channel) ≡ to =
+      subst (λ c. port_identity_number (sender back.direction c) ≡ to) (sym same_after)
+      (subst (λ (k : Setting). k.asking ≡ to) (sym seen_link.settled) asks_there) in
+      capable_is_on p w' news'.world at after u i asks_then s' q'
       (subst (λ k. slice_get (view w').stations k ≡ Some s') (sym (keeps.places u)) there') port'
-      (stays_capable at 0 w w' x seen_link
-      (on_is_capable p w news.world at x.link u i asks_there s q there port on))
+      (then.stays (on_is_capable p w news.world at link u i asks_there s q there port on))
 
   early_acts : EarlyPortsHear says_announce (start_network p m start w) (view w) (view w')
   early_acts = record {
     hears = λ d from u i joins claims early l f fs a s q on_lane frames due said there port.
-        hears p start m w news ordered quiet little from u i joins l f fs a s q on_lane frames said there port;
+        hears p start m w news heard quiet little from u i joins l f fs a s q on_lane frames said there port;
     stays = λ d from u i joins claims early s s' q q' there port there' port' on.
-        stays_on from u i joins s s' q q' there port there' port' on;
+        stays_then from u i joins s s' q q' there port there' port' on;
   }
 
 -- ---- the claim
 
--- A world since its start: all came in order, two exchanges are over by the start of claims, and each link is at its
+-- A world since news of which claims are made of all links always: what is told is heard, and each link is at its
 -- stage from time 0 on.
-pub record IsSinceStart (p : SettlingParams) (start : ℕ) (w : WorldState) : Type 0 where
+pub record IsClaimedAlways (p : SettlingParams) (start : ℕ) (w : WorldState) : Type 0 where
   pub news : IsNews p start w
-  pub ordered : AreOrdered 0 w
-  pub over : ExchangesAreOver p start w
+  pub heard : AreHeard p start w
   pub settling : (m : ℕ) → BoundsPaths (snapshot_of w) m → HaveQuietLinks p.params w → NothingLapses p.params
       → DelaysVaryLittle w → Invariant says_announce (start_network p m start w) (view w)
 
-little_back : (w w' : WorldState) → KeepsNetwork w w' → DelaysVaryLittle w' → DelaysVaryLittle w
+pub little_back : (w w' : WorldState) → KeepsNetwork w w' → DelaysVaryLittle w' → DelaysVaryLittle w
 little_back w w' k little link channel here used =
     let (old, stands, same) = alike bare bare w'.net.channels w.net.channels k.links link channel here in
     let uses : channel_is_used (live_stations w'.stations) old ≡ true =
@@ -576,23 +558,23 @@ little_back w w' k little link channel here used =
     subst (λ (b : Bounds). b.max < 2 * b.min) (ap (λ (c : Channel). c.bounds) same) (little link old stands uses)
 
 -- a step of the machine keeps the stages
-step_settles : (p : SettlingParams) (start m : ℕ) (w w' : WorldState) → IsSinceStart p start w → IsNews p start w'
-    → AreOrdered 0 w' → ExchangesAreOver p start w' → KeepsNetwork w w'
+step_settles : (p : SettlingParams) (start m : ℕ) (w w' : WorldState) → IsClaimedAlways p start w → IsNews p start w'
+    → AreHeard p start w' → KeepsNetwork w w'
     → MachineSteps says_announce (view w) (view w')
     → (HaveQuietLinks p.params w → DelaysVaryLittle w
     → EarlyPortsHear says_announce (start_network p m start w) (view w) (view w'))
     → BoundsPaths (snapshot_of w') m → HaveQuietLinks p.params w' → NothingLapses p.params → DelaysVaryLittle w'
     → Invariant says_announce (start_network p m start w') (view w')
-step_settles p start m w w' is news' ordered' over' keeps step early bounded' quiet' off little' =
+step_settles p start m w w' is news' heard' keeps step early bounded' quiet' off little' =
     let n = start_network p m start w in
     let same = same_start p m start w w' keeps in
     let bounded : BoundsPaths (snapshot_of w) m = subst (λ (x : Network). BoundsPaths x.graph m) same bounded' in
     let quiet = links_quiet w' w (kept_back w w' keeps) p.params quiet' in
     let little = little_back w w' keeps little' in
     let net = start_net p m start w is.news.world bounded in
-    let before = start_calm p start w is.news is.ordered is.over quiet m in
+    let before = start_calm p start w is.news is.heard quiet m in
     let after : Calm n (view w') =
-    subst (λ x. Calm x (view w')) same (start_calm p start w' news' ordered' over' quiet' m) in
+    subst (λ x. Calm x (view w')) same (start_calm p start w' news' heard' quiet' m) in
     let all = subst (λ (x : Network). IsSoundOnLinks says_announce x.graph (view w')) same
     (on_links says_announce (snapshot_of w') (view w') news'.sound) in
     subst (λ x. Invariant says_announce x (view w')) (sym same)
@@ -600,45 +582,63 @@ step_settles p start m w w' is news' ordered' over' keeps step early bounded' qu
     (nothing_lapses p n w is.news.world.known off) (early quiet little) step
     (λ late. received_fits says_announce n.graph (view w') net.graph all) (is.settling m bounded quiet off little))
 
-over_kept : (p : SettlingParams) (start : ℕ) (w w' : WorldState) → KeepsNetwork w w' → ExchangesAreOver p start w
-    → ExchangesAreOver p start w'
-over_kept p start w w' keeps over = let same = delay_kept w w' keeps in omega (arith, over, same)
-
 pub since_later : (p : SettlingParams) (start time : ℕ) (w : WorldState) → w.time ≤ time
-    → NothingBefore time w.net.pending → IsSinceStart p start w → IsSinceStart p start (at_time time w)
+    → NothingBefore time w.net.pending → IsClaimedAlways p start w → IsClaimedAlways p start (at_time time w)
 since_later p start time w later first is =
     let news' = news_go_on p start time w later first is.news in
-    let ordered' = ordered_later 0 time w p is.news.world later first is.ordered in
+    let heard' : AreHeard p start (at_time time w) =
+    λ at stands. heard_later p start at time w is.news.world later first (is.heard at (stands_before stands)) in
     let keeps = later_keeps time w in
     record {
       news = news';
-      ordered = ordered';
-      over = is.over;
+      heard = heard';
       settling = λ m bounded quiet off little.
-          step_settles p start m w (at_time time w) is news' ordered' is.over keeps
+          step_settles p start m w (at_time time w) is news' heard' keeps
           (inl (record { time = time; later = later; is = refl }))
-          (λ quiet_then little_then. early_later p start m time w is.news is.ordered quiet_then little_then) bounded
-          quiet off
-          little;
+          (λ quiet_then little_then. early_later p start m time w is.news is.heard quiet_then little_then) bounded
+          quiet off little;
+    }
+  where
+    stands_before : {at : LinkPlace} → LinkStandsAt at (at_time time w) → LinkStandsAt at w
+    stands_before stands = record {
+      channel = stands.channel;
+      here = stands.here;
+      up = stands.up;
+      lossless = stands.lossless;
+      asking = record {
+        station = stands.asking.station;
+        here = stands.asking.here;
+        live = stands.asking.live;
+        named = stands.asking.named;
+      };
+      answering = record {
+        station = stands.answering.station;
+        here = stands.answering.here;
+        live = stands.answering.live;
+        named = stands.answering.named;
+      };
+      apart = stands.apart;
+      good = stands.good;
     }
 
 pub since_acts : (p : SettlingParams) (start : ℕ) (act : Act) (w : WorldState) (draws : List Draw) (done : Done)
-    (w' : WorldState) → IsNoChange act → SetsAnOctet act → Acts act w draws done w' → IsSinceStart p start w
-    → IsSinceStart p start w'
+    (w' : WorldState) → IsNoChange act → SetsAnOctet act → Acts act w draws done w' → IsClaimedAlways p start w
+    → IsClaimedAlways p start w'
 since_acts p start act w draws done w' none octet acts is =
     let news' = news_are_kept p start act w draws done w' none octet acts is.news in
     let world = is.news.world in
-    let ordered' = ordered_acts p 0 act w draws done w' none acts world news'.world is.ordered in
     let keeps' = acts_keep act w draws done w' none acts in
-    let over' = over_kept p start w w' keeps' is.over in
+    let heard' : AreHeard p start w' =
+    λ at stands.
+    (heard_acts p start act w draws done w' none acts world news'.world is.news.measured at
+    (is.heard at (stood p w w' world news'.world keeps' at stands))).after in
     record {
       news = news';
-      ordered = ordered';
-      over = over';
+      heard = heard';
       settling = λ m bounded quiet off little.
-          step_settles p start m w w' is news' ordered' over' keeps'
+          step_settles p start m w w' is news' heard' keeps'
           (inr (acts_seen act w draws done w' none world.sound world.encodable acts))
           (λ quiet_then little_then.
-          early_acts p start m act w draws done w' none acts is.news news' is.ordered quiet_then little_then) bounded
+          early_acts p start m act w draws done w' none acts is.news news' is.heard quiet_then little_then) bounded
           quiet off little;
     }
