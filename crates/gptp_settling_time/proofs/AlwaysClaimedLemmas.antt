@@ -392,11 +392,14 @@ module _ (p : SettlingParams) (start : ℕ) (w : WorldState) (news : IsNews p st
         linked = old.linked;
       }
 
+  pub seen_calm : (m : ℕ) → Calm (news_network p m start w) (view w)
+  seen_calm m =
+      calm p m start (at_news p w) w is.sound is.encodable is.known quiet (news_facts m)
+      (are_capable p start w news heard quiet)
+
   pub start_calm : (m : ℕ) → Calm (start_network p m start w) (view w)
   start_calm m =
-      let c : Calm (news_network p m start w) (view w) =
-      calm p m start (at_news p w) w is.sound is.encodable is.known quiet (news_facts m)
-      (are_capable p start w news heard quiet) in
+      let c : Calm (news_network p m start w) (view w) = seen_calm m in
       record {
         facts = start_facts m;
         stations = λ i s there lives.

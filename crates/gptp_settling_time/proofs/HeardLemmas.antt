@@ -25,11 +25,13 @@ use Rattle.gptp_pdelay_machine.proofs.FirstLemmas.{exchange_full}
 use Rattle.gptp_invariants.specs.ChoiceSeenLaws.{IsNoChange}
 use Rattle.gptp_invariants.specs.ChoiceSettlesAsMachine.{IsWorld}
 use Rattle.gptp_invariants.specs.DelayElsewhereLaws.{LeavesAlone}
+use Rattle.gptp_invariants.specs.DelayFirstAt.{IsFirstBy}
 use Rattle.gptp_invariants.specs.DelayLinkActs.{IsOneAct}
 use Rattle.gptp_invariants.specs.DelayLinkView.{IsLinkOf, LinkPlace, least_delay, link_setting, meter, pair, reads_as_reply, reads_as_request}
 use Rattle.gptp_invariants.specs.DelayMeasured.{LinkIsMeasured}
 use Rattle.gptp_invariants.specs.DelayWatched.{IsWatched}
 use Rattle.gptp_invariants.proofs.DelayElsewhereLemmas.{goes_through, watch_goes_through, watched_stay_capable}
+use Rattle.gptp_invariants.proofs.DelayFirstAtLemmas.{by_goes_on, by_goes_through, first_full}
 use Rattle.gptp_invariants.proofs.DelayWatchLemmas.{watch_goes_on}
 use Rattle.gptp_invariants.proofs.SyncFollowClaimLemmas.{acts_time}
 use Rattle.gptp_settling_time.proofs.OrderedLemmas.{IsOrderedAt, IsTimelyAt, VariesLittle, link_seen, opposite, order_acted, sent_late, stays_capable, tells, tells_no_reply, timely_acted, timely_later}
@@ -54,16 +56,24 @@ pub record IsWatchedLong (p : SettlingParams) (gone calm : ℕ) (at : LinkPlace)
   pub watched : IsWatched gone calm at w
   pub late : calm + 3 * interval_of p.params.pdelay ≤ w.time
 
+-- or its first request was sent for long enough
+pub record IsFirstLong (first by : ℕ) (at : LinkPlace) (w : WorldState) : Type 0 where
+  pub is : IsFirstBy first by at w
+  pub late : by ≤ w.time
+
 abbrev pub StaysCapableAt : SettlingParams → LinkPlace → WorldState → Type 0
 StaysCapableAt p at w =
-    ((first : ℕ) × IsCapableSince first at w) ⊎ ((gone : ℕ) × (calm : ℕ) × IsWatchedLong p gone calm at w)
+    ((first : ℕ) × IsCapableSince first at w)
+    ⊎ (((gone : ℕ) × (calm : ℕ) × IsWatchedLong p gone calm at w)
+    ⊎ ((first : ℕ) × (by : ℕ) × IsFirstLong first by at w))
 
 abbrev pub IsHeardAt : SettlingParams → ℕ → LinkPlace → WorldState → Type 0
 IsHeardAt p start at w = ((first : ℕ) × IsToldAt first start at w) ⊎ StaysCapableAt p at w
 
 abbrev pub stays_link : (p : SettlingParams) (at : LinkPlace) (w : WorldState) → StaysCapableAt p at w → IsLinkOf at w
 stays_link p at w (inl (first, x)) = x.timely.link
-stays_link p at w (inr (gone, calm, x)) = x.watched.link
+stays_link p at w (inr (inl (gone, calm, x))) = x.watched.link
+stays_link p at w (inr (inr (first, by, x))) = x.is.0.link
 
 abbrev pub heard_link : (p : SettlingParams) (start : ℕ) (at : LinkPlace) (w : WorldState) → IsHeardAt p start at w
     → IsLinkOf at w
@@ -87,10 +97,15 @@ watched_on p gone calm at w is x =
     let late = x.late in
     (watched_stay_capable at gone calm w x.watched (omega (arith, late, period))).0
 
+first_on : (first by : ℕ) (at : LinkPlace) (w : WorldState) → (x : IsFirstLong first by at w) → IsOn at w x.is.0.link
+first_on first by at w x =
+    let soon = x.is.1 in let late = x.late in (first_full at first w x.is.0 (omega (arith, soon, late))).0
+
 pub stays_on : (p : SettlingParams) (at : LinkPlace) (w : WorldState) → IsWorld p w → (x : StaysCapableAt p at w)
     → IsOn at w (stays_link p at w x)
 stays_on p at w is (inl (first, x)) = x.capable
-stays_on p at w is (inr (gone, calm, x)) = watched_on p gone calm at w is x
+stays_on p at w is (inr (inl (gone, calm, x))) = watched_on p gone calm at w is x
+stays_on p at w is (inr (inr (first, by, x))) = first_on first by at w x
 
 -- from the start on it is capable
 pub heard_on : (p : SettlingParams) (start : ℕ) (at : LinkPlace) (w : WorldState) → IsWorld p w
@@ -122,7 +137,16 @@ pub heard_due : (p : SettlingParams) (start : ℕ) (at : LinkPlace) (w : WorldSt
     → f.due ≤ w.time + (heard_link p start at w x).channel.bounds.max
 heard_due p start at w (inl (first, x)) f member = timely_due first at w x.one.timely f member
 heard_due p start at w (inr (inl (first, x))) f member = timely_due first at w x.timely f member
-heard_due p start at w (inr (inr (gone, calm, x))) f member =
+heard_due p start at w (inr (inr (inr (first, by, x)))) f member =
+    let latest = (x.is.0.facts.out f member).latest in
+    let asked = x.is.0.facts.asked in
+    let since : first ≤ (pair at w x.is.0.link).asker.asked = elim x.is.0.inv.since [
+      | inl one ↦ omega (arith, one)
+      | inr (inl two) ↦ omega (arith, two)
+      | inr (inr more) ↦ omega (arith, more)
+    ] in
+    omega (arith, latest, asked, since)
+heard_due p start at w (inr (inr (inl (gone, calm, x)))) f member =
     let latest = (x.watched.facts.out f member).latest in
     let good = x.watched.good.late in
     let late = x.late in
@@ -187,7 +211,7 @@ module _ (p : SettlingParams) (start : ℕ) (act : Act) (w : WorldState) (draws 
       }
 
   watched_then : (gone calm : ℕ) (x : IsWatchedLong p gone calm at w)
-      → HeardThen p start at w w' (inr (inr (gone, calm, x)))
+      → HeardThen p start at w w' (inr (inr (inl (gone, calm, x))))
   watched_then gone calm x =
       let same = acts_time act w draws done w' none acts in
       let late = x.late in
@@ -195,12 +219,24 @@ module _ (p : SettlingParams) (start : ℕ) (act : Act) (w : WorldState) (draws 
         watched = watch_goes_through at gone calm act w w' draws done is.sound measured (alone act none) acts x.watched;
         late = omega (arith, late, same);
       } in
-      record { after = inr (inr (gone, calm, then)); stays = λ was. watched_on p gone calm at w' is' then }
+      record { after = inr (inr (inl (gone, calm, then))); stays = λ was. watched_on p gone calm at w' is' then }
+
+  first_then : (first by : ℕ) (x : IsFirstLong first by at w)
+      → HeardThen p start at w w' (inr (inr (inr (first, by, x))))
+  first_then first by x =
+      let same = acts_time act w draws done w' none acts in
+      let late = x.late in
+      let then : IsFirstLong first by at w' = record {
+        is = by_goes_through at first by act w w' draws done is.sound measured (alone act none) acts x.is;
+        late = omega (arith, late, same);
+      } in
+      record { after = inr (inr (inr (first, by, then))); stays = λ was. first_on first by at w' then }
 
   pub heard_acts : (x : IsHeardAt p start at w) → HeardThen p start at w w' x
   heard_acts (inl (first, x)) = told_then first x
   heard_acts (inr (inl (first, x))) = since_then first x
-  heard_acts (inr (inr (gone, calm, x))) = watched_then gone calm x
+  heard_acts (inr (inr (inl (gone, calm, x)))) = watched_then gone calm x
+  heard_acts (inr (inr (inr (first, by, x)))) = first_then first by x
 
 -- ---- time
 
@@ -224,16 +260,23 @@ heard_later p start at time w is later nothing (inr (inl (first, x))) =
       first,
       record { timely = timely_later first at time w is.sound later nothing x.timely; capable = x.capable },
     ))
-heard_later p start at time w is later nothing (inr (inr (gone, calm, x))) =
+heard_later p start at time w is later nothing (inr (inr (inl (gone, calm, x)))) =
     let late = x.late in
-    inr (inr (
+    inr (inr (inl (
       gone,
       calm,
       record {
         watched = watch_goes_on at gone calm time w is.sound later nothing x.watched;
         late = omega (arith, late, later);
       },
-    ))
+    )))
+heard_later p start at time w is later nothing (inr (inr (inr (first, by, x)))) =
+    let late = x.late in
+    inr (inr (inr (
+      first,
+      by,
+      record { is = by_goes_on at first by time w is.sound later nothing x.is; late = omega (arith, late, later) },
+    )))
 
 -- ---- a change elsewhere
 
@@ -287,9 +330,9 @@ heard_elsewhere p start next at change w draws done w' is measured alone acts sa
       goes_through at (IsCapableSince first at) (λ v h. h.timely.link) (since_acted at first) (since_like at first)
           change w w' draws done is.sound measured alone acts x,
     ))
-heard_elsewhere p start next at change w draws done w' is measured alone acts same (inr (inr (gone, calm, x))) on =
+heard_elsewhere p start next at change w draws done w' is measured alone acts same (inr (inr (inl (gone, calm, x)))) on =
     let late = x.late in
-    inr (inr (
+    inr (inr (inl (
       gone,
       calm,
       record {
@@ -297,4 +340,14 @@ heard_elsewhere p start next at change w draws done w' is measured alone acts sa
             x.watched;
         late = omega (arith, late, same);
       },
-    ))
+    )))
+heard_elsewhere p start next at change w draws done w' is measured alone acts same (inr (inr (inr (first, by, x)))) on =
+    let late = x.late in
+    inr (inr (inr (
+      first,
+      by,
+      record {
+        is = by_goes_through at first by (Changing change) w w' draws done is.sound measured alone acts x.is;
+        late = omega (arith, late, same);
+      },
+    )))

@@ -23,7 +23,6 @@ pub mod ClaimedToLemmas
 pub mod StartDocumentLemmas
 pub mod SameShownLemmas
 pub mod StepLemmas
-pub mod UnchangedLemmas
 pub mod GainStageLemmas
 pub mod QuietUpLemmas
 pub mod RaisedLemmas
@@ -31,4 +30,6 @@ pub mod HeardLemmas
 pub mod LinkUpLemmas
 pub mod RestClaimedLemmas
 pub mod StillClaimedLemmas
-pub mod LinksUpLemmas
+pub mod NewsClaimedLemmas
+pub mod InTurnLemmas
+pub mod UnchangedLemmas

@@ -71,11 +71,11 @@ module _ (p : SettlingParams) (w : WorldState) (claim : KeepsAll p w) (sound : I
 
   heard : AreHeard p start w
   heard at stands =
-      inr (inr (
+      inr (inr (inl (
         w.last_change + largest_interval p,
         w.last_change + 2 * largest_interval p,
         record { watched = claim.watched at stands; late = capable_by },
-      ))
+      )))
 
   -- ---- each link is at its last stage
 
@@ -148,8 +148,8 @@ module _ (p : SettlingParams) (w : WorldState) (claim : KeepsAll p w) (sound : I
   unfolding rest_claimed heard
   rest_on at stands =
       stays_on p at w claim.world
-      (inr (
+      (inr (inl (
         w.last_change + largest_interval p,
         w.last_change + 2 * largest_interval p,
         record { watched = claim.watched at stands; late = capable_by },
-      ))
+      )))

@@ -1,5 +1,5 @@
 -- A document before its first event is settled as soon as a network that starts is.
-use Rattle.std.proofs.Common.{ℕ, [], Option, ap, subst, arith, List}
+use Rattle.std.proofs.Common.{◌≤◌, ℕ, [], Option, ap, subst, arith, List}
 use Rattle.gptp_lists.specs.Members.{In}
 use Rattle.gptp_links.specs.declared.bounds.Bounds.{Bounds}
 use Rattle.gptp_scenario.specs.Network.{pace_of}
@@ -22,15 +22,14 @@ use Rattle.gptp_settling_time.proofs.StartLemmas.{begun_since}
 -- a document begins as such a world
 pub begun_claimed : {F : Type 0} (answers : Bounds → ℕ → F → Option ℕ → F → Type 0) (d : DocumentState)
     (playable : IsPlayable d) (fate fate_after : F) (w : WorldState) (k : Begun answers d.network fate fate_after w)
-    → IsClaimedTo d [] (exchanged_from (pace_of d.network) (sync_paths d.network []) 0) w
-begun_claimed answers d playable fate fate_after w k =
+    (start : ℕ) → exchanged_from (pace_of d.network) (sync_paths d.network []) 0 ≤ start → IsClaimedTo d [] start w
+begun_claimed answers d playable fate fate_after w k start late =
     let keeps = begun_keeps answers d playable fate fate_after w k in
     let delay = ap (λ (x : SyncPaths). x.delay)
     (paths_stand d.network [] w playable.network keeps.stands keeps.claim.world.sound) in
     record {
       keeps = keeps;
-      since = begun_since answers d.network fate fate_after w playable.network k
-          (exchanged_from (pace_of d.network) (sync_paths d.network []) 0) (omega (arith, delay));
+      since = begun_since answers d.network fate fate_after w playable.network k start (omega (arith, delay, late));
     }
 
 -- each act of its run is done in such worlds
@@ -44,7 +43,7 @@ starts_passed answers d until fate first w ts playable k is t member =
     let course = subst (λ es. Courses answers until es ts k.started k.drawn first w) is.none k.courses in
     let passed = passes_to answers (IsClaimedTo d [] start) (claimed_later d [] start)
     (λ t one drawn v next was so. claimed_act d [] start answers t one drawn v next was so) until ts k.started k.drawn first w
-    course (begun_claimed answers d playable fate k.started first k.begun) in
+    course (begun_claimed answers d playable fate k.started first k.begun start (omega arith)) in
     passed.each t member
 
 pub documents_start_at_once : {F : Type 0} (answers : Bounds → ℕ → F → Option ℕ → F → Type 0)

@@ -40,8 +40,17 @@ module _ (p : SettlingParams) (start : ℕ) (w : WorldState) (claimed : IsClaime
   )
   heard_still at (inr (inl (first, x))) =
       inr (inl (first, record { timely = timely_still first at x.timely; capable = x.capable }))
-  heard_still at (inr (inr (gone, calm, x))) =
-      inr (inr (
+  heard_still at (inr (inr (inr (first, by, x)))) =
+      inr (inr (inr (
+        first,
+        by,
+        record {
+          is = (record { link = x.is.0.link; short = x.is.0.short; facts = x.is.0.facts; inv = x.is.0.inv }, x.is.1);
+          late = x.late;
+        },
+      )))
+  heard_still at (inr (inr (inl (gone, calm, x)))) =
+      inr (inr (inl (
         gone,
         calm,
         record {
@@ -53,7 +62,7 @@ module _ (p : SettlingParams) (start : ℕ) (w : WorldState) (claimed : IsClaime
           };
           late = x.late;
         },
-      ))
+      )))
 
   pub claimed_still : IsWorld p changed → LinkIsMeasured changed → IsClaimedAlways p start changed
   claimed_still world measured = record {

@@ -4,5 +4,5 @@ pub mod Documents
 pub mod Idle
 pub mod HowSoon
 pub mod Starts
+pub mod InTurn
 pub mod Unchanged
-pub mod LinksUp

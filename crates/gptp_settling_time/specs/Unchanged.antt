@@ -1,14 +1,11 @@
 -- Once a document has settled, no act leaves a system another: neither as to whether it lives, its root, its steps and
 -- its Slave port, nor as to role and capability of a port.
-use Rattle.std.specs.Prelude.{◌≡◌, ◌<◌, ◌≤◌, ◌⊎◌, ◌+◌, ℕ, List, Option}
+use Rattle.std.specs.Prelude.{◌≡◌, ◌<◌, ℕ, List, Option}
 use Rattle.gptp_lists.specs.Members.{In}
 use Rattle.gptp_graph.specs.Distance.{IsNear}
 use Rattle.gptp_graph.specs.Snapshot.{Snapshot, clocks}
 use Rattle.gptp_links.specs.declared.bounds.Bounds.{Bounds}
-use Rattle.gptp_scenario.specs.Calm.{IsCalm, last_change}
-use Rattle.gptp_scenario.specs.Network.{pace_of}
-use Rattle.gptp_scenario.specs.SettlingTime.{settling_span_with}
-use Rattle.gptp_scenario.specs.SyncWait.{sync_paths}
+use Rattle.gptp_scenario.specs.Calm.{last_change}
 use Rattle.gptp_system.specs.Start.{role_at}
 use Rattle.gptp_system.specs.State.{SystemState, is_capable_at}
 use Rattle.gptp_system.specs.Steps.{HasPortNumber}
@@ -18,10 +15,8 @@ use Rattle.gptp_network.specs.Document.{DocumentState}
 use Rattle.gptp_network.specs.Snapshot.{events_by}
 use Rattle.gptp_report.specs.Transitions.{ActTrace, Unfolds}
 use Rattle.gptp_invariants.specs.WorldStanding.{snapshot_of}
-use Rattle.gptp_theorem.specs.HeadlineLaws.{IsAtRestAtOnce}
 use Rattle.gptp_theorem.specs.PlayedLaws.{IsPlayable}
-use Rattle.gptp_settling_time.specs.Documents.{SettlesSoon}
-use Rattle.gptp_settling_time.specs.Starts.{StartsBy}
+use Rattle.gptp_settling_time.specs.InTurn.{SettlesInTurn}
 
 -- two states of a system show the same choice: root, steps and Slave port
 pub record ShowsSameChoice (s s' : SystemState) : Type 0 where
@@ -53,27 +48,12 @@ pub record LeavesShown (w w' : WorldState) : Type 0 where
 abbrev pub AllAreNear : Snapshot → Type 0
 AllAreNear g = (number : ℕ) → In number (clocks g) → IsNear g number
 
--- the span of as many systems as a path has is over since the events up to a time, and the network is calm after them
-pub record HasPassedByPaths (d : DocumentState) (until : ℕ) : Type 0 where
-  pub calm : IsCalm d.network (events_by until d.events)
-  pub passed : last_change (events_by until d.events)
-      + settling_span_with (pace_of d.network) (sync_paths d.network (events_by until d.events))
-      (sync_paths d.network (events_by until d.events)).systems
-      ≤ until
-
--- A document has settled by a time, counted from its events up to then: it has only gained since it began or had
--- rested; or no event has come yet, and delays vary little; or the span from any past is over.
-abbrev pub HasSettledAt : DocumentState → ℕ → Type 0
-HasSettledAt d until =
-    ((start : ℕ) × SettlesSoon d until start until)
-    ⊎ (StartsBy d until until ⊎ (IsAtRestAtOnce d until ⊎ HasPassedByPaths d until))
-
 -- No act of a run leaves a system another by whose time the document has settled, and which is later than the events
 -- up to then, where every live system is near.
 abbrev pub ActsLeaveShown : {F : Type 0} → (Bounds → ℕ → F → Option ℕ → F → Type 0) → Type 0
 ActsLeaveShown {F} answers = (d : DocumentState) (until : ℕ) (fate : F) (first w : WorldState) (ts : List ActTrace)
     (t : ActTrace)
-    → IsPlayable d → Unfolds answers d until fate first ts w → In t ts → HasSettledAt d t.told.timed.at
+    → IsPlayable d → Unfolds answers d until fate first ts w → In t ts → SettlesInTurn d t.told.timed.at t.told.timed.at
     → last_change (events_by t.told.timed.at d.events) < t.told.timed.at
     → AllAreNear (snapshot_of t.after)
     → LeavesShown t.before t.after

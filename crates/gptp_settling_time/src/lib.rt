@@ -15,13 +15,13 @@
 mod documents;
 mod exactly;
 mod idle;
-mod links_up;
+mod in_turn;
 mod starts;
 mod unchanged;
 
 pub use documents::{documents_settle_soon, runs_are_exact_soon, runs_begin_so};
 pub use exactly::news_are_exact;
 pub use idle::idle_changes_leave_settled;
-pub use links_up::links_up_settle_at_once;
+pub use in_turn::documents_settle_in_turn;
 pub use starts::starts_settle_at_once;
 pub use unchanged::acts_leave_shown;
