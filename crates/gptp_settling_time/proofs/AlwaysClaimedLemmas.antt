@@ -82,16 +82,16 @@ use Rattle.gptp_settling_time.proofs.NewsMeasuredLemmas.{LivesSomewhere, receive
 
 module _ (p : SettlingParams) (w : WorldState) (is : IsWorld p w) (quiet : HaveQuietLinks p.params w)
     (from to : PortIdentity) (way : IsWay w from to) where
-  asks : LivesSomewhere (sender way.direction way.channel).clock w
+  pub asks : LivesSomewhere (sender way.direction way.channel).clock w
   asks =
       subst (λ (q : PortId). LivesSomewhere q.clock w) (receiver_opposite way.direction way.channel)
       (receiver_lives w (other_direction way.direction) way.channel
       way.used)
 
-  answers : LivesSomewhere (receiver way.direction way.channel).clock w
+  pub answers : LivesSomewhere (receiver way.direction way.channel).clock w
   answers = receiver_lives w way.direction way.channel way.used
 
-  abbrev place_of_way : LinkPlace
+  abbrev pub place_of_way : LinkPlace
   place_of_way = record {
     link = way.link;
     direction = way.direction;
@@ -99,7 +99,7 @@ module _ (p : SettlingParams) (w : WorldState) (is : IsWorld p w) (quiet : HaveQ
     answering = answers.place;
   }
 
-  way_stands : Joins (snapshot_of w) from to → LinkStandsAt place_of_way w
+  pub way_stands : Joins (snapshot_of w) from to → LinkStandsAt place_of_way w
   way_stands joins =
       let links = quiet way.link way.channel way.here way.used in
       let one = asks.at in
@@ -125,7 +125,7 @@ module _ (p : SettlingParams) (w : WorldState) (is : IsWorld p w) (quiet : HaveQ
       }
 
 -- the way back
-way_back : (w : WorldState) (from to : PortIdentity) → IsWay w from to → IsWay w to from
+unfoldable pub way_back : (w : WorldState) (from to : PortIdentity) → IsWay w from to → IsWay w to from
 way_back w from to way = record {
   link = way.link;
   direction = other_direction way.direction;
@@ -137,7 +137,7 @@ way_back w from to way = record {
 }
 
 -- the port at its end asks
-asks_back : (w : WorldState) (from to : PortIdentity) (way : IsWay w from to) (channel : Channel)
+pub asks_back : (w : WorldState) (from to : PortIdentity) (way : IsWay w from to) (channel : Channel)
     → channel ≡ way.channel → port_identity_number (sender (other_direction way.direction) channel) ≡ to
 asks_back w from to way channel same =
     subst (λ c. port_identity_number (sender (other_direction way.direction) c) ≡ to) (sym same)
@@ -203,7 +203,7 @@ module _ (p : SettlingParams) (w : WorldState) (is : IsWorld p w) (at : LinkPlac
       ∙ not_off port.port port.held (is_capable port.port.peer) refl shown
       (λ off. on (held_is ∙ ap (held_view (span_at seen.station.system)) off))
 
-  capable_is_on : is_capable l.asking.state.peer ≡ true → q.held ≢ Disabled
+  pub capable_is_on : is_capable l.asking.state.peer ≡ true → q.held ≢ Disabled
   capable_is_on capable off =
       seen_on (span_at seen.station.system) port.held
       (shown.on (ap (λ (x : Port). is_capable x.peer) state_is ∙ capable)) (sym held_is ∙ off)

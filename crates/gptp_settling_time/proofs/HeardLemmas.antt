@@ -313,26 +313,26 @@ module _ (at : LinkPlace) (first : ℕ) where
         capable = ap (λ (m : Meter). m.pair.asker.capable) seen ∙ x.capable;
       }
 
--- a link whose port is capable is still such a one after a change that leaves it alone
-pub heard_elsewhere : (p : SettlingParams) (start next : ℕ) (at : LinkPlace) (change : Change) (w : WorldState)
+-- a link whose port is capable keeps it so through a change that leaves it alone
+pub stays_elsewhere : (p : SettlingParams) (start : ℕ) (at : LinkPlace) (change : Change) (w : WorldState)
     (draws : List Draw) (done : Done) (w' : WorldState) → IsWorld p w → LinkIsMeasured w
     → LeavesAlone at (Changing change) w → Acts (Changing change) w draws done w' → w'.time ≡ w.time
-    → (x : IsHeardAt p start at w) → IsOn at w (heard_link p start at w x) → IsHeardAt p next at w'
-heard_elsewhere p start next at change w draws done w' is measured alone acts same (inl (first, x)) on =
-    inr (inl (
+    → (x : IsHeardAt p start at w) → IsOn at w (heard_link p start at w x) → StaysCapableAt p at w'
+stays_elsewhere p start at change w draws done w' is measured alone acts same (inl (first, x)) on =
+    inl (
       first,
       goes_through at (IsCapableSince first at) (λ v h. h.timely.link) (since_acted at first) (since_like at first)
           change w w' draws done is.sound measured alone acts (record { timely = x.one.timely; capable = on }),
-    ))
-heard_elsewhere p start next at change w draws done w' is measured alone acts same (inr (inl (first, x))) on =
-    inr (inl (
+    )
+stays_elsewhere p start at change w draws done w' is measured alone acts same (inr (inl (first, x))) on =
+    inl (
       first,
       goes_through at (IsCapableSince first at) (λ v h. h.timely.link) (since_acted at first) (since_like at first)
           change w w' draws done is.sound measured alone acts x,
-    ))
-heard_elsewhere p start next at change w draws done w' is measured alone acts same (inr (inr (inl (gone, calm, x)))) on =
+    )
+stays_elsewhere p start at change w draws done w' is measured alone acts same (inr (inr (inl (gone, calm, x)))) on =
     let late = x.late in
-    inr (inr (inl (
+    inr (inl (
       gone,
       calm,
       record {
@@ -340,14 +340,22 @@ heard_elsewhere p start next at change w draws done w' is measured alone acts sa
             x.watched;
         late = omega (arith, late, same);
       },
-    )))
-heard_elsewhere p start next at change w draws done w' is measured alone acts same (inr (inr (inr (first, by, x)))) on =
+    ))
+stays_elsewhere p start at change w draws done w' is measured alone acts same (inr (inr (inr (first, by, x)))) on =
     let late = x.late in
-    inr (inr (inr (
+    inr (inr (
       first,
       by,
       record {
         is = by_goes_through at first by (Changing change) w w' draws done is.sound measured alone acts x.is;
         late = omega (arith, late, same);
       },
-    )))
+    ))
+
+-- so it is still such a one
+pub heard_elsewhere : (p : SettlingParams) (start next : ℕ) (at : LinkPlace) (change : Change) (w : WorldState)
+    (draws : List Draw) (done : Done) (w' : WorldState) → IsWorld p w → LinkIsMeasured w
+    → LeavesAlone at (Changing change) w → Acts (Changing change) w draws done w' → w'.time ≡ w.time
+    → (x : IsHeardAt p start at w) → IsOn at w (heard_link p start at w x) → IsHeardAt p next at w'
+heard_elsewhere p start next at change w draws done w' is measured alone acts same x on =
+    inr (stays_elsewhere p start at change w draws done w' is measured alone acts same x on)

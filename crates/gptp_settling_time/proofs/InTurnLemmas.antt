@@ -2,7 +2,10 @@
 use Rattle.std.proofs.Common.{◌≡◌, inl, inr, ◌<◌, ◌≤◌, ◌+◌, ◌*◌, ℕ, suc, pred, List, [], ◌∷◌, ◌++◌, Option, refl, sym, ap, subst, ◌∙◌, append_assoc, append-nil, arith}
 use Rattle.std.specs.List.{AllByRecursion}
 use Rattle.gptp_graph.specs.PathBound.{BoundsPaths, path_bound}
-use Rattle.gptp_graph.proofs.PathBoundLemmas.{paths_within}
+use Rattle.gptp_graph.proofs.ExistenceLemmas.{distance_exists}
+use Rattle.gptp_graph.proofs.PathBoundLemmas.{IsDistance-within, paths_within}
+use Rattle.gptp_bmca_machine.specs.SoundLaws.{AllAreNear}
+use Rattle.gptp_invariants.specs.WorldEncodableLaws.{SetsAnOctet}
 use Rattle.gptp_links.specs.declared.bounds.Bounds.{Bounds}
 use Rattle.gptp_setup.specs.Intervals.{interval_of}
 use Rattle.gptp_setup.specs.SettlingParams.{SettlingParams, largest_interval}
@@ -12,7 +15,7 @@ use Rattle.gptp_scenario.specs.SettlingAtOnce.{settling_span_at_once}
 use Rattle.gptp_scenario.specs.SettlingTime.{settling_span_with}
 use Rattle.gptp_scenario.specs.SyncWait.{sync_paths}
 use Rattle.gptp_scenario.specs.declared.change.Act.TheVariants.{Change as Changing}
-use Rattle.gptp_scenario.specs.declared.change.Change.TheVariants.{LinkUp}
+use Rattle.gptp_scenario.specs.declared.change.Change.TheVariants.{LinkUp, Priority1}
 use Rattle.gptp_scenario.specs.declared.change.Timed.{Timed}
 use Rattle.gptp_scenario.specs.declared.sync_wait.SyncPaths.{SyncPaths}
 use Rattle.gptp_model.specs.Acts.{Acts, at}
@@ -47,21 +50,23 @@ use Rattle.gptp_theorem.proofs.SnapshotLemmas.{snapshots_stand}
 use Rattle.gptp_theorem.proofs.SyncPathLemmas.{paths_stand}
 use Rattle.gptp_settling_time.specs.Exactly.{SettlesBy}
 use Rattle.gptp_settling_time.specs.Gains.{ChangesNothing, IsIdleAfter, LeavesCapable, TakesNothing}
-use Rattle.gptp_settling_time.specs.InTurn.{ActsFindSettledInTurn, AnyPast, BeginsBy, BringsUp, Gained, Heard, LeadOn, Leads, Past, SettlesAfter, SettlesInTurn}
+use Rattle.gptp_settling_time.specs.InTurn.{ActsFindSettledInTurn, AnyPast, BeginsBy, BettersClock, BringsUp, Gained, Heard, LeadOn, Leads, Past, SettlesAfter, SettlesInTurn}
 use Rattle.gptp_settling_time.proofs.AlwaysClaimedLemmas.{IsClaimedAlways, since_later}
 use Rattle.gptp_settling_time.proofs.BegunLemmas.{begun_keeps, begun_last, begun_news, rested_sound}
 use Rattle.gptp_settling_time.proofs.ClaimedToLemmas.{IsClaimedTo, claimed_act, claimed_later, claimed_settled}
 use Rattle.gptp_settling_time.proofs.DocumentLemmas.{run_to}
-use Rattle.gptp_settling_time.proofs.GainLemmas.{down_so, idle_so}
+use Rattle.gptp_settling_time.proofs.GainLemmas.{all_live, down_so, gain_so, idle_so}
 use Rattle.gptp_settling_time.proofs.HeardLemmas.{heard_on}
 use Rattle.gptp_settling_time.proofs.IdleLemmas.{idle_now, idle_same}
 use Rattle.gptp_settling_time.proofs.KeptToLemmas.{IsNewsTo, KeepsTo, keeps_act, keeps_later, news_act_to, news_later_to}
 use Rattle.gptp_settling_time.proofs.LaterLemmas.{AreSteps, steps_more}
 use Rattle.gptp_settling_time.proofs.LinkUpLemmas.{link_up_claimed}
 use Rattle.gptp_settling_time.proofs.MadeLemmas.{made_keeps, made_last, made_news, made_time, news_news, rest_news}
-use Rattle.gptp_settling_time.proofs.NewsClaimedLemmas.{news_claimed, news_on}
+use Rattle.gptp_settling_time.proofs.NewsClaimedLemmas.{news_claimed, news_on, news_settled}
 use Rattle.gptp_settling_time.proofs.PassLemmas.{passes_to}
-use Rattle.gptp_settling_time.proofs.RestClaimedLemmas.{AreOn, rest_claimed, rest_on}
+use Rattle.gptp_settling_time.proofs.RestClaimedLemmas.{AreOn, rest_claimed, rest_on, rest_settled}
+use Rattle.gptp_settling_time.proofs.SettledSeenLemmas.{HasSettledSeen, always_settled}
+use Rattle.gptp_settling_time.proofs.BetterClockLemmas.{better_claimed}
 use Rattle.gptp_settling_time.proofs.StartDocumentLemmas.{begun_claimed}
 use Rattle.gptp_settling_time.proofs.StillClaimedLemmas.{claimed_still}
 use Rattle.gptp_settling_time.proofs.TimedNewsLemmas.{CanSettle, has_settled}
@@ -151,6 +156,37 @@ module _ {F : Type 0} (answers : Bounds → ℕ → F → Option ℕ → F → T
           news_then;
     }
 
+  near_then : (sync_paths n made).systems ≤ 255 → AllAreNear (snapshot_of then)
+  near_then few v known =
+      let world = keeps_then.claim.world in
+      let wf = stands_well then world.sound world.between world.encodable in
+      let (far, there) = distance_exists (snapshot_of then) v wf known in
+      let less = IsDistance-within (snapshot_of then) (path_bound (snapshot_of then)) v far
+      (paths_within (snapshot_of then) wf) there in
+      let systems : (sync_paths n made).systems ≡ path_bound (snapshot_of then) =
+      ap (λ (x : SyncPaths). x.systems) paths_then in
+      (far, there, omega (arith, few, less, systems))
+
+  -- it sets a better priority1
+  module _ (start next : ℕ) (claim : IsClaimedAlways p start then) (on : AreOn p start then claim.heard)
+      (early : start ≤ suc event.at) (sound : IsSoundWorld w) (settled : HasSettledSeen p then)
+      (up : BettersClock n made event next) where
+    set_news : IsNews p next w'
+    set_news =
+        let later = up.later in
+        made_news answers d playable made event fate fate_after w w' done is fit k keeps sound
+        (subst (TakesNothing n made) (sym up.act) up.better) start next claim.news.ready claim.news.silent
+        (inr (omega (arith, early, later), subst (LeavesCapable n made event next) (sym up.act) (up.live, up.later)))
+
+    pub bettered : IsClaimedTo d more next w'
+    bettered = record {
+      keeps = after;
+      since = better_claimed p start next up.clock up.value then k.draws done w' claim on after.claim.world
+          (all_live n made then keeps_then.stands up.live) (subst SetsAnOctet up.act fit.octet)
+          (gain_so n made then keeps_then.stands keeps_then.claim.world.sound (Priority1 up.clock up.value) up.better)
+          (subst (λ act. Acts act then k.draws done w') up.act k.acts) up.later set_news (near_then up.few) settled;
+    }
+
   -- it changes nothing
   pub left_so : (start : ℕ) → IsClaimedAlways p start then → ChangesNothing n made event.act
       → IsClaimedTo d more start w'
@@ -179,20 +215,38 @@ module _ {F : Type 0} (answers : Bounds → ℕ → F → Option ℕ → F → T
         let late : w.last_change + settling_span_at_once p (sync_paths_of then) ≤ event.at =
         subst (λ paths. w.last_change + settling_span_at_once p paths ≤ event.at) paths_then (rw last passed) in
         let sound_then = sound_later w event.at sound in
-        brought_up (suc event.at) next (rest_claimed p then keeps_then.claim sound_then late)
-        (rest_on p then keeps_then.claim sound_then late) (omega arith) sound brings
+        let claim = rest_claimed p then keeps_then.claim sound_then late in
+        let on = rest_on p then keeps_then.claim sound_then late in
+        elim brings [
+          | inl up ↦ brought_up (suc event.at) next claim on (omega arith) sound up
+          | inr better ↦ bettered (suc event.at) next claim on (omega arith) sound
+              (rest_settled p then keeps_then.claim sound_then late) better
+        ]
     leads_to_heard (Gained start) next (settled, brings) so =
         let news = news_go_on p start event.at w k.ready.timely.now k.ready.timely.first so.news in
         let late : start + largest_interval p + pred (path_bound (snapshot_of then)) * delay_in then ≤ event.at =
         subst (λ (x : SyncPaths). start + largest_interval p + pred x.systems * x.delay ≤ event.at) paths_then settled in
-        brought_up (suc event.at) next (news_claimed p start then news late) (news_on p start then news late)
-        (omega arith) so.news.sound brings
+        let claim = news_claimed p start then news late in
+        let on = news_on p start then news late in
+        elim brings [
+          | inl up ↦ brought_up (suc event.at) next claim on (omega arith) so.news.sound up
+          | inr better ↦ bettered (suc event.at) next claim on (omega arith) so.news.sound
+              (news_settled p start then news late) better
+        ]
     leads_to_heard (Heard start) next (inl (late, brings)) so =
         let claim = since_later p start event.at w k.ready.timely.now k.ready.timely.first so.since in
         brought_up start next claim
         (λ at_link stands. heard_on p start at_link then claim.news.world (claim.heard at_link stands) late)
         (omega (arith, late)) so.since.news.sound brings
-    leads_to_heard (Heard start) next (inr (nothing, same)) so =
+    leads_to_heard (Heard start) next (inr (inl (settled, better))) so =
+        let claim = since_later p start event.at w k.ready.timely.now k.ready.timely.first so.since in
+        let late : start + pred (path_bound (snapshot_of then)) * delay_in then ≤ event.at =
+        subst (λ (x : SyncPaths). start + pred x.systems * x.delay ≤ event.at) paths_then settled in
+        bettered start next claim
+        (λ at_link stands.
+        heard_on p start at_link then claim.news.world (claim.heard at_link stands) (omega (arith, late)))
+        (omega (arith, late)) so.since.news.sound (always_settled p start then claim late) better
+    leads_to_heard (Heard start) next (inr (inr (nothing, same))) so =
         subst (λ time. IsClaimedTo d more time w') (sym same)
         (left_so start (since_later p start event.at w k.ready.timely.now k.ready.timely.first so.since) nothing)
 

@@ -33,3 +33,7 @@ pub mod StillClaimedLemmas
 pub mod NewsClaimedLemmas
 pub mod InTurnLemmas
 pub mod UnchangedLemmas
+pub mod ReactionStageLemmas
+pub mod ReactsLemmas
+pub mod SettledSeenLemmas
+pub mod BetterClockLemmas

@@ -30,6 +30,7 @@ use Rattle.gptp_invariants.proofs.WorldStandsLemmas.{stands_well}
 use Rattle.gptp_settling_time.proofs.AlwaysClaimedLemmas.{AreHeard, IsClaimedAlways, seen_calm, start_net, start_network}
 use Rattle.gptp_settling_time.proofs.HeardLemmas.{StaysCapableAt, stays_on}
 use Rattle.gptp_settling_time.proofs.RestClaimedLemmas.{AreOn}
+use Rattle.gptp_settling_time.proofs.SettledSeenLemmas.{HasSettledSeen}
 
 module _ (p : SettlingParams) (before : ℕ) (w : WorldState) (is : IsNews p before w)
     (late : before + largest_interval p + pred (path_bound (snapshot_of w)) * delay_in w ≤ w.time) where
@@ -145,3 +146,22 @@ module _ (p : SettlingParams) (before : ℕ) (w : WorldState) (is : IsNews p bef
   pub news_on : AreOn p start w news_claimed.heard
   unfolding news_claimed heard
   news_on at stands = stays_on p at w world (stays at stands)
+
+  -- it has settled
+  pub news_settled : HasSettledSeen p w
+  news_settled quiet off little = record {
+    n = news_network p m before w;
+    net = net quiet off;
+    calm = calm quiet off;
+    invariant = invariant quiet off;
+    late = omega (arith, late);
+    graph = refl;
+    same = record {
+      place = λ v. refl;
+      lane = λ q. refl;
+      log = λ q. refl;
+      interval = λ q. refl;
+      most = omega arith;
+    };
+    most = refl;
+  }

@@ -33,6 +33,7 @@ use Rattle.gptp_invariants.proofs.WorldClaimLemmas.{claim_capable}
 use Rattle.gptp_invariants.proofs.WorldNewsActLemmas.{unanswered_silent, watched_ready}
 use Rattle.gptp_invariants.proofs.WorldNewsLemmas.{news_begin}
 use Rattle.gptp_settling_time.proofs.AlwaysClaimedLemmas.{AreHeard, IsClaimedAlways, start_net, start_network}
+use Rattle.gptp_settling_time.proofs.SettledSeenLemmas.{HasSettledSeen}
 use Rattle.gptp_settling_time.proofs.HeardLemmas.{IsOn, heard_link, stays_on}
 
 -- the ports that ask at links are all capable
@@ -153,3 +154,22 @@ module _ (p : SettlingParams) (w : WorldState) (claim : KeepsAll p w) (sound : I
         w.last_change + 2 * largest_interval p,
         record { watched = claim.watched at stands; late = capable_by },
       )))
+
+  -- it has settled
+  pub rest_settled : HasSettledSeen p w
+  rest_settled quiet off little = record {
+    n = quick_network p m w;
+    net = net quiet off;
+    calm = calm quiet off;
+    invariant = invariant quiet off;
+    late = omega (arith, late);
+    graph = refl;
+    same = record {
+      place = λ v. refl;
+      lane = λ q. refl;
+      log = λ q. refl;
+      interval = λ q. refl;
+      most = omega arith;
+    };
+    most = refl;
+  }

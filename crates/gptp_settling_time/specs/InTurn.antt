@@ -3,9 +3,11 @@
 -- After some events of a document its network came from *any past*; or it has *gained* only, since it started or had
 -- rested, and its ports at links are capable from a start on; or the same is so and all that is told over its links is
 -- *heard*, so that no announce interval has to pass. An event leads from one to another (`Leads`). It may always lead to
--- any past. To a gain it leads where it takes nothing away. And it leads to what is heard where it brings up a link
--- between live systems that have settled, or whose ports are all capable where all was heard before; or it changes
--- nothing. Where delays vary little the first Announce over that link comes to a port that is capable already.
+-- any past. To a gain it leads where it takes nothing away. And it leads to what is heard where the network has settled
+-- and it brings up a link between live systems, or sets a better priority1. Where delays vary little the first Announce
+-- over that link comes to a port that is capable already, and a system that gets better tells so at once. Where all was
+-- heard before, links may also come up one after another, as soon as ports are capable; and what changes nothing asks
+-- for no time at all.
 use Rattle.std.specs.Prelude.{◌≡◌, ◌<◌, ◌≤◌, ◌⊎◌, ◌+◌, ◌*◌, ℕ, ⊤, pred, List, [], ◌∷◌, ◌++◌, Option}
 use Rattle.gptp_lists.specs.Members.{In}
 use Rattle.gptp_links.specs.declared.bounds.Bounds.{Bounds}
@@ -16,7 +18,7 @@ use Rattle.gptp_scenario.specs.SettlingAtOnce.{settling_span_at_once}
 use Rattle.gptp_scenario.specs.SettlingTime.{settling_span_with}
 use Rattle.gptp_scenario.specs.SyncWait.{sync_paths}
 use Rattle.gptp_scenario.specs.declared.change.Act.TheVariants.{Change as Changing}
-use Rattle.gptp_scenario.specs.declared.change.Change.TheVariants.{LinkUp}
+use Rattle.gptp_scenario.specs.declared.change.Change.TheVariants.{LinkUp, Priority1}
 use Rattle.gptp_scenario.specs.declared.change.Timed.{Timed}
 use Rattle.gptp_model.specs.World.{WorldState, port_id}
 use Rattle.gptp_network.specs.Document.{DocumentState}
@@ -25,7 +27,7 @@ use Rattle.gptp_report.specs.Transitions.{ActTrace, Unfolds}
 use Rattle.gptp_theorem.specs.PlayedLaws.{IsPlayable}
 use Rattle.gptp_settling_time.specs.Documents.{IsSettledAs}
 use Rattle.gptp_settling_time.specs.Exactly.{SettlesBy}
-use Rattle.gptp_settling_time.specs.Gains.{AreCapableAnyway, AreCapableNext, AreCapableStill, ChangesNothing, HasRested, IsDownAfter, JoinsLive, TakesNothing, exchanged_from}
+use Rattle.gptp_settling_time.specs.Gains.{AllLiveAfter, AreCapableAnyway, AreCapableNext, AreCapableStill, ChangesNothing, HasRested, IsDownAfter, IsNoWorse, JoinsLive, TakesNothing, exchanged_from}
 use Rattle.gptp_settling_time.specs.Starts.{LinksVaryLittle}
 
 -- what a network came from, and from when on its ports are capable
@@ -46,7 +48,18 @@ pub record BringsUp (n : NetworkState) (before : List Timed) (event : Timed) (ne
   pub live : JoinsLive n (before ++ event ∷ []) (port_id clock port)
   pub capable : exchanged_from (pace_of n) (sync_paths n (before ++ event ∷ [])) event.at ≤ next
 
--- the network has settled from any past by this time, or from such a start
+-- After these events this one sets a priority1 that makes its system's identity no worse, where all systems live and no
+-- path has more than 255 of them. The next time is later than that.
+pub record BettersClock (n : NetworkState) (before : List Timed) (event : Timed) (next : ℕ) : Type 0 where
+  pub clock : ℕ
+  pub value : ℕ
+  pub act : event.act ≡ Changing (Priority1 clock value)
+  pub better : IsNoWorse n before clock value
+  pub live : AllLiveAfter n before
+  pub few : (sync_paths n before).systems ≤ 255
+  pub later : event.at < next
+
+-- the network has settled from any past by this time, or from such a start, where something may not be heard or all is
 pub record HasSettledAnyhow (n : NetworkState) (events : List Timed) (time : ℕ) : Type 0 where
   pub calm : IsCalm n events
   pub passed : last_change events + settling_span_at_once (pace_of n) (sync_paths n events) ≤ time
@@ -54,6 +67,10 @@ pub record HasSettledAnyhow (n : NetworkState) (events : List Timed) (time : ℕ
 abbrev pub HasSettledSince : NetworkState → List Timed → ℕ → ℕ → Type 0
 HasSettledSince n events start time =
     start + largest_interval (pace_of n) + pred (sync_paths n events).systems * (sync_paths n events).delay ≤ time
+
+abbrev pub HasSettledHeard : NetworkState → List Timed → ℕ → ℕ → Type 0
+HasSettledHeard n events start time =
+    start + pred (sync_paths n events).systems * (sync_paths n events).delay ≤ time
 
 -- from rest ports are capable whatever came before; from a gain or a start they were so from another start on
 abbrev pub LeadsToGain : NetworkState → List Timed → Past → Timed → ℕ → Type 0
@@ -64,10 +81,14 @@ LeadsToGain n before (Gained start) event next = AreCapableStill n before start 
 LeadsToGain n before (Heard start) event next = AreCapableStill n before start event next
 
 abbrev pub LeadsToHeard : NetworkState → List Timed → Past → Timed → ℕ → Type 0
-LeadsToHeard n before AnyPast event next = HasSettledAnyhow n before event.at × BringsUp n before event next
-LeadsToHeard n before (Gained start) event next = HasSettledSince n before start event.at × BringsUp n before event next
+LeadsToHeard n before AnyPast event next =
+    HasSettledAnyhow n before event.at × (BringsUp n before event next ⊎ BettersClock n before event next)
+LeadsToHeard n before (Gained start) event next =
+    HasSettledSince n before start event.at × (BringsUp n before event next ⊎ BettersClock n before event next)
 LeadsToHeard n before (Heard start) event next =
-    ((start ≤ event.at) × BringsUp n before event next) ⊎ (ChangesNothing n before event.act × (next ≡ start))
+    ((start ≤ event.at) × BringsUp n before event next)
+    ⊎ ((HasSettledHeard n before start event.at × BettersClock n before event next)
+    ⊎ (ChangesNothing n before event.act × (next ≡ start)))
 
 abbrev pub Leads : NetworkState → List Timed → Past → Timed → Past → Type 0
 Leads n before past event AnyPast = ⊤
