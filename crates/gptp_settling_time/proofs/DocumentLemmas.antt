@@ -31,9 +31,7 @@ use Rattle.gptp_settling_time.specs.Exactly.{AreExactFrom, SettlesBy}
 use Rattle.gptp_settling_time.specs.Gains.{GainsFromRest, GainsFromStart}
 use Rattle.gptp_settling_time.proofs.SoonOffsetLemmas.{act_exact}
 use Rattle.gptp_settling_time.proofs.TimedNewsLemmas.{CanSettle, has_settled}
-use Rattle.gptp_settling_time.proofs.KeptToLemmas.{IsLastTo, KeepsTo, last_later_to}
-use Rattle.gptp_settling_time.specs.Unchanged.{AllAreNear, LeavesShown}
-use Rattle.gptp_settling_time.proofs.StepLemmas.{step_leaves}
+use Rattle.gptp_settling_time.proofs.KeptToLemmas.{IsLastTo, KeepsTo}
 use Rattle.gptp_settling_time.proofs.BegunLemmas.{begun_keeps, begun_last, begun_news}
 use Rattle.gptp_settling_time.proofs.CutLemmas.{acts_by, runs_begin_so}
 use Rattle.gptp_settling_time.proofs.FindsLemmas.{Finds, finds_gains, finds_rested}
@@ -112,13 +110,6 @@ module _ {F : Type 0} (answers : Bounds → ℕ → F → Option ℕ → F → T
       let step = found.each t member later in
       let time = step.time in
       settled_as t.after step.after (omega (arith, on, time))
-
-  pub act_leaves : (t : ActTrace) → In t ts → settled ≤ t.told.timed.at → last_change all < t.told.timed.at
-      → AllAreNear (snapshot_of t.after) → LeavesShown t.before t.after
-  act_leaves t member on later near =
-      step_leaves p answers (IsLastTo d m start settled all) settled (last_later_to d all m start settled)
-      (λ v so. so.keeps.claim.world) (λ v so late. (has_settled p m start settled v so.news (can_settle v so.keeps) late).0)
-      t (found.each t member later) on near
 
   pub act_is_exact : (t : ActTrace) → In t ts → until ≤ 10 ^ 18 → last_change all + largest_interval p ≤ settled
       → AreExactFrom p settled t.before t.told.timed.at t.after t.told.done
