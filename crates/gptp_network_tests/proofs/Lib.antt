@@ -3,3 +3,4 @@ mod ReadingLemmas
 mod HeardLemmas
 mod PairLemmas
 mod SoonLemmas
+pub mod BetterLemmas

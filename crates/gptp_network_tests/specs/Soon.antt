@@ -1,10 +1,13 @@
 -- The world of two systems soon after they began.
-use Rattle.std.specs.Prelude.{◌≤◌, ℕ, List, Option}
+use Rattle.std.specs.Prelude.{◌≤◌, ℕ, List, [], ◌∷◌, Option}
 use Rattle.gptp_model.specs.World.{WorldState}
 use Rattle.gptp_invariants.specs.ChoiceSettled.{Settled}
 use Rattle.gptp_links.specs.declared.bounds.Bounds.{Bounds}
 use Rattle.gptp_lists.specs.Members.{In}
 use Rattle.gptp_scenario.specs.Network.{IsNetwork}
+use Rattle.gptp_scenario.specs.declared.change.Act.TheVariants.{Change as Changing}
+use Rattle.gptp_scenario.specs.declared.change.Change.TheVariants.{Priority1}
+use Rattle.gptp_network.specs.Document.{DocumentState}
 use Rattle.gptp_theorem.specs.Headline.{IsSettled}
 use Rattle.gptp_report.specs.Transitions.{ActTrace, Unfolds}
 use Rattle.gptp_network_tests.specs.Pair.{IsPairAt, pair_document, pair_network}
@@ -20,4 +23,18 @@ abbrev pub RunsOfTwoSettleSoon : {F : Type 0} → (Bounds → ℕ → F → Opti
 RunsOfTwoSettleSoon {F} answers = (until : ℕ) (fate : F) (start w : WorldState) (ts : List ActTrace) (t : ActTrace)
     → IsNetwork pair_network → Unfolds answers pair_document until fate start ts w → In t ts
     → 1000002501 ≤ t.told.timed.at
+    → IsSettled t.after
+
+-- their document in which the second gets a better priority1 at 2 s, and with it the better identity
+abbrev pub better_document : DocumentState
+better_document = record {
+  network = pair_network;
+  events = record { at = 2000000000; act = Changing (Priority1 2 245) } ∷ [];
+}
+
+-- each act of a run of it leaves a settled world, from 2,000,000,501 ns on: 1 ns and the 500 ns of the link after that
+abbrev pub BetterClocksSettleSoon : {F : Type 0} → (Bounds → ℕ → F → Option ℕ → F → Type 0) → Type 0
+BetterClocksSettleSoon {F} answers = (until : ℕ) (fate : F) (start w : WorldState) (ts : List ActTrace) (t : ActTrace)
+    → IsNetwork pair_network → Unfolds answers better_document until fate start ts w → In t ts
+    → 2000000501 ≤ t.told.timed.at
     → IsSettled t.after

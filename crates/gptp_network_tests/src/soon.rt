@@ -3,11 +3,11 @@
 
 ghost use Rattle.std.specs.Prelude.{◌≡◌, IfOk, OnOk, Some};
 ghost use Rattle.gptp_network_tests.specs.Pair.{HasBegun, first_member};
-ghost use Rattle.gptp_network_tests.specs.Soon.{IsPairSoon, RunsOfTwoSettleSoon};
+ghost use Rattle.gptp_network_tests.specs.Soon.{BetterClocksSettleSoon, IsPairSoon, RunsOfTwoSettleSoon};
 
 use crate::drawn::begun;
 use gptp_links::Fate;
-use gptp_settling_time::starts_settle_at_once;
+use gptp_settling_time::{documents_settle_in_turn, starts_settle_at_once};
 use gptp_vector::{ClockId, Identity};
 use gptp_world::{NetworkFault, World};
 use std::alloc::Global;
@@ -57,4 +57,11 @@ pub fn runs_of_two_settle_soon<F: Fate>()
     ensures { RunsOfTwoSettleSoon F.answers }
 {
     starts_settle_at_once::<F>();
+}
+
+/// Where the second gets a better priority1 at 2 s, each act of a run leaves both settled from 501 ns later on.
+pub fn better_clocks_settle_soon<F: Fate>()
+    ensures { BetterClocksSettleSoon F.answers }
+{
+    documents_settle_in_turn::<F>();
 }
