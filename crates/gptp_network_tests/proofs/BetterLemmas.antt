@@ -53,7 +53,7 @@ links_rest (suc i) x early = absurd (omega (arith, early))
 calm : IsCalm pair_network events
 calm = record { links = links_rest; lapses = inl refl }
 
-few : LinksVaryLittle pair_network events
+few : LinksVaryLittle pair_network []
 few v (inl same) = subst (λ (x : LinkSpec). x.bounds.max < 2 * x.bounds.min) (sym same) (omega arith)
 few v (inr none) = absurd none
 
@@ -95,8 +95,11 @@ settles : (until : ℕ) → events_by until events ≡ events → SettlesInTurn 
 settles until same = record {
   calm = subst (IsCalm pair_network) (sym same) calm;
   first = Heard 1000002001;
-  begins = subst (λ (p : SettlingParams). exchanged_from p (sync_paths pair_network []) 0 ≤ 1000002001) (sym pace_is)
-      (subst (λ (x : SyncPaths). exchanged_from pair_pace x 0 ≤ 1000002001) (sym paths_are) (omega arith));
+  begins = (
+    few,
+    subst (λ (p : SettlingParams). exchanged_from p (sync_paths pair_network []) 0 ≤ 1000002001) (sym pace_is)
+        (subst (λ (x : SyncPaths). exchanged_from pair_pace x 0 ≤ 1000002001) (sym paths_are) (omega arith)),
+  );
   last = Heard 2000000001;
   lead = subst (λ es. LeadOn pair_network [] (Heard 1000002001) es (Heard 2000000001)) (sym same) (
     Heard 2000000001,
@@ -108,7 +111,6 @@ settles until same = record {
   );
   settles = subst (λ es. SettlesAfter pair_network es (Heard 2000000001) 2000000501) (sym same) (
     refl,
-    few,
     subst (λ (x : SyncPaths). 2000000001 + pred x.systems * x.delay ≤ 2000000501) (sym paths_then) (omega arith),
   );
 }

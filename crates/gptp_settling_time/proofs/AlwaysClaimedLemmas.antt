@@ -74,7 +74,7 @@ use Rattle.gptp_model.proofs.BareLemmas.{bare}
 use Rattle.gptp_setup.specs.SettlingParams.{largest_interval}
 use Rattle.gptp_settling_time.proofs.ExactlyLemmas.{later_keeps}
 use Rattle.gptp_settling_time.proofs.HeardLemmas.{IsHeardAt, heard_acts, heard_due, heard_later, heard_link, heard_now, heard_on}
-use Rattle.gptp_settling_time.proofs.OrderedLemmas.{VariesLittle, link_seen, receiver_opposite, tells}
+use Rattle.gptp_settling_time.proofs.OrderedLemmas.{link_seen, receiver_opposite, tells}
 use Rattle.gptp_invariants.proofs.DelayCapableKeptLemmas.{stood}
 use Rattle.gptp_settling_time.proofs.NewsMeasuredLemmas.{LivesSomewhere, receiver_lives}
 
@@ -445,7 +445,7 @@ turned_queue FromB c d same = ap (λ x. map link_frame_view (world_queue FromB x
 -- ---- early ports hear what comes, and stay on
 
 module _ (p : SettlingParams) (start m : ℕ) (w : WorldState) (news : IsNews p start w) (heard : AreHeard p start w)
-    (quiet : HaveQuietLinks p.params w) (little : DelaysVaryLittle w) where
+    (quiet : HaveQuietLinks p.params w) where
   abbrev now_world : IsWorld p w
   now_world = news.world
 
@@ -478,20 +478,18 @@ module _ (p : SettlingParams) (start m : ℕ) (w : WorldState) (news : IsNews p 
       let comes : (pair at w link).back ≡ link_frame_view first ∷ rest =
       subst (λ fs. fs ≡ link_frame_view first ∷ rest) (sym (turned_queue way.direction link.channel way.channel
       same_channel)) seen_back in
-      let few : VariesLittle link.channel =
-      subst VariesLittle (sym same_channel) (little way.link way.channel way.here way.used) in
       let tells_now : tells (link_frame_view first).octets =
       (a, subst (λ (o : List ℕ). says_announce o a) (ap (λ (g : SeenFrame). g.octets) (sym is_first)) said) in
       capable_is_on p w now_world at link u i asks_there s q there port
-      (heard_now p start at w now_world x few (link_frame_view first) rest comes tells_now)
+      (heard_now p start at w now_world x (link_frame_view first) rest comes tells_now)
 
 -- time that passes leaves each port as it is
 early_later : (p : SettlingParams) (start m time : ℕ) (w : WorldState) → IsNews p start w → AreHeard p start w
-    → HaveQuietLinks p.params w → DelaysVaryLittle w
+    → HaveQuietLinks p.params w
     → EarlyPortsHear says_announce (start_network p m start w) (view w) (view (at_time time w))
-early_later p start m time w news heard quiet little = record {
+early_later p start m time w news heard quiet = record {
   hears = λ d from u i joins claims early l f fs a s q on_lane frames due said there port.
-      hears p start m w news heard quiet little from u i joins l f fs a s q on_lane frames said there port;
+      hears p start m w news heard quiet from u i joins l f fs a s q on_lane frames said there port;
   stays = λ d from u i joins claims early s s' q q' there port there' port' on.
       let station : s ≡ s' = same_there (view w).stations (clock_place w.stations u) s s' there there' in
       let same : q ≡ q' =
@@ -501,8 +499,7 @@ early_later p start m time w news heard quiet little = record {
 
 module _ (p : SettlingParams) (start m : ℕ) (act : Act) (w : WorldState) (draws : List Draw) (done : Done)
     (w' : WorldState) (none : IsNoChange act) (acts : Acts act w draws done w') (news : IsNews p start w)
-    (news' : IsNews p start w') (heard : AreHeard p start w) (quiet : HaveQuietLinks p.params w)
-    (little : DelaysVaryLittle w) where
+    (news' : IsNews p start w') (heard : AreHeard p start w) (quiet : HaveQuietLinks p.params w) where
   keeps : KeepsNetwork w w'
   keeps = acts_keep act w draws done w' none acts
 
@@ -537,7 +534,7 @@ module _ (p : SettlingParams) (start m : ℕ) (act : Act) (w : WorldState) (draw
   early_acts : EarlyPortsHear says_announce (start_network p m start w) (view w) (view w')
   early_acts = record {
     hears = λ d from u i joins claims early l f fs a s q on_lane frames due said there port.
-        hears p start m w news heard quiet little from u i joins l f fs a s q on_lane frames said there port;
+        hears p start m w news heard quiet from u i joins l f fs a s q on_lane frames said there port;
     stays = λ d from u i joins claims early s s' q q' there port there' port' on.
         stays_then from u i joins s s' q q' there port there' port' on;
   }
@@ -550,7 +547,7 @@ pub record IsClaimedAlways (p : SettlingParams) (start : ℕ) (w : WorldState) :
   pub news : IsNews p start w
   pub heard : AreHeard p start w
   pub settling : (m : ℕ) → BoundsPaths (snapshot_of w) m → HaveQuietLinks p.params w → NothingLapses p.params
-      → DelaysVaryLittle w → Invariant says_announce (start_network p m start w) (view w)
+      → Invariant says_announce (start_network p m start w) (view w)
 
 pub little_back : (w w' : WorldState) → KeepsNetwork w w' → DelaysVaryLittle w' → DelaysVaryLittle w
 little_back w w' k little link channel here used =
@@ -564,16 +561,15 @@ little_back w w' k little link channel here used =
 step_settles : (p : SettlingParams) (start m : ℕ) (w w' : WorldState) → IsClaimedAlways p start w → IsNews p start w'
     → AreHeard p start w' → KeepsNetwork w w'
     → MachineSteps says_announce (view w) (view w')
-    → (HaveQuietLinks p.params w → DelaysVaryLittle w
+    → (HaveQuietLinks p.params w
     → EarlyPortsHear says_announce (start_network p m start w) (view w) (view w'))
-    → BoundsPaths (snapshot_of w') m → HaveQuietLinks p.params w' → NothingLapses p.params → DelaysVaryLittle w'
+    → BoundsPaths (snapshot_of w') m → HaveQuietLinks p.params w' → NothingLapses p.params
     → Invariant says_announce (start_network p m start w') (view w')
-step_settles p start m w w' is news' heard' keeps step early bounded' quiet' off little' =
+step_settles p start m w w' is news' heard' keeps step early bounded' quiet' off =
     let n = start_network p m start w in
     let same = same_start p m start w w' keeps in
     let bounded : BoundsPaths (snapshot_of w) m = subst (λ (x : Network). BoundsPaths x.graph m) same bounded' in
     let quiet = links_quiet w' w (kept_back w w' keeps) p.params quiet' in
-    let little = little_back w w' keeps little' in
     let net = start_net p m start w is.news.world bounded in
     let before = start_calm p start w is.news is.heard quiet m in
     let after : Calm n (view w') =
@@ -582,8 +578,8 @@ step_settles p start m w w' is news' heard' keeps step early bounded' quiet' off
     (on_links says_announce (snapshot_of w') (view w') news'.sound) in
     subst (λ x. Invariant says_announce x (view w')) (sym same)
     (invariant_kept says_announce n net (view w) (view w') before after
-    (nothing_lapses p n w is.news.world.known off) (early quiet little) step
-    (λ late. received_fits says_announce n.graph (view w') net.graph all) (is.settling m bounded quiet off little))
+    (nothing_lapses p n w is.news.world.known off) (early quiet) step
+    (λ late. received_fits says_announce n.graph (view w') net.graph all) (is.settling m bounded quiet off))
 
 pub since_later : (p : SettlingParams) (start time : ℕ) (w : WorldState) → w.time ≤ time
     → NothingBefore time w.net.pending → IsClaimedAlways p start w → IsClaimedAlways p start (at_time time w)
@@ -595,11 +591,11 @@ since_later p start time w later first is =
     record {
       news = news';
       heard = heard';
-      settling = λ m bounded quiet off little.
+      settling = λ m bounded quiet off.
           step_settles p start m w (at_time time w) is news' heard' keeps
           (inl (record { time = time; later = later; is = refl }))
-          (λ quiet_then little_then. early_later p start m time w is.news is.heard quiet_then little_then) bounded
-          quiet off little;
+          (λ quiet_then. early_later p start m time w is.news is.heard quiet_then) bounded
+          quiet off;
     }
   where
     stands_before : {at : LinkPlace} → LinkStandsAt at (at_time time w) → LinkStandsAt at w
@@ -638,10 +634,10 @@ since_acts p start act w draws done w' none octet acts is =
     record {
       news = news';
       heard = heard';
-      settling = λ m bounded quiet off little.
+      settling = λ m bounded quiet off.
           step_settles p start m w w' is news' heard' keeps'
           (inr (acts_seen act w draws done w' none world.sound world.encodable acts))
-          (λ quiet_then little_then.
-          early_acts p start m act w draws done w' none acts is.news news' is.heard quiet_then little_then) bounded
-          quiet off little;
+          (λ quiet_then.
+          early_acts p start m act w draws done w' none acts is.news news' is.heard quiet_then) bounded
+          quiet off;
     }

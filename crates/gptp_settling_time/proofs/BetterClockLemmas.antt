@@ -1,5 +1,5 @@
 -- A priority1 that gets no worse, in a world that has settled, leaves claims made of all links always.
-use Rattle.std.proofs.Common.{◌≡◌, ◌<◌, ◌*◌, ℕ, suc, Bool, true, false, List, [], ◌∷◌, map, refl, sym, ap, subst, ◌∙◌, inl, inr, arith}
+use Rattle.std.proofs.Common.{◌≡◌, ◌<◌, ℕ, suc, Bool, true, false, List, [], ◌∷◌, map, refl, sym, ap, subst, ◌∙◌, inl, inr, arith}
 use Rattle.std.specs.Prelude.{◌==◌, ◌&&◌, ◌||◌, if◌then◌else◌, max}
 use Rattle.std.proofs.lemmas.Bool.{eq-eqb}
 use Rattle.gptp_lists.specs.Members.{In}
@@ -8,7 +8,6 @@ use Rattle.gptp_graph.specs.PathBound.{BoundsPaths}
 use Rattle.gptp_graph.specs.Snapshot.{Joins, PortIdentity, System, port_of}
 use Rattle.gptp_graph.proofs.LinkLemmas.{Joins-sym}
 use Rattle.gptp_vector.specs.declared.port.PortId.{PortId}
-use Rattle.gptp_links.specs.declared.bounds.Bounds.{Bounds}
 use Rattle.gptp_links.specs.declared.link.Direction.TheVariants.{FromA, FromB}
 use Rattle.gptp_links.specs.Fate.{Draw}
 use Rattle.gptp_setup.specs.Intervals.{interval_of}
@@ -41,7 +40,6 @@ use Rattle.gptp_invariants.proofs.DelayCapableKeptLemmas.{known_params, same_rec
 use Rattle.gptp_invariants.proofs.WorldSoundCallLemmas.{links_more}
 use Rattle.gptp_invariants.proofs.WorldSystemLemmas.{clock_lives}
 use Rattle.gptp_invariants.proofs.WorldWayLemmas.{way_of}
-use Rattle.gptp_settling_time.specs.Starts.{DelaysVaryLittle}
 use Rattle.gptp_settling_time.proofs.AlwaysClaimedLemmas.{AreHeard, IsClaimedAlways, asks_back, capable_is_on, place_of_way, start_calm, start_net, start_network, way_back, way_stands}
 use Rattle.gptp_settling_time.proofs.HeardLemmas.{StaysCapableAt, stays_elsewhere, stays_link, stays_on}
 use Rattle.gptp_settling_time.proofs.ReactionStageLemmas.{stage_after}
@@ -116,12 +114,6 @@ module _ (p : SettlingParams) (start next owner value : ℕ) (w : WorldState) (d
       let x = quiet link now stands (used_now channel now same used) in
       let bounds = ap (λ (c : Channel). c.bounds) same in
       record { lossless = rw⁻¹ bounds x.lossless; good = rw⁻¹ bounds x.good }
-
-  little_back : DelaysVaryLittle w' → DelaysVaryLittle w
-  little_back little link channel here used =
-      let (now, stands, same) = alike bare bare w'.net.channels w.net.channels r.links link channel here in
-      subst (λ (b : Bounds). b.max < 2 * b.min) (ap (λ (c : Channel). c.bounds) same)
-      (little link now stands (used_now channel now same used))
 
   delay_same : delay_in w' ≡ delay_in w
   delay_same =
@@ -198,7 +190,7 @@ module _ (p : SettlingParams) (start next owner value : ℕ) (w : WorldState) (d
   -- ---- the network
 
   module _ (m : ℕ) (bounded' : BoundsPaths (snapshot_of w') m) (quiet' : HaveQuietLinks p.params w')
-      (off : NothingLapses p.params) (little' : DelaysVaryLittle w') where
+      (off : NothingLapses p.params) where
     abbrev n : Network
     n = start_network p m next w'
 
@@ -212,7 +204,7 @@ module _ (p : SettlingParams) (start next owner value : ℕ) (w : WorldState) (d
     sound = on_links says_announce (snapshot_of w') (view w') news'.sound
 
     seen : IsSettledSeen p w
-    seen = settled (quiet_back quiet') off (little_back little')
+    seen = settled (quiet_back quiet') off
 
     wired : SameWiring seen.n n
     wired =
@@ -263,5 +255,5 @@ module _ (p : SettlingParams) (start next owner value : ℕ) (w : WorldState) (d
   better_claimed = record {
     news = news';
     heard = heard';
-    settling = λ m bounded quiet off little. better_invariant m bounded quiet off little;
+    settling = λ m bounded quiet off. better_invariant m bounded quiet off;
   }

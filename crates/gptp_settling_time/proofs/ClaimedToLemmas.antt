@@ -39,6 +39,15 @@ use Rattle.gptp_settling_time.proofs.KeptToLemmas.{KeepsTo, keeps_act, keeps_lat
 use Rattle.gptp_settling_time.proofs.AlwaysClaimedLemmas.{IsClaimedAlways, since_acts, since_later}
 use Rattle.gptp_settling_time.proofs.StartLemmas.{since_settles}
 
+-- delays vary little in a world that stands as a network in which they do
+pub varies_little : (d : DocumentState) (events : List Timed) (w : WorldState) → KeepsTo d events w
+    → LinksVaryLittle d.network events → DelaysVaryLittle w
+varies_little d events w keeps vary link channel here used =
+    let (v, there, same) = alike (link_after events) channel_wire d.network.links w.net.channels
+    (sym keeps.stands.links) link channel here in
+    subst (λ (b : Bounds). b.max < 2 * b.min) (ap (λ (x : LinkSpec). x.bounds) same)
+    (vary v (In-slice_get v d.network.links link there))
+
 -- A world of a document after these events, of which claims are made of all links always, and whose ports are capable
 -- from a start on.
 pub record IsClaimedTo (d : DocumentState) (events : List Timed) (start : ℕ) (w : WorldState) : Type 0 where
@@ -69,17 +78,10 @@ module _ (d : DocumentState) (events : List Timed) (start : ℕ) where
   -- it has settled
   module _ (w : WorldState) (so : IsClaimedTo d events start w) (playable : IsPlayable d)
       (calm : IsCalm d.network events) (nothing : NothingLapses d.network.params)
-      (vary : LinksVaryLittle d.network events) (late : start + pred (sync_paths d.network events).systems
+      (late : start + pred (sync_paths d.network events).systems
       * (sync_paths d.network events).delay ≤ w.time) where
     paths : sync_paths d.network events ≡ sync_paths_of w
     paths = paths_stand d.network events w playable.network so.keeps.stands so.keeps.claim.world.sound
-
-    little : DelaysVaryLittle w
-    little link channel here used =
-        let (v, there, same) = alike (link_after events) channel_wire d.network.links w.net.channels
-        (sym so.keeps.stands.links) link channel here in
-        subst (λ (b : Bounds). b.max < 2 * b.min) (ap (λ (x : LinkSpec). x.bounds) same)
-        (vary v (In-slice_get v d.network.links link there))
 
     pub claimed_settled : Settled w × IsBoundedWorld w
     claimed_settled =
@@ -88,7 +90,7 @@ module _ (d : DocumentState) (events : List Timed) (start : ℕ) where
         (quiet_stands d.network events w playable.network so.keeps.stands world.sound calm).links
         (subst (BoundsPaths (snapshot_of w)) (sym (ap (λ (x : SyncPaths). x.systems) paths))
         (paths_within (snapshot_of w) (stands_well w world.sound world.between world.encodable)))
-        nothing little
+        nothing
         (subst (λ delay. start + pred (sync_paths d.network events).systems * delay ≤ w.time)
         (ap (λ (x : SyncPaths). x.delay) paths) late)
 

@@ -1,6 +1,7 @@
 -- Links over which what is told is heard: since they first asked, or since their ports are capable.
 use Rattle.std.proofs.Common.{◌≡◌, ◌≤◌, ◌<◌, ◌+◌, ◌*◌, ◌⊎◌, ℕ, true, List, ◌∷◌, sym, ap, subst, ◌∙◌, inl, inr, arith}
 use Rattle.gptp_lists.specs.Members.{In}
+use Rattle.gptp_links.specs.declared.bounds.Bounds.{Bounds}
 use Rattle.gptp_links.specs.Fate.{Draw}
 use Rattle.gptp_pdelay.specs.Peer.{is_capable}
 use Rattle.gptp_setup.specs.declared.setup.Params.{Params}
@@ -39,10 +40,11 @@ use Rattle.gptp_settling_time.proofs.ToldLemmas.{told_capable}
 
 -- ---- what is known of a link
 
--- What is told to the port that asks comes in order since both ports first asked, and two exchanges are over by the
--- start.
+-- What is told to the port that asks comes in order since both ports first asked, as delays vary little, and two
+-- exchanges are over by the start.
 pub record IsToldAt (first start : ℕ) (at : LinkPlace) (w : WorldState) : Type 0 where
   pub one : IsOrderedAt first at w
+  pub few : VariesLittle one.timely.link.channel
   pub other : IsTimelyAt first (opposite at) w
   pub by : first + (link_setting at w one.timely.link).period + exchange_span (link_setting at w one.timely.link) < start
 
@@ -155,15 +157,15 @@ heard_due p start at w (inr (inr (inl (gone, calm, x)))) f member =
 -- where the oldest frame that comes to it tells, it is capable
 pub heard_now : (p : SettlingParams) (start : ℕ) (at : LinkPlace) (w : WorldState) → IsWorld p w
     → (x : IsHeardAt p start at w)
-    → VariesLittle (heard_link p start at w x).channel → (f : LaneFrame) (fs : List LaneFrame)
+    → (f : LaneFrame) (fs : List LaneFrame)
     → (pair at w (heard_link p start at w x)).back ≡ f ∷ fs → tells f.octets
     → IsOn at w (heard_link p start at w x)
-heard_now p start at w is (inl (first, x)) little f fs comes told =
+heard_now p start at w is (inl (first, x)) f fs comes told =
     let l = x.one.timely.link in
     told_capable (link_setting at w l) tells reads_as_reply first (pair at w l).asker f fs tells_no_reply
     (subst (λ b. IsOrdered (link_setting at w l) tells reads_as_reply first (pair at w l).asker b) comes
-    (x.one.order little)) told
-heard_now p start at w is (inr x) little f fs comes told = stays_on p at w is x
+    (x.one.order x.few)) told
+heard_now p start at w is (inr x) f fs comes told = stays_on p at w is x
 
 -- ---- an act
 
@@ -193,6 +195,7 @@ module _ (p : SettlingParams) (start : ℕ) (act : Act) (w : WorldState) (draws 
           record {
             one = order_acted at first w w' t s
                 (sent_late p first act w draws done w' none acts is is' at t x.other) x.one.order;
+            few = subst (λ (b : Bounds). b.max < 2 * b.min) (sym s.bounds) x.few;
             other = timely_acted (opposite at) first w w' x.other other;
             by = subst (λ (k : Setting). first + k.period + exchange_span k < start) (sym s.settled) x.by;
           },
@@ -251,6 +254,7 @@ heard_later p start at time w is later nothing (inl (first, x)) = inl (
       timely = timely_later first at time w is.sound later nothing x.one.timely;
       order = x.one.order;
     };
+    few = x.few;
     other = timely_later first (opposite at) time w is.sound later nothing x.other;
     by = x.by;
   },

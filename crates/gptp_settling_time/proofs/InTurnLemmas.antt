@@ -55,7 +55,7 @@ use Rattle.gptp_settling_time.proofs.AlwaysClaimedLemmas.{IsClaimedAlways, since
 use Rattle.gptp_settling_time.proofs.BegunLemmas.{begun_keeps, begun_last, begun_news, rested_sound}
 use Rattle.gptp_settling_time.proofs.ClaimedToLemmas.{IsClaimedTo, claimed_act, claimed_later, claimed_settled}
 use Rattle.gptp_settling_time.proofs.DocumentLemmas.{run_to}
-use Rattle.gptp_settling_time.proofs.GainLemmas.{all_live, down_so, gain_so, idle_so}
+use Rattle.gptp_settling_time.proofs.GainLemmas.{all_live, down_so, few_so, gain_so, idle_so}
 use Rattle.gptp_settling_time.proofs.HeardLemmas.{heard_on}
 use Rattle.gptp_settling_time.proofs.IdleLemmas.{idle_now, idle_same}
 use Rattle.gptp_settling_time.proofs.KeptToLemmas.{IsNewsTo, KeepsTo, keeps_act, keeps_later, news_act_to, news_later_to}
@@ -153,6 +153,8 @@ module _ {F : Type 0} (answers : Bounds → ℕ → F → Option ℕ → F → T
       since = link_up_claimed p start next up.clock up.port then k.draws done w' claim on after.claim.world early soon
           came
           (down_so n made then keeps_then.stands (port_id up.clock up.port) up.down came.1.place came.1.channel came.1.is)
+          (few_so n made then keeps_then.stands (port_id up.clock up.port) up.little came.1.place came.1.channel
+          came.1.is)
           news_then;
     }
 
@@ -377,8 +379,8 @@ module _ (d : DocumentState) (playable : IsPlayable d) (all : List Timed) (calm 
   )
   after_settles (Gained start) so settles =
       has_settled pace (sync_paths d.network all).systems start settled w so.news (can_settle so.keeps start settles) on
-  after_settles (Heard start) so (off, little, passed) =
-      claimed_settled d all start w so playable calm off little (omega (arith, passed, on))
+  after_settles (Heard start) so (off, passed) =
+      claimed_settled d all start w so playable calm off (omega (arith, passed, on))
 
 -- ---- the law
 
@@ -391,8 +393,8 @@ begins_after answers d playable fate until first w ts k (Gained start) begins = 
   keeps = begun_keeps answers d playable fate k.started first k.begun;
   news = begun_news answers d playable fate k.started first k.begun start begins;
 }
-begins_after answers d playable fate until first w ts k (Heard start) begins =
-    begun_claimed answers d playable fate k.started first k.begun start begins
+begins_after answers d playable fate until first w ts k (Heard start) (little, begins) =
+    begun_claimed answers d playable fate k.started first k.begun start begins little
 
 -- each act of a run that is later than all events is done in such worlds
 pub passed_in_turn : {F : Type 0} (answers : Bounds → ℕ → F → Option ℕ → F → Type 0) (d : DocumentState)

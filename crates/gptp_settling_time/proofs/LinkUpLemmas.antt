@@ -10,6 +10,7 @@ use Rattle.gptp_graph.specs.PathBound.{BoundsPaths}
 use Rattle.gptp_graph.specs.Snapshot.{Joins, PortIdentity, System, port_of}
 use Rattle.gptp_vector.specs.declared.port.PortId.{PortId}
 use Rattle.gptp_links.specs.declared.link.Direction.{Direction}
+use Rattle.gptp_links.specs.declared.bounds.Bounds.{Bounds}
 use Rattle.gptp_links.specs.Fate.{Draw}
 use Rattle.gptp_setup.specs.declared.setup.Params.{Params}
 use Rattle.gptp_setup.specs.Intervals.{interval_of}
@@ -43,7 +44,7 @@ use Rattle.gptp_invariants.proofs.WorldNewsLemmas.{link_used}
 use Rattle.gptp_invariants.proofs.WorldSoundCallLemmas.{tells_keep}
 use Rattle.gptp_settling_time.proofs.AlwaysClaimedLemmas.{AreHeard, IsClaimedAlways}
 use Rattle.gptp_settling_time.proofs.HeardLemmas.{IsToldAt, heard_elsewhere}
-use Rattle.gptp_settling_time.proofs.OrderedLemmas.{IsOrderedAt, IsTimelyAt, opposite, turned}
+use Rattle.gptp_settling_time.proofs.OrderedLemmas.{IsOrderedAt, IsTimelyAt, VariesLittle, opposite, turned}
 use Rattle.gptp_settling_time.proofs.RaisedLemmas.{IsRaised, raised, unmeasured_then}
 use Rattle.gptp_settling_time.proofs.UntoldLemmas.{IsUnmeasured, unmeasured_off}
 use Rattle.gptp_settling_time.proofs.StartLemmas.{not_answered}
@@ -73,8 +74,7 @@ use Rattle.gptp_invariants.proofs.ChoiceSettlesAsMachineLemmas.{kept_back}
 use Rattle.gptp_invariants.proofs.WorldSoundCallLemmas.{links_more, same_systems, set_there}
 use Rattle.gptp_invariants.proofs.WorldStandsLemmas.{used_up}
 use Rattle.gptp_invariants.proofs.WorldWayLemmas.{IsWay, one_way, used_joins, way_of}
-use Rattle.gptp_settling_time.specs.Starts.{DelaysVaryLittle}
-use Rattle.gptp_settling_time.proofs.AlwaysClaimedLemmas.{little_back, same_start, start_calm, start_net, start_network}
+use Rattle.gptp_settling_time.proofs.AlwaysClaimedLemmas.{same_start, start_calm, start_net, start_network}
 use Rattle.gptp_settling_time.proofs.GainStageLemmas.{ClaimsAlways, stage_kept}
 use Rattle.gptp_settling_time.proofs.RaisedLemmas.{unmeasured_at}
 use Rattle.gptp_settling_time.proofs.RestClaimedLemmas.{AreOn}
@@ -108,7 +108,7 @@ module _ (p : SettlingParams) (start next owner port : ℕ) (w : WorldState) (dr
   abbrev k : AtLink (port_id owner port) w.net (λ place channel. ComesUpIf channel.up place channel changed draws w')
   k = acts.1
 
-  module _ (down : k.channel.up ≡ false) where
+  module _ (down : k.channel.up ≡ false) (few : VariesLittle k.channel) where
     abbrev new : Channel
     new = record k.channel { up = true }
 
@@ -263,6 +263,15 @@ module _ (p : SettlingParams) (start next owner port : ℕ) (w : WorldState) (dr
             (subst (λ (o : List ℕ). says_announce o told.0) (ap (λ (g : LaneFrame). g.octets) (sym same)) told.1));
       }
 
+    -- so do the delays of the link vary now
+    by_ends : (now : Channel) → slice_get w'.net.channels k.place ≡ Some now → VariesLittle now
+    by_ends now here =
+        let (c, stands, same) = alike bare bare brought.net.channels w'.net.channels (sym keeps.links) k.place now here in
+        let raised_is : c ≡ new =
+        same_Some c new (sym stands ∙ get-set_same w.net.channels k.place k.channel new k.is.here) in
+        subst (λ (b : Bounds). b.max < 2 * b.min)
+        (ap (λ (x : Channel). x.bounds) (sym raised_is) ∙ ap (λ (x : Channel). x.bounds) same) few
+
     comes_told : (at : LinkPlace) → at.link ≡ k.place → LinkStandsAt at w' → IsToldAt w.time next at w'
     comes_told at place_is stands =
         let one = new_ordered at place_is (before at stands) in
@@ -277,6 +286,7 @@ module _ (p : SettlingParams) (start next owner port : ℕ) (w : WorldState) (dr
         delay_of_used (live_stations w'.stations) w'.net.channels at.link l.channel l.here (link_used at w' l) in
         record {
           one = one;
+          few = by_ends l.channel (ap (slice_get w'.net.channels) (sym place_is) ∙ l.here);
           other = new_timely (opposite at) place_is (before (opposite at) (turned p w' world' at stands));
           by = omega (arith, period, turnaround, most, soon);
         }
@@ -324,13 +334,8 @@ module _ (p : SettlingParams) (start next owner port : ℕ) (w : WorldState) (dr
         links_quiet w' brought (kept_back brought w' keeps) p.params quiet link channel
         (stands_so link channel here (used_apart link channel here used)) used
 
-    little_before : DelaysVaryLittle w' → DelaysVaryLittle w
-    little_before little link channel here used =
-        little_back brought w' keeps little link channel
-        (stands_so link channel here (used_apart link channel here used)) used
-
     module _ (news' : IsNews p next w') (m : ℕ) (bounded' : BoundsPaths (snapshot_of w') m)
-        (quiet' : HaveQuietLinks p.params w') (off : NothingLapses p.params) (little' : DelaysVaryLittle w') where
+        (quiet' : HaveQuietLinks p.params w') (off : NothingLapses p.params) where
       abbrev n : Network
       n = start_network p m start w
 
@@ -363,7 +368,7 @@ module _ (p : SettlingParams) (start next owner port : ℕ) (w : WorldState) (dr
       calm_then = subst (λ x. Calm x (view w')) same_net (start_calm p next w' news' heard_then quiet' m)
 
       invariant : Invariant says_announce n (view w)
-      invariant = is.settling m bounded quiet off (little_before little')
+      invariant = is.settling m bounded quiet off
 
       lane_same : (q : PortIdentity) → lane_of brought.net.channels q ≡ lane_of w.net.channels q
       lane_same q = lane_set w.net.channels k.place k.channel new q k.is.here refl refl
@@ -482,5 +487,5 @@ module _ (p : SettlingParams) (start next owner port : ℕ) (w : WorldState) (dr
     link_up_claimed news' = record {
       news = news';
       heard = heard_then;
-      settling = λ m bounded quiet off little. then_invariant news' m bounded quiet off little;
+      settling = λ m bounded quiet off. then_invariant news' m bounded quiet off;
     }

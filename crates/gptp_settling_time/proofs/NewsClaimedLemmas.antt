@@ -139,7 +139,7 @@ module _ (p : SettlingParams) (before : ℕ) (w : WorldState) (is : IsNews p bef
   news_claimed = record {
     news = news;
     heard = heard;
-    settling = λ other bounds quiet off little. now_invariant quiet off other bounds;
+    settling = λ other bounds quiet off. now_invariant quiet off other bounds;
   }
 
   -- its ports are capable
@@ -149,7 +149,7 @@ module _ (p : SettlingParams) (before : ℕ) (w : WorldState) (is : IsNews p bef
 
   -- it has settled
   pub news_settled : HasSettledSeen p w
-  news_settled quiet off little = record {
+  news_settled quiet off = record {
     n = news_network p m before w;
     net = net quiet off;
     calm = calm quiet off;

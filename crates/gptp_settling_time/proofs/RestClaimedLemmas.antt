@@ -141,7 +141,7 @@ module _ (p : SettlingParams) (w : WorldState) (claim : KeepsAll p w) (sound : I
   rest_claimed = record {
     news = news;
     heard = heard;
-    settling = λ other bounds quiet off little. rest_invariant quiet off other bounds;
+    settling = λ other bounds quiet off. rest_invariant quiet off other bounds;
   }
 
   -- its ports are capable
@@ -157,7 +157,7 @@ module _ (p : SettlingParams) (w : WorldState) (claim : KeepsAll p w) (sound : I
 
   -- it has settled
   pub rest_settled : HasSettledSeen p w
-  rest_settled quiet off little = record {
+  rest_settled quiet off = record {
     n = quick_network p m w;
     net = net quiet off;
     calm = calm quiet off;

@@ -12,7 +12,6 @@ use Rattle.gptp_invariants.specs.ChoiceCalm.{HaveQuietLinks, delay_in}
 use Rattle.gptp_invariants.specs.ChoiceView.{says_announce, view}
 use Rattle.gptp_invariants.specs.WorldStanding.{snapshot_of}
 use Rattle.gptp_invariants.proofs.ChoiceSettlesAsMachineLemmas.{paths_bound}
-use Rattle.gptp_settling_time.specs.Starts.{DelaysVaryLittle}
 use Rattle.gptp_settling_time.proofs.AlwaysClaimedLemmas.{IsClaimedAlways, start_calm, start_net, start_network}
 
 pub record IsSettledSeen (p : SettlingParams) (w : WorldState) : Type 0 where
@@ -26,19 +25,19 @@ pub record IsSettledSeen (p : SettlingParams) (w : WorldState) : Type 0 where
   pub most : n.most ≡ delay_in w
 
 abbrev pub HasSettledSeen : SettlingParams → WorldState → Type 0
-HasSettledSeen p w = HaveQuietLinks p.params w → NothingLapses p.params → DelaysVaryLittle w → IsSettledSeen p w
+HasSettledSeen p w = HaveQuietLinks p.params w → NothingLapses p.params → IsSettledSeen p w
 
 -- so it is where claims are made of all links always
 pub always_settled : (p : SettlingParams) (start : ℕ) (w : WorldState) → IsClaimedAlways p start w
     → start + pred (path_bound (snapshot_of w)) * delay_in w ≤ w.time → HasSettledSeen p w
-always_settled p start w is late quiet off little =
+always_settled p start w is late quiet off =
     let m = path_bound (snapshot_of w) in
     let bounded = paths_bound p w is.news.world in
     record {
       n = start_network p m start w;
       net = start_net p m start w is.news.world bounded;
       calm = start_calm p start w is.news is.heard quiet m;
-      invariant = is.settling m bounded quiet off little;
+      invariant = is.settling m bounded quiet off;
       late = omega (arith, late);
       graph = refl;
       same = record {

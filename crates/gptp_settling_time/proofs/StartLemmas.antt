@@ -65,7 +65,7 @@ use Rattle.gptp_settling_time.specs.Starts.{DelaysVaryLittle, StartsSettleAtOnce
 use Rattle.gptp_settling_time.proofs.ExactlyLemmas.{later_keeps}
 use Rattle.gptp_settling_time.proofs.OrderedLemmas.{IsOrderedAt, opposite, turned}
 use Rattle.gptp_settling_time.proofs.SeenSettledLemmas.{seen_settles}
-use Rattle.gptp_settling_time.proofs.AlwaysClaimedLemmas.{AreHeard, IsClaimedAlways, since_acts, since_later, start_calm, start_net, start_network}
+use Rattle.gptp_settling_time.proofs.AlwaysClaimedLemmas.{AreHeard, IsClaimedAlways, little_back, since_acts, since_later, start_calm, start_net, start_network}
 use Rattle.gptp_settling_time.proofs.UntoldLemmas.{IsUntold, IsUnmeasured, begun_untold, is_answered, unmeasured_off}
 
 -- ---- a network begins
@@ -140,8 +140,8 @@ module _ {F : Type 0} (answers : Bounds → ℕ → F → Option ℕ → F → T
           (subst (λ (o : List ℕ). says_announce o a) (ap (λ (g : LaneFrame). g.octets) (sym same)) said)
 
   -- what is told over each link is heard
-  begun_heard : (start : ℕ) → ExchangesAreOver p start w → AreHeard p start w
-  begun_heard start over at stands =
+  begun_heard : (start : ℕ) → ExchangesAreOver p start w → DelaysVaryLittle w → AreHeard p start w
+  begun_heard start over little at stands =
       let one = begun_timely at stands in
       let l = one.timely.link in
       let asks = (world.known.set at.asking l.asking.station l.asking.here).starts.params in
@@ -156,6 +156,7 @@ module _ {F : Type 0} (answers : Bounds → ℕ → F → Option ℕ → F → T
         0,
         record {
           one = one;
+          few = little at.link l.channel l.here (link_used at w l);
           other = (begun_timely (opposite at) (turned p w world at stands)).timely;
           by = omega (arith, period, turnaround, most, over);
         },
@@ -175,13 +176,13 @@ module _ {F : Type 0} (answers : Bounds → ℕ → F → Option ℕ → F → T
       ∙ ap (held_view (span_at state))
       (shown.off (unmeasured_off port.port.peer (untold.measured place at.station at.here i port.port port.port_there)))
 
-  pub begun_since : (start : ℕ) → ExchangesAreOver p start w → IsClaimedAlways p start w
-  begun_since start over =
+  pub begun_since : (start : ℕ) → ExchangesAreOver p start w → DelaysVaryLittle w → IsClaimedAlways p start w
+  begun_since start over little =
       let news = start_news answers n fate fate_after w start network sound k world over in
       record {
         news = news;
-        heard = begun_heard start over;
-        settling = λ m bounded quiet off little.
+        heard = begun_heard start over little;
+        settling = λ m bounded quiet off.
             let net = start_net p m start w world bounded in
             record {
               sound = λ late.
@@ -196,7 +197,7 @@ module _ {F : Type 0} (answers : Bounds → ℕ → F → Option ℕ → F → T
 
 module _ (p : SettlingParams) (start m : ℕ) (w : WorldState) (is : IsClaimedAlways p start w)
     (quiet : HaveQuietLinks p.params w) (bounded : BoundsPaths (snapshot_of w) m) (off : NothingLapses p.params)
-    (little : DelaysVaryLittle w) (late : start + pred m * delay_in w ≤ w.time) where
+    (late : start + pred m * delay_in w ≤ w.time) where
   abbrev seen : Network
   seen = start_network p m start w
 
@@ -207,7 +208,7 @@ module _ (p : SettlingParams) (start m : ℕ) (w : WorldState) (is : IsClaimedAl
   state = start_calm p start w is.news is.heard quiet m
 
   invariant : Invariant says_announce seen (view w)
-  invariant = is.settling m bounded quiet off little
+  invariant = is.settling m bounded quiet off
 
   settled : Settled w
   settled =
@@ -229,26 +230,26 @@ module _ {F : Type 0} (answers : Bounds → ℕ → F → Option ℕ → F → T
     -- the world goes on, and stays one since its start
     record GoesOn (w w' : WorldState) : Type 0 where
       keeps : KeepsNetwork w w'
-      since : IsClaimedAlways p start w'
+      since : IsClaimedAlways p start w → IsClaimedAlways p start w'
 
     advances_since : (told : List Told) (fate fate_after : F) (w w' : WorldState)
-        → Advances answers until told fate fate_after w w' → IsClaimedAlways p start w → GoesOn w w'
-    advances_since [] fate fate_after w w' (same, is) since =
-        subst (GoesOn w) (sym is) (record { keeps = later_keeps w.time w; since = since })
-    advances_since (one ∷ told) fate fate_after w w' (drawn, between, happens, rest) since =
+        → Advances answers until told fate fate_after w w' → GoesOn w w'
+    advances_since [] fate fate_after w w' (same, is) =
+        subst (GoesOn w) (sym is) (record { keeps = later_keeps w.time w; since = λ since. since })
+    advances_since (one ∷ told) fate fate_after w w' (drawn, between, happens, rest) =
         let time = one.timed.at in
         let was = happens.was_done in
         let act = one.timed.act in
         let none = no_change happens.next.item act w happens.next.act in
         let octet = next_octet happens.next.item act w happens.next.act in
-        let then = since_later p start time w was.ready.timely.now was.ready.timely.first since in
-        let after = since_acts p start act (at_time time w) was.draws one.done between none octet was.acts then in
-        let on = advances_since told drawn fate_after between w' rest after in
+        let on = advances_since told drawn fate_after between w' rest in
         record {
           keeps = keeps_on w between w'
               (keeps_on w (at_time time w) between (later_keeps time w)
               (acts_keep act (at_time time w) was.draws one.done between none was.acts)) on.keeps;
-          since = on.since;
+          since = λ since.
+              on.since (since_acts p start act (at_time time w) was.draws one.done between none octet was.acts
+              (since_later p start time w was.ready.timely.now was.ready.timely.first since));
         }
 
     ends_by : (told : List Told) (fate fate_after : F) (w w' : WorldState)
@@ -262,15 +263,15 @@ module _ {F : Type 0} (answers : Bounds → ℕ → F → Option ℕ → F → T
         ends_by told drawn fate_after between w' rest (omega (arith, time, soon))
 
     advanced_since : (told : List Told) (fate fate_after : F) (w w' : WorldState)
-        → Advanced answers until told fate fate_after w w' → IsClaimedAlways p start w → GoesOn w w'
-    advanced_since told fate fate_after w w' k since =
-        let on = advances_since told fate fate_after w k.between k.advances since in
+        → Advanced answers until told fate fate_after w w' → GoesOn w w'
+    advanced_since told fate fate_after w w' k =
+        let on = advances_since told fate fate_after w k.between k.advances in
         let early = ends_by told fate fate_after w k.between k.advances k.ahead in
         let first = nothing_sooner until (until + 1) k.between.net.pending (omega arith) k.nothing_left in
         subst (GoesOn w) (sym k.is)
         (record {
           keeps = keeps_on w k.between (at_time until k.between) on.keeps (later_keeps until k.between);
-          since = since_later p start until k.between early first on.since;
+          since = λ since. since_later p start until k.between early first (on.since since);
         })
 
 -- ---- the law
@@ -278,17 +279,17 @@ module _ {F : Type 0} (answers : Bounds → ℕ → F → Option ℕ → F → T
 -- the network stays, so that its start is known from the end
 since_begun : {F : Type 0} (answers : Bounds → ℕ → F → Option ℕ → F → Type 0) (n : NetworkState)
     (fate begun fate_after : F) (until : ℕ) (told : List Told) (w w' : WorldState) → IsNetwork n
-    → Begun answers n fate begun w → Advanced answers until told begun fate_after w w'
+    → Begun answers n fate begun w → Advanced answers until told begun fate_after w w' → DelaysVaryLittle w'
     → IsClaimedAlways (pace_of n) (capable_from (pace_of n) w' 0) w'
-since_begun answers n fate begun fate_after until told w w' network k course =
+since_begun answers n fate begun fate_after until told w w' network k course little =
     let p = pace_of n in
     let start = capable_from p w 0 in
-    let first = begun_since answers n fate begun w network k start (omega arith) in
-    let on = advanced_since answers until p start told begun fate_after w w' course first in
+    let on = advanced_since answers until p start told begun fate_after w w' course in
+    let first = begun_since answers n fate begun w network k start (omega arith) (little_back w w' on.keeps little) in
     let delay = delay_kept w w' on.keeps in
     let same : start ≡ capable_from p w' 0 =
     ap (λ most. 0 + interval_of p.params.pdelay + (most + p.params.turnaround + most) + 1) (sym delay) in
-    subst (λ t. IsClaimedAlways p t w') same on.since
+    subst (λ t. IsClaimedAlways p t w') same (on.since first)
 
 pub starts_settle_at_once : {F : Type 0} (answers : Bounds → ℕ → F → Option ℕ → F → Type 0)
     → StartsSettleAtOnce answers
@@ -297,8 +298,8 @@ starts_settle_at_once answers n fate begun fate_after until m told w w' network 
     let start = capable_from p w' 0 in
     let sound = initial_sound n network in
     let claim = claim_begins answers n fate begun w network sound k in
-    let since = since_begun answers n fate begun fate_after until told w w' network k course in
-    let both = since_settles p start m w' since (quiet_as p w' calm).links bounded off little (omega (arith, late)) in
+    let since = since_begun answers n fate begun fate_after until told w w' network k course little in
+    let both = since_settles p start m w' since (quiet_as p w' calm).links bounded off (omega (arith, late)) in
     is_settled w' (record {
       pace = p;
       is = advanced_claimed answers p until told begun fate_after w w' course claim;

@@ -34,6 +34,7 @@ module _ (p : SettlingParams) (start : ℕ) (w : WorldState) (claimed : IsClaime
     first,
     record {
       one = record { timely = timely_still first at x.one.timely; order = x.one.order };
+      few = x.few;
       other = timely_still first _ x.other;
       by = x.by;
     },
@@ -68,6 +69,6 @@ module _ (p : SettlingParams) (start : ℕ) (w : WorldState) (claimed : IsClaime
   claimed_still world measured = record {
     news = news_still p start w claimed.news world measured;
     heard = λ at stands. heard_still at (claimed.heard at (stood p start w claimed.news at stands));
-    settling = λ m bounded quiet off little.
-        let is = claimed.settling m bounded quiet off little in record { sound = is.sound; levels = is.levels };
+    settling = λ m bounded quiet off.
+        let is = claimed.settling m bounded quiet off in record { sound = is.sound; levels = is.levels };
   }

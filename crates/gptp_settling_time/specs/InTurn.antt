@@ -4,22 +4,25 @@
 -- rested, and its ports at links are capable from a start on; or the same is so and all that is told over its links is
 -- *heard*, so that no announce interval has to pass. An event leads from one to another (`Leads`). It may always lead to
 -- any past. To a gain it leads where it takes nothing away. And it leads to what is heard where the network has settled
--- and it brings up a link between live systems, or sets a better priority1. Where delays vary little the first Announce
--- over that link comes to a port that is capable already, and a system that gets better tells so at once. Where all was
+-- and it brings up a link between live systems, or sets a better priority1. Where the delay of that link varies little the first
+-- Announce over it comes to a port that is capable already, and a system that gets better tells so at once. Where all was
 -- heard before, links may also come up one after another, as soon as ports are capable; and what changes nothing asks
 -- for no time at all.
-use Rattle.std.specs.Prelude.{◌≡◌, ◌<◌, ◌≤◌, ◌⊎◌, ◌+◌, ◌*◌, ℕ, ⊤, pred, List, [], ◌∷◌, ◌++◌, Option}
+use Rattle.std.specs.Prelude.{◌≡◌, ◌<◌, ◌≤◌, ◌⊎◌, ◌+◌, ◌*◌, ℕ, ⊤, pred, List, [], ◌∷◌, ◌++◌, Option, Some, slice_get}
 use Rattle.gptp_lists.specs.Members.{In}
+use Rattle.gptp_vector.specs.declared.port.PortId.{PortId}
 use Rattle.gptp_links.specs.declared.bounds.Bounds.{Bounds}
 use Rattle.gptp_setup.specs.SettlingParams.{largest_interval}
 use Rattle.gptp_scenario.specs.Calm.{IsCalm, NothingLapses, last_change}
-use Rattle.gptp_scenario.specs.Network.{NetworkState, pace_of}
+use Rattle.gptp_scenario.specs.Change.{link_after}
+use Rattle.gptp_scenario.specs.Network.{IsEnd, NetworkState, pace_of}
 use Rattle.gptp_scenario.specs.SettlingAtOnce.{settling_span_at_once}
 use Rattle.gptp_scenario.specs.SettlingTime.{settling_span_with}
 use Rattle.gptp_scenario.specs.SyncWait.{sync_paths}
 use Rattle.gptp_scenario.specs.declared.change.Act.TheVariants.{Change as Changing}
 use Rattle.gptp_scenario.specs.declared.change.Change.TheVariants.{LinkUp, Priority1}
 use Rattle.gptp_scenario.specs.declared.change.Timed.{Timed}
+use Rattle.gptp_scenario.specs.declared.network.LinkSpec.{LinkSpec}
 use Rattle.gptp_model.specs.World.{WorldState, port_id}
 use Rattle.gptp_network.specs.Document.{DocumentState}
 use Rattle.gptp_network.specs.Snapshot.{events_by}
@@ -38,13 +41,20 @@ pub data Past : Type 0 where
 
 -- ---- events
 
--- After these events this one brings up a link that is down, between two systems that live. Its ports are capable from
--- the next time on.
+-- after these events the greatest delay of the link at the port is below twice the least
+abbrev pub VariesLittleAfter : NetworkState → List Timed → PortId → Type 0
+VariesLittleAfter n events port = (place : ℕ) (v : LinkSpec) → slice_get n.links place ≡ Some v
+    → IsEnd port (link_after events v)
+    → (link_after events v).bounds.max < 2 * (link_after events v).bounds.min
+
+-- After these events this one brings up a link that is down, between two systems that live; its delay varies little. Its
+-- ports are capable from the next time on.
 pub record BringsUp (n : NetworkState) (before : List Timed) (event : Timed) (next : ℕ) : Type 0 where
   pub clock : ℕ
   pub port : ℕ
   pub act : event.act ≡ Changing (LinkUp clock port)
   pub down : IsDownAfter n before (port_id clock port)
+  pub little : VariesLittleAfter n before (port_id clock port)
   pub live : JoinsLive n (before ++ event ∷ []) (port_id clock port)
   pub capable : exchanged_from (pace_of n) (sync_paths n (before ++ event ∷ [])) event.at ≤ next
 
@@ -103,11 +113,11 @@ LeadOn n before past (event ∷ events) last =
 
 -- ---- a document
 
--- ports are capable by then that ask from time 0 on
+-- ports are capable by then that ask from time 0 on; and where all is heard delays vary little
 abbrev pub BeginsBy : NetworkState → Past → Type 0
 BeginsBy n AnyPast = ⊤
 BeginsBy n (Gained start) = exchanged_from (pace_of n) (sync_paths n []) 0 ≤ start
-BeginsBy n (Heard start) = exchanged_from (pace_of n) (sync_paths n []) 0 ≤ start
+BeginsBy n (Heard start) = LinksVaryLittle n [] × (exchanged_from (pace_of n) (sync_paths n []) 0 ≤ start)
 
 -- By this time a calm network has settled after these events. From any past the span has to pass, the sharper one where
 -- nothing lapses. Else ports become capable; then an announce interval passes where something may not be heard; and
@@ -119,7 +129,7 @@ SettlesAfter n events AnyPast settled =
     ⊎ (last_change events + settling_span_with (pace_of n) (sync_paths n events) (sync_paths n events).systems ≤ settled)
 SettlesAfter n events (Gained start) settled = SettlesBy (pace_of n) (sync_paths n events) start settled
 SettlesAfter n events (Heard start) settled =
-    NothingLapses n.params × LinksVaryLittle n events
+    NothingLapses n.params
     × (start + pred (sync_paths n events).systems * (sync_paths n events).delay ≤ settled)
 
 -- A document settles by a time after its events up to another, one after another.
