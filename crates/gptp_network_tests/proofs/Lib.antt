@@ -4,3 +4,4 @@ mod HeardLemmas
 mod PairLemmas
 mod SoonLemmas
 pub mod BetterLemmas
+pub mod BackLemmas

@@ -6,7 +6,7 @@ use Rattle.gptp_links.specs.declared.bounds.Bounds.{Bounds}
 use Rattle.gptp_lists.specs.Members.{In}
 use Rattle.gptp_scenario.specs.Network.{IsNetwork}
 use Rattle.gptp_scenario.specs.declared.change.Act.TheVariants.{Change as Changing}
-use Rattle.gptp_scenario.specs.declared.change.Change.TheVariants.{Priority1}
+use Rattle.gptp_scenario.specs.declared.change.Change.TheVariants.{LinkDown, LinkUp, Priority1}
 use Rattle.gptp_network.specs.Document.{DocumentState}
 use Rattle.gptp_theorem.specs.Headline.{IsSettled}
 use Rattle.gptp_report.specs.Transitions.{ActTrace, Unfolds}
@@ -37,4 +37,20 @@ abbrev pub BetterClocksSettleSoon : {F : Type 0} → (Bounds → ℕ → F → O
 BetterClocksSettleSoon {F} answers = (until : ℕ) (fate : F) (start w : WorldState) (ts : List ActTrace) (t : ActTrace)
     → IsNetwork pair_network → Unfolds answers better_document until fate start ts w → In t ts
     → 2000000501 ≤ t.told.timed.at
+    → IsSettled t.after
+
+-- their document in which the link goes down at 2 s, and comes up at 20 s
+abbrev pub back_document : DocumentState
+back_document = record {
+  network = pair_network;
+  events = record { at = 2000000000; act = Changing (LinkDown 1 1) }
+      ∷ record { at = 20000000000; act = Changing (LinkUp 1 1) }
+      ∷ [];
+}
+
+-- each act of a run of it leaves a settled world, from 1,000,002,501 ns after that on, as after a start
+abbrev pub LinksSettleSoon : {F : Type 0} → (Bounds → ℕ → F → Option ℕ → F → Type 0) → Type 0
+LinksSettleSoon {F} answers = (until : ℕ) (fate : F) (start w : WorldState) (ts : List ActTrace) (t : ActTrace)
+    → IsNetwork pair_network → Unfolds answers back_document until fate start ts w → In t ts
+    → 21000002501 ≤ t.told.timed.at
     → IsSettled t.after

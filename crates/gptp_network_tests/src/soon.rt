@@ -3,7 +3,7 @@
 
 ghost use Rattle.std.specs.Prelude.{◌≡◌, IfOk, OnOk, Some};
 ghost use Rattle.gptp_network_tests.specs.Pair.{HasBegun, first_member};
-ghost use Rattle.gptp_network_tests.specs.Soon.{BetterClocksSettleSoon, IsPairSoon, RunsOfTwoSettleSoon};
+ghost use Rattle.gptp_network_tests.specs.Soon.{BetterClocksSettleSoon, IsPairSoon, LinksSettleSoon, RunsOfTwoSettleSoon};
 
 use crate::drawn::begun;
 use gptp_links::Fate;
@@ -62,6 +62,14 @@ pub fn runs_of_two_settle_soon<F: Fate>()
 /// Where the second gets a better priority1 at 2 s, each act of a run leaves both settled from 501 ns later on.
 pub fn better_clocks_settle_soon<F: Fate>()
     ensures { BetterClocksSettleSoon F.answers }
+{
+    documents_settle_in_turn::<F>();
+}
+
+/// Where the link goes down at 2 s and comes up at 20 s, each act of a run leaves both settled from as soon after that
+/// on as after a start.
+pub fn links_settle_soon<F: Fate>()
+    ensures { LinksSettleSoon F.answers }
 {
     documents_settle_in_turn::<F>();
 }
