@@ -264,7 +264,8 @@ silent_off p start w news late at s q there =
     some_same q l.asking.state
     (sym there ∙ (λ i. number (station i).system.ports (sender at.direction (channel i)).port) ∙ l.asking.there) in
     ap (λ (x : Port). is_capable x.peer) port
-    ∙ become_incapable at p change w news.world.sound news.world.known news.pace.requests one (omega (arith, soon, late))
+    ∙ become_incapable at p change w news.world.sound news.world.known news.pace.requests one
+    (omega (arith, soon, late))
 
 -- over each link that is up between two live systems, loses nothing and is good, what is told is heard
 abbrev pub AreHeard : SettlingParams → ℕ → WorldState → Type 0

@@ -51,7 +51,8 @@ use Rattle.gptp_settling_time.proofs.SettledSeenLemmas.{HasSettledSeen, IsSettle
 
 has_clock : (systems : List System) (s : System) → In s systems → stations_have_clock systems s.clock ≡ true
 has_clock [] s member = absurd member
-has_clock (first ∷ systems) s (inl same) = rw (eq-eqb first.clock s.clock (ap (λ (x : System). x.clock) (sym same))) refl
+has_clock (first ∷ systems) s (inl same) = rw (eq-eqb first.clock s.clock (ap (λ (x : System). x.clock) (sym same)))
+    refl
 has_clock (first ∷ systems) s (inr member) = by (first.clock == s.clock) (has_clock systems s member)
   where
     by : (b : Bool) → stations_have_clock systems s.clock ≡ true → (b || stations_have_clock systems s.clock) ≡ true
@@ -59,7 +60,8 @@ has_clock (first ∷ systems) s (inr member) = by (first.clock == s.clock) (has_
     by false has = has
 
 delay_alike : (systems others : List System)
-    → ((number : ℕ) → stations_have_clock others number ≡ stations_have_clock systems number) → (channels : List Channel)
+    → ((number : ℕ) → stations_have_clock others number ≡ stations_have_clock systems number) →
+    (channels : List Channel)
     → greatest_channel_delay others channels ≡ greatest_channel_delay systems channels
 delay_alike systems others each [] = refl
 delay_alike systems others each (first ∷ channels) =

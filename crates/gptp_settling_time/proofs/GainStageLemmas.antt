@@ -98,7 +98,8 @@ module _ (says : Spelling) (n n' : Network) (net : IsSettlingNetwork n) (net' : 
           bounded.1 far.0 (subst (λ c. IsDistance n.graph c far.0) (sym is.1) far.1) (ready.0.0 ∙ root) in
           let grown : d ≤ far.0 =
           nearer_now n.graph n'.graph net.graph net'.graph news v far.0 d old.0 best old.1 leads.is_best
-          (best_clock n.graph n'.graph net.graph net'.graph news v old.0 best old.1 leads.is_best root) far.1 leads.here in
+          (best_clock n.graph n'.graph net.graph net'.graph news v old.0 best old.1 leads.is_best root) far.1
+          leads.here in
           omega (arith, own, most, grown)
 
       led : LeadsFarther n.graph d old.0 v p u q

@@ -46,7 +46,8 @@ pub record IsToldAt (first start : ℕ) (at : LinkPlace) (w : WorldState) : Type
   pub one : IsOrderedAt first at w
   pub few : VariesLittle one.timely.link.channel
   pub other : IsTimelyAt first (opposite at) w
-  pub by : first + (link_setting at w one.timely.link).period + exchange_span (link_setting at w one.timely.link) < start
+  pub by : first + (link_setting at w one.timely.link).period + exchange_span (link_setting at w one.timely.link) <
+      start
 
 -- the port that asks is capable since it first asked
 pub record IsCapableSince (first : ℕ) (at : LinkPlace) (w : WorldState) : Type 0 where

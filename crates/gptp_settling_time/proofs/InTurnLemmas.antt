@@ -97,7 +97,8 @@ module _ (d : DocumentState) (events : List Timed) where
   after_act answers AnyPast t fate drawn w next was so = keeps_act d events answers t fate drawn w next was so
   after_act answers (Gained start) t fate drawn w next was so =
       news_act_to d events answers t fate drawn w next was start so
-  after_act answers (Heard start) t fate drawn w next was so = claimed_act d events start answers t fate drawn w next was so
+  after_act answers (Heard start) t fate drawn w next was so = claimed_act d events start answers t fate drawn w next
+      was so
 
 -- ---- an event is made
 
@@ -145,14 +146,19 @@ module _ {F : Type 0} (answers : Bounds → ℕ → F → Option ℕ → F → T
         let capable = up.capable in
         made_news answers d playable made event fate fate_after w w' done is fit k keeps sound
         (subst (TakesNothing n made) (sym up.act) tt) start next claim.news.ready claim.news.silent
-        (inr (omega (arith, early, capable), subst (LeavesCapable n made event next) (sym up.act) (up.live, up.capable)))
+        (inr (
+          omega (arith, early, capable),
+          subst (LeavesCapable n made event next) (sym up.act)
+              (up.live, up.capable),
+        ))
 
     pub brought_up : IsClaimedTo d more next w'
     brought_up = record {
       keeps = after;
       since = link_up_claimed p start next up.clock up.port then k.draws done w' claim on after.claim.world early soon
           came
-          (down_so n made then keeps_then.stands (port_id up.clock up.port) up.down came.1.place came.1.channel came.1.is)
+          (down_so n made then keeps_then.stands (port_id up.clock up.port) up.down came.1.place came.1.channel
+          came.1.is)
           (few_so n made then keeps_then.stands (port_id up.clock up.port) up.little came.1.place came.1.channel
           came.1.is)
           news_then;
@@ -227,7 +233,8 @@ module _ {F : Type 0} (answers : Bounds → ℕ → F → Option ℕ → F → T
     leads_to_heard (Gained start) next (settled, brings) so =
         let news = news_go_on p start event.at w k.ready.timely.now k.ready.timely.first so.news in
         let late : start + largest_interval p + pred (path_bound (snapshot_of then)) * delay_in then ≤ event.at =
-        subst (λ (x : SyncPaths). start + largest_interval p + pred x.systems * x.delay ≤ event.at) paths_then settled in
+        subst (λ (x : SyncPaths). start + largest_interval p + pred x.systems * x.delay ≤ event.at) paths_then
+        settled in
         let claim = news_claimed p start then news late in
         let on = news_on p start then news late in
         elim brings [
@@ -403,7 +410,8 @@ pub passed_in_turn : {F : Type 0} (answers : Bounds → ℕ → F → Option ℕ
     → (is : SettlesInTurn d until settled)
     → AreSteps answers (IsAfter d (events_by until d.events) is.last) (events_by until d.events) ts first
 passed_in_turn answers d until settled fate first w ts playable k is =
-    in_turn answers d playable (events_by until d.events) is.last until [] is.first (events_by until d.events) ts k.started
+    in_turn answers d playable (events_by until d.events) is.last until [] is.first (events_by until d.events) ts
+    k.started
     k.drawn first w refl (events_made d until playable.network playable.events) (events_fit d until playable) is.lead
     k.courses (begins_after answers d playable fate until first w ts k is.first is.begins)
     (begun_last answers d playable fate k.started first k.begun)
@@ -417,7 +425,8 @@ acts_find_settled_in_turn answers d until settled fate first w ts t playable k m
     let step = (passed_in_turn answers d now settled fate first run.w run.ts playable run.unfolds is).each t run.member
     later in
     let time = step.time in
-    let both = after_settles d playable all is.calm settled t.after (omega (arith, on, time)) is.last step.after is.settles
+    let both = after_settles d playable all is.calm settled t.after (omega (arith, on, time)) is.last step.after
+    is.settles
     in
     let keeps = after_keeps d all is.last t.after step.after in
     record {

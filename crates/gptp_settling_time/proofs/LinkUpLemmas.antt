@@ -266,7 +266,8 @@ module _ (p : SettlingParams) (start next owner port : ℕ) (w : WorldState) (dr
     -- so do the delays of the link vary now
     by_ends : (now : Channel) → slice_get w'.net.channels k.place ≡ Some now → VariesLittle now
     by_ends now here =
-        let (c, stands, same) = alike bare bare brought.net.channels w'.net.channels (sym keeps.links) k.place now here in
+        let (c, stands, same) = alike bare bare brought.net.channels w'.net.channels (sym keeps.links) k.place now
+        here in
         let raised_is : c ≡ new =
         same_Some c new (sym stands ∙ get-set_same w.net.channels k.place k.channel new k.is.here) in
         subst (λ (b : Bounds). b.max < 2 * b.min)
@@ -429,7 +430,8 @@ module _ (p : SettlingParams) (start next owner port : ℕ) (w : WorldState) (dr
             at.station at.here (ap (λ (x : SeenStation). x.live) (sym at.is) ∙ live)
             (ap (λ (x : SeenStation). x.clock) (sym at.is) ∙ named ∙ ap (λ (x : PortIdentity). x.clock) (sym begins)) pp
             its.port (ap (λ (x : PortIdentity). x.port) begins) its.port_there in
-            let shown = (world.sound.on_time.stations (clock_place w.stations v) at.station at.here).steady.shown.each pp
+            let shown = (world.sound.on_time.stations (clock_place w.stations v) at.station
+            at.here).steady.shown.each pp
             its.held its.port its.held_there its.port_there in
             absurd (ready.1 (ap (λ (x : SeenPort). x.held) its.is
             ∙ ap (held_view (span_at state)) (shown.off (unmeasured_off its.port.peer un))))

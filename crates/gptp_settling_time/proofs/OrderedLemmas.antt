@@ -189,7 +189,8 @@ module _ (at : LinkPlace) (first : ℕ) (w w' : WorldState) (x : IsTimelyAt firs
     abbrev from : ℕ
     from = first + k.period + least_exchange k least
 
-    unfoldable pub order_acted : ((f : LaneFrame) → In f m'.pair.back → tells f.octets → In f m.pair.back ⊎ (from ≤ w.time))
+    unfoldable pub order_acted : ((f : LaneFrame) → In f m'.pair.back → tells f.octets → In f m.pair.back ⊎
+        (from ≤ w.time))
         → (VariesLittle x.link.channel → IsOrdered k tells reads_as_reply first m.pair.asker m.pair.back)
         → IsOrderedAt first at w'
     unfolding timely_acted
@@ -246,7 +247,8 @@ module _ (p : SettlingParams) (first : ℕ) (act : Act) (w : WorldState) (draws 
     told_late : BeginsAtMaster (view w') (lane_view back_way after.channel)
         → from at first w w' x (link_seen at x.link) ≤ w.time
     told_late master =
-        let port = master_capable w' (λ place station here. (is'.sound.on_time.stations place station here).steady.shown)
+        let port = master_capable w' (λ place station here.
+        (is'.sound.on_time.stations place station here).steady.shown)
         (lane_view back_way after.channel) master in
         let z : IsTimelyAt first (opposite at) w' = timely_on (opposite at) y in
         let e = z.link.asking in
@@ -293,17 +295,20 @@ module _ (p : SettlingParams) (first : ℕ) (act : Act) (w : WorldState) (draws 
         let now : In seen_frame (lane_view back_way after.channel).frames =
         In-map frame_view frame (world_queue back_way after.channel) among in
         elim (acted says_announce place seen_frame a (subst (λ (o : List ℕ). says_announce o a) octets said) (view w)
-        (view w') (choices.acts_seen act w draws done w' none is.sound is.encodable acts) (lane_view back_way after.channel)
+        (view w') (choices.acts_seen act w draws done w' none is.sound is.encodable acts)
+        (lane_view back_way after.channel)
         (lane_there w'.net.channels at.link back_way after.channel after.here) now) [
           | inl was ↦ inl (old frame same was)
           | inr master ↦ inr (told_late master)
         ]
       where
-        old : (frame : Frame) → link_frame_view frame ≡ f → WasOnLane (view w) (lane_place at.link back_way) (frame_view frame)
+        old : (frame : Frame) → link_frame_view frame ≡ f → WasOnLane (view w) (lane_place at.link back_way)
+            (frame_view frame)
             → In f (pair at w x.link).back
         old frame same was =
             let lane : was.lane ≡ lane_view back_way x.link.channel =
-            same_there (view w).lanes (lane_place at.link back_way) was.lane (lane_view back_way x.link.channel) was.there
+            same_there (view w).lanes (lane_place at.link back_way) was.lane (lane_view back_way x.link.channel)
+            was.there
             (lane_there w.net.channels at.link back_way x.link.channel x.link.here) in
             let (g, g_in, g_same) = from_map frame_view (frame_view frame) (world_queue back_way x.link.channel)
             (subst (λ (l : Lane). In (frame_view frame) l.frames) lane was.among) in

@@ -389,9 +389,11 @@ module _ (p : SettlingParams) (w : WorldState) (is : IsWorld p w) (place : ℕ) 
           → IsUnmeasured q.peer
       after_call direction at u u' draws answer same c stands named i q numbered there =
           let port = (sender direction channel).port in
-          let (old, stood, part) = steps_measure (PortUp port) u.time c.station.system c.after c.sends answer c.steps i q
+          let (old, stood, part) = steps_measure (PortUp port) u.time c.station.system c.after c.sends answer c.steps
+          i q
           there in
-          let un = unmeasured_at p w is place channel here down direction at c.station stands c.live named i old numbered
+          let un = unmeasured_at p w is place channel here down direction at c.station stands c.live named i old
+          numbered
           stood in
           subst IsUnmeasured (ap (λ (x : Part). x.peer) (sym part))
           (part_unmeasured c.station.system u.time port (suc i) (measure_at old) un)
@@ -434,7 +436,8 @@ module _ (p : SettlingParams) (w : WorldState) (is : IsWorld p w) (place : ℕ) 
               let now = stands_a answer c in
               let place_is : at ≡ k.place_a =
               own at k.place_a station (in_state c.after c.station) stands now
-              (named ∙ sym (same_call_clock k.place_a channel.a.port v k.first answer k.between c ∙ named_a answer c)) in
+              (named ∙ sym (same_call_clock k.place_a channel.a.port v k.first answer k.between c ∙ named_a answer
+              c)) in
               let one : station ≡ in_state c.after c.station =
               same_Some station (in_state c.after c.station) (sym stands ∙ ap (slice_get w'.stations) place_is ∙ now) in
               after_call FromA k.place_a v k.between k.first answer refl c c.here (named_a answer c) i q numbered

@@ -56,7 +56,8 @@ lives_set (first ∷ stations) zero old new here live same number =
     rw lives (by first.live named)
   where
     by : (b : Bool) → clock new.system ≡ clock first.system
-        → stations_have_clock (if b then standing_system new ∷ live_stations stations else live_stations stations) number
+        → stations_have_clock (if b then standing_system new ∷ live_stations stations else live_stations stations)
+        number
         ≡ stations_have_clock (if b then standing_system first ∷ live_stations stations else live_stations stations)
         number
     by true named = rw named refl

@@ -113,10 +113,12 @@ module _ (p : SettlingParams) (w : WorldState) (claim : KeepsAll p w) (sound : I
           → LinkSettles says_announce (wiring n d best v pp u q) (view w)
       level d best v pp u q near leads from pv pu l stand ready =
           inr (inr (stays_so says_announce quick n same d best best v pp u q refl pv.announce pu.held l.frames
-          (links_stay says_announce quick net (view w) calm invariant (omega (arith, late)) d best v pp u q near leads pv
+          (links_stay says_announce quick net (view w) calm invariant (omega (arith, late)) d best v pp u q near
+          leads pv
           pu l (before d best v pp u q pv pu l stand))))
         where
-          before : (d : ℕ) (best : System) (v pp u q : ℕ) (pv pu : Port) (l : Lane) → Stand (wiring n d best v pp u q) (view w) pv pu l
+          before : (d : ℕ) (best : System) (v pp u q : ℕ) (pv pu : Port) (l : Lane) → Stand
+              (wiring n d best v pp u q) (view w) pv pu l
               → Stand (wiring quick d best v pp u q) (view w) pv pu l
           before d best v pp u q pv pu l stand = record {
             v = stand.v;

@@ -44,7 +44,8 @@ starts_passed answers d until fate first w ts playable k is t member =
     let start = exchanged_from p (sync_paths d.network []) 0 in
     let course = subst (λ es. Courses answers until es ts k.started k.drawn first w) is.none k.courses in
     let passed = passes_to answers (IsClaimedTo d [] start) (claimed_later d [] start)
-    (λ t one drawn v next was so. claimed_act d [] start answers t one drawn v next was so) until ts k.started k.drawn first w
+    (λ t one drawn v next was so. claimed_act d [] start answers t one drawn v next was so) until ts k.started
+    k.drawn first w
     course (begun_claimed answers d playable fate k.started first k.begun start (omega arith) is.little) in
     passed.each t member
 

@@ -97,11 +97,13 @@ module _ (place p : ℕ) (w : WorldState) (draws : List Draw) (answer : Answer) 
 
   called_unmeasured : HasMeasuredNothing called
   called_unmeasured i q' there =
-      let (q, here, part) = steps_measure (PortUp p) w.time k.station.system k.after k.sends answer k.steps i q' there in
+      let (q, here, part) = steps_measure (PortUp p) w.time k.station.system k.after k.sends answer k.steps i q'
+      there in
       let peer : q'.peer ≡ (only_at p (part_asked k.station.system w.time reset_peer) (suc i) (measure_at q)).peer =
       ap (λ (x : Part). x.peer) part in
       subst IsUnmeasured (sym peer)
-      (part_unmeasured k.station.system w.time p (suc i) (measure_at q) (untold.measured place k.station k.here i q here))
+      (part_unmeasured k.station.system w.time p (suc i) (measure_at q)
+      (untold.measured place k.station k.here i q here))
 
   stations : (other : ℕ) (station : Station) → slice_get w'.stations other ≡ Some station
       → HasMeasuredNothing station

@@ -57,7 +57,8 @@ times_below time events = filter (λ t. nat_lt t time) (with_times events (0 ∷
 pub record WidensQuietly (n : NetworkState) (made : List Timed) (least greatest loss : ℕ) (v : LinkSpec) : Type 0 where
   pub used : IsUsed n.systems made (link_after made v)
   pub quiet : IsQuiet n.params.turnaround n.params.threshold (link_after made v)
-  pub still : IsQuiet n.params.turnaround n.params.threshold (member_with_bounds least greatest loss (link_after made v))
+  pub still : IsQuiet n.params.turnaround n.params.threshold
+      (member_with_bounds least greatest loss (link_after made v))
   pub wider : (link_after made v).bounds.max ≤ greatest
 
 -- the system of this clock has failed, or a priority1 of this value leaves its identity as it is

@@ -2,12 +2,13 @@
 --
 -- After some events of a document its network came from *any past*; or it has *gained* only, since it started or had
 -- rested, and its ports at links are capable from a start on; or the same is so and all that is told over its links is
--- *heard*, so that no announce interval has to pass. An event leads from one to another (`Leads`). It may always lead to
+-- *heard*, so that no announce interval has to pass. An event leads from one to another (`Leads`). It may always
+-- lead to
 -- any past. To a gain it leads where it takes nothing away. And it leads to what is heard where the network has settled
--- and it brings up a link between live systems, or sets a better priority1. Where the delay of that link varies little the first
--- Announce over it comes to a port that is capable already, and a system that gets better tells so at once. Where all was
--- heard before, links may also come up one after another, as soon as ports are capable; and what changes nothing asks
--- for no time at all.
+-- and it brings up a link between live systems, or sets a better priority1. Where the delay of that link varies little
+-- the first Announce over it comes to a port that is capable already, and a system that gets better tells so at once.
+-- Where all was heard before, links may also come up one after another, as soon as ports are capable; and what changes
+-- nothing asks for no time at all.
 use Rattle.std.specs.Prelude.{◌≡◌, ◌<◌, ◌≤◌, ◌⊎◌, ◌+◌, ◌*◌, ℕ, ⊤, pred, List, [], ◌∷◌, ◌++◌, Option, Some, slice_get}
 use Rattle.gptp_lists.specs.Members.{In}
 use Rattle.gptp_vector.specs.declared.port.PortId.{PortId}
@@ -47,7 +48,8 @@ VariesLittleAfter n events port = (place : ℕ) (v : LinkSpec) → slice_get n.l
     → IsEnd port (link_after events v)
     → (link_after events v).bounds.max < 2 * (link_after events v).bounds.min
 
--- After these events this one brings up a link that is down, between two systems that live; its delay varies little. Its
+-- After these events this one brings up a link that is down, between two systems that live; its delay varies little.
+-- Its
 -- ports are capable from the next time on.
 pub record BringsUp (n : NetworkState) (before : List Timed) (event : Timed) (next : ℕ) : Type 0 where
   pub clock : ℕ
@@ -126,7 +128,8 @@ abbrev pub SettlesAfter : NetworkState → List Timed → Past → ℕ → Type 
 SettlesAfter n events AnyPast settled =
     (NothingLapses n.params
     × (last_change events + settling_span_at_once (pace_of n) (sync_paths n events) ≤ settled))
-    ⊎ (last_change events + settling_span_with (pace_of n) (sync_paths n events) (sync_paths n events).systems ≤ settled)
+    ⊎ (last_change events + settling_span_with (pace_of n) (sync_paths n events) (sync_paths n events).systems ≤
+    settled)
 SettlesAfter n events (Gained start) settled = SettlesBy (pace_of n) (sync_paths n events) start settled
 SettlesAfter n events (Heard start) settled =
     NothingLapses n.params
