@@ -20,7 +20,7 @@ use Rattle.gptp_network.specs.Snapshot.{events_by}
 use Rattle.gptp_invariants.specs.WorldEncodableLaws.{SetsAnOctet}
 use Rattle.gptp_theorem.specs.PlayedLaws.{IsPlayable}
 use Rattle.gptp_settling_time.specs.Gains.{IsDownAfter, JoinsLive, exchanged_from}
-use Rattle.gptp_settling_time.specs.InTurn.{ActsFindSettledInTurn, AnyPast, BringsUp, HasSettledAnyhow, Heard, LeadOn, SettlesAfter, SettlesInTurn, VariesLittleAfter}
+use Rattle.gptp_settling_time.specs.InTurn.{ActsFindSettledInTurn, AnyPast, BringsUp, HasSettledAnyhow, Heard, LeadOn, SettlesAfter, SettlesByEvents, VariesLittleAfter}
 use Rattle.gptp_network_tests.specs.Pair.{end_station, first_member, pair_network, pair_pace, pair_paths, second_member}
 use Rattle.gptp_network_tests.specs.Soon.{LinksSettleSoon, back_document}
 use Rattle.gptp_network_tests.proofs.PairLemmas.{pace_is}
@@ -120,7 +120,7 @@ settled_down = record {
       (omega arith));
 }
 
-settles : (until : ℕ) → events_by until events ≡ events → SettlesInTurn back_document until 21000002501
+settles : (until : ℕ) → events_by until events ≡ events → SettlesByEvents back_document until 21000002501
 settles until same = record {
   calm = subst (IsCalm pair_network) (sym same) (record { links = rest_up; lapses = inl refl });
   first = AnyPast;

@@ -19,7 +19,7 @@ use Rattle.gptp_network.specs.Snapshot.{events_by}
 use Rattle.gptp_invariants.specs.WorldEncodableLaws.{SetsAnOctet}
 use Rattle.gptp_theorem.specs.PlayedLaws.{IsPlayable}
 use Rattle.gptp_settling_time.specs.Gains.{AllLiveAfter, IsNoWorse, exchanged_from}
-use Rattle.gptp_settling_time.specs.InTurn.{ActsFindSettledInTurn, BettersClock, Heard, LeadOn, SettlesAfter, SettlesInTurn}
+use Rattle.gptp_settling_time.specs.InTurn.{ActsFindSettledInTurn, BettersClock, Heard, LeadOn, SettlesAfter, SettlesByEvents}
 use Rattle.gptp_settling_time.specs.Starts.{LinksVaryLittle}
 use Rattle.gptp_network_tests.specs.Pair.{end_station, first_member, pair_network, pair_pace, pair_paths, second_member}
 use Rattle.gptp_network_tests.specs.Soon.{BetterClocksSettleSoon, better_document}
@@ -91,7 +91,7 @@ better = record {
 }
 
 -- it settles by then, by its one event
-settles : (until : ℕ) → events_by until events ≡ events → SettlesInTurn better_document until 2000000501
+settles : (until : ℕ) → events_by until events ≡ events → SettlesByEvents better_document until 2000000501
 settles until same = record {
   calm = subst (IsCalm pair_network) (sym same) calm;
   first = Heard 1000002001;

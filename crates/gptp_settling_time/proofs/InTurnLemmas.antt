@@ -50,7 +50,7 @@ use Rattle.gptp_theorem.proofs.SnapshotLemmas.{snapshots_stand}
 use Rattle.gptp_theorem.proofs.SyncPathLemmas.{paths_stand}
 use Rattle.gptp_settling_time.specs.Exactly.{SettlesBy}
 use Rattle.gptp_settling_time.specs.Gains.{ChangesNothing, IsIdleAfter, LeavesCapable, TakesNothing}
-use Rattle.gptp_settling_time.specs.InTurn.{ActsFindSettledInTurn, AnyPast, BeginsBy, BettersClock, BringsUp, Gained, Heard, LeadOn, Leads, Past, SettlesAfter, SettlesInTurn}
+use Rattle.gptp_settling_time.specs.InTurn.{ActsFindSettledInTurn, AnyPast, BeginsBy, BettersClock, BringsUp, Gained, Heard, LeadOn, EventLeads, Past, SettlesAfter, SettlesByEvents}
 use Rattle.gptp_settling_time.proofs.AlwaysClaimedLemmas.{IsClaimedAlways, since_later}
 use Rattle.gptp_settling_time.proofs.BegunLemmas.{begun_keeps, begun_last, begun_news, rested_sound}
 use Rattle.gptp_settling_time.proofs.ClaimedToLemmas.{IsClaimedTo, claimed_act, claimed_later, claimed_settled}
@@ -213,7 +213,7 @@ module _ {F : Type 0} (answers : Bounds → ℕ → F → Option ℕ → F → T
       }
 
   module _ (moment : w.time ≡ event.at) where
-    leads_to_heard : (past : Past) (next : ℕ) → Leads n made past event (Heard next) → IsAfter d made past w
+    leads_to_heard : (past : Past) (next : ℕ) → EventLeads n made past event (Heard next) → IsAfter d made past w
         → IsClaimedTo d more next w'
     leads_to_heard AnyPast next (settled, brings) so =
         let passed = settled.passed in
@@ -259,7 +259,7 @@ module _ {F : Type 0} (answers : Bounds → ℕ → F → Option ℕ → F → T
         subst (λ time. IsClaimedTo d more time w') (sym same)
         (left_so start (since_later p start event.at w k.ready.timely.now k.ready.timely.first so.since) nothing)
 
-    leads_to_gain : (past : Past) (next : ℕ) → Leads n made past event (Gained next) → IsAfter d made past w
+    leads_to_gain : (past : Past) (next : ℕ) → EventLeads n made past event (Gained next) → IsAfter d made past w
         → IsNews p next w'
     leads_to_gain AnyPast next (nothing, (rested, (rest, anyway, capable))) so =
         let sound = rested_sound d made event.at w playable rested (omega (arith, moment)) keeps in
@@ -271,7 +271,8 @@ module _ {F : Type 0} (answers : Bounds → ℕ → F → Option ℕ → F → T
         news_news answers d playable made event fate fate_after w w' done is fit k start next
         (record { keeps = keeps; news = so.since.news }) nothing capable
 
-    pub leads_to : (past next : Past) → Leads n made past event next → IsAfter d made past w → IsAfter d more next w'
+    pub leads_to : (past next : Past) → EventLeads n made past event next → IsAfter d made past w
+        → IsAfter d more next w'
     leads_to past AnyPast leads so = after
     leads_to past (Gained next) leads so = record { keeps = after; news = leads_to_gain past next leads so }
     leads_to past (Heard next) leads so = leads_to_heard past next leads so
@@ -407,7 +408,7 @@ begins_after answers d playable fate until first w ts k (Heard start) (little, b
 pub passed_in_turn : {F : Type 0} (answers : Bounds → ℕ → F → Option ℕ → F → Type 0) (d : DocumentState)
     (until settled : ℕ)
     (fate : F) (first w : WorldState) (ts : List ActTrace) → IsPlayable d → Unfolds answers d until fate first ts w
-    → (is : SettlesInTurn d until settled)
+    → (is : SettlesByEvents d until settled)
     → AreSteps answers (IsAfter d (events_by until d.events) is.last) (events_by until d.events) ts first
 passed_in_turn answers d until settled fate first w ts playable k is =
     in_turn answers d playable (events_by until d.events) is.last until [] is.first (events_by until d.events) ts

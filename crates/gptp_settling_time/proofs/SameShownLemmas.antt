@@ -34,7 +34,8 @@ use Rattle.gptp_invariants.specs.WorldStanding.{snapshot_of, standing_system}
 use Rattle.gptp_invariants.proofs.WorldStandsLemmas.{stands_well}
 use Rattle.gptp_invariants.proofs.WorldSystemLemmas.{live_from, live_there}
 use Rattle.gptp_setup.specs.SettlingParams.{SettlingParams}
-use Rattle.gptp_settling_time.specs.Unchanged.{AllAreNear, LeavesShown, ShowsSameChoice, ShowsSameRoles}
+use Rattle.gptp_bmca_machine.specs.SoundLaws.{AllAreNear}
+use Rattle.gptp_settling_time.specs.Unchanged.{LeavesShown, ShowsSameChoice, ShowsSameRoles}
 
 -- ---- what is settled is one thing
 

@@ -12,7 +12,8 @@ use Rattle.gptp_invariants.specs.ChoiceSettled.{Settled}
 use Rattle.gptp_invariants.specs.ChoiceSettlesAsMachine.{IsWorld}
 use Rattle.gptp_invariants.specs.WorldStanding.{snapshot_of}
 use Rattle.gptp_invariants.proofs.ChoiceCalmKeptLemmas.{acts_keep, same_snapshot}
-use Rattle.gptp_settling_time.specs.Unchanged.{AllAreNear, LeavesShown}
+use Rattle.gptp_bmca_machine.specs.SoundLaws.{AllAreNear}
+use Rattle.gptp_settling_time.specs.Unchanged.{LeavesShown}
 use Rattle.gptp_settling_time.proofs.PassLemmas.{IsStep}
 use Rattle.gptp_settling_time.proofs.SameShownLemmas.{leaves_shown}
 

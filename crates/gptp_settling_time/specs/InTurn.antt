@@ -2,7 +2,7 @@
 --
 -- After some events of a document its network came from *any past*; or it has *gained* only, since it started or had
 -- rested, and its ports at links are capable from a start on; or the same is so and all that is told over its links is
--- *heard*, so that no announce interval has to pass. An event leads from one to another (`Leads`). It may always
+-- *heard*, so that no announce interval has to pass. An event leads from one to another (`EventLeads`). It may always
 -- lead to
 -- any past. To a gain it leads where it takes nothing away. And it leads to what is heard where the network has settled
 -- and it brings up a link between live systems, or sets a better priority1. Where the delay of that link varies little
@@ -102,16 +102,16 @@ LeadsToHeard n before (Heard start) event next =
     ⊎ ((HasSettledHeard n before start event.at × BettersClock n before event next)
     ⊎ (ChangesNothing n before event.act × (next ≡ start)))
 
-abbrev pub Leads : NetworkState → List Timed → Past → Timed → Past → Type 0
-Leads n before past event AnyPast = ⊤
-Leads n before past event (Gained next) = TakesNothing n before event.act × LeadsToGain n before past event next
-Leads n before past event (Heard next) = LeadsToHeard n before past event next
+abbrev pub EventLeads : NetworkState → List Timed → Past → Timed → Past → Type 0
+EventLeads n before past event AnyPast = ⊤
+EventLeads n before past event (Gained next) = TakesNothing n before event.act × LeadsToGain n before past event next
+EventLeads n before past event (Heard next) = LeadsToHeard n before past event next
 
 -- each event leads from one to the next
 abbrev pub LeadOn : NetworkState → List Timed → Past → List Timed → Past → Type 0
 LeadOn n before past [] last = last ≡ past
 LeadOn n before past (event ∷ events) last =
-    (next : Past) × Leads n before past event next × LeadOn n (before ++ event ∷ []) next events last
+    (next : Past) × EventLeads n before past event next × LeadOn n (before ++ event ∷ []) next events last
 
 -- ---- a document
 
@@ -136,7 +136,7 @@ SettlesAfter n events (Heard start) settled =
     × (start + pred (sync_paths n events).systems * (sync_paths n events).delay ≤ settled)
 
 -- A document settles by a time after its events up to another, one after another.
-pub record SettlesInTurn (d : DocumentState) (until settled : ℕ) : Type 0 where
+pub record SettlesByEvents (d : DocumentState) (until settled : ℕ) : Type 0 where
   pub calm : IsCalm d.network (events_by until d.events)
   pub first : Past
   pub begins : BeginsBy d.network first
@@ -149,6 +149,6 @@ abbrev pub ActsFindSettledInTurn : {F : Type 0} → (Bounds → ℕ → F → Op
 ActsFindSettledInTurn {F} answers = (d : DocumentState) (until settled : ℕ) (fate : F) (first w : WorldState)
     (ts : List ActTrace) (t : ActTrace)
     → IsPlayable d → Unfolds answers d until fate first ts w → In t ts
-    → SettlesInTurn d t.told.timed.at settled → settled ≤ t.told.timed.at
+    → SettlesByEvents d t.told.timed.at settled → settled ≤ t.told.timed.at
     → last_change (events_by t.told.timed.at d.events) < t.told.timed.at
     → IsSettledAs d t.told.timed.at t.after

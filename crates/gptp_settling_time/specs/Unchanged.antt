@@ -2,10 +2,9 @@
 -- its Slave port, nor as to role and capability of a port.
 use Rattle.std.specs.Prelude.{◌≡◌, ◌<◌, ℕ, List, Option}
 use Rattle.gptp_lists.specs.Members.{In}
-use Rattle.gptp_graph.specs.Distance.{IsNear}
-use Rattle.gptp_graph.specs.Snapshot.{Snapshot, clocks}
 use Rattle.gptp_links.specs.declared.bounds.Bounds.{Bounds}
 use Rattle.gptp_scenario.specs.Calm.{last_change}
+use Rattle.gptp_bmca_machine.specs.SoundLaws.{AllAreNear}
 use Rattle.gptp_system.specs.Start.{role_at}
 use Rattle.gptp_system.specs.State.{SystemState, is_capable_at}
 use Rattle.gptp_system.specs.Steps.{HasPortNumber}
@@ -16,7 +15,7 @@ use Rattle.gptp_network.specs.Snapshot.{events_by}
 use Rattle.gptp_report.specs.Transitions.{ActTrace, Unfolds}
 use Rattle.gptp_invariants.specs.WorldStanding.{snapshot_of}
 use Rattle.gptp_theorem.specs.PlayedLaws.{IsPlayable}
-use Rattle.gptp_settling_time.specs.InTurn.{SettlesInTurn}
+use Rattle.gptp_settling_time.specs.InTurn.{SettlesByEvents}
 
 -- two states of a system show the same choice: root, steps and Slave port
 pub record ShowsSameChoice (s s' : SystemState) : Type 0 where
@@ -44,16 +43,13 @@ pub record LeavesShown (w w' : WorldState) : Type 0 where
   pub stays : (number : ℕ) (s : SystemState) → ShowsLive number w s → LivesOnTheSame number s w'
   pub comes : (number : ℕ) → LivesIn number w' → LivesIn number w
 
--- every live system is near
-abbrev pub AllAreNear : Snapshot → Type 0
-AllAreNear g = (number : ℕ) → In number (clocks g) → IsNear g number
-
 -- No act of a run leaves a system another by whose time the document has settled, and which is later than the events
 -- up to then, where every live system is near.
 abbrev pub ActsLeaveShown : {F : Type 0} → (Bounds → ℕ → F → Option ℕ → F → Type 0) → Type 0
 ActsLeaveShown {F} answers = (d : DocumentState) (until : ℕ) (fate : F) (first w : WorldState) (ts : List ActTrace)
     (t : ActTrace)
-    → IsPlayable d → Unfolds answers d until fate first ts w → In t ts → SettlesInTurn d t.told.timed.at t.told.timed.at
+    → IsPlayable d → Unfolds answers d until fate first ts w → In t ts
+    → SettlesByEvents d t.told.timed.at t.told.timed.at
     → last_change (events_by t.told.timed.at d.events) < t.told.timed.at
     → AllAreNear (snapshot_of t.after)
     → LeavesShown t.before t.after
