@@ -3,3 +3,5 @@ mod ReadingLemmas
 mod HeardLemmas
 mod PairLemmas
 mod SoonLemmas
+pub mod BetterLemmas
+pub mod BackLemmas

@@ -1,5 +1,5 @@
 -- The world of two systems has settled soon after they began.
-use Rattle.std.proofs.Common.{◌≡◌, ◌≤◌, ℕ, List, [], Option, Some, None, refl, sym, ap, subst, ◌∙◌, inl, arith}
+use Rattle.std.proofs.Common.{◌≡◌, ◌<◌, ◌≤◌, ◌+◌, ◌*◌, ℕ, pred, List, [], Option, Some, None, refl, sym, ap, subst, ◌∙◌, inl, inr, arith}
 use Rattle.std.specs.Prelude.{IfNone, IfSome}
 use Rattle.gptp_model.specs.Acts.{AtSystem}
 use Rattle.gptp_model.specs.Advancing.{Advanced, Told}
@@ -10,21 +10,23 @@ use Rattle.gptp_graph.specs.PathBound.{BoundsPaths}
 use Rattle.gptp_graph.specs.SettledChoice.{IsBestIdentity}
 use Rattle.gptp_invariants.specs.ChoiceCalm.{delay_in}
 use Rattle.gptp_invariants.specs.WorldSettlingInvariant.{SettlingInvariant}
-use Rattle.gptp_invariants.specs.WorldNewsCourse.{HasSettledBy, capable_from}
+use Rattle.gptp_invariants.specs.WorldNewsCourse.{capable_from}
 use Rattle.gptp_invariants.specs.WorldStanding.{snapshot_of}
 use Rattle.gptp_links.specs.declared.bounds.Bounds.{Bounds}
-use Rattle.gptp_lists.proofs.SystemSpecLemmas.{slice_get-In}
+use Rattle.gptp_lists.proofs.MappedLemmas.{alike}
+use Rattle.gptp_lists.proofs.SystemSpecLemmas.{In-slice_get, slice_get-In}
+use Rattle.gptp_scenario.specs.Change.{link_after}
+use Rattle.gptp_scenario.specs.declared.network.LinkSpec.{LinkSpec}
 use Rattle.gptp_scenario.specs.Network.{pace_of}
 use Rattle.gptp_scenario.specs.SyncWait.{sync_paths}
 use Rattle.gptp_scenario.specs.declared.sync_wait.SyncPaths.{SyncPaths}
 use Rattle.gptp_theorem.specs.Headline.{WorldIsCalm}
-use Rattle.gptp_theorem.specs.Soon.{StartsSettle}
+use Rattle.gptp_theorem.specs.Reached.{channel_wire}
 use Rattle.gptp_theorem.proofs.CalmLemmas.{pace_stands, quiet_stands}
 use Rattle.gptp_theorem.proofs.SyncPathLemmas.{paths_stand}
 use Rattle.gptp_bmca_machine.specs.Settled.{IsSlaveOf}
 use Rattle.gptp_setup.specs.SettlingParams.{SettlingParams}
-use Rattle.gptp_settling_time.specs.Documents.{ActsFindSettled, SettlesSoon}
-use Rattle.gptp_settling_time.specs.Exactly.{SettlesBy}
+use Rattle.gptp_settling_time.specs.Starts.{DelaysVaryLittle, DocumentsStartAtOnce, LinksVaryLittle, StartsBy, StartsSettleAtOnce}
 use Rattle.gptp_settling_time.specs.Gains.{exchanged_from}
 use Rattle.gptp_system.specs.State.{clock}
 use Rattle.gptp_network_tests.specs.Pair.{HasBegun, IsPairAt, first_member, pair_document, pair_network, pair_pace, pair_snapshot}
@@ -32,11 +34,16 @@ use Rattle.gptp_network_tests.specs.Soon.{IsPairSoon, RunsOfTwoSettleSoon}
 use Rattle.gptp_network_tests.proofs.ExactLemmas.{playable}
 use Rattle.gptp_network_tests.proofs.PairLemmas.{bounded, calm as is_calm, comes_to, lives, near, pace_is, paths_are, root_is, slave_is, steps_are}
 
-module _ {F : Type 0} (answers : Bounds → ℕ → F → Option ℕ → F → Type 0) (theorem : StartsSettle answers)
+-- the frames of their link take 500 ns
+few : LinksVaryLittle pair_network []
+few v (inl same) = subst (λ (x : LinkSpec). x.bounds.max < 2 * x.bounds.min) (sym same) (omega arith)
+few v (inr none) = absurd none
+
+module _ {F : Type 0} (answers : Bounds → ℕ → F → Option ℕ → F → Type 0) (theorem : StartsSettleAtOnce answers)
     (fate fate_after : F) (told : List Told) (start w : WorldState) (k : HasBegun answers fate start)
-    (advanced : Advanced answers 2000002501 told fate fate_after start w) (claimed : SettlingInvariant w) where
-  there : IsPairAt 2000002501 w
-  there = comes_to answers fate fate_after told 2000002501 start w k advanced claimed
+    (advanced : Advanced answers 1000002501 told fate fate_after start w) (claimed : SettlingInvariant w) where
+  there : IsPairAt 1000002501 w
+  there = comes_to answers fate fate_after told 1000002501 start w k advanced claimed
 
   calm : WorldIsCalm (pace_of pair_network) w
   calm =
@@ -54,25 +61,33 @@ module _ {F : Type 0} (answers : Bounds → ℕ → F → Option ℕ → F → T
       ap (λ (x : SyncPaths). x.delay)
       (sym (paths_stand pair_network [] w k.network there.since.stands claimed.is.world.sound) ∙ paths_are)
 
-  time : w.time ≡ 2000002501
+  time : w.time ≡ 1000002501
   time = ap (λ (v : WorldState). v.time) advanced.is
 
-  late : HasSettledBy pair_pace 2 (capable_from pair_pace w 0) w
-  late = let one = delay in let now = time in inl (refl, omega (arith, one, now))
+  late : capable_from pair_pace w 0 + 1 * delay_in w ≤ w.time
+  late = let one = delay in let now = time in omega (arith, one, now)
+
+  -- every frame takes as long
+  little : DelaysVaryLittle w
+  little link channel here used =
+      let (v, there, same) = alike (link_after []) channel_wire pair_network.links w.net.channels
+      (sym there.since.stands.links) link channel here in
+      subst (λ (b : Bounds). b.max < 2 * b.min) (ap (λ (x : LinkSpec). x.bounds) same) (few v (In-slice_get v
+      pair_network.links link there))
 
   pub soon : IsPairSoon w
   soon = record {
     at = there;
-    settled = (theorem pair_network k.before fate fate_after 2000002501 2 told start w k.network k.begun advanced calm
-        (subst (λ g. BoundsPaths g 2) (sym there.snapshot) bounded)
-        (subst (λ p. HasSettledBy p 2 (capable_from p w 0) w) (sym pace_is) late)).tree.settled;
+    settled = (theorem pair_network k.before fate fate_after 1000002501 2 told start w k.network k.begun advanced calm
+        refl little (subst (λ g. BoundsPaths g 2) (sym there.snapshot) bounded)
+        (subst (λ p. capable_from p w 0 + 1 * delay_in w ≤ w.time) (sym pace_is) late)).tree.settled;
   }
 
 -- the second is found, and follows the first
 pub followed_soon : (w : WorldState) (number : ℕ) (found : Option (ℕ × ℕ × Option ℕ)) → number ≡ 2 → IsPairSoon w
     → IfSome found (λ f. AtSystem number w (FollowsRoot f.0 f.1 f.2))
     → IfNone found (AtSystem number w IsLiveSystem → ⊥) → found ≡ Some (first_member, 1, Some 1)
-followed_soon w number None named k some none = absurd (none (lives 2000002501 w number named k.at))
+followed_soon w number None named k some none = absurd (none (lives 1000002501 w number named k.at))
 followed_soon w number (Some (root, steps, port)) named k some none =
     let own : clock some.station.system ≡ 2 = some.is.named ∙ named in
     let close : IsNear (snapshot_of w) (clock some.station.system) =
@@ -99,21 +114,20 @@ followed_soon w number (Some (root, steps, port)) named k some none =
 -- ---- a run of their document
 
 -- it settles by then at each time
-settles : (until : ℕ) → SettlesSoon pair_document until 1000002001 2000002501
+settles : (until : ℕ) → StartsBy pair_document until 1000002501
 settles until = record {
+  none = refl;
   calm = is_calm;
-  gained = inl (record { nothing = tt; begun = 1000002001; first = first_by; capable = refl });
-  settles = subst (λ (p : SettlingParams). SettlesBy p (sync_paths pair_network []) 1000002001 2000002501) (sym pace_is)
-      (subst (λ paths. SettlesBy pair_pace paths 1000002001 2000002501) (sym paths_are) (inl (refl, omega arith)));
+  nothing = refl;
+  little = few;
+  settles = subst (λ (p : SettlingParams). exchanged_from p (sync_paths pair_network []) 0
+      + pred (sync_paths pair_network []).systems * (sync_paths pair_network []).delay ≤ 1000002501) (sym pace_is)
+      (subst (λ (paths : SyncPaths). exchanged_from pair_pace paths 0 + pred paths.systems * paths.delay ≤ 1000002501)
+      (sym paths_are) (omega arith));
 }
-  where
-    first_by : exchanged_from (pace_of pair_network) (sync_paths pair_network []) 0 ≤ 1000002001
-    first_by =
-        subst (λ (p : SettlingParams). exchanged_from p (sync_paths pair_network []) 0 ≤ 1000002001) (sym pace_is)
-        (subst (λ paths. exchanged_from pair_pace paths 0 ≤ 1000002001) (sym paths_are) (omega arith))
 
-pub runs_settle_soon : {F : Type 0} (answers : Bounds → ℕ → F → Option ℕ → F → Type 0) → ActsFindSettled answers
+pub runs_settle_soon : {F : Type 0} (answers : Bounds → ℕ → F → Option ℕ → F → Type 0) → DocumentsStartAtOnce answers
     → RunsOfTwoSettleSoon answers
 runs_settle_soon answers theorem until fate start w ts t network unfolds member on =
-    (theorem pair_document until 1000002001 2000002501 fate start w ts t (playable network) unfolds member
-    (settles t.told.timed.at) on (omega (arith, on))).settled
+    (theorem pair_document until 1000002501 fate start w ts t (playable network) unfolds (settles until) member
+    on).settled

@@ -3,26 +3,25 @@
 
 ghost use Rattle.std.specs.Prelude.{◌≡◌, IfOk, OnOk, Some};
 ghost use Rattle.gptp_network_tests.specs.Pair.{HasBegun, first_member};
-ghost use Rattle.gptp_network_tests.specs.Soon.{IsPairSoon, RunsOfTwoSettleSoon};
+ghost use Rattle.gptp_network_tests.specs.Soon.{BetterClocksSettleSoon, IsPairSoon, LinksSettleSoon, RunsOfTwoSettleSoon};
 
 use crate::drawn::begun;
 use gptp_links::Fate;
-use gptp_settling_time::documents_settle_soon;
-use gptp_theorem::starts_settle;
+use gptp_settling_time::{documents_settle_in_turn, starts_settle_at_once};
 use gptp_vector::{ClockId, Identity};
 use gptp_world::{NetworkFault, World};
 use std::alloc::Global;
 
-/// When all has settled: one interval between requests, one exchange and 1 ns, one announce interval, and the delay of
-/// the link after they began.
-const SOON: u64 = 2_000_002_501;
+/// When all has settled: one interval between requests, one exchange and 1 ns, and the delay of the link after they
+/// began. No announce interval has to pass, since the delay doesn't vary.
+const SOON: u64 = 1_000_002_501;
 
 /// Their world goes on to that time.
 fn go_on<F: Fate + Drop>(world: &mut World<F>) -> Result<(), NetworkFault>
     requires { HasBegun F.answers world.old.fate world.old.world_core }
     ensures { OnOk result (IsPairSoon world.new.world_core) }
 {
-    starts_settle::<F>();
+    starts_settle_at_once::<F>();
     match world.advance(SOON) {
         Ok(()) => {
             world.well_formed();
@@ -40,7 +39,7 @@ fn second_follows<F: Fate + Drop>(world: &World<F>) -> Option<(Identity, u16, Op
     world.follows(ClockId::from(2))
 }
 
-/// What the second system follows 2 s after both began, whatever is drawn for frames: the first, and not only when the
+/// What the second system follows 1 s after both began, whatever is drawn for frames: the first, and not only when the
 /// settling span has passed. Refused for want of memory alone.
 pub fn follow_soon<F: Fate + Drop>(
     alloc: Global,
@@ -57,5 +56,20 @@ pub fn follow_soon<F: Fate + Drop>(
 pub fn runs_of_two_settle_soon<F: Fate>()
     ensures { RunsOfTwoSettleSoon F.answers }
 {
-    documents_settle_soon::<F>();
+    starts_settle_at_once::<F>();
+}
+
+/// Where the second gets a better priority1 at 2 s, each act of a run leaves both settled from 501 ns later on.
+pub fn better_clocks_settle_soon<F: Fate>()
+    ensures { BetterClocksSettleSoon F.answers }
+{
+    documents_settle_in_turn::<F>();
+}
+
+/// Where the link goes down at 2 s and comes up at 20 s, each act of a run leaves both settled from as soon after that
+/// on as after a start.
+pub fn links_settle_soon<F: Fate>()
+    ensures { LinksSettleSoon F.answers }
+{
+    documents_settle_in_turn::<F>();
 }

@@ -132,13 +132,13 @@ module _ {F : Type 0} (answers : Bounds → ℕ → F → Option ℕ → F → T
       document_settles answers d until start settled fate first w ts playable k is on
 
   -- a run up to the time of an act of it, in which that act is done
-  record IsRunTo (d : DocumentState) (fate : F) (first : WorldState) (t : ActTrace) : Type 0 where
-    ts : List ActTrace
-    w : WorldState
-    unfolds : Unfolds answers d t.told.timed.at fate first ts w
-    member : In t ts
+  pub record IsRunTo (d : DocumentState) (fate : F) (first : WorldState) (t : ActTrace) : Type 0 where
+    pub ts : List ActTrace
+    pub w : WorldState
+    pub unfolds : Unfolds answers d t.told.timed.at fate first ts w
+    pub member : In t ts
 
-  run_to : (d : DocumentState) (until : ℕ) (fate : F) (first w : WorldState) (ts : List ActTrace) (t : ActTrace)
+  pub run_to : (d : DocumentState) (until : ℕ) (fate : F) (first w : WorldState) (ts : List ActTrace) (t : ActTrace)
       → IsPlayable d → Unfolds answers d until fate first ts w → In t ts → IsRunTo d fate first t
   run_to d until fate first w ts t playable k member =
       let soon = acts_by answers d until fate first w ts k t member in

@@ -33,7 +33,7 @@ use Rattle.gptp_settling_time.proofs.TimedNewsLemmas.{CanSettle, IsTimed, timed_
 -- ---- what happens by itself
 
 -- time that passes leaves the network
-later_keeps : (time : ℕ) (w : WorldState) → KeepsNetwork w (at_time time w)
+pub later_keeps : (time : ℕ) (w : WorldState) → KeepsNetwork w (at_time time w)
 later_keeps time w = record { systems = refl; places = λ number. refl; setups = refl; links = refl; change = refl }
 
 module _ {F : Type 0} (answers : Bounds → ℕ → F → Option ℕ → F → Type 0) (until : ℕ) where

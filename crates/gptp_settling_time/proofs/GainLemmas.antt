@@ -1,9 +1,10 @@
 -- What takes nothing away from a network takes nothing away from a world that stands so.
-use Rattle.std.proofs.Common.{◌≡◌, ◌∙◌, ◌≤◌, ◌+◌, ◌*◌, ◌^◌, ◌%◌, ℕ, Bool, true, false, List, Some, slice_get, refl, sym, ap, subst}
+use Rattle.std.proofs.Common.{◌≡◌, ◌∙◌, ◌<◌, ◌≤◌, ◌+◌, ◌*◌, ◌^◌, ◌%◌, ℕ, Bool, true, false, List, Some, slice_get, refl, sym, ap, subst}
 use Rattle.std.specs.Prelude.{if◌then◌else◌}
 use Rattle.gptp_lists.proofs.MappedLemmas.{alike, same_there}
 use Rattle.gptp_vector.specs.declared.port.PortId.{PortId}
 use Rattle.gptp_roles.specs.Selection.{clock_of}
+use Rattle.gptp_links.specs.declared.bounds.Bounds.{Bounds}
 use Rattle.gptp_scenario.specs.Calm.{IsLive}
 use Rattle.gptp_scenario.specs.Change.{link_after, system_after}
 use Rattle.gptp_scenario.specs.Network.{IsEnd, NetworkState, pace_of}
@@ -14,14 +15,15 @@ use Rattle.gptp_scenario.specs.declared.network.SystemSpec.{SystemSpec}
 use Rattle.gptp_scenario.specs.declared.network.LinkSpec.{LinkSpec}
 use Rattle.gptp_system.specs.State.{clock}
 use Rattle.gptp_model.specs.declared.station.Station.{Station}
-use Rattle.gptp_model.specs.Changing.{IsStation}
+use Rattle.gptp_model.specs.Changing.{IsChannel, IsStation}
 use Rattle.gptp_model.specs.Sound.{IsItsSetup, IsSound}
-use Rattle.gptp_model.specs.World.{WorldState, port_id}
+use Rattle.gptp_model.specs.World.{Channel, WorldState, port_id}
 use Rattle.gptp_network.proofs.SnapshotLemmas.{clock_after}
 use Rattle.gptp_invariants.specs.WorldNews.{AllLive}
 use Rattle.gptp_invariants.specs.WorldSound.{IsDownAt, IsGain}
 use Rattle.gptp_theorem.specs.Reached.{Shape, StandsAsPlanned, shape, shape_after, channel_wire}
 use Rattle.gptp_settling_time.specs.Gains.{AllLiveAfter, IsDownAfter, IsGainAfter, IsIdleAfter, IsNoWorse, IsUpAfter}
+use Rattle.gptp_settling_time.specs.InTurn.{VariesLittleAfter}
 use Rattle.gptp_settling_time.specs.Idle.{IsIdle, IsUpAt}
 
 -- the identity that a system has, or will start with, names its clock
@@ -58,13 +60,23 @@ module _ (n : NetworkState) (events : List Timed) (w : WorldState) (so : StandsA
       sym (lives_as place station of) ∙ live place of.member of.there
 
   -- a link that is down in the network is down in the world
-  down_so : (port : PortId) → IsDownAfter n events port → IsDownAt port w
+  pub down_so : (port : PortId) → IsDownAfter n events port → IsDownAt port w
   down_so port down place channel is =
       let (v, there, same) = alike (link_after events) channel_wire n.links w.net.channels (sym so.links) place channel
       is.here in
       let end : IsEnd port (channel_wire channel) = is.joined in
       let off : (link_after events v).up ≡ false = down place v there (subst (IsEnd port) (sym same) end) in
       sym (ap (λ (x : LinkSpec). x.up) same) ∙ off
+
+  -- a link whose delay varies little in the network is such a one in the world
+  pub few_so : (port : PortId) → VariesLittleAfter n events port → (place : ℕ) (channel : Channel)
+      → IsChannel port place w.net channel → channel.bounds.max < 2 * channel.bounds.min
+  few_so port little place channel is =
+      let (v, there, same) = alike (link_after events) channel_wire n.links w.net.channels (sym so.links) place channel
+      is.here in
+      let end : IsEnd port (channel_wire channel) = is.joined in
+      subst (λ (b : Bounds). b.max < 2 * b.min) (ap (λ (x : LinkSpec). x.bounds) same)
+      (little place v there (subst (IsEnd port) (sym same) end))
 
   up_so : (port : PortId) → IsUpAfter n events port → IsUpAt port w
   up_so port up place channel is =

@@ -126,7 +126,7 @@ module _ (p : SettlingParams) (start : ℕ) (w : WorldState) (news : IsNews p st
   live_before : (place number : ℕ) → StationIsLiveAt place number changed → StationIsLiveAt place number w
   live_before place number x = record { station = x.station; here = x.here; live = x.live; named = x.named }
 
-  stood : (at : LinkPlace) → LinkStandsAt at changed → LinkStandsAt at w
+  pub stood : (at : LinkPlace) → LinkStandsAt at changed → LinkStandsAt at w
   unfolding live_before
   stood at s = record {
     channel = s.channel;

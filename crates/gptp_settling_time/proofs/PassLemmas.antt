@@ -9,6 +9,7 @@ use Rattle.gptp_model.specs.Views.{IsNextAct}
 use Rattle.gptp_model.specs.World.{WorldState}
 use Rattle.gptp_model.proofs.AdvanceLemmas.{nothing_sooner}
 use Rattle.gptp_world.specs.Transitions.{Passes, PassesTo, ActTrace}
+use Rattle.gptp_invariants.specs.ChoiceSeenLaws.{IsNoChange}
 use Rattle.gptp_invariants.proofs.SyncFollowClaimLemmas.{acts_time}
 use Rattle.gptp_theorem.proofs.PlayedLemmas.{no_change}
 
@@ -20,6 +21,7 @@ pub record IsStep {F : Type 0} (answers : Bounds → ℕ → F → Option ℕ �
   pub fate : F
   pub drawn : F
   pub was : WasDone answers t.told.timed fate drawn t.before t.after t.told.done
+  pub none : IsNoChange t.told.timed.act
   pub time : t.after.time ≡ t.told.timed.at
 
 -- so it is of each of these acts, none of which is later than a time, and of the world that they lead to
@@ -55,6 +57,7 @@ module _ {F : Type 0} (answers : Bounds → ℕ → F → Option ℕ → F → T
         fate = fate;
         drawn = drawn;
         was = subst (λ v. WasDone answers timed fate drawn v t.after t.told.done) (sym before) was;
+        none = no_change next.item timed.act w next.act;
         time = then;
       } in
       record {

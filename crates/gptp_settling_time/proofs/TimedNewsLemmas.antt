@@ -35,7 +35,7 @@ use Rattle.gptp_settling_time.proofs.NewsMeasuredLemmas.{news_measured}
 -- ---- delays
 
 -- the greatest delay of links in use is no more than what none of them exceeds
-used_within : (systems : List System) (channels : List Channel) (bound : ℕ)
+pub used_within : (systems : List System) (channels : List Channel) (bound : ℕ)
     → ((link : ℕ) (channel : Channel) → slice_get channels link ≡ Some channel → channel_is_used systems channel ≡ true
     → channel.bounds.max ≤ bound)
     → greatest_channel_delay systems channels ≤ bound

@@ -1,0 +1,261 @@
+-- A priority1 that gets no worse, in a world that has settled, leaves claims made of all links always.
+use Rattle.std.proofs.Common.{◌≡◌, ◌<◌, ℕ, suc, Bool, true, false, List, [], ◌∷◌, map, refl, sym, ap, subst, ◌∙◌, inl, inr, arith}
+use Rattle.std.specs.Prelude.{◌==◌, ◌&&◌, ◌||◌, if◌then◌else◌, max}
+use Rattle.std.proofs.lemmas.Bool.{eq-eqb}
+use Rattle.gptp_lists.specs.Members.{In}
+use Rattle.gptp_lists.proofs.MappedLemmas.{alike, same_there}
+use Rattle.gptp_graph.specs.PathBound.{BoundsPaths}
+use Rattle.gptp_graph.specs.Snapshot.{Joins, PortIdentity, System, port_of}
+use Rattle.gptp_graph.proofs.LinkLemmas.{Joins-sym}
+use Rattle.gptp_vector.specs.declared.port.PortId.{PortId}
+use Rattle.gptp_links.specs.declared.link.Direction.TheVariants.{FromA, FromB}
+use Rattle.gptp_links.specs.Fate.{Draw}
+use Rattle.gptp_setup.specs.Intervals.{interval_of}
+use Rattle.gptp_setup.specs.SettlingParams.{SettlingParams}
+use Rattle.gptp_scenario.specs.Calm.{NothingLapses}
+use Rattle.gptp_scenario.specs.declared.change.Act.TheVariants.{Change as Changing}
+use Rattle.gptp_scenario.specs.declared.change.Change.TheVariants.{Priority1}
+use Rattle.gptp_model.specs.Acts.{Acts}
+use Rattle.gptp_model.specs.declared.done.Done.{Done}
+use Rattle.gptp_model.specs.World.{Channel, WorldState, receiver, sender}
+use Rattle.gptp_model.proofs.BareLemmas.{DifferInFlight, bare}
+use Rattle.gptp_model.proofs.StayLemmas.{Stays, acts_stay}
+use Rattle.gptp_bmca_machine.specs.Calm.{Calm}
+use Rattle.gptp_bmca_machine.specs.Levels.{Invariant, LeadsFarther}
+use Rattle.gptp_bmca_machine.specs.Link.{StaysOn}
+use Rattle.gptp_bmca_machine.specs.Network.{IsSettlingNetwork, Network, wiring}
+use Rattle.gptp_bmca_machine.specs.RestLaws.{SameWiring}
+use Rattle.gptp_bmca_machine.specs.SoundLaws.{AllAreNear, HasNews, IsSoundOnLinks}
+use Rattle.gptp_bmca_machine.proofs.SoundEverywhereLemmas.{on_links}
+use Rattle.gptp_bmca_machine.proofs.SoundLemmas.{received_fits}
+use Rattle.gptp_invariants.specs.ChoiceCalm.{HaveQuietLinks, delay_in, greatest_channel_delay, has_port_id, lane_of}
+use Rattle.gptp_invariants.specs.ChoiceSettlesAsMachine.{IsWorld}
+use Rattle.gptp_invariants.specs.ChoiceView.{lane_place, says_announce, view}
+use Rattle.gptp_invariants.specs.DelayLinkView.{LinkPlace}
+use Rattle.gptp_invariants.specs.DelayMeasured.{LinkStandsAt, StationIsLiveAt}
+use Rattle.gptp_invariants.specs.WorldNews.{AllLive, IsNews}
+use Rattle.gptp_invariants.specs.WorldSound.{IsGain}
+use Rattle.gptp_invariants.specs.WorldStanding.{channel_is_used, live_stations, snapshot_of, stations_have_clock}
+use Rattle.gptp_invariants.proofs.DelayCapableKeptLemmas.{known_params, same_receiver, same_sender}
+use Rattle.gptp_invariants.proofs.WorldSoundCallLemmas.{links_more}
+use Rattle.gptp_invariants.proofs.WorldSystemLemmas.{clock_lives}
+use Rattle.gptp_invariants.proofs.WorldWayLemmas.{way_of}
+use Rattle.gptp_settling_time.proofs.AlwaysClaimedLemmas.{AreHeard, IsClaimedAlways, asks_back, capable_is_on, place_of_way, start_calm, start_net, start_network, way_back, way_stands}
+use Rattle.gptp_settling_time.proofs.HeardLemmas.{StaysCapableAt, stays_elsewhere, stays_link, stays_on}
+use Rattle.gptp_settling_time.proofs.ReactionStageLemmas.{stage_after}
+use Rattle.gptp_settling_time.proofs.ReactsLemmas.{Reacts, reacts}
+use Rattle.gptp_settling_time.proofs.RestClaimedLemmas.{AreOn}
+use Rattle.gptp_settling_time.proofs.SettledSeenLemmas.{HasSettledSeen, IsSettledSeen}
+
+-- ---- what looks at clocks and ends of links alone
+
+has_clock : (systems : List System) (s : System) → In s systems → stations_have_clock systems s.clock ≡ true
+has_clock [] s member = absurd member
+has_clock (first ∷ systems) s (inl same) = rw (eq-eqb first.clock s.clock (ap (λ (x : System). x.clock) (sym same)))
+    refl
+has_clock (first ∷ systems) s (inr member) = by (first.clock == s.clock) (has_clock systems s member)
+  where
+    by : (b : Bool) → stations_have_clock systems s.clock ≡ true → (b || stations_have_clock systems s.clock) ≡ true
+    by true has = refl
+    by false has = has
+
+delay_alike : (systems others : List System)
+    → ((number : ℕ) → stations_have_clock others number ≡ stations_have_clock systems number) →
+    (channels : List Channel)
+    → greatest_channel_delay others channels ≡ greatest_channel_delay systems channels
+delay_alike systems others each [] = refl
+delay_alike systems others each (first ∷ channels) =
+    λ i. if first.up && (each first.a.clock i && each first.b.clock i)
+    then max first.bounds.max (delay_alike systems others each channels i)
+    else delay_alike systems others each channels i
+
+delay_bare : (systems : List System) (channels : List Channel)
+    → greatest_channel_delay systems (map bare channels) ≡ greatest_channel_delay systems channels
+delay_bare systems [] = refl
+delay_bare systems (first ∷ channels) =
+    ap (λ rest. if channel_is_used systems first then max first.bounds.max rest else rest) (delay_bare systems channels)
+
+lane_bare : (port : PortIdentity) (channels : List Channel) → lane_of (map bare channels) port ≡ lane_of channels port
+lane_bare port [] = refl
+lane_bare port (first ∷ channels) =
+    ap (λ rest. if has_port_id first.a port then lane_place 0 FromA
+    else (if has_port_id first.b port then lane_place 0 FromB else suc (suc rest)))
+    (lane_bare port channels)
+
+of_bare : {X : Type 0} (f : List Channel → X) → ((channels : List Channel) → f (map bare channels) ≡ f channels)
+    → (before after : List Channel) → DifferInFlight before after → f after ≡ f before
+of_bare f each before after kept = sym (each after) ∙ ap f kept ∙ each before
+
+-- ---- the change
+
+module _ (p : SettlingParams) (start next owner value : ℕ) (w : WorldState) (draws : List Draw) (done : Done)
+    (w' : WorldState) (is : IsClaimedAlways p start w) (on : AreOn p start w is.heard) (world' : IsWorld p w')
+    (live : AllLive w) (octet : value < 256) (gain : IsGain (Priority1 owner value) w)
+    (acts : Acts (Changing (Priority1 owner value)) w draws done w') (soon : w.time < next) (news' : IsNews p next w')
+    (near : AllAreNear (snapshot_of w)) (settled : HasSettledSeen p w) where
+  abbrev world : IsWorld p w
+  world = is.news.world
+
+  r : Reacts w w'
+  r = reacts p w world live owner value octet gain draws done w' acts
+
+  used_alike : (channel : Channel) → channel_is_used (live_stations w'.stations) channel
+      ≡ channel_is_used (live_stations w.stations) channel
+  used_alike channel = λ i. channel.up && (r.lives channel.a.clock i && r.lives channel.b.clock i)
+
+  -- a link in use is so after it
+  used_now : (channel now : Channel) → bare now ≡ bare channel
+      → channel_is_used (live_stations w.stations) channel ≡ true
+      → channel_is_used (live_stations w'.stations) now ≡ true
+  used_now channel now same used =
+      used_alike now ∙ ap (channel_is_used (live_stations w.stations)) same ∙ used
+
+  quiet_back : HaveQuietLinks p.params w' → HaveQuietLinks p.params w
+  quiet_back quiet link channel here used =
+      let (now, stands, same) = alike bare bare w'.net.channels w.net.channels r.links link channel here in
+      let x = quiet link now stands (used_now channel now same used) in
+      let bounds = ap (λ (c : Channel). c.bounds) same in
+      record { lossless = rw⁻¹ bounds x.lossless; good = rw⁻¹ bounds x.good }
+
+  delay_same : delay_in w' ≡ delay_in w
+  delay_same =
+      delay_alike (live_stations w.stations) (live_stations w'.stations) r.lives w'.net.channels
+      ∙ of_bare (greatest_channel_delay (live_stations w.stations)) (delay_bare (live_stations w.stations))
+      w.net.channels w'.net.channels r.links
+
+  -- no link is another
+  links_back : (a b : PortIdentity) → Joins (snapshot_of w') a b → Joins (snapshot_of w) a b
+  links_back =
+      links_more w' w
+      (λ s member. clock_lives w.stations s.clock
+      (sym (r.lives s.clock) ∙ has_clock (live_stations w'.stations) s member))
+      (λ link channel here.
+      let (old, stands, same) = alike bare bare w.net.channels w'.net.channels (sym r.links) link channel here in
+      record {
+        new = old;
+        here = stands;
+        a = ap (λ (c : Channel). c.a) same;
+        b = ap (λ (c : Channel). c.b) same;
+        up = λ raised. ap (λ (c : Channel). c.up) same ∙ raised;
+      })
+
+  -- ---- ports
+
+  stays : Stays w w'
+  stays = acts_stay (Changing (Priority1 owner value)) w draws done w' world.sound.wired.setups acts
+
+  lived : (place number was : ℕ) → was ≡ number → StationIsLiveAt place number w' → StationIsLiveAt place was w
+  lived place number was named x =
+      let old = stays.stations place x.station x.here in
+      record {
+        station = old.old;
+        here = old.here;
+        live = live place old.old old.here;
+        named = sym old.same.named ∙ x.named ∙ sym named;
+      }
+
+  stood : (at : LinkPlace) → LinkStandsAt at w' → LinkStandsAt at w
+  stood at stands =
+      let (old, here, same) = alike bare bare w.net.channels w'.net.channels (sym r.links) at.link stands.channel
+      stands.here in
+      let begins = ap (λ (q : PortId). q.clock) (same_sender at.direction old stands.channel same) in
+      let ends = ap (λ (q : PortId). q.clock) (same_receiver at.direction old stands.channel same) in
+      let asking = lived at.asking (sender at.direction stands.channel).clock _ begins stands.asking in
+      let answering = lived at.answering (receiver at.direction stands.channel).clock _ ends stands.answering in
+      let bounds = ap (λ (c : Channel). c.bounds) same in
+      let set = known_params p w world.known.set in
+      let set' = known_params p w' world'.known.set in
+      let asks = set at.asking asking.station asking.here
+      ∙ sym (set' at.asking stands.asking.station stands.asking.here) in
+      let answers = set at.answering answering.station answering.here
+      ∙ sym (set' at.answering stands.answering.station stands.answering.here) in
+      record {
+        channel = old;
+        here = here;
+        up = ap (λ (c : Channel). c.up) same ∙ stands.up;
+        lossless = rw bounds stands.lossless;
+        asking = asking;
+        answering = answering;
+        apart = stands.apart;
+        good = rw (bounds, answers, asks) stands.good;
+      }
+
+  capable : (at : LinkPlace) → LinkStandsAt at w' → StaysCapableAt p at w'
+  capable at stands =
+      let before = stood at stands in
+      stays_elsewhere p start at (Priority1 owner value) w draws done w' world is.news.measured tt acts r.time
+      (is.heard at before) (on at before)
+
+  heard' : AreHeard p next w'
+  heard' at stands = inr (capable at stands)
+
+  -- ---- the network
+
+  module _ (m : ℕ) (bounded' : BoundsPaths (snapshot_of w') m) (quiet' : HaveQuietLinks p.params w')
+      (off : NothingLapses p.params) where
+    abbrev n : Network
+    n = start_network p m next w'
+
+    net : IsSettlingNetwork n
+    net = start_net p m next w' world' bounded'
+
+    calm : Calm n (view w')
+    calm = start_calm p next w' news' heard' quiet' m
+
+    sound : IsSoundOnLinks says_announce n.graph (view w')
+    sound = on_links says_announce (snapshot_of w') (view w') news'.sound
+
+    seen : IsSettledSeen p w
+    seen = settled (quiet_back quiet') off
+
+    wired : SameWiring seen.n n
+    wired =
+        let delay = delay_same in
+        let most = seen.most in
+        record {
+          place = λ v. r.places v ∙ seen.same.place v;
+          lane = λ q.
+              of_bare (λ channels. lane_of channels q) (lane_bare q) w.net.channels w'.net.channels r.links
+              ∙ seen.same.lane q;
+          log = λ q. r.logs q ∙ seen.same.log q;
+          interval = λ q. ap interval_of (r.logs q) ∙ seen.same.interval q;
+          most = omega (arith, delay, most);
+        }
+
+    -- the port that hears is on
+    lasts : (d : ℕ) (best : System) (v pp u q : ℕ) → LeadsFarther n.graph d best v pp u q
+        → StaysOn (wiring n d best v pp u q) (view w) (view w')
+    unfolding way_back
+    lasts d best v pp u q leads s s' a b from at port at' port' held =
+        let from_port = port_of v (suc pp) in
+        let to_port = port_of u (suc q) in
+        let way = way_of w' from_port to_port leads.joins in
+        let back = way_back w' from_port to_port way in
+        let at_link = place_of_way p w' world' quiet' to_port from_port back in
+        let x = capable at_link (way_stands p w' world' quiet' to_port from_port back
+        (Joins-sym (snapshot_of w') from_port to_port leads.joins)) in
+        let link = stays_link p at_link w' x in
+        let same_channel : link.channel ≡ way.channel =
+        same_there w'.net.channels way.link link.channel way.channel link.here way.here in
+        capable_is_on p w' world' at_link link u q (asks_back w' from_port to_port way link.channel same_channel) s' b
+        at' port' (stays_on p at_link w' world' x)
+
+    better_invariant : Invariant says_announce n (view w')
+    better_invariant =
+        let early : w.time < next = soon in
+        record {
+          sound = λ late. received_fits says_announce n.graph (view w') net.graph sound;
+          levels = λ d best v pp u q close leads.
+              stage_after says_announce seen.n n seen.net net (view w) (view w')
+              (subst AllAreNear (sym seen.graph) near) seen.calm seen.invariant seen.late r.call
+              (subst (λ g. HasNews g (snapshot_of w')) (sym seen.graph) r.news)
+              (λ a b joins. subst (λ g. Joins g a b) (sym seen.graph) (links_back a b joins)) wired
+              (delay_same ∙ sym seen.most) (omega (arith, early)) calm sound lasts d best v pp u q close leads;
+        }
+
+  pub better_claimed : IsClaimedAlways p next w'
+  better_claimed = record {
+    news = news';
+    heard = heard';
+    settling = λ m bounded quiet off. better_invariant m bounded quiet off;
+  }

@@ -1,0 +1,439 @@
+-- Events lead a document from what its network came from to the next, and it settles by that.
+use Rattle.std.proofs.Common.{◌≡◌, inl, inr, ◌<◌, ◌≤◌, ◌+◌, ◌*◌, ℕ, suc, pred, List, [], ◌∷◌, ◌++◌, Option, refl, sym, ap, subst, ◌∙◌, append_assoc, append-nil, arith}
+use Rattle.std.specs.List.{AllByRecursion}
+use Rattle.gptp_graph.specs.PathBound.{BoundsPaths, path_bound}
+use Rattle.gptp_graph.proofs.ExistenceLemmas.{distance_exists}
+use Rattle.gptp_graph.proofs.PathBoundLemmas.{IsDistance-within, paths_within}
+use Rattle.gptp_bmca_machine.specs.SoundLaws.{AllAreNear}
+use Rattle.gptp_invariants.specs.WorldEncodableLaws.{SetsAnOctet}
+use Rattle.gptp_links.specs.declared.bounds.Bounds.{Bounds}
+use Rattle.gptp_setup.specs.Intervals.{interval_of}
+use Rattle.gptp_setup.specs.SettlingParams.{SettlingParams, largest_interval}
+use Rattle.gptp_scenario.specs.Calm.{IsCalm, last_change}
+use Rattle.gptp_scenario.specs.Network.{NetworkState, pace_of}
+use Rattle.gptp_scenario.specs.SettlingAtOnce.{settling_span_at_once}
+use Rattle.gptp_scenario.specs.SettlingTime.{settling_span_with}
+use Rattle.gptp_scenario.specs.SyncWait.{sync_paths}
+use Rattle.gptp_scenario.specs.declared.change.Act.TheVariants.{Change as Changing}
+use Rattle.gptp_scenario.specs.declared.change.Change.TheVariants.{LinkUp, Priority1}
+use Rattle.gptp_scenario.specs.declared.change.Timed.{Timed}
+use Rattle.gptp_scenario.specs.declared.sync_wait.SyncPaths.{SyncPaths}
+use Rattle.gptp_model.specs.Acts.{Acts, at}
+use Rattle.gptp_model.specs.Course.{WasDone}
+use Rattle.gptp_model.specs.declared.done.Done.{Done}
+use Rattle.gptp_model.specs.Pending.{NothingBefore}
+use Rattle.gptp_model.specs.Views.{IsNextAct}
+use Rattle.gptp_model.specs.World.{WorldState, port_id}
+use Rattle.gptp_world.specs.Transitions.{ActTrace}
+use Rattle.gptp_network.specs.Document.{DocumentState}
+use Rattle.gptp_network.specs.Snapshot.{events_by}
+use Rattle.gptp_report.specs.Transitions.{Courses, Unfolds}
+use Rattle.gptp_invariants.specs.ChoiceCalm.{delay_in, sync_paths_of}
+use Rattle.gptp_invariants.specs.ChoiceSettled.{Settled}
+use Rattle.gptp_invariants.specs.ChoiceSettlesAsMachine.{IsWorld}
+use Rattle.gptp_invariants.specs.DelayMeasured.{LinkIsMeasured}
+use Rattle.gptp_invariants.specs.WorldBounded.{IsBoundedWorld}
+use Rattle.gptp_invariants.specs.WorldCalmFor.{IsCalmFor, at_once_span, span_over}
+use Rattle.gptp_invariants.specs.WorldNews.{IsNews}
+use Rattle.gptp_invariants.specs.WorldSound.{IsSoundWorld}
+use Rattle.gptp_invariants.specs.WorldStanding.{snapshot_of}
+use Rattle.gptp_invariants.proofs.WorldBoundedLemmas.{bounded_at_once, bounded_by_paths}
+use Rattle.gptp_invariants.proofs.WorldNewsLemmas.{news_go_on}
+use Rattle.gptp_invariants.proofs.WorldSettlingInvariantLemmas.{settled_at_once, settled_by_paths}
+use Rattle.gptp_invariants.proofs.WorldSoundLemmas.{sound_later}
+use Rattle.gptp_invariants.proofs.WorldStandsLemmas.{stands_well}
+use Rattle.gptp_theorem.specs.PlayedLaws.{IsMade, IsPlayable}
+use Rattle.gptp_theorem.proofs.CalmLemmas.{pace_stands, quiet_stands}
+use Rattle.gptp_theorem.proofs.HeadlineLemmas.{is_settled}
+use Rattle.gptp_theorem.proofs.SettlingInvariantLemmas.{IsFitEvent, events_fit, events_made, least_of}
+use Rattle.gptp_theorem.proofs.SnapshotLemmas.{snapshots_stand}
+use Rattle.gptp_theorem.proofs.SyncPathLemmas.{paths_stand}
+use Rattle.gptp_settling_time.specs.Exactly.{SettlesBy}
+use Rattle.gptp_settling_time.specs.Gains.{ChangesNothing, IsIdleAfter, LeavesCapable, TakesNothing}
+use Rattle.gptp_settling_time.specs.InTurn.{ActsFindSettledInTurn, AnyPast, BeginsBy, BettersClock, BringsUp, Gained, Heard, LeadOn, EventLeads, Past, SettlesAfter, SettlesByEvents}
+use Rattle.gptp_settling_time.proofs.AlwaysClaimedLemmas.{IsClaimedAlways, since_later}
+use Rattle.gptp_settling_time.proofs.BegunLemmas.{begun_keeps, begun_last, begun_news, rested_sound}
+use Rattle.gptp_settling_time.proofs.ClaimedToLemmas.{IsClaimedTo, claimed_act, claimed_later, claimed_settled}
+use Rattle.gptp_settling_time.proofs.DocumentLemmas.{run_to}
+use Rattle.gptp_settling_time.proofs.GainLemmas.{all_live, down_so, few_so, gain_so, idle_so}
+use Rattle.gptp_settling_time.proofs.HeardLemmas.{heard_on}
+use Rattle.gptp_settling_time.proofs.IdleLemmas.{idle_now, idle_same}
+use Rattle.gptp_settling_time.proofs.KeptToLemmas.{IsNewsTo, KeepsTo, keeps_act, keeps_later, news_act_to, news_later_to}
+use Rattle.gptp_settling_time.proofs.LaterLemmas.{AreSteps, steps_more}
+use Rattle.gptp_settling_time.proofs.LinkUpLemmas.{link_up_claimed}
+use Rattle.gptp_settling_time.proofs.MadeLemmas.{made_keeps, made_last, made_news, made_time, news_news, rest_news}
+use Rattle.gptp_settling_time.proofs.NewsClaimedLemmas.{news_claimed, news_on, news_settled}
+use Rattle.gptp_settling_time.proofs.PassLemmas.{passes_to}
+use Rattle.gptp_settling_time.proofs.RestClaimedLemmas.{AreOn, rest_claimed, rest_on, rest_settled}
+use Rattle.gptp_settling_time.proofs.SettledSeenLemmas.{HasSettledSeen, always_settled}
+use Rattle.gptp_settling_time.proofs.BetterClockLemmas.{better_claimed}
+use Rattle.gptp_settling_time.proofs.StartDocumentLemmas.{begun_claimed}
+use Rattle.gptp_settling_time.proofs.StillClaimedLemmas.{claimed_still}
+use Rattle.gptp_settling_time.proofs.TimedNewsLemmas.{CanSettle, has_settled}
+
+-- ---- what is so after some events
+
+abbrev pub IsAfter : DocumentState → List Timed → Past → WorldState → Type 0
+IsAfter d events AnyPast w = KeepsTo d events w
+IsAfter d events (Gained start) w = IsNewsTo d start events w
+IsAfter d events (Heard start) w = IsClaimedTo d events start w
+
+module _ (d : DocumentState) (events : List Timed) where
+  pub after_keeps : (past : Past) (w : WorldState) → IsAfter d events past w → KeepsTo d events w
+  after_keeps AnyPast w so = so
+  after_keeps (Gained start) w so = so.keeps
+  after_keeps (Heard start) w so = so.keeps
+
+  pub after_later : (past : Past) (w : WorldState) (time : ℕ) → w.time ≤ time → NothingBefore time w.net.pending
+      → IsAfter d events past w → IsAfter d events past (at time w)
+  after_later AnyPast w time later first so = keeps_later d events w time later first so
+  after_later (Gained start) w time later first so = news_later_to d events start w time later first so
+  after_later (Heard start) w time later first so = claimed_later d events start w time later first so
+
+  pub after_act : {F : Type 0} (answers : Bounds → ℕ → F → Option ℕ → F → Type 0) (past : Past) (t : ActTrace)
+      (fate drawn : F) (w : WorldState) → IsNextAct w t.told.timed
+      → WasDone answers t.told.timed fate drawn w t.after t.told.done → IsAfter d events past w
+      → IsAfter d events past t.after
+  after_act answers AnyPast t fate drawn w next was so = keeps_act d events answers t fate drawn w next was so
+  after_act answers (Gained start) t fate drawn w next was so =
+      news_act_to d events answers t fate drawn w next was start so
+  after_act answers (Heard start) t fate drawn w next was so = claimed_act d events start answers t fate drawn w next
+      was so
+
+-- ---- an event is made
+
+module _ {F : Type 0} (answers : Bounds → ℕ → F → Option ℕ → F → Type 0) (d : DocumentState)
+    (playable : IsPlayable d) (made : List Timed) (event : Timed) (fate fate_after : F) (w w' : WorldState)
+    (done : Done) (is : IsMade event) (fit : IsFitEvent (least_of d) event)
+    (k : WasDone answers event fate fate_after w w' done) (keeps : KeepsTo d made w) where
+  abbrev p : SettlingParams
+  p = pace_of d.network
+
+  abbrev n : NetworkState
+  n = d.network
+
+  abbrev then : WorldState
+  then = at event.at w
+
+  abbrev more : List Timed
+  more = made ++ event ∷ []
+
+  keeps_then : KeepsTo d made then
+  keeps_then = keeps_later d made w event.at k.ready.timely.now k.ready.timely.first keeps
+
+  after : KeepsTo d more w'
+  after = made_keeps answers d playable made event fate fate_after w w' done is fit k keeps
+
+  paths_then : sync_paths n made ≡ sync_paths_of then
+  paths_then = paths_stand n made then playable.network keeps_then.stands keeps_then.claim.world.sound
+
+  -- it brings up a link
+  module _ (start next : ℕ) (claim : IsClaimedAlways p start then) (on : AreOn p start then claim.heard)
+      (early : start ≤ suc event.at) (sound : IsSoundWorld w) (up : BringsUp n made event next) where
+    came : Acts (Changing (LinkUp up.clock up.port)) then k.draws done w'
+    came = subst (λ act. Acts act then k.draws done w') up.act k.acts
+
+    soon : event.at + interval_of p.params.pdelay + (delay_in w' + p.params.turnaround + delay_in w') < next
+    soon =
+        let capable = up.capable in
+        let delay : (sync_paths n more).delay ≡ delay_in w' =
+        ap (λ (x : SyncPaths). x.delay)
+        (paths_stand n more w' playable.network after.stands after.claim.world.sound) in
+        omega (arith, capable, delay)
+
+    news_then : IsNews p next w'
+    news_then =
+        let capable = up.capable in
+        made_news answers d playable made event fate fate_after w w' done is fit k keeps sound
+        (subst (TakesNothing n made) (sym up.act) tt) start next claim.news.ready claim.news.silent
+        (inr (
+          omega (arith, early, capable),
+          subst (LeavesCapable n made event next) (sym up.act)
+              (up.live, up.capable),
+        ))
+
+    pub brought_up : IsClaimedTo d more next w'
+    brought_up = record {
+      keeps = after;
+      since = link_up_claimed p start next up.clock up.port then k.draws done w' claim on after.claim.world early soon
+          came
+          (down_so n made then keeps_then.stands (port_id up.clock up.port) up.down came.1.place came.1.channel
+          came.1.is)
+          (few_so n made then keeps_then.stands (port_id up.clock up.port) up.little came.1.place came.1.channel
+          came.1.is)
+          news_then;
+    }
+
+  near_then : (sync_paths n made).systems ≤ 255 → AllAreNear (snapshot_of then)
+  near_then few v known =
+      let world = keeps_then.claim.world in
+      let wf = stands_well then world.sound world.between world.encodable in
+      let (far, there) = distance_exists (snapshot_of then) v wf known in
+      let less = IsDistance-within (snapshot_of then) (path_bound (snapshot_of then)) v far
+      (paths_within (snapshot_of then) wf) there in
+      let systems : (sync_paths n made).systems ≡ path_bound (snapshot_of then) =
+      ap (λ (x : SyncPaths). x.systems) paths_then in
+      (far, there, omega (arith, few, less, systems))
+
+  -- it sets a better priority1
+  module _ (start next : ℕ) (claim : IsClaimedAlways p start then) (on : AreOn p start then claim.heard)
+      (early : start ≤ suc event.at) (sound : IsSoundWorld w) (settled : HasSettledSeen p then)
+      (up : BettersClock n made event next) where
+    set_news : IsNews p next w'
+    set_news =
+        let later = up.later in
+        made_news answers d playable made event fate fate_after w w' done is fit k keeps sound
+        (subst (TakesNothing n made) (sym up.act) up.better) start next claim.news.ready claim.news.silent
+        (inr (omega (arith, early, later), subst (LeavesCapable n made event next) (sym up.act) (up.live, up.later)))
+
+    pub bettered : IsClaimedTo d more next w'
+    bettered = record {
+      keeps = after;
+      since = better_claimed p start next up.clock up.value then k.draws done w' claim on after.claim.world
+          (all_live n made then keeps_then.stands up.live) (subst SetsAnOctet up.act fit.octet)
+          (gain_so n made then keeps_then.stands keeps_then.claim.world.sound (Priority1 up.clock up.value) up.better)
+          (subst (λ act. Acts act then k.draws done w') up.act k.acts) up.later set_news (near_then up.few) settled;
+    }
+
+  -- it changes nothing
+  pub left_so : (start : ℕ) → IsClaimedAlways p start then → ChangesNothing n made event.act
+      → IsClaimedTo d more start w'
+  left_so start claim nothing =
+      let acts : Acts (Changing is.change) then k.draws done w' =
+      subst (λ act. Acts act then k.draws done w') is.act k.acts in
+      let idle_after : IsIdleAfter n made is.change = subst (ChangesNothing n made) is.act nothing in
+      let idle = idle_so n made then keeps_then.stands keeps_then.claim.world.sound is.change idle_after in
+      let now : WorldState = record then { last_change = then.time } in
+      let same : w' ≡ now = idle_same is.change now k.draws w' (idle_now is.change then idle) acts.1 in
+      record {
+        keeps = after;
+        since = subst (IsClaimedAlways p start) (sym same)
+            (claimed_still p start then claim (subst (IsWorld p) same after.claim.world)
+            (subst LinkIsMeasured same after.claim.measured));
+      }
+
+  module _ (moment : w.time ≡ event.at) where
+    leads_to_heard : (past : Past) (next : ℕ) → EventLeads n made past event (Heard next) → IsAfter d made past w
+        → IsClaimedTo d more next w'
+    leads_to_heard AnyPast next (settled, brings) so =
+        let passed = settled.passed in
+        let last = keeps_then.stands.last in
+        let sound = rested_sound d made event.at w playable
+        (record { calm = settled.calm; passed = omega (arith, passed) }) (omega (arith, moment)) keeps in
+        let late : w.last_change + settling_span_at_once p (sync_paths_of then) ≤ event.at =
+        subst (λ paths. w.last_change + settling_span_at_once p paths ≤ event.at) paths_then (rw last passed) in
+        let sound_then = sound_later w event.at sound in
+        let claim = rest_claimed p then keeps_then.claim sound_then late in
+        let on = rest_on p then keeps_then.claim sound_then late in
+        elim brings [
+          | inl up ↦ brought_up (suc event.at) next claim on (omega arith) sound up
+          | inr better ↦ bettered (suc event.at) next claim on (omega arith) sound
+              (rest_settled p then keeps_then.claim sound_then late) better
+        ]
+    leads_to_heard (Gained start) next (settled, brings) so =
+        let news = news_go_on p start event.at w k.ready.timely.now k.ready.timely.first so.news in
+        let late : start + largest_interval p + pred (path_bound (snapshot_of then)) * delay_in then ≤ event.at =
+        subst (λ (x : SyncPaths). start + largest_interval p + pred x.systems * x.delay ≤ event.at) paths_then
+        settled in
+        let claim = news_claimed p start then news late in
+        let on = news_on p start then news late in
+        elim brings [
+          | inl up ↦ brought_up (suc event.at) next claim on (omega arith) so.news.sound up
+          | inr better ↦ bettered (suc event.at) next claim on (omega arith) so.news.sound
+              (news_settled p start then news late) better
+        ]
+    leads_to_heard (Heard start) next (inl (late, brings)) so =
+        let claim = since_later p start event.at w k.ready.timely.now k.ready.timely.first so.since in
+        brought_up start next claim
+        (λ at_link stands. heard_on p start at_link then claim.news.world (claim.heard at_link stands) late)
+        (omega (arith, late)) so.since.news.sound brings
+    leads_to_heard (Heard start) next (inr (inl (settled, better))) so =
+        let claim = since_later p start event.at w k.ready.timely.now k.ready.timely.first so.since in
+        let late : start + pred (path_bound (snapshot_of then)) * delay_in then ≤ event.at =
+        subst (λ (x : SyncPaths). start + pred x.systems * x.delay ≤ event.at) paths_then settled in
+        bettered start next claim
+        (λ at_link stands.
+        heard_on p start at_link then claim.news.world (claim.heard at_link stands) (omega (arith, late)))
+        (omega (arith, late)) so.since.news.sound (always_settled p start then claim late) better
+    leads_to_heard (Heard start) next (inr (inr (nothing, same))) so =
+        subst (λ time. IsClaimedTo d more time w') (sym same)
+        (left_so start (since_later p start event.at w k.ready.timely.now k.ready.timely.first so.since) nothing)
+
+    leads_to_gain : (past : Past) (next : ℕ) → EventLeads n made past event (Gained next) → IsAfter d made past w
+        → IsNews p next w'
+    leads_to_gain AnyPast next (nothing, (rested, (rest, anyway, capable))) so =
+        let sound = rested_sound d made event.at w playable rested (omega (arith, moment)) keeps in
+        rest_news answers d playable made event fate fate_after w w' done is fit k rest next keeps sound nothing anyway
+        capable
+    leads_to_gain (Gained start) next (nothing, capable) so =
+        news_news answers d playable made event fate fate_after w w' done is fit k start next so nothing capable
+    leads_to_gain (Heard start) next (nothing, capable) so =
+        news_news answers d playable made event fate fate_after w w' done is fit k start next
+        (record { keeps = keeps; news = so.since.news }) nothing capable
+
+    pub leads_to : (past next : Past) → EventLeads n made past event next → IsAfter d made past w
+        → IsAfter d more next w'
+    leads_to past AnyPast leads so = after
+    leads_to past (Gained next) leads so = record { keeps = after; news = leads_to_gain past next leads so }
+    leads_to past (Heard next) leads so = leads_to_heard past next leads so
+
+-- ---- a document
+
+module _ {F : Type 0} (answers : Bounds → ℕ → F → Option ℕ → F → Type 0) (d : DocumentState)
+    (playable : IsPlayable d) (all : List Timed) (last : Past) (until : ℕ) where
+  abbrev net : NetworkState
+  net = d.network
+
+  -- each act that is later than all events is done in a world that came from the last of them
+  pub in_turn : (made : List Timed) (past : Past) (events : List Timed) (ts : List ActTrace) (fate fate_after : F)
+      (w w' : WorldState)
+      → made ++ events ≡ all → AllByRecursion IsMade events → AllByRecursion (IsFitEvent (least_of d)) events
+      → LeadOn net made past events last → Courses answers until events ts fate fate_after w w'
+      → IsAfter d made past w → w.last_change ≡ w.time → AreSteps answers (IsAfter d all last) all ts w
+  in_turn made past [] ts fate fate_after w w' are is fit lead k so now =
+      let same : made ≡ all = sym (append-nil made) ∙ are in
+      let there : IsAfter d all last w =
+      subst (λ es. IsAfter d es last w) same (subst (λ x. IsAfter d made x w) (sym lead) so) in
+      let change = (after_keeps d all last w there).stands.last in
+      let passed = passes_to answers (IsAfter d all last) (after_later d all last)
+      (λ t one drawn v next was v_is. after_act d all answers last t one drawn v next was v_is) until ts fate
+      fate_after w w' k there in
+      record { early = omega (arith, change, now); each = λ t member on. passed.each t member }
+  in_turn made past (event ∷ events) ts fate fate_after w w' are is fit (next, leads, others)
+      (first, rest, drawn, between, k, on, split) so now =
+      let passed = passes_to answers (IsAfter d made past) (after_later d made past)
+      (λ t one other v next_is was v_is. after_act d made answers past t one other v next_is was v_is)
+      event.at k.first fate k.drawn w k.between k.passes so in
+      let moment : k.between.time ≡ event.at = ap (λ (v : WorldState). v.time) k.passes.is in
+      steps_more answers (IsAfter d all last) all event first rest ts fate drawn w between k passed.soon
+      (made_time answers d playable made event k.drawn drawn k.between between k.done is.0 fit.0 k.made) split
+      (in_turn (made ++ event ∷ []) next events rest drawn fate_after between w'
+      (append_assoc made (event ∷ []) events ∙ are) is.1 fit.1 others on
+      (leads_to answers d playable made event k.drawn drawn k.between between k.done is.0 fit.0 k.made
+      (after_keeps d made past k.between passed.end) moment past next leads passed.end)
+      (made_last answers d playable made event k.drawn drawn k.between between k.done is.0 fit.0 k.made))
+
+-- ---- it settles
+
+module _ (d : DocumentState) (playable : IsPlayable d) (all : List Timed) (calm : IsCalm d.network all) (settled : ℕ)
+    (w : WorldState) (on : settled ≤ w.time) where
+  abbrev pace : SettlingParams
+  pace = pace_of d.network
+
+  module _ (keeps : KeepsTo d all w) where
+    paths : sync_paths d.network all ≡ sync_paths_of w
+    paths = paths_stand d.network all w playable.network keeps.stands keeps.claim.world.sound
+
+    bounds : BoundsPaths (snapshot_of w) (path_bound (snapshot_of w))
+    bounds =
+        let world = keeps.claim.world in
+        paths_within (snapshot_of w) (stands_well w world.sound world.between world.encodable)
+
+    sharp : last_change all + settling_span_at_once pace (sync_paths d.network all) ≤ settled
+        → IsCalmFor (at_once_span (path_bound (snapshot_of w))) w
+    sharp passed =
+        let last = keeps.stands.last in
+        let late : last_change all + settling_span_at_once pace (sync_paths d.network all) ≤ w.time =
+        omega (arith, passed, on) in
+        record {
+          pace = pace;
+          set = pace_stands d.network all w keeps.stands;
+          quiet = quiet_stands d.network all w playable.network keeps.stands keeps.claim.world.sound calm;
+          late = subst (λ (x : SyncPaths). w.last_change + settling_span_at_once pace x ≤ w.time) paths (rw last late);
+        }
+
+    spanned : last_change all
+        + settling_span_with pace (sync_paths d.network all) (sync_paths d.network all).systems ≤ settled
+        → IsCalmFor (span_over (path_bound (snapshot_of w))) w
+    spanned passed =
+        let last = keeps.stands.last in
+        let late : last_change all
+        + settling_span_with pace (sync_paths d.network all) (sync_paths d.network all).systems ≤ w.time =
+        omega (arith, passed, on) in
+        record {
+          pace = pace;
+          set = pace_stands d.network all w keeps.stands;
+          quiet = quiet_stands d.network all w playable.network keeps.stands keeps.claim.world.sound calm;
+          late = subst (λ (x : SyncPaths). w.last_change + settling_span_with pace x x.systems ≤ w.time) paths
+              (rw last late);
+        }
+
+    can_settle : (start : ℕ) → SettlesBy pace (sync_paths d.network all) start settled
+        → CanSettle pace (sync_paths d.network all).systems start settled w
+    can_settle start settles =
+        let world = keeps.claim.world in
+        record {
+          quiet = (quiet_stands d.network all w playable.network keeps.stands world.sound calm).links;
+          bounded = subst (BoundsPaths (snapshot_of w)) (sym (ap (λ (x : SyncPaths). x.systems) paths)) bounds;
+          settles = subst (λ delay. SettlesBy pace
+              (record { systems = (sync_paths d.network all).systems; delay = delay }) start settled)
+              (ap (λ (x : SyncPaths). x.delay) paths) settles;
+        }
+
+  pub after_settles : (past : Past) → IsAfter d all past w → SettlesAfter d.network all past settled
+      → Settled w × IsBoundedWorld w
+  unfolding sharp
+  after_settles AnyPast keeps (inl (off, passed)) = (
+    settled_at_once (path_bound (snapshot_of w)) w (record { pace = pace; is = keeps.claim }) (bounds keeps)
+        (sharp keeps passed) off,
+    bounded_at_once (path_bound (snapshot_of w)) w (record { pace = pace; is = keeps.claim }) (bounds keeps)
+        (sharp keeps passed) off,
+  )
+  after_settles AnyPast keeps (inr passed) = (
+    settled_by_paths (path_bound (snapshot_of w)) w (record { pace = pace; is = keeps.claim }) (bounds keeps)
+        (spanned keeps passed),
+    bounded_by_paths (path_bound (snapshot_of w)) w (record { pace = pace; is = keeps.claim }) (bounds keeps)
+        (spanned keeps passed),
+  )
+  after_settles (Gained start) so settles =
+      has_settled pace (sync_paths d.network all).systems start settled w so.news (can_settle so.keeps start settles) on
+  after_settles (Heard start) so (off, passed) =
+      claimed_settled d all start w so playable calm off (omega (arith, passed, on))
+
+-- ---- the law
+
+pub begins_after : {F : Type 0} (answers : Bounds → ℕ → F → Option ℕ → F → Type 0) (d : DocumentState)
+    (playable : IsPlayable d) (fate : F) (until : ℕ) (first w : WorldState) (ts : List ActTrace)
+    → (k : Unfolds answers d until fate first ts w) → (past : Past) → BeginsBy d.network past → IsAfter d [] past first
+begins_after answers d playable fate until first w ts k AnyPast begins =
+    begun_keeps answers d playable fate k.started first k.begun
+begins_after answers d playable fate until first w ts k (Gained start) begins = record {
+  keeps = begun_keeps answers d playable fate k.started first k.begun;
+  news = begun_news answers d playable fate k.started first k.begun start begins;
+}
+begins_after answers d playable fate until first w ts k (Heard start) (little, begins) =
+    begun_claimed answers d playable fate k.started first k.begun start begins little
+
+-- each act of a run that is later than all events is done in such worlds
+pub passed_in_turn : {F : Type 0} (answers : Bounds → ℕ → F → Option ℕ → F → Type 0) (d : DocumentState)
+    (until settled : ℕ)
+    (fate : F) (first w : WorldState) (ts : List ActTrace) → IsPlayable d → Unfolds answers d until fate first ts w
+    → (is : SettlesByEvents d until settled)
+    → AreSteps answers (IsAfter d (events_by until d.events) is.last) (events_by until d.events) ts first
+passed_in_turn answers d until settled fate first w ts playable k is =
+    in_turn answers d playable (events_by until d.events) is.last until [] is.first (events_by until d.events) ts
+    k.started
+    k.drawn first w refl (events_made d until playable.network playable.events) (events_fit d until playable) is.lead
+    k.courses (begins_after answers d playable fate until first w ts k is.first is.begins)
+    (begun_last answers d playable fate k.started first k.begun)
+
+pub acts_find_settled_in_turn : {F : Type 0} (answers : Bounds → ℕ → F → Option ℕ → F → Type 0)
+    → ActsFindSettledInTurn answers
+acts_find_settled_in_turn answers d until settled fate first w ts t playable k member is on later =
+    let run = run_to answers d until fate first w ts t playable k member in
+    let now = t.told.timed.at in
+    let all = events_by now d.events in
+    let step = (passed_in_turn answers d now settled fate first run.w run.ts playable run.unfolds is).each t run.member
+    later in
+    let time = step.time in
+    let both = after_settles d playable all is.calm settled t.after (omega (arith, on, time)) is.last step.after
+    is.settles
+    in
+    let keeps = after_keeps d all is.last t.after step.after in
+    record {
+      settled = is_settled t.after (record { pace = pace_of d.network; is = keeps.claim }) both.0 both.1;
+      snapshot = λ g stands.
+          let (systems, links) =
+          snapshots_stand d.network all t.after g keeps.stands keeps.claim.world.sound stands in
+          record { systems = systems; links = links };
+    }

@@ -1,0 +1,121 @@
+-- A world whose systems are seen to have settled has settled.
+use Rattle.std.proofs.Common.{◌≡◌, ◌≢◌, ◌≤◌, ℕ, ℤ, zero, suc, Bool, true, false, Option, Some, None, slice_get, refl, ap, subst, arith}
+use Rattle.std.specs.Option.{option_map_or}
+use Rattle.std.specs.Prelude.{◌==◌}
+use Rattle.std.proofs.lemmas.Bool.{eq-eqb, eqb-true}
+use Rattle.std.proofs.lemmas.Option.{none-some, same_Some}
+use Rattle.gptp_lists.proofs.PlaceLemmas.{member_there}
+use Rattle.gptp_graph.specs.Distance.{IsNear}
+use Rattle.gptp_graph.specs.SettledRole.{Role, Disabled, Master, Slave, Passive, IsSettledRole}
+use Rattle.gptp_graph.specs.Snapshot.{Snapshot, port_of}
+use Rattle.gptp_receipt.specs.declared.held.Held.{Held}
+use Rattle.gptp_receipt.specs.declared.held.Held.TheVariants as helds
+use Rattle.gptp_setup.specs.SettlingParams.{SettlingParams}
+use Rattle.gptp_system.specs.declared.port.Port.{Port}
+use Rattle.gptp_system.specs.Facts.{AreShown}
+use Rattle.gptp_system.specs.Start.{role_at, role_by}
+use Rattle.gptp_system.specs.State.{SystemState, clock}
+use Rattle.gptp_system.specs.Steps.{HasPortNumber}
+use Rattle.gptp_model.specs.declared.station.Station.{Station}
+use Rattle.gptp_model.specs.World.{WorldState}
+use Rattle.gptp_bmca_machine.specs.Calm.{Calm}
+use Rattle.gptp_bmca_machine.specs.Levels.{Invariant}
+use Rattle.gptp_bmca_machine.specs.Network.{IsSettlingNetwork, Network, settled_from}
+use Rattle.gptp_bmca_machine.specs.Settled.{HasSettledRoles, PlaysRole}
+use Rattle.gptp_bmca_machine.proofs.SettledLemmas.{network_settles}
+use Rattle.gptp_invariants.specs.ChoiceSettled.{IsSettledSystem, Settled, graph_role}
+use Rattle.gptp_invariants.specs.ChoiceSettlesAsMachine.{IsWorld}
+use Rattle.gptp_invariants.specs.ChoiceView.{held_view, port_view, says_announce, span_at, station_view, view}
+use Rattle.gptp_invariants.specs.WorldStanding.{snapshot_of}
+use Rattle.gptp_invariants.proofs.ChoiceParentLemmas.{parent_settled}
+use Rattle.gptp_invariants.proofs.ChoicePlaceLemmas.{port_there, station_there}
+
+-- ---- roles
+
+-- whether this port is the slave port
+abbrev is_slave : Option ℕ → ℕ → Bool
+is_slave slave n = option_map_or (λ m. m == n) slave false
+
+slave_is : (slave : Option ℕ) (n : ℕ) → slave ≡ Some n → is_slave slave n ≡ true
+slave_is None n same = absurd (none-some n same)
+slave_is (Some m) n same = eq-eqb m n (same_Some m n same)
+
+slave_is_not : (slave : Option ℕ) (n : ℕ) → slave ≢ Some n → is_slave slave n ≡ false
+slave_is_not None n other = refl
+slave_is_not (Some m) n other = by (m == n) refl
+  where
+    by : (b : Bool) → (m == n) ≡ b → (m == n) ≡ false
+    by true same = absurd (other (ap Some (eqb-true m n same)))
+    by false differ = differ
+
+-- the role that a port is seen to play is its role
+plays_own : (slave : Option ℕ) (n : ℕ) (keep : ℤ → ℕ) (h : Held) (r : Role) → PlaysRole slave n (held_view keep h) r
+    → graph_role (role_by (is_slave slave n) h) ≡ r
+plays_own slave n keep helds.Disabled Disabled plays = refl
+plays_own slave n keep helds.Disabled Master (root, steps, same) = absurd cc
+plays_own slave n keep helds.Disabled Slave (is, (r, same)) = absurd cc
+plays_own slave n keep helds.Disabled Passive (is, (r, same)) = absurd cc
+plays_own slave n keep helds.Aged Disabled same = absurd cc
+plays_own slave n keep helds.Aged Master plays = refl
+plays_own slave n keep helds.Aged Slave (is, (r, same)) = absurd cc
+plays_own slave n keep helds.Aged Passive (is, (r, same)) = absurd cc
+plays_own slave n keep (helds.Mine root steps) Disabled same = absurd cc
+plays_own slave n keep (helds.Mine root steps) Master plays = refl
+plays_own slave n keep (helds.Mine root steps) Slave (is, (r, same)) = absurd cc
+plays_own slave n keep (helds.Mine root steps) Passive (is, (r, same)) = absurd cc
+plays_own slave n keep (helds.Received x) Disabled same = absurd cc
+plays_own slave n keep (helds.Received x) Master (root, steps, same) = absurd cc
+plays_own slave n keep (helds.Received x) Slave (is, (r, same)) = let e = slave_is slave n is in rw e refl
+plays_own slave n keep (helds.Received x) Passive (is, (r, same)) =
+    let e = slave_is_not slave n is in rw e refl
+
+module _ (g : Snapshot) (station : Station) (shown : AreShown station.system)
+    (seen : HasSettledRoles g (station_view station)) where
+  abbrev s : SystemState
+  s = station.system
+
+  -- the port at place i has the number i + 1
+  role_settled : (i : ℕ) (h : Held) (q : Port) → slice_get s.held i ≡ Some h → slice_get s.ports i ≡ Some q
+      → IsSettledRole g (port_of (clock s) (suc i)) (graph_role (role_at s (suc i)))
+  role_settled i h q stands there =
+      let (r, plays, settled) = seen i (port_view (span_at s) h q)
+      (port_there (span_at s) s.held s.ports i h q stands there) in
+      let same : graph_role (role_by (is_slave s.slave (suc i)) h) ≡ r =
+      plays_own s.slave (suc i) (span_at s) h r plays in
+      rw (stands, same) settled
+
+  roles_settled : (n : ℕ) → HasPortNumber s n → IsSettledRole g (port_of (clock s) n) (graph_role (role_at s n))
+  roles_settled zero is = let least = is.least in absurd (omega arith)
+  roles_settled (suc i) is =
+      let most = is.most in
+      let places = shown.places in
+      let (h, stands) = member_there s.held i (omega arith) in
+      let (q, there) = member_there s.ports i (omega arith) in
+      role_settled i h q stands there
+
+-- ---- the world
+
+-- by any network of the machine that has the world's snapshot, and settles by now
+pub seen_settles : (p : SettlingParams) (n : Network) (w : WorldState) → IsWorld p w → n.graph ≡ snapshot_of w
+    → IsSettlingNetwork n → Calm n (view w) → Invariant says_announce n (view w) → settled_from n ≤ w.time
+    → n.bare ≤ w.time → n.off ≤ w.time → n.sound ≤ w.time → Settled w
+seen_settles p n w is graph net state invariant late bare off sound =
+    subst (λ g. (place : ℕ) (station : Station) → slice_get w.stations place ≡ Some station → station.live ≡ true
+    → IsNear g (clock station.system) → IsSettledSystem g station.system) graph by
+  where
+    by : (place : ℕ) (station : Station) → slice_get w.stations place ≡ Some station → station.live ≡ true
+        → IsNear n.graph (clock station.system) → IsSettledSystem n.graph station.system
+    by place station here live near =
+        let there = station_there w.stations place station here in
+        let (has, follow, roles) = network_settles says_announce n (view w) place (station_view station) net state
+        invariant there live near late in
+        let follows = follow bare in
+        let rest = (state.stations place (station_view station) there live).at_rest in
+        record {
+          root = follows.root;
+          steps = follows.steps;
+          slave = follows.slave;
+          parent = parent_settled n.graph station net.graph rest.vector rest.chosen
+              (λ i r. invariant.sound sound place (station_view station) i r there live) follows.slave;
+          roles = roles_settled n.graph station (is.sound.on_time.stations place station here).steady.shown (roles off);
+        }

@@ -1,0 +1,229 @@
+-- As a network begins no port has measured anything, and nothing is told yet.
+use Rattle.std.proofs.Common.{◌≡◌, ◌⊎◌, ◌==◌, ℕ, suc, Bool, true, false, List, [], ◌∷◌, map, length, Option, Some, None, slice_get, refl, sym, ap, subst, ◌∙◌, append-nil, inl, inr}
+use Rattle.std.specs.List.{range_with_len}
+use Rattle.gptp_lists.specs.Members.{In}
+use Rattle.gptp_lists.proofs.MappedLemmas.{mapped}
+use Rattle.gptp_lists.proofs.PlaceLemmas.{get-set_all, get-set_same}
+use Rattle.std.proofs.lemmas.Option.{same_Some}
+use Rattle.gptp_links.specs.declared.bounds.Bounds.{Bounds}
+use Rattle.gptp_links.specs.declared.link.Direction.{Direction}
+use Rattle.gptp_links.specs.declared.link.Direction.TheVariants.{FromA, FromB}
+use Rattle.gptp_links.specs.Fate.{Draw}
+use Rattle.gptp_pdelay.specs.Peer.{PeerState, is_capable, reset_peer}
+use Rattle.gptp_pdelay.specs.declared.progress.Progress.{Progress}
+use Rattle.gptp_pdelay.specs.declared.progress.Progress.TheVariants.{Closed, Sent, Answered}
+use Rattle.gptp_roles.specs.Selection.{clock_of}
+use Rattle.gptp_setup.specs.declared.setup.Setup.{Setup}
+use Rattle.gptp_scenario.specs.Network.{IsNetwork, NetworkState, pace_of}
+use Rattle.gptp_scenario.specs.declared.network.LinkSpec.{LinkSpec}
+use Rattle.gptp_system.specs.declared.answer.Answer.{Answer}
+use Rattle.gptp_system.specs.declared.port.Port.{Port}
+use Rattle.gptp_system.specs.Input.{PortUp}
+use Rattle.gptp_system.specs.Measures.{Part, measure_at, only_at, part_asked}
+use Rattle.gptp_system.specs.Start.{started}
+use Rattle.gptp_system.specs.State.{SystemState}
+use Rattle.gptp_system.specs.Steps.{HasPortNumber}
+use Rattle.gptp_system.proofs.MeasureLemmas.{steps_measure}
+use Rattle.gptp_system.proofs.StartLemmas.{new_port_at}
+use Rattle.gptp_model.specs.Act.{Calls, all_timers, in_state}
+use Rattle.gptp_model.specs.Changing.{CallsAll, Starts, StartsAll, fresh, up_ports, with_station}
+use Rattle.gptp_model.specs.Course.{Begun}
+use Rattle.gptp_model.specs.declared.station.Station.{Station}
+use Rattle.gptp_model.specs.Initial.{channel_from, channels_of, initial, station_of}
+use Rattle.gptp_model.specs.Sound.{AreApart, IsSound}
+use Rattle.gptp_model.specs.World.{Channel, WorldState, world_queue}
+use Rattle.gptp_model.proofs.SoundLemmas.{starts_sound}
+use Rattle.gptp_model.proofs.StayLemmas.{calls_stay, fresh_same, refreshed_stays, stays_apart}
+use Rattle.gptp_model.proofs.SteadyLemmas.{started_steady}
+use Rattle.gptp_model.proofs.UpLemmas.{brought_ports}
+use Rattle.gptp_bmca_machine.specs.Frame.{Announce, AnnounceFrame, Lane}
+use Rattle.gptp_invariants.specs.ChoiceView.{frame_view, says_announce, touch_view, view}
+use Rattle.gptp_invariants.specs.WorldEncodable.{IsEncodable, StationFits}
+use Rattle.gptp_invariants.proofs.ChoiceSeenCallLemmas.{calls_seen}
+use Rattle.gptp_invariants.proofs.ChoiceSeenLaneLemmas.{lane_from}
+use Rattle.gptp_invariants.proofs.ChoiceSendLemmas.{lanes_apart}
+use Rattle.gptp_invariants.proofs.DelayLinkKeptLemmas.{HasAll, all_stay}
+use Rattle.gptp_invariants.proofs.WorldActEncodableLemmas.{initial_encodable, starts_encodable}
+use Rattle.gptp_invariants.proofs.WorldAnsweringLemmas.{CanAnswer, IsAnswering, calls_answering, new_fits, sound_answers}
+use Rattle.gptp_invariants.proofs.WorldSoundCallLemmas.{setups_of}
+use Rattle.gptp_settling_time.proofs.MasterLemmas.{BeginsAtMaster, WasOnLane, answered, master_capable}
+
+-- ---- what has measured nothing
+
+abbrev pub is_answered : Progress → Bool
+is_answered Closed = false
+is_answered (Sent request) = false
+is_answered (Answered request response) = true
+
+-- no exchange was full, and no response is recorded
+abbrev pub IsUnmeasured : PeerState → Type 0
+IsUnmeasured p = (p.last ≡ None) × (is_answered p.progress ≡ false)
+
+-- such a port isn't capable
+pub unmeasured_off : (p : PeerState) → IsUnmeasured p → is_capable p ≡ false
+unmeasured_off p un = rw un.0 refl
+
+abbrev pub HasMeasuredNothing : Station → Type 0
+HasMeasuredNothing station = (i : ℕ) (q : Port) → slice_get station.system.ports i ≡ Some q → IsUnmeasured q.peer
+
+-- it has come up
+pub part_unmeasured : (s : SystemState) (now p n : ℕ) (x : Part) → IsUnmeasured x.peer
+    → IsUnmeasured (only_at p (part_asked s now reset_peer) n x).peer
+part_unmeasured s now p n x un = by (n == p) refl
+  where
+    by : (here : Bool) → (n == p) ≡ here → IsUnmeasured (only_at p (part_asked s now reset_peer) n x).peer
+    by true is = rw is (refl, refl)
+    by false is = rw is un
+
+started_unmeasured : (setup : Setup) (now : ℕ) (live : Bool)
+    → HasMeasuredNothing (record { setup = setup; system = started setup now; live = live })
+started_unmeasured setup now live i q there =
+    let (log, here, is) = new_port_at (clock_of setup.identity) setup.params setup.intervals.items i q there in
+    subst (λ (x : Port). IsUnmeasured x.peer) (sym is) (refl, refl)
+
+-- ---- a world in which nothing is measured or told
+
+pub record IsUntold (w : WorldState) : Type 0 where
+  pub measured : (place : ℕ) (station : Station) → slice_get w.stations place ≡ Some station
+      → HasMeasuredNothing station
+  pub lanes : (j : ℕ) (l : Lane) (f : AnnounceFrame) (a : Announce) → slice_get (view w).lanes j ≡ Some l
+      → In f l.frames → says_announce f.octets a → ⊥
+
+module _ (place p : ℕ) (w : WorldState) (draws : List Draw) (answer : Answer) (w' : WorldState)
+    (k : Calls place (PortUp p) w draws answer w') (of : HasPortNumber k.station.system p) (is : IsAnswering w)
+    (apart : AreApart w) (untold : IsUntold w) where
+  abbrev called : Station
+  called = in_state k.after k.station
+
+  called_unmeasured : HasMeasuredNothing called
+  called_unmeasured i q' there =
+      let (q, here, part) = steps_measure (PortUp p) w.time k.station.system k.after k.sends answer k.steps i q'
+      there in
+      let peer : q'.peer ≡ (only_at p (part_asked k.station.system w.time reset_peer) (suc i) (measure_at q)).peer =
+      ap (λ (x : Part). x.peer) part in
+      subst IsUnmeasured (sym peer)
+      (part_unmeasured k.station.system w.time p (suc i) (measure_at q)
+      (untold.measured place k.station k.here i q here))
+
+  stations : (other : ℕ) (station : Station) → slice_get w'.stations other ≡ Some station
+      → HasMeasuredNothing station
+  stations other station there =
+      get-set_all HasMeasuredNothing w.stations place k.station called k.here called_unmeasured untold.measured other
+      station
+      (ap (λ (v : WorldState). slice_get v.stations other) (sym k.is) ∙ there)
+
+  answering : IsAnswering w'
+  answering = calls_answering place (PortUp p) w draws answer w' is k of tt
+
+  none_told : (j : ℕ) (l' : Lane) (f : AnnounceFrame) (a : Announce) → slice_get (view w').lanes j ≡ Some l'
+      → In f l'.frames → says_announce f.octets a → ⊥
+  none_told j l' f a at member said =
+      let old = is.stations place k.station k.here in
+      let c = calls_seen place (PortUp p) w draws answer w' k old.steady old.its of
+      (is.encodable.stations place k.station k.here).system tt
+      (lanes_apart w apart (λ link channel here. (is.encodable.links link channel here).ends)) in
+      by (answered says_announce j f a said (touch_view c.touch) (view w) (view w') c.call l' at member)
+    where
+      by : WasOnLane (view w) j f ⊎ BeginsAtMaster (view w') l' → ⊥
+      by (inl was) = untold.lanes j was.lane f a was.there was.among said
+      by (inr master) =
+          let port = master_capable w' (λ place station here. (answering.stations place station here).steady.shown) l'
+          master in
+          let off = unmeasured_off port.state.peer (stations master.place port.station port.here port.at port.state
+          port.there) in
+          let on = port.capable in
+          cc
+
+  call_untold : IsUntold w'
+  call_untold = record { measured = stations; lanes = none_told }
+
+calls_untold : (place : ℕ) (ps : List ℕ) (w : WorldState) (draws : List Draw) (w' : WorldState) → HasAll place ps w
+    → IsAnswering w → AreApart w → IsUntold w → CallsAll place (map PortUp ps) w draws w' → IsUntold w'
+calls_untold place [] w draws w' has is apart untold (none, same) = subst IsUntold (sym same) untold
+calls_untold place (p ∷ ps) w draws w' has is apart untold (first, rest, between, answer, split, k, more) =
+    let of = has p (inl refl) k.station k.here in
+    let stays = calls_stay place (PortUp p) w first answer between (setups_of w is) k in
+    calls_untold place ps between rest w' (all_stay place ps w between stays (λ q member. has q (inr member)))
+    (answering place p w first answer between k of is apart untold)
+    (stays_apart w between stays apart)
+    (call_untold place p w first answer between k of is apart untold) more
+
+-- ---- starts
+
+start_untold : (place : ℕ) (w : WorldState) (draws : List Draw) (w' : WorldState) → IsSound w → IsEncodable w
+    → IsUntold w → Starts place w draws w' → IsUntold w'
+start_untold place w draws w' sound encodable untold k =
+    calls_untold place (up_ports new w.net) v draws w'
+    (λ p member station there.
+    subst (λ (x : Station). HasPortNumber x.system p) (same_Some new station (sym now_there ∙ there))
+    (brought_ports new w.net p member))
+    (record {
+      stations = get-set_all CanAnswer w.stations place k.station new k.here
+          (record {
+            params = old.params;
+            steady = started_steady k.station.setup w.time old.params old.its.intervals;
+            its = (fresh_same w.time k.station old.its).its;
+          })
+          is.stations;
+      encodable = record {
+        stations = get-set_all StationFits w.stations place k.station new k.here
+            (new_fits w.time k.station.setup true (is.encodable.stations place k.station k.here).setup)
+            is.encodable.stations;
+        links = is.encodable.links;
+      };
+    })
+    (stays_apart w v (refreshed_stays place k.station w k.here (setups_of w is)) sound.wired.apart)
+    (record {
+      measured = get-set_all HasMeasuredNothing w.stations place k.station new k.here
+          (started_unmeasured k.station.setup w.time true) untold.measured;
+      lanes = untold.lanes;
+    }) k.calls
+  where
+    new : Station
+    new = fresh w.time k.station
+
+    v : WorldState
+    v = record (with_station place new w) { net = all_timers place new w.net }
+
+    is : IsAnswering w
+    is = sound_answers w sound encodable
+
+    old : CanAnswer k.station
+    old = is.stations place k.station k.here
+
+    now_there : slice_get v.stations place ≡ Some new
+    now_there = get-set_same w.stations place k.station new k.here
+
+starts_untold : (places : List ℕ) (w : WorldState) (draws : List Draw) (w' : WorldState) → IsSound w → IsEncodable w
+    → IsUntold w → StartsAll places w draws w' → IsUntold w'
+starts_untold [] w draws w' sound encodable untold (none, same) = subst IsUntold (sym same) untold
+starts_untold (place ∷ places) w draws w' sound encodable untold (first, rest, next, split, k, more) =
+    let alone : StartsAll (place ∷ []) w first next = (first, [], next, sym (append-nil first), k, (refl, refl)) in
+    starts_untold places next rest w' (starts_sound (place ∷ []) w first next sound alone)
+    (starts_encodable (place ∷ []) w first next sound encodable alone)
+    (start_untold place w first next sound encodable untold k) more
+
+initial_untold : (n : NetworkState) → IsUntold (initial n)
+initial_untold n = record {
+  measured = λ place station there.
+      let (member, stood, made) = mapped (station_of (pace_of n)) n.systems place station there in
+      subst HasMeasuredNothing made (started_unmeasured (station_of (pace_of n) member).setup 0 false);
+  lanes = λ j l f a there member said.
+      let at = lane_from (channels_of n) j l there in
+      let (wire, stood, made) = mapped channel_from n.links at.link at.channel at.here in
+      still wire at.direction f
+      (subst (λ (c : Channel). In f (map frame_view (world_queue at.direction c))) (sym made)
+      (subst (λ (x : Lane). In f x.frames) at.is member));
+}
+  where
+    still : (wire : LinkSpec) (direction : Direction) (f : AnnounceFrame)
+        → In f (map frame_view (world_queue direction (channel_from wire))) → ⊥
+    still wire FromA f member = member
+    still wire FromB f member = member
+
+pub begun_untold : {F : Type 0} (answers : Bounds → ℕ → F → Option ℕ → F → Type 0) (n : NetworkState)
+    (fate fate_after : F) (w : WorldState) → IsNetwork n → IsSound (initial n) → Begun answers n fate fate_after w
+    → IsUntold w
+begun_untold answers n fate fate_after w network sound k =
+    starts_untold (range_with_len 0 (length n.systems)) (initial n) k.draws w sound (initial_encodable n network)
+    (initial_untold n) k.starts

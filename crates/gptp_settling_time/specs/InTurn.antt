@@ -1,0 +1,154 @@
+-- How soon a document has settled, event by event: each event leaves known of the network what it came from.
+--
+-- After some events of a document its network came from *any past*; or it has *gained* only, since it started or had
+-- rested, and its ports at links are capable from a start on; or the same is so and all that is told over its links is
+-- *heard*, so that no announce interval has to pass. An event leads from one to another (`EventLeads`). It may always
+-- lead to
+-- any past. To a gain it leads where it takes nothing away. And it leads to what is heard where the network has settled
+-- and it brings up a link between live systems, or sets a better priority1. Where the delay of that link varies little
+-- the first Announce over it comes to a port that is capable already, and a system that gets better tells so at once.
+-- Where all was heard before, links may also come up one after another, as soon as ports are capable; and what changes
+-- nothing asks for no time at all.
+use Rattle.std.specs.Prelude.{◌≡◌, ◌<◌, ◌≤◌, ◌⊎◌, ◌+◌, ◌*◌, ℕ, ⊤, pred, List, [], ◌∷◌, ◌++◌, Option, Some, slice_get}
+use Rattle.gptp_lists.specs.Members.{In}
+use Rattle.gptp_vector.specs.declared.port.PortId.{PortId}
+use Rattle.gptp_links.specs.declared.bounds.Bounds.{Bounds}
+use Rattle.gptp_setup.specs.SettlingParams.{largest_interval}
+use Rattle.gptp_scenario.specs.Calm.{IsCalm, NothingLapses, last_change}
+use Rattle.gptp_scenario.specs.Change.{link_after}
+use Rattle.gptp_scenario.specs.Network.{IsEnd, NetworkState, pace_of}
+use Rattle.gptp_scenario.specs.SettlingAtOnce.{settling_span_at_once}
+use Rattle.gptp_scenario.specs.SettlingTime.{settling_span_with}
+use Rattle.gptp_scenario.specs.SyncWait.{sync_paths}
+use Rattle.gptp_scenario.specs.declared.change.Act.TheVariants.{Change as Changing}
+use Rattle.gptp_scenario.specs.declared.change.Change.TheVariants.{LinkUp, Priority1}
+use Rattle.gptp_scenario.specs.declared.change.Timed.{Timed}
+use Rattle.gptp_scenario.specs.declared.network.LinkSpec.{LinkSpec}
+use Rattle.gptp_model.specs.World.{WorldState, port_id}
+use Rattle.gptp_network.specs.Document.{DocumentState}
+use Rattle.gptp_network.specs.Snapshot.{events_by}
+use Rattle.gptp_report.specs.Transitions.{ActTrace, Unfolds}
+use Rattle.gptp_theorem.specs.PlayedLaws.{IsPlayable}
+use Rattle.gptp_settling_time.specs.Documents.{IsSettledAs}
+use Rattle.gptp_settling_time.specs.Exactly.{SettlesBy}
+use Rattle.gptp_settling_time.specs.Gains.{AllLiveAfter, AreCapableAnyway, AreCapableNext, AreCapableStill, ChangesNothing, HasRested, IsDownAfter, IsNoWorse, JoinsLive, TakesNothing, exchanged_from}
+use Rattle.gptp_settling_time.specs.Starts.{LinksVaryLittle}
+
+-- what a network came from, and from when on its ports are capable
+pub data Past : Type 0 where
+  AnyPast : Past
+  Gained : ℕ → Past
+  Heard : ℕ → Past
+
+-- ---- events
+
+-- after these events the greatest delay of the link at the port is below twice the least
+abbrev pub VariesLittleAfter : NetworkState → List Timed → PortId → Type 0
+VariesLittleAfter n events port = (place : ℕ) (v : LinkSpec) → slice_get n.links place ≡ Some v
+    → IsEnd port (link_after events v)
+    → (link_after events v).bounds.max < 2 * (link_after events v).bounds.min
+
+-- After these events this one brings up a link that is down, between two systems that live; its delay varies little.
+-- Its
+-- ports are capable from the next time on.
+pub record BringsUp (n : NetworkState) (before : List Timed) (event : Timed) (next : ℕ) : Type 0 where
+  pub clock : ℕ
+  pub port : ℕ
+  pub act : event.act ≡ Changing (LinkUp clock port)
+  pub down : IsDownAfter n before (port_id clock port)
+  pub little : VariesLittleAfter n before (port_id clock port)
+  pub live : JoinsLive n (before ++ event ∷ []) (port_id clock port)
+  pub capable : exchanged_from (pace_of n) (sync_paths n (before ++ event ∷ [])) event.at ≤ next
+
+-- After these events this one sets a priority1 that makes its system's identity no worse, where all systems live and no
+-- path has more than 255 of them. The next time is later than that.
+pub record BettersClock (n : NetworkState) (before : List Timed) (event : Timed) (next : ℕ) : Type 0 where
+  pub clock : ℕ
+  pub value : ℕ
+  pub act : event.act ≡ Changing (Priority1 clock value)
+  pub better : IsNoWorse n before clock value
+  pub live : AllLiveAfter n before
+  pub few : (sync_paths n before).systems ≤ 255
+  pub later : event.at < next
+
+-- the network has settled from any past by this time, or from such a start, where something may not be heard or all is
+pub record HasSettledAnyhow (n : NetworkState) (events : List Timed) (time : ℕ) : Type 0 where
+  pub calm : IsCalm n events
+  pub passed : last_change events + settling_span_at_once (pace_of n) (sync_paths n events) ≤ time
+
+abbrev pub HasSettledSince : NetworkState → List Timed → ℕ → ℕ → Type 0
+HasSettledSince n events start time =
+    start + largest_interval (pace_of n) + pred (sync_paths n events).systems * (sync_paths n events).delay ≤ time
+
+abbrev pub HasSettledHeard : NetworkState → List Timed → ℕ → ℕ → Type 0
+HasSettledHeard n events start time =
+    start + pred (sync_paths n events).systems * (sync_paths n events).delay ≤ time
+
+-- from rest ports are capable whatever came before; from a gain or a start they were so from another start on
+abbrev pub LeadsToGain : NetworkState → List Timed → Past → Timed → ℕ → Type 0
+LeadsToGain n before AnyPast event next =
+    HasRested n before event.at
+    × ((rest : ℕ) × AreCapableAnyway n before rest × AreCapableNext n before rest event next)
+LeadsToGain n before (Gained start) event next = AreCapableStill n before start event next
+LeadsToGain n before (Heard start) event next = AreCapableStill n before start event next
+
+abbrev pub LeadsToHeard : NetworkState → List Timed → Past → Timed → ℕ → Type 0
+LeadsToHeard n before AnyPast event next =
+    HasSettledAnyhow n before event.at × (BringsUp n before event next ⊎ BettersClock n before event next)
+LeadsToHeard n before (Gained start) event next =
+    HasSettledSince n before start event.at × (BringsUp n before event next ⊎ BettersClock n before event next)
+LeadsToHeard n before (Heard start) event next =
+    ((start ≤ event.at) × BringsUp n before event next)
+    ⊎ ((HasSettledHeard n before start event.at × BettersClock n before event next)
+    ⊎ (ChangesNothing n before event.act × (next ≡ start)))
+
+abbrev pub EventLeads : NetworkState → List Timed → Past → Timed → Past → Type 0
+EventLeads n before past event AnyPast = ⊤
+EventLeads n before past event (Gained next) = TakesNothing n before event.act × LeadsToGain n before past event next
+EventLeads n before past event (Heard next) = LeadsToHeard n before past event next
+
+-- each event leads from one to the next
+abbrev pub LeadOn : NetworkState → List Timed → Past → List Timed → Past → Type 0
+LeadOn n before past [] last = last ≡ past
+LeadOn n before past (event ∷ events) last =
+    (next : Past) × EventLeads n before past event next × LeadOn n (before ++ event ∷ []) next events last
+
+-- ---- a document
+
+-- ports are capable by then that ask from time 0 on; and where all is heard delays vary little
+abbrev pub BeginsBy : NetworkState → Past → Type 0
+BeginsBy n AnyPast = ⊤
+BeginsBy n (Gained start) = exchanged_from (pace_of n) (sync_paths n []) 0 ≤ start
+BeginsBy n (Heard start) = LinksVaryLittle n [] × (exchanged_from (pace_of n) (sync_paths n []) 0 ≤ start)
+
+-- By this time a calm network has settled after these events. From any past the span has to pass, the sharper one where
+-- nothing lapses. Else ports become capable; then an announce interval passes where something may not be heard; and
+-- then the greatest delay for each system of a path but one.
+abbrev pub SettlesAfter : NetworkState → List Timed → Past → ℕ → Type 0
+SettlesAfter n events AnyPast settled =
+    (NothingLapses n.params
+    × (last_change events + settling_span_at_once (pace_of n) (sync_paths n events) ≤ settled))
+    ⊎ (last_change events + settling_span_with (pace_of n) (sync_paths n events) (sync_paths n events).systems ≤
+    settled)
+SettlesAfter n events (Gained start) settled = SettlesBy (pace_of n) (sync_paths n events) start settled
+SettlesAfter n events (Heard start) settled =
+    NothingLapses n.params
+    × (start + pred (sync_paths n events).systems * (sync_paths n events).delay ≤ settled)
+
+-- A document settles by a time after its events up to another, one after another.
+pub record SettlesByEvents (d : DocumentState) (until settled : ℕ) : Type 0 where
+  pub calm : IsCalm d.network (events_by until d.events)
+  pub first : Past
+  pub begins : BeginsBy d.network first
+  pub last : Past
+  pub lead : LeadOn d.network [] first (events_by until d.events) last
+  pub settles : SettlesAfter d.network (events_by until d.events) last settled
+
+-- The world after each act of its run is settled that is done by then, and later than those events.
+abbrev pub ActsFindSettledInTurn : {F : Type 0} → (Bounds → ℕ → F → Option ℕ → F → Type 0) → Type 0
+ActsFindSettledInTurn {F} answers = (d : DocumentState) (until settled : ℕ) (fate : F) (first w : WorldState)
+    (ts : List ActTrace) (t : ActTrace)
+    → IsPlayable d → Unfolds answers d until fate first ts w → In t ts
+    → SettlesByEvents d t.told.timed.at settled → settled ≤ t.told.timed.at
+    → last_change (events_by t.told.timed.at d.events) < t.told.timed.at
+    → IsSettledAs d t.told.timed.at t.after
