@@ -1,6 +1,8 @@
 -- A step leaves all timers due when they were that it doesn't touch.
-use Rattle.std.proofs.Common.{◌≡◌, ℕ, Bool, true, false, List, refl, sym, ap, subst, ◌∙◌, inl, inr}
+use Rattle.std.proofs.Common.{◌≡◌, ℕ, ℤ, Bool, true, false, List, Option, Some, None, refl, sym, ap, subst, ◌∙◌, inl, inr}
+use Rattle.gptp_correction.specs.declared.sync_in.SyncInfo.{SyncInfo}
 use Rattle.gptp_messages.specs.declared.announce.AnnounceView.{AnnounceView}
+use Rattle.gptp_messages.specs.declared.follow_up.FollowUp.{FollowUp}
 use Rattle.gptp_messages.specs.declared.message.Message.{Message}
 use Rattle.gptp_messages.specs.declared.message.Message.TheVariants as messages
 use Rattle.gptp_pdelay.specs.Peer.{PeerState, after_follow_up}
@@ -10,6 +12,7 @@ use Rattle.gptp_receipt.specs.Held.{comparison}
 use Rattle.gptp_system.specs.declared.answer.Answer.{Answer}
 use Rattle.gptp_system.specs.declared.answer.Answer.TheVariants as answers
 use Rattle.gptp_system.specs.declared.sending.Sending.{Sending}
+use Rattle.gptp_setup.specs.SettlingParams.{has_sync_timeout}
 use Rattle.gptp_setup.specs.declared.timer.Timer.{Timer}
 use Rattle.gptp_setup.specs.declared.timer.Timer.TheVariants as timers
 use Rattle.gptp_system.specs.declared.timers_changed.TimersChanged.{TimersChanged}
@@ -17,12 +20,13 @@ use Rattle.gptp_system.specs.declared.timers_changed.TimersChanged.TheVariants a
 use Rattle.gptp_system.specs.Announcing.{answer_to_heard, compared, replaces_held, HearsQualified}
 use Rattle.gptp_system.specs.Input.{Input, Frame, Expires}
 use Rattle.gptp_system.specs.Measuring.{is_turned, TurnsIf}
-use Rattle.gptp_system.specs.Reach.{is_selected, is_touched, is_touched_by, same_timer, stops_at, Leaves}
+use Rattle.gptp_system.specs.Reach.{is_of_time, is_selected, is_touched, is_touched_by, same_timer, stops_at, Leaves}
 use Rattle.gptp_system.specs.Selection.{SelectsIf}
-use Rattle.gptp_system.specs.State.{SystemState, held_at, number, own}
+use Rattle.gptp_system.specs.State.{SystemState, held_at, is_capable_at, number, own}
+use Rattle.gptp_system.specs.Syncing.{delay_at, forgetting, root_rate_at, said_on, HearsFollowUpIf, KnowsBy, KnowsIf}
 use Rattle.gptp_system.specs.Steps.{Expires as TimerExpires, HearsMessage, HasPortNumber, IsTimerOf}
-use Rattle.gptp_system.specs.TimersChanged.{asking_touches, holds, message_touches, selected_if, takes_place, timer_touches, IsTouchedOf, Touches}
-use Rattle.gptp_system.proofs.CalmLemmas.{calm_peer}
+use Rattle.gptp_system.specs.TimersChanged.{asking_touches, holds, is_used, message_touches, selected_if, takes_place, timed_if, timer_touches, IsTouchedOf, Touches}
+use Rattle.gptp_system.proofs.CalmLemmas.{calm_apart, calm_peer}
 use Rattle.gptp_system.proofs.ReachLemmas.{hears_message, steps_reach}
 use Rattle.gptp_system.proofs.TimersChangedLemmas.{compared_same}
 use Rattle.gptp_system.proofs.TypeLemmas.{type_number}
@@ -41,15 +45,55 @@ selected_own : (selects : Bool) (s : SystemState) → IsTouchedOf s (selected_if
 selected_own true s = tt
 selected_own false s = tt
 
+timed_own : (used : Bool) (s : SystemState) → IsTouchedOf s (timed_if used)
+timed_own true s = tt
+timed_own false s = tt
+
 message_own : (p : ℕ) (m : Message) (s : SystemState) (answer : Answer) → HasPortNumber s p
     → IsTouchedOf s (message_touches s p m answer)
 message_own p (messages.Sync head) s answer of = tt
 message_own p (messages.PdelayReq head) s answer of = of
 message_own p (messages.PdelayResp m) s answer of = tt
-message_own p (messages.FollowUp m) s answer of = tt
+message_own p (messages.FollowUp m) s answer of = timed_own (is_used answer) s
 message_own p (messages.PdelayRespFollowUp m) s answer of =
     selected_own (is_turned (after_follow_up m) (number s.ports p)) s
 message_own p (messages.Announce a) s answer of = selected_own (takes_place answer) s
+
+-- what is forgotten leaves all timers
+forgotten_leaves : (s : SystemState) → Leaves (holds touches.Nothing) s (forgetting s)
+forgotten_leaves s =
+    (calm_apart (holds touches.Nothing) s _ refl refl refl refl (λ off. refl) (λ off. refl) (λ off. refl)).leaves
+
+-- a Follow_Up that isn't used leaves all timers
+knows_by_leaves : (b : Bool) (info : SyncInfo) (delay rate : ℤ) (now : ℕ) (s s' : SystemState) (sends : List Sending)
+    (answer : Answer)
+    → KnowsBy b info delay rate now s s' sends answer → Leaves is_of_time s s'
+    → Leaves (holds (timed_if (is_used answer))) s s'
+knows_by_leaves true info delay rate now s s' sends answer k leaves =
+    subst (λ x. Leaves (holds (timed_if (is_used x))) s s') (sym k.answer_is) leaves
+knows_by_leaves false info delay rate now s s' sends answer (inl k) leaves =
+    subst (λ x. Leaves (holds (timed_if (is_used x))) s s') (sym k.answer_is) leaves
+knows_by_leaves false info delay rate now s s' sends answer (inr k) leaves =
+    subst (λ x. Leaves (holds (timed_if (is_used x))) s s') (sym k.answer_is)
+    (subst (Leaves (holds touches.Nothing) s) (sym k.becomes.state) (forgotten_leaves s))
+
+knows_if_leaves : (info : Option SyncInfo) (delay rate : ℤ) (now : ℕ) (s s' : SystemState) (sends : List Sending)
+    (answer : Answer)
+    → KnowsIf info delay rate now s s' sends answer → Leaves is_of_time s s'
+    → Leaves (holds (timed_if (is_used answer))) s s'
+knows_if_leaves None delay rate now s s' sends answer k leaves =
+    unchanged (holds (timed_if (is_used answer))) s s' k.becomes.state
+knows_if_leaves (Some info) delay rate now s s' sends answer k leaves =
+    knows_by_leaves (has_sync_timeout s.params) info delay rate now s s' sends answer k leaves
+
+follow_up_leaves : (b : Bool) (p : ℕ) (m : FollowUp) (now : ℕ) (s s' : SystemState) (sends : List Sending)
+    (answer : Answer)
+    → HearsFollowUpIf b p m now s s' sends answer → Leaves is_of_time s s'
+    → Leaves (holds (timed_if (is_used answer))) s s'
+follow_up_leaves false p m now s s' sends answer k leaves =
+    unchanged (holds (timed_if (is_used answer))) s s' k.becomes.state
+follow_up_leaves true p m now s s' sends answer k leaves =
+    knows_if_leaves (said_on p m s) (delay_at s p) (root_rate_at s p) now s s' sends answer k leaves
 
 -- a port that doesn't turn leaves all timers
 turned_leaves : (turned : Bool) (p : ℕ) (step : PeerState → PeerState) (now : ℕ) (s s' : SystemState)
@@ -82,7 +126,8 @@ message_leaves : (p : ℕ) (m : Message) (now : ℕ) (s s' : SystemState) (sends
 message_leaves p (messages.Sync head) now s s' sends answer k leaves = λ timer off. leaves timer refl
 message_leaves p (messages.PdelayReq head) now s s' sends answer k leaves = leaves
 message_leaves p (messages.PdelayResp m) now s s' sends answer k leaves = λ timer off. leaves timer refl
-message_leaves p (messages.FollowUp m) now s s' sends answer k leaves = leaves
+message_leaves p (messages.FollowUp m) now s s' sends answer k leaves =
+    follow_up_leaves (is_capable_at s p) p m now s s' sends answer k leaves
 message_leaves p (messages.PdelayRespFollowUp m) now s s' sends answer k leaves =
     turned_leaves (is_turned (after_follow_up m) (number s.ports p)) p (after_follow_up m) now s s' sends leaves
     k.turns

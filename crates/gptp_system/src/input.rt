@@ -5,7 +5,9 @@ ghost use Rattle.std.specs.Prelude.{◌≡◌};
 use crate::answer::Answer;
 use crate::sending::Outbox;
 use crate::state::State;
-use crate::timers_changed::{TimersChanged, asking_touches, selected_if, takes_place};
+use crate::timers_changed::{
+    TimersChanged, asking_touches, is_used, selected_if, takes_place, timed_if,
+};
 use gptp_messages::{Message, decode};
 use gptp_setup::Timer;
 
@@ -86,10 +88,11 @@ impl State {
                 answer: self.hear_response(port, response, now),
                 touched: TimersChanged::Nothing,
             },
-            Message::FollowUp(follow_up) => Stepped {
-                answer: self.hear_follow_up(port, follow_up, now),
-                touched: TimersChanged::Time,
-            },
+            Message::FollowUp(follow_up) => {
+                let answer = self.hear_follow_up(port, follow_up, now);
+                let touched = timed_if(is_used(answer));
+                Stepped { answer, touched }
+            }
             Message::PdelayRespFollowUp(follow_up) => {
                 let (turned, answer) = self.hear_response_follow_up(port, follow_up, now, outbox);
                 let touched = selected_if(turned);

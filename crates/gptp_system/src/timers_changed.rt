@@ -1,7 +1,7 @@
 //! The timers that a step of a system sets or stops.
 
 ghost use Rattle.std.specs.Prelude.{◌≡◌};
-ghost use Rattle.gptp_system.specs.TimersChanged.{asking_touches, selected_if, takes_place};
+ghost use Rattle.gptp_system.specs.TimersChanged.{asking_touches, is_used, selected_if, takes_place, timed_if};
 
 use crate::answer::Answer;
 use gptp_setup::Timer;
@@ -48,5 +48,25 @@ pub(crate) fn takes_place(answer: Answer) -> bool
     match answer {
         Answer::Superior | Answer::Repeated => true,
         _ => false,
+    }
+}
+
+/// Whether a Follow_Up that is answered so was used.
+pub(crate) fn is_used(answer: Answer) -> bool
+    ensures { result ≡ is_used answer }
+{
+    match answer {
+        Answer::Used => true,
+        _ => false,
+    }
+}
+
+/// Those that time which comes over the Slave port changes, where it may have come.
+pub(crate) fn timed_if(used: bool) -> TimersChanged
+    ensures { result ≡ timed_if used }
+{
+    match used {
+        true => TimersChanged::Time,
+        false => TimersChanged::Nothing,
     }
 }
