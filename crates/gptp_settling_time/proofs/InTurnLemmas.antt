@@ -280,24 +280,26 @@ module _ {F : Type 0} (answers : Bounds → ℕ → F → Option ℕ → F → T
 -- ---- a document
 
 module _ {F : Type 0} (answers : Bounds → ℕ → F → Option ℕ → F → Type 0) (d : DocumentState)
-    (playable : IsPlayable d) (all : List Timed) (last : Past) (until : ℕ) where
+    (playable : IsPlayable d) (all : List Timed) (last : Past) (until : ℕ) (So : WorldState → Type 0)
+    (begins : (w : WorldState) → IsAfter d all last w → w.last_change ≡ w.time → So w)
+    (later : (w : WorldState) (time : ℕ) → w.time ≤ time → NothingBefore time w.net.pending → So w → So (at time w))
+    (acts : (t : ActTrace) (fate drawn : F) (w : WorldState) → IsNextAct w t.told.timed
+    → WasDone answers t.told.timed fate drawn w t.after t.told.done → So w → So t.after) where
   abbrev net : NetworkState
   net = d.network
 
-  -- each act that is later than all events is done in a world that came from the last of them
+  -- what so begins where all events are made, and is kept from then on, is so of each act that is later than all events
   pub in_turn : (made : List Timed) (past : Past) (events : List Timed) (ts : List ActTrace) (fate fate_after : F)
       (w w' : WorldState)
       → made ++ events ≡ all → AllByRecursion IsMade events → AllByRecursion (IsFitEvent (least_of d)) events
       → LeadOn net made past events last → Courses answers until events ts fate fate_after w w'
-      → IsAfter d made past w → w.last_change ≡ w.time → AreSteps answers (IsAfter d all last) all ts w
+      → IsAfter d made past w → w.last_change ≡ w.time → AreSteps answers So all ts w
   in_turn made past [] ts fate fate_after w w' are is fit lead k so now =
       let same : made ≡ all = sym (append-nil made) ∙ are in
       let there : IsAfter d all last w =
       subst (λ es. IsAfter d es last w) same (subst (λ x. IsAfter d made x w) (sym lead) so) in
       let change = (after_keeps d all last w there).stands.last in
-      let passed = passes_to answers (IsAfter d all last) (after_later d all last)
-      (λ t one drawn v next was v_is. after_act d all answers last t one drawn v next was v_is) until ts fate
-      fate_after w w' k there in
+      let passed = passes_to answers So later acts until ts fate fate_after w w' k (begins w there now) in
       record { early = omega (arith, change, now); each = λ t member on. passed.each t member }
   in_turn made past (event ∷ events) ts fate fate_after w w' are is fit (next, leads, others)
       (first, rest, drawn, between, k, on, split) so now =
@@ -305,7 +307,7 @@ module _ {F : Type 0} (answers : Bounds → ℕ → F → Option ℕ → F → T
       (λ t one other v next_is was v_is. after_act d made answers past t one other v next_is was v_is)
       event.at k.first fate k.drawn w k.between k.passes so in
       let moment : k.between.time ≡ event.at = ap (λ (v : WorldState). v.time) k.passes.is in
-      steps_more answers (IsAfter d all last) all event first rest ts fate drawn w between k passed.soon
+      steps_more answers So all event first rest ts fate drawn w between k passed.soon
       (made_time answers d playable made event k.drawn drawn k.between between k.done is.0 fit.0 k.made) split
       (in_turn (made ++ event ∷ []) next events rest drawn fate_after between w'
       (append_assoc made (event ∷ []) events ∙ are) is.1 fit.1 others on
@@ -411,9 +413,10 @@ pub passed_in_turn : {F : Type 0} (answers : Bounds → ℕ → F → Option ℕ
     → (is : SettlesByEvents d until settled)
     → AreSteps answers (IsAfter d (events_by until d.events) is.last) (events_by until d.events) ts first
 passed_in_turn answers d until settled fate first w ts playable k is =
-    in_turn answers d playable (events_by until d.events) is.last until [] is.first (events_by until d.events) ts
-    k.started
-    k.drawn first w refl (events_made d until playable.network playable.events) (events_fit d until playable) is.lead
+    in_turn answers d playable (events_by until d.events) is.last until
+    (IsAfter d (events_by until d.events) is.last) (λ v so now. so) (after_later d (events_by until d.events) is.last)
+    (λ t one drawn v next was so. after_act d (events_by until d.events) answers is.last t one drawn v next was so) []
+    is.first (events_by until d.events) ts k.started k.drawn first w refl (events_made d until playable.network playable.events) (events_fit d until playable) is.lead
     k.courses (begins_after answers d playable fate until first w ts k is.first is.begins)
     (begun_last answers d playable fate k.started first k.begun)
 

@@ -33,6 +33,7 @@ pub mod StillClaimedLemmas
 pub mod NewsClaimedLemmas
 pub mod InTurnLemmas
 pub mod UnchangedLemmas
+mod ExactInTurnLemmas
 pub mod ReactionStageLemmas
 pub mod ReactsLemmas
 pub mod SettledSeenLemmas

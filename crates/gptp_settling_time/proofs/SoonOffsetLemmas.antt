@@ -166,39 +166,58 @@ module _ (link : ℕ) (direction : Direction) (w w' : WorldState) (draws : List 
 
 -- ---- every act
 
+-- a world that has settled from a time on, whose ports have measured right, and in which time is carried right
+pub record CarriesRight (p : SettlingParams) (settled : ℕ) (w : WorldState) : Type 0 where
+  pub is : IsSettledFrom p settled p.params.threshold w
+  pub right : AllMeasureRight p.params w
+  pub carries : CarriesTime p.params settled p.params.threshold w
+
 module _ {F : Type 0} (answers : Bounds → ℕ → F → Option ℕ → F → Type 0) (timed : Timed) (fate fate_after : F)
-    (w w' : WorldState) (p : SettlingParams) (m start settled : ℕ) (is : IsTimed p m start settled w)
-    (can : CanSettle p m start settled w) (old : IsOldBy p settled w) (early : timed.at ≤ 10 ^ 18) where
+    (w w' : WorldState) (p : SettlingParams) (settled : ℕ)
+    (so : settled ≤ timed.at → CarriesRight p settled (at timed.at w)) where
   abbrev then : WorldState
   then = at timed.at w
 
-  delivered : (link : ℕ) (direction : Direction) (draws : List Draw) (done : Done) → IsTimed p m start settled then
+  delivered : (link : ℕ) (direction : Direction) (draws : List Draw) (done : Done)
       → Acts (Deliver link direction) then draws done w' → AreExactFrom p settled w timed.at w' done
-  delivered link direction draws Quiet now k = λ steps number error offset ahead late leaves near way is_ahead.
+  delivered link direction draws Quiet k = λ steps number error offset ahead late leaves near way is_ahead.
       absurd leaves.uses
-  delivered link direction draws (Heard name port answer frame) now k =
+  delivered link direction draws (Heard name port answer frame) k =
       λ steps number error offset ahead late leaves near way is_ahead.
       let (same, used, (message, reads)) = leaves.uses in
-      let can_then = can_later p m start settled w timed.at can in
-      let on : settled ≤ timed.at = omega (arith, late) in
+      let now = so (omega (arith, late)) in
       used_exactly link direction then w' draws number port frame.items (Heard name port answer frame) p settled steps
-      error ahead offset leaves.system k (same, refl, used, refl) message reads leaves.shows leaves.is
-      (settled_from p m start settled then now.news can_then old on early)
-      (right_from p m start settled then now.news can_then old on early) (now.carries can_then old on early) late near
-      (error_then p.params w timed.at number (suc steps) error way) (ahead_then w number timed.at ahead is_ahead)
+      error ahead offset leaves.system k (same, refl, used, refl) message reads leaves.shows leaves.is now.is now.right
+      now.carries late near (error_then p.params w timed.at number (suc steps) error way)
+      (ahead_then w number timed.at ahead is_ahead)
 
   -- what tells of no frame tells of no offset
   quiet : (done : Done) → done ≡ Quiet → AreExactFrom p settled w timed.at w' done
   quiet done told = λ steps number error offset ahead late leaves near way is_ahead.
       absurd (subst (UsesFollowUp number) told leaves.uses)
 
-  pub act_exact : (done : Done) → WasDone answers timed fate fate_after w w' done
+  pub carried_exact : (done : Done) → WasDone answers timed fate fate_after w w' done
       → AreExactFrom p settled w timed.at w' done
-  act_exact done k = by timed.act k.acts
+  carried_exact done k = by timed.act k.acts
     where
       by : (act : Act) → Acts act then k.draws done w' → AreExactFrom p settled w timed.at w' done
-      by (Deliver link direction) acts =
-          delivered link direction k.draws done
-          (timed_later p m start settled w timed.at k.ready.timely.now k.ready.timely.first is) acts
+      by (Deliver link direction) acts = delivered link direction k.draws done acts
       by (Expire number timer) (told, rest) = quiet done told
       by (Changing change) (told, rest) = quiet done told
+
+-- in a world since news
+module _ {F : Type 0} (answers : Bounds → ℕ → F → Option ℕ → F → Type 0) (timed : Timed) (fate fate_after : F)
+    (w w' : WorldState) (p : SettlingParams) (m start settled : ℕ) (is : IsTimed p m start settled w)
+    (can : CanSettle p m start settled w) (old : IsOldBy p settled w) (early : timed.at ≤ 10 ^ 18) where
+  pub act_exact : (done : Done) → WasDone answers timed fate fate_after w w' done
+      → AreExactFrom p settled w timed.at w' done
+  act_exact done k =
+      let now = timed_later p m start settled w timed.at k.ready.timely.now k.ready.timely.first is in
+      let can_then = can_later p m start settled w timed.at can in
+      carried_exact answers timed fate fate_after w w' p settled
+      (λ on. record {
+        is = settled_from p m start settled (at timed.at w) now.news can_then old on early;
+        right = right_from p m start settled (at timed.at w) now.news can_then old on early;
+        carries = now.carries can_then old on early;
+      })
+      done k

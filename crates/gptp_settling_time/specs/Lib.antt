@@ -5,4 +5,5 @@ pub mod Idle
 pub mod HowSoon
 pub mod Starts
 pub mod InTurn
+pub mod ExactInTurn
 pub mod Unchanged

@@ -11,13 +11,15 @@
 //!
 //! Where the greatest delay of each new link is below twice its least no announce interval has to pass: after a start
 //! (`specs/Starts.antt`), and event by event after links come up and a priority1 gets better (`specs/InTurn.antt`). Once
-//! a document has settled no act leaves a system another (`specs/Unchanged.antt`). `specs/HowSoon.antt` has the bounds of
-//! the choice and of rest at each time of a document; no law cites them yet.
+//! a document has settled no act leaves a system another (`specs/Unchanged.antt`), and offsets are exact as soon as a
+//! Sync has come down a way (`specs/ExactInTurn.antt`). `specs/HowSoon.antt` has the bounds of the choice and of rest at
+//! each time of a document; no law cites them yet.
 //!
 //! Each function of this crate is a law: it does nothing, and its contract is a theorem about the definitions.
 #![tactic(auto)]
 
 mod documents;
+mod exact_in_turn;
 mod exactly;
 mod idle;
 mod in_turn;
@@ -25,6 +27,7 @@ mod starts;
 mod unchanged;
 
 pub use documents::{documents_settle_soon, runs_are_exact_soon, runs_begin_so};
+pub use exact_in_turn::documents_are_exact_in_turn;
 pub use exactly::news_are_exact;
 pub use idle::idle_changes_leave_settled;
 pub use in_turn::documents_settle_in_turn;

@@ -1,0 +1,204 @@
+-- Offsets are exact from when a Sync has come down since a document settled, event by event.
+use Rattle.std.proofs.Common.{◌≡◌, ◌⊎◌, inl, inr, ◌<◌, ◌≤◌, ◌+◌, ◌*◌, ◌^◌, ℕ, List, [], Option, refl, arith}
+use Rattle.std.proofs.lemmas.Bool.{cases_lt}
+use Rattle.gptp_lists.specs.Members.{In}
+use Rattle.gptp_links.specs.declared.bounds.Bounds.{Bounds}
+use Rattle.gptp_setup.specs.SettlingParams.{SettlingParams, largest_interval}
+use Rattle.gptp_setup.proofs.IntervalLemmas.{interval_positive}
+use Rattle.gptp_scenario.specs.Calm.{IsCalm, last_change}
+use Rattle.gptp_scenario.specs.Network.{pace_of}
+use Rattle.gptp_scenario.specs.declared.change.Timed.{Timed}
+use Rattle.gptp_model.specs.Acts.{at}
+use Rattle.gptp_model.specs.Course.{WasDone}
+use Rattle.gptp_model.specs.Pending.{NothingBefore}
+use Rattle.gptp_model.specs.Views.{IsNextAct}
+use Rattle.gptp_model.specs.World.{WorldState}
+use Rattle.gptp_world.specs.Transitions.{ActTrace}
+use Rattle.gptp_network.specs.Document.{DocumentState}
+use Rattle.gptp_network.specs.Snapshot.{events_by}
+use Rattle.gptp_report.specs.Transitions.{Unfolds}
+use Rattle.gptp_invariants.specs.ChoiceCalm.{HaveQuietLinks}
+use Rattle.gptp_invariants.specs.DelayMeasuredLinks.{HaveMeasuredLinks}
+use Rattle.gptp_invariants.specs.SyncTimed.{AllMeasureRight, CarriesTime, IsSettledFrom}
+use Rattle.gptp_invariants.specs.WorldStanding.{live_stations}
+use Rattle.gptp_invariants.proofs.DelayMeasuredLinkLemmas.{used_measured}
+use Rattle.gptp_invariants.proofs.SyncFollowClaimLemmas.{acts_time}
+use Rattle.gptp_invariants.proofs.SyncFollowLaterLemmas.{time_begins, time_carries}
+use Rattle.gptp_invariants.proofs.SyncFollowMeasureLemmas.{measured_right}
+use Rattle.gptp_invariants.proofs.SyncFollowWorldLemmas.{done_carries}
+use Rattle.gptp_theorem.specs.PlayedLaws.{IsPlayable}
+use Rattle.gptp_theorem.proofs.CalmLemmas.{quiet_stands}
+use Rattle.gptp_theorem.proofs.PlayedLemmas.{no_change}
+use Rattle.gptp_theorem.proofs.SettlingInvariantLemmas.{events_fit, events_made}
+use Rattle.gptp_settling_time.specs.ExactInTurn.{ActsAreExactInTurn}
+use Rattle.gptp_settling_time.specs.Exactly.{AreExactFrom}
+use Rattle.gptp_settling_time.specs.InTurn.{AnyPast, Gained, Heard, Past, SettlesAfter, SettlesByEvents}
+use Rattle.gptp_settling_time.proofs.BegunLemmas.{begun_last}
+use Rattle.gptp_settling_time.proofs.DocumentLemmas.{run_to}
+use Rattle.gptp_settling_time.proofs.InTurnLemmas.{IsAfter, after_act, after_keeps, after_later, after_settles, begins_after, in_turn}
+use Rattle.gptp_settling_time.proofs.LaterLemmas.{AreSteps}
+use Rattle.gptp_settling_time.proofs.NewsMeasuredLemmas.{news_measured}
+use Rattle.gptp_settling_time.proofs.SoonOffsetLemmas.{CarriesRight, carried_exact}
+use Rattle.gptp_settling_time.proofs.TimedNewsLemmas.{used_within}
+
+module _ (d : DocumentState) (playable : IsPlayable d) (all : List Timed) (calm : IsCalm d.network all) (last : Past)
+    (settled : ℕ) (settles : SettlesAfter d.network all last settled)
+    (old : last_change all + largest_interval (pace_of d.network) ≤ settled) where
+  abbrev p : SettlingParams
+  p = pace_of d.network
+
+  -- ---- a world that has settled
+
+  quiet : (w : WorldState) → IsAfter d all last w → HaveQuietLinks p.params w
+  quiet w so =
+      let keeps = after_keeps d all last w so in
+      (quiet_stands d.network all w playable.network keeps.stands keeps.claim.world.sound calm).links
+
+  -- its ports have measured their links
+  have_measured : (past : Past) (w : WorldState) → IsAfter d all past w → SettlesAfter d.network all past settled
+      → HaveQuietLinks p.params w → settled ≤ w.time → HaveMeasuredLinks w
+  have_measured AnyPast w keeps so links on =
+      let change = keeps.stands.last in
+      used_measured p w keeps.claim.pace keeps.claim.world links keeps.claim.watched (by so change)
+    where
+      by : SettlesAfter d.network all AnyPast settled → w.last_change ≡ last_change all
+          → w.last_change + 5 * largest_interval p ≤ w.time
+      by (inl (off, passed)) change = omega (arith, passed, on, change)
+      by (inr passed) change = omega (arith, passed, on, change)
+  have_measured (Gained start) w so settles links on =
+      news_measured p start w so.news links (by settles)
+    where
+      by : SettlesAfter d.network all (Gained start) settled → start ≤ w.time
+      by (inl (off, late)) = omega (arith, late, on)
+      by (inr (short, late)) = omega (arith, late, on)
+  have_measured (Heard start) w so (off, late) links on =
+      news_measured p start w so.since.news links (omega (arith, late, on))
+
+  settled_from : (w : WorldState) → IsAfter d all last w → settled ≤ w.time → w.time ≤ 10 ^ 18
+      → IsSettledFrom p settled p.params.threshold w
+  settled_from w so on shown =
+      let keeps = after_keeps d all last w so in
+      let links = quiet w so in
+      let change = keeps.stands.last in
+      record {
+        pace = keeps.claim.pace;
+        world = keeps.claim.world;
+        measured = keeps.claim.measured;
+        links = links;
+        choice = (after_settles d playable all calm settled w on last so settles).0;
+        old = omega (arith, old, change);
+        late = on;
+        shown = shown;
+        short = used_within (live_stations w.stations) w.net.channels p.params.threshold
+            (λ link channel here used. let good = (links link channel here used).good in omega (arith, good));
+        limit = keeps.claim.pace.params.ranges.threshold;
+      }
+
+  right : (w : WorldState) → IsAfter d all last w → settled ≤ w.time → w.time ≤ 10 ^ 18
+      → AllMeasureRight p.params w
+  right w so on shown =
+      measured_right p settled p.params.threshold w (settled_from w so on shown)
+      (have_measured last w so settles (quiet w so) on)
+
+  -- ---- what is kept
+
+  -- time is carried right from then on
+  record IsExactTo (w : WorldState) : Type 0 where
+    so : IsAfter d all last w
+    carries : settled ≤ w.time → w.time ≤ 10 ^ 18 → CarriesTime p.params settled p.params.threshold w
+
+  exact_begins : (w : WorldState) → IsAfter d all last w → w.last_change ≡ w.time → IsExactTo w
+  exact_begins w so now =
+      let keeps = after_keeps d all last w so in
+      let some = interval_positive p.largest keeps.claim.pace.largest in
+      let change = keeps.stands.last in
+      record { so = so; carries = λ on shown. absurd (omega (arith, on, old, some, change, now)) }
+
+  carries_later : (w : WorldState) (time : ℕ) → w.time ≤ time → IsAfter d all last (at time w) → IsExactTo w
+      → settled ≤ time → time ≤ 10 ^ 18 → CarriesTime p.params settled p.params.threshold (at time w)
+  carries_later w time later then is on shown = by (cases_lt w.time settled)
+    where
+      by : (w.time < settled) ⊎ (settled ≤ w.time) → CarriesTime p.params settled p.params.threshold (at time w)
+      by (inl early) =
+          time_begins p settled p.params.threshold w time early (after_keeps d all last w is.so).claim.world.known
+          (settled_from (at time w) then on shown)
+      by (inr already) =
+          time_carries p settled p.params.threshold w time later (is.carries already (omega (arith, later, shown)))
+
+  exact_later : (w : WorldState) (time : ℕ) → w.time ≤ time → NothingBefore time w.net.pending → IsExactTo w
+      → IsExactTo (at time w)
+  exact_later w time later first is =
+      let then = after_later d all last w time later first is.so in
+      record { so = then; carries = λ on shown. carries_later w time later then is on shown }
+
+  module _ {F : Type 0} (answers : Bounds → ℕ → F → Option ℕ → F → Type 0) (t : ActTrace) (fate drawn : F)
+      (w : WorldState) (next : IsNextAct w t.told.timed)
+      (was : WasDone answers t.told.timed fate drawn w t.after t.told.done) (is : IsExactTo w) where
+    exact_act : IsExactTo t.after
+    exact_act =
+        let timed = t.told.timed in
+        let then = after_later d all last w timed.at was.ready.timely.now was.ready.timely.first is.so in
+        let after = after_act d all answers last t fate drawn w next was is.so in
+        let still = no_change next.item timed.act w next.act in
+        record {
+          so = after;
+          carries = λ on shown.
+              let time = acts_time timed.act (at timed.at w) was.draws t.told.done t.after still was.acts in
+              let on_then : settled ≤ timed.at = omega (arith, on, time) in
+              let shown_then : timed.at ≤ 10 ^ 18 = omega (arith, shown, time) in
+              let now = was.ready.timely.now in
+              done_carries answers p settled p.params.threshold timed fate drawn w t.after t.told.done still was
+              (after_keeps d all last w is.so).claim.world.known (settled_from (at timed.at w) then on_then shown_then)
+              (right (at timed.at w) then on_then shown_then) (settled_from t.after after on shown)
+              (λ already. is.carries already (omega (arith, now, shown_then)));
+        }
+
+  -- so time is carried right in it at each time from then on
+  carries_right : (w : WorldState) → IsExactTo w → settled ≤ w.time → w.time ≤ 10 ^ 18 → CarriesRight p settled w
+  carries_right w is on shown =
+      record { is = settled_from w is.so on shown; right = right w is.so on shown; carries = is.carries on shown }
+
+-- ---- the law
+
+module _ {F : Type 0} (answers : Bounds → ℕ → F → Option ℕ → F → Type 0) (d : DocumentState) (settled : ℕ) (fate : F)
+    (first w : WorldState) (ts : List ActTrace) (t : ActTrace) (playable : IsPlayable d)
+    (k : Unfolds answers d t.told.timed.at fate first ts w) (member : In t ts) (shown : t.told.timed.at ≤ 10 ^ 18)
+    (is : SettlesByEvents d t.told.timed.at settled)
+    (old : last_change (events_by t.told.timed.at d.events) + largest_interval (pace_of d.network) ≤ settled) where
+  abbrev now : ℕ
+  now = t.told.timed.at
+
+  abbrev events : List Timed
+  events = events_by now d.events
+
+  begun : IsAfter d [] is.first first
+  begun = begins_after answers d playable fate now first w ts k is.first is.begins
+
+  steps : AreSteps answers (IsExactTo d playable events is.calm is.last settled is.settles old) events ts first
+  steps =
+      in_turn answers d playable events is.last now (IsExactTo d playable events is.calm is.last settled is.settles old)
+      (exact_begins d playable events is.calm is.last settled is.settles old)
+      (exact_later d playable events is.calm is.last settled is.settles old)
+      (λ u one drawn v next was v_is.
+      exact_act d playable events is.calm is.last settled is.settles old answers u one drawn v next was v_is)
+      [] is.first events ts k.started k.drawn first w refl (events_made d now playable.network playable.events)
+      (events_fit d now playable) is.lead k.courses begun (begun_last answers d playable fate k.started first k.begun)
+
+  exact_then : AreExactFrom (pace_of d.network) settled t.before now t.after t.told.done
+  exact_then number_of_steps number error offset ahead late leaves near way is_ahead =
+      let pace = (after_keeps d [] is.first first begun).claim.pace in
+      let some = interval_positive (pace_of d.network).largest pace.largest in
+      let step = steps.each t member (omega (arith, some, old, late)) in
+      carried_exact answers t.told.timed step.fate step.drawn t.before t.after (pace_of d.network) settled
+      (λ on.
+      carries_right d playable events is.calm is.last settled is.settles old (at now t.before)
+      (exact_later d playable events is.calm is.last settled is.settles old t.before now step.was.ready.timely.now
+      step.was.ready.timely.first step.before)
+      on shown)
+      t.told.done step.was number_of_steps number error offset ahead late leaves near way is_ahead
+
+pub acts_are_exact_in_turn : {F : Type 0} (answers : Bounds → ℕ → F → Option ℕ → F → Type 0)
+    → ActsAreExactInTurn answers
+acts_are_exact_in_turn answers d until settled fate first w ts t playable k member shown is old =
+    let run = run_to answers d until fate first w ts t playable k member in
+    exact_then answers d settled fate first run.w run.ts t playable run.unfolds run.member shown is old

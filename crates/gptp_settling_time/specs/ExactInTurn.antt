@@ -1,0 +1,25 @@
+-- How exactly, over runs of documents that settle event by event.
+use Rattle.std.specs.Prelude.{◌≤◌, ◌+◌, ◌^◌, ℕ, List, Option}
+use Rattle.gptp_lists.specs.Members.{In}
+use Rattle.gptp_links.specs.declared.bounds.Bounds.{Bounds}
+use Rattle.gptp_setup.specs.SettlingParams.{largest_interval}
+use Rattle.gptp_scenario.specs.Calm.{last_change}
+use Rattle.gptp_scenario.specs.Network.{pace_of}
+use Rattle.gptp_model.specs.World.{WorldState}
+use Rattle.gptp_network.specs.Document.{DocumentState}
+use Rattle.gptp_network.specs.Snapshot.{events_by}
+use Rattle.gptp_report.specs.Transitions.{ActTrace, Unfolds}
+use Rattle.gptp_theorem.specs.PlayedLaws.{IsPlayable}
+use Rattle.gptp_settling_time.specs.Exactly.{AreExactFrom}
+use Rattle.gptp_settling_time.specs.InTurn.{SettlesByEvents}
+
+-- Each act of a run leaves offsets that are exact, once a Sync has had the time to come down a way since the document
+-- settled by the events up to the act, one after another. It settled no sooner than an announce interval after the last
+-- event.
+abbrev pub ActsAreExactInTurn : {F : Type 0} → (Bounds → ℕ → F → Option ℕ → F → Type 0) → Type 0
+ActsAreExactInTurn {F} answers = (d : DocumentState) (until settled : ℕ) (fate : F) (first w : WorldState)
+    (ts : List ActTrace) (t : ActTrace)
+    → IsPlayable d → Unfolds answers d until fate first ts w → In t ts → t.told.timed.at ≤ 10 ^ 18
+    → SettlesByEvents d t.told.timed.at settled
+    → last_change (events_by t.told.timed.at d.events) + largest_interval (pace_of d.network) ≤ settled
+    → AreExactFrom (pace_of d.network) settled t.before t.told.timed.at t.after t.told.done

@@ -1,0 +1,13 @@
+//! How exactly, where a document settles event by event.
+
+ghost use Rattle.gptp_settling_time.specs.ExactInTurn.{ActsAreExactInTurn};
+
+use gptp_links::Fate;
+
+/// Once a Sync has had the time to come down a way since a document has settled, event by event, each Follow_Up that the
+/// near system at its end uses leaves an offset within the time error of that way of its clock less that of the best. The
+/// document may have settled from any past, after a gain, or after one of which all is heard, no sooner than an announce
+/// interval after its last event.
+pub fn documents_are_exact_in_turn<F: Fate>()
+    ensures { ActsAreExactInTurn F.answers }
+{}
