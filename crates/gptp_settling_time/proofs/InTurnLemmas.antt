@@ -34,10 +34,11 @@ use Rattle.gptp_invariants.specs.ChoiceSettlesAsMachine.{IsWorld}
 use Rattle.gptp_invariants.specs.DelayMeasured.{LinkIsMeasured}
 use Rattle.gptp_invariants.specs.WorldBounded.{IsBoundedWorld}
 use Rattle.gptp_invariants.specs.WorldCalmFor.{IsCalmFor, at_once_span, span_over}
-use Rattle.gptp_invariants.specs.WorldNews.{IsNews}
+use Rattle.gptp_invariants.specs.WorldNews.{AreReadyBy, AreSilentBy, IsNews}
 use Rattle.gptp_invariants.specs.WorldSound.{IsSoundWorld}
 use Rattle.gptp_invariants.specs.WorldStanding.{snapshot_of}
 use Rattle.gptp_invariants.proofs.WorldBoundedLemmas.{bounded_at_once, bounded_by_paths}
+use Rattle.gptp_invariants.proofs.WorldNewsActLemmas.{ready_later}
 use Rattle.gptp_invariants.proofs.WorldNewsLemmas.{news_go_on}
 use Rattle.gptp_invariants.proofs.WorldSettlingInvariantLemmas.{settled_at_once, settled_by_paths}
 use Rattle.gptp_invariants.proofs.WorldSoundLemmas.{sound_later}
@@ -50,7 +51,7 @@ use Rattle.gptp_theorem.proofs.SnapshotLemmas.{snapshots_stand}
 use Rattle.gptp_theorem.proofs.SyncPathLemmas.{paths_stand}
 use Rattle.gptp_settling_time.specs.Exactly.{SettlesBy}
 use Rattle.gptp_settling_time.specs.Gains.{ChangesNothing, IsIdleAfter, LeavesCapable, TakesNothing}
-use Rattle.gptp_settling_time.specs.InTurn.{ActsFindSettledInTurn, AnyPast, BeginsBy, BettersClock, BringsUp, Gained, Heard, LeadOn, EventLeads, Past, SettlesAfter, SettlesByEvents}
+use Rattle.gptp_settling_time.specs.InTurn.{ActsFindSettledInTurn, AnyPast, BeginsBy, BettersClock, BringsUp, EventLeads, Gained, Heard, LeadOn, LeavesSettled, Past, SettlesAfter, SettlesByEvents}
 use Rattle.gptp_settling_time.proofs.AlwaysClaimedLemmas.{IsClaimedAlways, since_later}
 use Rattle.gptp_settling_time.proofs.BegunLemmas.{begun_keeps, begun_last, begun_news, rested_sound}
 use Rattle.gptp_settling_time.proofs.ClaimedToLemmas.{IsClaimedTo, claimed_act, claimed_later, claimed_settled}
@@ -61,10 +62,11 @@ use Rattle.gptp_settling_time.proofs.IdleLemmas.{idle_now, idle_same}
 use Rattle.gptp_settling_time.proofs.KeptToLemmas.{IsNewsTo, KeepsTo, keeps_act, keeps_later, news_act_to, news_later_to}
 use Rattle.gptp_settling_time.proofs.LaterLemmas.{AreSteps, steps_more}
 use Rattle.gptp_settling_time.proofs.LinkUpLemmas.{link_up_claimed}
-use Rattle.gptp_settling_time.proofs.MadeLemmas.{made_keeps, made_last, made_news, made_time, news_news, rest_news}
+use Rattle.gptp_settling_time.proofs.MadeLemmas.{anyway_ready, made_keeps, made_last, made_news, made_time, news_news, rest_news}
 use Rattle.gptp_settling_time.proofs.NewsClaimedLemmas.{news_claimed, news_on, news_settled}
 use Rattle.gptp_settling_time.proofs.PassLemmas.{passes_to}
 use Rattle.gptp_settling_time.proofs.RestClaimedLemmas.{AreOn, rest_claimed, rest_on, rest_settled}
+use Rattle.gptp_settling_time.proofs.SettledClaimedLemmas.{settled_claimed}
 use Rattle.gptp_settling_time.proofs.SettledSeenLemmas.{HasSettledSeen, always_settled}
 use Rattle.gptp_settling_time.proofs.BetterClockLemmas.{better_claimed}
 use Rattle.gptp_settling_time.proofs.StartDocumentLemmas.{begun_claimed}
@@ -212,6 +214,13 @@ module _ {F : Type 0} (answers : Bounds → ℕ → F → Option ℕ → F → T
             (subst LinkIsMeasured same after.claim.measured));
       }
 
+  -- nor does it in a network that has settled
+  pub left_settled : (start next : ℕ) (claim : IsClaimedAlways p start then) → AreOn p start then claim.heard
+      → HasSettledSeen p then → LeavesSettled n made event next → AreReadyBy p next then → AreSilentBy p next then
+      → IsClaimedTo d more next w'
+  left_settled start next claim on settled leaves ready silent =
+      left_so next (settled_claimed p start next then claim on settled leaves.off ready silent) leaves.nothing
+
   module _ (moment : w.time ≡ event.at) where
     leads_to_heard : (past : Past) (next : ℕ) → EventLeads n made past event (Heard next) → IsAfter d made past w
         → IsClaimedTo d more next w'
@@ -227,8 +236,13 @@ module _ {F : Type 0} (answers : Bounds → ℕ → F → Option ℕ → F → T
         let on = rest_on p then keeps_then.claim sound_then late in
         elim brings [
           | inl up ↦ brought_up (suc event.at) next claim on (omega arith) sound up
-          | inr better ↦ bettered (suc event.at) next claim on (omega arith) sound
+          | inr (inl better) ↦ bettered (suc event.at) next claim on (omega arith) sound
               (rest_settled p then keeps_then.claim sound_then late) better
+          | inr (inr leaves) ↦
+              let since = leaves.since in
+              let (ready, silent) = anyway_ready d made next then keeps_then (inr (omega (arith, passed, since))) in
+              left_settled (suc event.at) next claim on (rest_settled p then keeps_then.claim sound_then late) leaves
+              ready silent
         ]
     leads_to_heard (Gained start) next (settled, brings) so =
         let news = news_go_on p start event.at w k.ready.timely.now k.ready.timely.first so.news in
@@ -239,8 +253,13 @@ module _ {F : Type 0} (answers : Bounds → ℕ → F → Option ℕ → F → T
         let on = news_on p start then news late in
         elim brings [
           | inl up ↦ brought_up (suc event.at) next claim on (omega arith) so.news.sound up
-          | inr better ↦ bettered (suc event.at) next claim on (omega arith) so.news.sound
+          | inr (inl better) ↦ bettered (suc event.at) next claim on (omega arith) so.news.sound
               (news_settled p start then news late) better
+          | inr (inr leaves) ↦
+              let since = leaves.since in
+              let (ready, silent) = ready_later p start next then (omega (arith, settled, since)) news.ready news.silent
+              in
+              left_settled (suc event.at) next claim on (news_settled p start then news late) leaves ready silent
         ]
     leads_to_heard (Heard start) next (inl (late, brings)) so =
         let claim = since_later p start event.at w k.ready.timely.now k.ready.timely.first so.since in

@@ -31,6 +31,7 @@ pub mod LinkUpLemmas
 pub mod RestClaimedLemmas
 pub mod StillClaimedLemmas
 pub mod NewsClaimedLemmas
+pub mod SettledClaimedLemmas
 pub mod InTurnLemmas
 pub mod UnchangedLemmas
 pub mod ReactionStageLemmas
