@@ -30,8 +30,6 @@ use Rattle.gptp_network.specs.Snapshot.{events_by}
 use Rattle.gptp_report.specs.Transitions.{Courses, Unfolds}
 use Rattle.gptp_invariants.specs.ChoiceCalm.{delay_in, sync_paths_of}
 use Rattle.gptp_invariants.specs.ChoiceSettled.{Settled}
-use Rattle.gptp_invariants.specs.ChoiceSettlesAsMachine.{IsWorld}
-use Rattle.gptp_invariants.specs.DelayMeasured.{LinkIsMeasured}
 use Rattle.gptp_invariants.specs.WorldBounded.{IsBoundedWorld}
 use Rattle.gptp_invariants.specs.WorldCalmFor.{IsCalmFor, at_once_span, span_over}
 use Rattle.gptp_invariants.specs.WorldNews.{AreReadyBy, AreSilentBy, IsNews}
@@ -58,7 +56,7 @@ use Rattle.gptp_settling_time.proofs.ClaimedToLemmas.{IsClaimedTo, claimed_act, 
 use Rattle.gptp_settling_time.proofs.DocumentLemmas.{run_to}
 use Rattle.gptp_settling_time.proofs.GainLemmas.{all_live, down_so, few_so, gain_so, idle_so}
 use Rattle.gptp_settling_time.proofs.HeardLemmas.{heard_on}
-use Rattle.gptp_settling_time.proofs.IdleLemmas.{idle_now, idle_same}
+use Rattle.gptp_settling_time.proofs.IdleLemmas.{idle_still}
 use Rattle.gptp_settling_time.proofs.KeptToLemmas.{IsNewsTo, KeepsTo, keeps_act, keeps_later, news_act_to, news_later_to}
 use Rattle.gptp_settling_time.proofs.LaterLemmas.{AreSteps, steps_more}
 use Rattle.gptp_settling_time.proofs.LinkUpLemmas.{link_up_claimed}
@@ -70,7 +68,7 @@ use Rattle.gptp_settling_time.proofs.SettledClaimedLemmas.{settled_claimed}
 use Rattle.gptp_settling_time.proofs.SettledSeenLemmas.{HasSettledSeen, always_settled}
 use Rattle.gptp_settling_time.proofs.BetterClockLemmas.{better_claimed}
 use Rattle.gptp_settling_time.proofs.StartDocumentLemmas.{begun_claimed}
-use Rattle.gptp_settling_time.proofs.StillClaimedLemmas.{claimed_still}
+use Rattle.gptp_settling_time.proofs.StandsStillLemmas.{StandsStill, claims_stand, news_stands}
 use Rattle.gptp_settling_time.proofs.TimedNewsLemmas.{CanSettle, has_settled}
 
 -- ---- what is so after some events
@@ -198,21 +196,26 @@ module _ {F : Type 0} (answers : Bounds → ℕ → F → Option ℕ → F → T
     }
 
   -- it changes nothing
-  pub left_so : (start : ℕ) → IsClaimedAlways p start then → ChangesNothing n made event.act
-      → IsClaimedTo d more start w'
-  left_so start claim nothing =
+  stands_still : ChangesNothing n made event.act → StandsStill then w'
+  stands_still nothing =
       let acts : Acts (Changing is.change) then k.draws done w' =
       subst (λ act. Acts act then k.draws done w') is.act k.acts in
       let idle_after : IsIdleAfter n made is.change = subst (ChangesNothing n made) is.act nothing in
       let idle = idle_so n made then keeps_then.stands keeps_then.claim.world.sound is.change idle_after in
-      let now : WorldState = record then { last_change = then.time } in
-      let same : w' ≡ now = idle_same is.change now k.draws w' (idle_now is.change then idle) acts.1 in
-      record {
-        keeps = after;
-        since = subst (IsClaimedAlways p start) (sym same)
-            (claimed_still p start then claim (subst (IsWorld p) same after.claim.world)
-            (subst LinkIsMeasured same after.claim.measured));
-      }
+      idle_still then keeps_then.claim.world.sound k.draws w' is.change idle acts.1
+
+  pub left_so : (start : ℕ) → IsClaimedAlways p start then → ChangesNothing n made event.act
+      → IsClaimedTo d more start w'
+  left_so start claim nothing = record {
+    keeps = after;
+    since = claims_stand p start then w' (stands_still nothing) after.claim.world after.claim.measured claim;
+  }
+
+  left_news : (start next : ℕ) → ChangesNothing n made event.act → next ≡ start → IsNews p start w → IsNews p next w'
+  left_news start next nothing same news =
+      subst (λ time. IsNews p time w') (sym same)
+      (news_stands p start then w' (stands_still nothing) after.claim.world after.claim.measured
+      (news_go_on p start event.at w k.ready.timely.now k.ready.timely.first news))
 
   -- nor does it in a network that has settled
   pub left_settled : (start next : ℕ) (claim : IsClaimedAlways p start then) → AreOn p start then claim.heard
@@ -280,15 +283,18 @@ module _ {F : Type 0} (answers : Bounds → ℕ → F → Option ℕ → F → T
 
     leads_to_gain : (past : Past) (next : ℕ) → EventLeads n made past event (Gained next) → IsAfter d made past w
         → IsNews p next w'
-    leads_to_gain AnyPast next (nothing, (rested, (rest, anyway, capable))) so =
+    leads_to_gain AnyPast next (inl (nothing, (rested, (rest, anyway, capable)))) so =
         let sound = rested_sound d made event.at w playable rested (omega (arith, moment)) keeps in
         rest_news answers d playable made event fate fate_after w w' done is fit k rest next keeps sound nothing anyway
         capable
-    leads_to_gain (Gained start) next (nothing, capable) so =
+    leads_to_gain (Gained start) next (inl (nothing, capable)) so =
         news_news answers d playable made event fate fate_after w w' done is fit k start next so nothing capable
-    leads_to_gain (Heard start) next (nothing, capable) so =
+    leads_to_gain (Heard start) next (inl (nothing, capable)) so =
         news_news answers d playable made event fate fate_after w w' done is fit k start next
         (record { keeps = keeps; news = so.since.news }) nothing capable
+    leads_to_gain AnyPast next (inr (nothing, stays)) so = absurd stays
+    leads_to_gain (Gained start) next (inr (nothing, same)) so = left_news start next nothing same so.news
+    leads_to_gain (Heard start) next (inr (nothing, same)) so = left_news start next nothing same so.since.news
 
     pub leads_to : (past next : Past) → EventLeads n made past event next → IsAfter d made past w
         → IsAfter d more next w'

@@ -29,7 +29,8 @@ pub mod RaisedLemmas
 pub mod HeardLemmas
 pub mod LinkUpLemmas
 pub mod RestClaimedLemmas
-pub mod StillClaimedLemmas
+pub mod SameLinkLemmas
+pub mod StandsStillLemmas
 pub mod NewsClaimedLemmas
 pub mod SettledClaimedLemmas
 pub mod InTurnLemmas

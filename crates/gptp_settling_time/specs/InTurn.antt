@@ -3,12 +3,12 @@
 -- After some events of a document its network came from *any past*; or it has *gained* only, since it started or had
 -- rested, and its ports at links are capable from a start on; or the same is so and all that is told over its links is
 -- *heard*, so that no announce interval has to pass. An event leads from one to another (`EventLeads`). It may always
--- lead to any past. To a gain it leads where it takes nothing away. To what is heard it leads where the network has
--- settled and it changes nothing, brings up a link between live systems, or sets a better priority1. Where the delay of
--- that link varies little the first Announce over it comes to a port that is capable already, and a system that gets
--- better tells so at once. What changes nothing leaves a network settled that had settled, whatever it came from. Where
--- all was heard before, links may also come up one after another, as soon as ports are capable; and what changes
--- nothing asks for no time at all.
+-- lead to any past. To a gain it leads where it takes nothing away, or changes nothing. To what is heard it leads where
+-- the network has settled and it changes nothing, brings up a link between live systems, or sets a better priority1.
+-- Where the delay of that link varies little the first Announce over it comes to a port that is capable already, and a
+-- system that gets better tells so at once. What changes nothing leaves a network settled that had settled, whatever it
+-- came from. Where all was heard before, links may also come up one after another, as soon as ports are capable; and
+-- what changes nothing asks for no time at all.
 use Rattle.std.specs.Prelude.{◌≡◌, ◌<◌, ◌≤◌, ◌⊎◌, ◌+◌, ◌*◌, ℕ, ⊤, pred, List, [], ◌∷◌, ◌++◌, Option, Some, slice_get}
 use Rattle.gptp_lists.specs.Members.{In}
 use Rattle.gptp_vector.specs.declared.port.PortId.{PortId}
@@ -110,9 +110,17 @@ LeadsToHeard n before (Heard start) event next =
     ⊎ ((HasSettledHeard n before start event.at × BettersClock n before event next)
     ⊎ (ChangesNothing n before event.act × (next ≡ start)))
 
+-- a gain, and what is heard, stays so from the start that it had
+abbrev pub StaysFrom : Past → ℕ → Type 0
+StaysFrom AnyPast next = ⊥
+StaysFrom (Gained start) next = next ≡ start
+StaysFrom (Heard start) next = next ≡ start
+
 abbrev pub EventLeads : NetworkState → List Timed → Past → Timed → Past → Type 0
 EventLeads n before past event AnyPast = ⊤
-EventLeads n before past event (Gained next) = TakesNothing n before event.act × LeadsToGain n before past event next
+EventLeads n before past event (Gained next) =
+    (TakesNothing n before event.act × LeadsToGain n before past event next)
+    ⊎ (ChangesNothing n before event.act × StaysFrom past next)
 EventLeads n before past event (Heard next) = LeadsToHeard n before past event next
 
 -- each event leads from one to the next

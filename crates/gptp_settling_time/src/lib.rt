@@ -7,7 +7,7 @@
 //! (`specs/Documents.antt`). `specs/Gains.antt` says what takes nothing away, when a network has rested, and from when
 //! on ports are capable.
 //!
-//! A change that finds all as it would make it leaves all that is claimed (`specs/Idle.antt`).
+//! A change that makes nothing of what stands leaves all that is claimed (`specs/Idle.antt`).
 //!
 //! Where the greatest delay of each new link is below twice its least no announce interval has to pass: after a start
 //! (`specs/Starts.antt`), and event by event after links come up and a priority1 gets better. An event that changes
