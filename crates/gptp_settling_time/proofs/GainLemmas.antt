@@ -1,5 +1,5 @@
 -- What takes nothing away from a network takes nothing away from a world that stands so.
-use Rattle.std.proofs.Common.{◌≡◌, ◌∙◌, ◌<◌, ◌≤◌, ◌+◌, ◌*◌, ◌^◌, ◌%◌, ℕ, Bool, true, false, List, Some, slice_get, refl, sym, ap, subst}
+use Rattle.std.proofs.Common.{◌≡◌, ◌∙◌, ◌<◌, ◌≤◌, ◌⊎◌, ◌+◌, ◌*◌, ◌^◌, ◌%◌, ℕ, Bool, true, false, List, Some, slice_get, refl, sym, ap, subst, inl, inr}
 use Rattle.std.specs.Prelude.{if◌then◌else◌}
 use Rattle.gptp_lists.proofs.MappedLemmas.{alike, same_there}
 use Rattle.gptp_vector.specs.declared.port.PortId.{PortId}
@@ -22,9 +22,9 @@ use Rattle.gptp_network.proofs.SnapshotLemmas.{clock_after}
 use Rattle.gptp_invariants.specs.WorldNews.{AllLive}
 use Rattle.gptp_invariants.specs.WorldSound.{IsDownAt, IsGain}
 use Rattle.gptp_theorem.specs.Reached.{Shape, StandsAsPlanned, shape, shape_after, channel_wire}
-use Rattle.gptp_settling_time.specs.Gains.{AllLiveAfter, IsDownAfter, IsGainAfter, IsIdleAfter, IsNoWorse, IsUpAfter}
+use Rattle.gptp_settling_time.specs.Gains.{AllLiveAfter, IsDownAfter, IsGainAfter, IsIdleAfter, IsNoWorse, IsUpAfter, KeepsIdentity}
 use Rattle.gptp_settling_time.specs.InTurn.{VariesLittleAfter}
-use Rattle.gptp_settling_time.specs.Idle.{IsIdle, IsUpAt}
+use Rattle.gptp_settling_time.specs.Idle.{IsIdle, IsUpAt, KeepsPriority}
 
 -- the identity that a system has, or will start with, names its clock
 clock_shape : (station : Station) → IsItsSetup station → clock_of (shape station).identity ≡ clock station.system
@@ -141,6 +141,25 @@ module _ (n : NetworkState) (events : List Timed) (w : WorldState) (so : StandsA
         ap (λ (x : Shape). x.identity) of.is ∙ given in
         subst (λ identity. value * 2 ^ 104 + identity % 2 ^ 104 ≤ identity) same less
 
+    -- and so is a priority1 that of a failed system, or the one that the system has
+    keeps_so : (number value : ℕ) → KeepsIdentity n events number value → KeepsPriority number value w
+    keeps_so number value keeps place station k = by station.live refl
+      where
+        of : IsMemberAt n events place station
+        of = member_at place station k.here
+
+        by : (live : Bool) → station.live ≡ live → (station.live ≡ false)
+            ⊎ (value * 2 ^ 104 + station.system.identity % 2 ^ 104 ≡ station.system.identity)
+        by false off = inl off
+        by true on = elim (keeps place of.member of.there (named_as place number station k of)) [
+          | inl failed ↦ inl (sym (lives_as place station of) ∙ failed)
+          | inr same ↦
+              let given : (shape station).identity ≡ station.system.identity = rw on refl in
+              let is : (system_after events of.member).identity ≡ station.system.identity =
+              ap (λ (x : Shape). x.identity) of.is ∙ given in
+              inr (subst (λ identity. value * 2 ^ 104 + identity % 2 ^ 104 ≡ identity) is same)
+        ]
+
     pub gain_so : (change : Change) → IsGainAfter n events change → IsGain change w
     gain_so (LinkDown number port) gain = down_so (port_id number port) gain
     gain_so (LinkUp number port) gain = tt
@@ -157,5 +176,5 @@ module _ (n : NetworkState) (events : List Timed) (w : WorldState) (so : StandsA
     idle_so (LinkSet number port min max loss) idle = absurd idle
     idle_so (Fail number) idle = failed_so number idle
     idle_so (Recover number) idle = λ place station k. lives_so number idle place station k
-    idle_so (Priority1 number value) idle = absurd idle
+    idle_so (Priority1 number value) idle = keeps_so number value idle
     idle_so (Inject number port octets) idle = down_so (port_id number port) idle

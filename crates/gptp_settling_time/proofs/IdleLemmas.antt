@@ -1,65 +1,134 @@
 -- A change that changes nothing leaves what is claimed of a world since news.
-use Rattle.std.proofs.Common.{◌≡◌, ◌≤◌, ◌+◌, ◌*◌, ℕ, zero, suc, List, Option, sym, subst, inl, inr, arith}
+use Rattle.std.proofs.Common.{◌≡◌, ◌≤◌, ◌+◌, ◌*◌, ◌^◌, ◌%◌, ℕ, true, List, [], map, Option, refl, sym, ap, subst, ◌∙◌, inl, inr, arith}
+use Rattle.gptp_lists.proofs.MappedLemmas.{same_there}
+use Rattle.gptp_lists.proofs.PlaceLemmas.{get-set_same, map-set_same}
 use Rattle.gptp_links.specs.declared.bounds.Bounds.{Bounds}
 use Rattle.gptp_links.specs.Fate.{Draw}
-use Rattle.gptp_setup.specs.SettlingParams.{SettlingParams, largest_interval}
+use Rattle.gptp_setup.specs.SettlingParams.{SettlingParams}
 use Rattle.gptp_scenario.specs.Allowed.{IsFitAct}
 use Rattle.gptp_scenario.specs.declared.change.Act.TheVariants.{Change as Changing}
 use Rattle.gptp_scenario.specs.declared.change.Change.{Change}
 use Rattle.gptp_scenario.specs.declared.change.Change.TheVariants.{LinkDown, LinkUp, LinkSet, Fail, Recover, Priority1, Inject}
+use Rattle.gptp_system.specs.declared.answer.Answer.{Answer}
+use Rattle.gptp_system.specs.declared.sending.Sending.{Sending}
+use Rattle.gptp_system.specs.Announcing.{ChangesPriority}
+use Rattle.gptp_system.specs.Facts.{AreHeld, IsAtRest}
+use Rattle.gptp_system.specs.Input.{Priority}
+use Rattle.gptp_system.specs.Selection.{Selects}
+use Rattle.gptp_system.specs.State.{SystemState}
+use Rattle.gptp_system.proofs.RestLemmas.{selects_again}
+use Rattle.gptp_model.specs.Act.{Calls, all_timers, in_state}
 use Rattle.gptp_model.specs.Acts.{Changes, at as at_time}
-use Rattle.gptp_model.specs.Changing.{ComesUpIf, FailsIf, GoesDownIf, InjectsIf, RecoversIf}
+use Rattle.gptp_model.specs.Changing.{CallsIfLive, ComesUpIf, FailsIf, GoesDownIf, InjectsIf, IsStation, RecoversIf, with_setup, with_station}
 use Rattle.gptp_model.specs.Course.{WasDone}
 use Rattle.gptp_model.specs.declared.done.Done.{Done}
+use Rattle.gptp_model.specs.declared.station.Station.{Station}
 use Rattle.gptp_model.specs.Prompt.{DelaysFitIntervals}
-use Rattle.gptp_model.specs.World.{WorldState, port_id}
-use Rattle.gptp_bmca_machine.specs.Frame.{Lane}
-use Rattle.gptp_bmca_machine.specs.Network.{Network}
-use Rattle.gptp_bmca_machine.specs.Station.{MachineState, Station as SeenStation}
-use Rattle.gptp_bmca_machine.specs.Syncs.{SyncsAreExpected, TellsBy}
+use Rattle.gptp_model.specs.Sends.{SendsAll}
+use Rattle.gptp_model.specs.Sound.{IsSound}
+use Rattle.gptp_model.specs.World.{Net, WorldState, port_id}
 use Rattle.gptp_invariants.specs.WorldSettlingInvariant.{KeepsAll}
-use Rattle.gptp_invariants.specs.ChoiceSettlesAsMachine.{IsWorld}
 use Rattle.gptp_invariants.specs.WorldEncodableLaws.{SetsAnOctet}
-use Rattle.gptp_invariants.specs.DelayLinkView.{LinkPlace}
-use Rattle.gptp_invariants.specs.DelayMeasured.{StationIsLiveAt, LinkIsMeasured, LinkStandsAt}
-use Rattle.gptp_invariants.specs.WorldNews.{IsNews, IsReadyBy, turn_network}
-use Rattle.gptp_invariants.specs.FailedUnanswered.{StandsUnanswered}
-use Rattle.gptp_invariants.specs.ChoiceView.{says_sync, view}
 use Rattle.gptp_invariants.proofs.WorldClaimLemmas.{claim_kept}
 use Rattle.gptp_invariants.proofs.WorldNewsCourseLemmas.{news_advance}
 use Rattle.gptp_invariants.proofs.WorldNewsLemmas.{news_go_on}
 use Rattle.gptp_theorem.proofs.SettlingInvariantLemmas.{advanced_claimed}
 use Rattle.gptp_theorem.proofs.HeadlineLemmas.{is_settled, quiet_as}
-use Rattle.gptp_settling_time.specs.Idle.{IdlesStayNews, IdlesStaySettled, IsIdle}
+use Rattle.gptp_settling_time.specs.Idle.{IdlesStayNews, IdlesStaySettled, IsIdle, KeepsPriority}
+use Rattle.gptp_settling_time.proofs.StandsStillLemmas.{StandsStill, news_stands, plain, set_still}
 use Rattle.gptp_settling_time.proofs.TimedNewsLemmas.{CanSettle, has_settled}
+
+-- ---- a system gets the priority1 that it has
+
+-- it selects as before, and stays as it is
+selects_still : (now value : ℕ) (s s' : SystemState) (sends : List Sending) → AreHeld s → IsAtRest s
+    → value * 2 ^ 104 + s.identity % 2 ^ 104 ≡ s.identity → ChangesPriority value now s s' sends
+    → (s' ≡ s) × (sends ≡ [])
+selects_still now value s s' sends held rest same k =
+    selects_again now s s' sends held rest
+    (subst (λ (t : SystemState). Selects now t s' sends) (λ i. record s { identity = same i }) k)
+
+module _ (w : WorldState) (sound : IsSound w) (number value place : ℕ) (station : Station)
+    (is : IsStation number place w station) (idle : KeepsPriority number value w) (draws : List Draw)
+    (w' : WorldState) where
+  abbrev new : Station
+  new = with_setup value station
+
+  abbrev set : WorldState
+  set = with_station place new (record w { last_change = w.time })
+
+  -- the system starts with another, and nothing else changes
+  starts_so : StandsStill w set
+  starts_so = set_still value place station w is.here
+
+  module _ (answer : Answer) (c : Calls place (Priority value) set draws answer w') where
+    one : c.station ≡ new
+    one = same_there set.stations place c.station new c.here (get-set_same w.stations place station new is.here)
+
+    system : c.station.system ≡ station.system
+    system = ap (λ (x : Station). x.system) one
+
+    same : value * 2 ^ 104 + station.system.identity % 2 ^ 104 ≡ station.system.identity
+    same = elim (idle place station is) [
+      | inl failed ↦
+          let live : station.live ≡ true = ap (λ (x : Station). x.live) (sym one) ∙ c.live in
+          absurd (let both = sym failed ∙ live in cc)
+      | inr kept ↦ kept
+    ]
+
+    stays : (c.after ≡ c.station.system) × (c.sends ≡ [])
+    stays =
+        let steady = (sound.on_time.stations place station is.here).steady in
+        selects_still set.time value c.station.system c.after c.sends
+        (subst AreHeld (sym system) steady.held) (subst IsAtRest (sym system) steady.rest)
+        (subst (λ (x : SystemState). value * 2 ^ 104 + x.identity % 2 ^ 104 ≡ x.identity) (sym system) same) c.steps
+
+    none_sent : c.net ≡ all_timers place (in_state c.after c.station) set.net
+    none_sent =
+        (subst (λ sends. SendsAll set.time c.after sends draws (all_timers place (in_state c.after c.station) set.net)
+        c.net) stays.1 c.sent).1
+
+    called_still : StandsStill w w'
+    called_still = record {
+      time = ap (λ (x : WorldState). x.time) c.is;
+      stations = ap (λ (x : WorldState). map plain x.stations) c.is
+          ∙ map-set_same plain set.stations place c.station (in_state c.after c.station) c.here
+          (ap (λ s. plain (in_state s c.station)) stays.0)
+          ∙ starts_so.stations;
+      channels = ap (λ (x : WorldState). x.net.channels) c.is ∙ ap (λ (x : Net). x.channels) none_sent;
+    }
+
+  prioritized_still : CallsIfLive place (Priority value) set draws w' → StandsStill w w'
+  prioritized_still (inl (answer, c)) = called_still answer c
+  prioritized_still (inr (failed, none, same)) = subst (StandsStill w) (sym same) starts_so
 
 -- ---- nothing is done
 
--- it is idle whenever the last change was
-pub idle_now : (change : Change) (w : WorldState) → IsIdle change w → IsIdle change (record w { last_change = w.time })
-idle_now (LinkDown number port) w idle = idle
-idle_now (LinkUp number port) w idle = idle
-idle_now (LinkSet number port min max loss) w idle = idle
-idle_now (Fail number) w idle = λ place station is. idle place station (record { here = is.here; named = is.named })
-idle_now (Recover number) w idle = λ place station is. idle place station (record { here = is.here; named = is.named })
-idle_now (Priority1 number value) w idle = idle
-idle_now (Inject number port octets) w idle = idle
+module _ (w : WorldState) (sound : IsSound w) (draws : List Draw) (w' : WorldState) where
+  abbrev now : WorldState
+  now = record w { last_change = w.time }
 
--- so it leaves the world as it is
-pub idle_same : (change : Change) (w : WorldState) (draws : List Draw) (w' : WorldState) → IsIdle change w
-    → Changes change w draws w' → w' ≡ w
-idle_same (LinkDown number port) w draws w' idle k =
-    (subst (λ up. GoesDownIf up k.place k.channel w draws w') (idle k.place k.channel k.is) k.so).1
-idle_same (LinkUp number port) w draws w' idle k =
-    (subst (λ up. ComesUpIf up k.place k.channel w draws w') (idle k.place k.channel k.is) k.so).1
-idle_same (LinkSet number port min max loss) w draws w' idle k = absurd idle
-idle_same (Fail number) w draws w' idle k =
-    (subst (λ live. FailsIf live k.place k.station w draws w') (idle k.place k.station k.is) k.so).1
-idle_same (Recover number) w draws w' idle k =
-    (subst (λ live. RecoversIf live k.place w draws w') (idle k.place k.station k.is) k.so).1
-idle_same (Priority1 number value) w draws w' idle k = absurd idle
-idle_same (Inject number port octets) w draws w' idle k =
-    (subst (λ up. InjectsIf up (port_id number port) octets w draws w') (idle k.place k.channel k.is) k.so).1
+  leaves : w' ≡ now → StandsStill w w'
+  leaves same = subst (StandsStill w) (sym same) (record { time = refl; stations = refl; channels = refl })
+
+  -- so nothing that is claimed of changes
+  pub idle_still : (change : Change) → IsIdle change w → Changes change now draws w' → StandsStill w w'
+  idle_still (LinkDown number port) idle k =
+      leaves (subst (λ up. GoesDownIf up k.place k.channel now draws w') (idle k.place k.channel k.is) k.so).1
+  idle_still (LinkUp number port) idle k =
+      leaves (subst (λ up. ComesUpIf up k.place k.channel now draws w') (idle k.place k.channel k.is) k.so).1
+  idle_still (LinkSet number port min max loss) idle k = absurd idle
+  idle_still (Fail number) idle k =
+      let live = idle k.place k.station (record { here = k.is.here; named = k.is.named }) in
+      leaves (subst (λ live. FailsIf live k.place k.station now draws w') live k.so).1
+  idle_still (Recover number) idle k =
+      let live = idle k.place k.station (record { here = k.is.here; named = k.is.named }) in
+      leaves (subst (λ live. RecoversIf live k.place now draws w') live k.so).1
+  idle_still (Priority1 number value) idle k =
+      prioritized_still w sound number value k.place k.station (record { here = k.is.here; named = k.is.named }) idle
+      draws w' k.so
+  idle_still (Inject number port octets) idle k =
+      leaves (subst (λ up. InjectsIf up (port_id number port) octets now draws w') (idle k.place k.channel k.is) k.so).1
 
 -- it sets no bounds
 idle_fit : (change : Change) (w : WorldState) → IsIdle change w → IsFitAct (Changing change)
@@ -80,100 +149,6 @@ idle_prompt (Recover number) v w idle = λ place station log here among. tt
 idle_prompt (Priority1 number value) v w idle = λ place station log here among. tt
 idle_prompt (Inject number port octets) v w idle = λ place station log here among. tt
 
--- ---- when frames of before are gone doesn't matter to Syncs
-
-module _ (n : Network) (gone : ℕ) where
-  abbrev other : Network
-  other = record n { gone = gone }
-
-  tells_same : (stations : List SeenStation) (lanes : List Lane) (d v by : ℕ)
-      → TellsBy says_sync n stations lanes d v by → TellsBy says_sync other stations lanes d v by
-  tells_same stations lanes zero v by tells = tells
-  tells_same stations lanes (suc d) v by (inl runs) = inl runs
-  tells_same stations lanes (suc d) v by (inr (l, follows, (come, comes, soon))) =
-      inr (
-        l,
-        follows,
-        (
-          come,
-          elim comes [
-            | inl on ↦ inl on
-            | inr (sent, tells, early) ↦ inr (sent, tells_same stations lanes d l.clock sent tells, early)
-          ],
-          soon,
-        ),
-      )
-
-  expected_same : (w : MachineState) → SyncsAreExpected says_sync n w → SyncsAreExpected says_sync other w
-  expected_same w expected i s d due here live near follows late lapse =
-      let e = expected i s d due here live near follows late lapse in
-      record {
-        by = e.by;
-        hears = elim e.hears [
-          | inl on ↦ inl on
-          | inr (sent, tells, early) ↦
-              inr (sent, tells_same w.stations w.lanes d follows.follows.from.clock sent tells, early)
-        ];
-        soon = e.soon;
-      }
-
--- ---- the last change alone is another
-
-module _ (p : SettlingParams) (start : ℕ) (w : WorldState) (news : IsNews p start w) where
-  abbrev changed : WorldState
-  changed = record w { last_change = w.time }
-
-  live_before : (place number : ℕ) → StationIsLiveAt place number changed → StationIsLiveAt place number w
-  live_before place number x = record { station = x.station; here = x.here; live = x.live; named = x.named }
-
-  pub stood : (at : LinkPlace) → LinkStandsAt at changed → LinkStandsAt at w
-  unfolding live_before
-  stood at s = record {
-    channel = s.channel;
-    here = s.here;
-    up = s.up;
-    lossless = s.lossless;
-    asking = live_before at.asking _ s.asking;
-    answering = live_before at.answering _ s.answering;
-    apart = s.apart;
-    good = s.good;
-  }
-
-  stood_unanswered : (at : LinkPlace) → StandsUnanswered at changed → StandsUnanswered at w
-  stood_unanswered at s = record {
-    channel = s.channel;
-    here = s.here;
-    up = s.up;
-    asking = live_before at.asking _ s.asking;
-    answering = s.answering;
-  }
-
-  ready_still : (at : LinkPlace) → IsReadyBy p start at w → IsReadyBy p start at changed
-  ready_still at (inl (first, (l, late))) =
-      inl (first, (record { link = l.link; short = l.short; facts = l.facts; inv = l.inv }, late))
-  ready_still at (inr (gone, since, l, past, late)) =
-      inr (gone, since, record { link = l.link; good = l.good; facts = l.facts; inv = l.inv }, past, late)
-
-  pub news_still : IsWorld p changed → LinkIsMeasured changed → IsNews p start changed
-  news_still world measured = record {
-    pace = news.pace;
-    world = world;
-    measured = measured;
-    silent = λ at s.
-        let (change, one, soon) = news.silent at (stood_unanswered at s) in
-        (change, record { link = one.link; old = one.old; inv = one.inv }, soon);
-    sound = record { lanes = news.sound.lanes; stations = news.sound.stations };
-    ready = λ at s. ready_still at (news.ready at (stood at s));
-    settling = λ m bounded quiet off.
-        let is = news.settling m bounded quiet off in record { sound = is.sound; levels = is.levels };
-    in_turn = λ m bounded quiet short.
-        let is = news.in_turn m bounded quiet short in
-        record {
-          invariant = record { sound = is.invariant.sound; levels = is.invariant.levels };
-          expected = expected_same (turn_network p m start w) (w.time + 2 * largest_interval p) (view w) is.expected;
-        };
-  }
-
 -- ---- the laws
 
 module _ {F : Type 0} (answers : Bounds → ℕ → F → Option ℕ → F → Type 0) where
@@ -190,11 +165,9 @@ module _ {F : Type 0} (answers : Bounds → ℕ → F → Option ℕ → F → T
       let then = at_time time w in
       let timely = k.ready.timely in
       let claimed = idle_claimed p time change fate fate_after w w' done claim idle octet k in
-      let now : WorldState = record then { last_change = then.time } in
-      let is : w' ≡ now = idle_same change now k.draws w' (idle_now change then idle) k.acts.1 in
-      subst (IsNews p start) (sym is)
-      (news_still p start then (news_go_on p start time w timely.now timely.first news)
-      (subst (IsWorld p) is claimed.world) (subst LinkIsMeasured is claimed.measured))
+      let news_then = news_go_on p start time w timely.now timely.first news in
+      news_stands p start then w' (idle_still then news_then.world.sound k.draws w' change idle k.acts.1) claimed.world
+      claimed.measured news_then
 
   pub idles_stay_settled : IdlesStaySettled answers
   idles_stay_settled p start time until m change told fate drawn fate_after w between w' done claim news idle octet k

@@ -30,14 +30,13 @@ use Rattle.gptp_network.specs.Snapshot.{events_by}
 use Rattle.gptp_report.specs.Transitions.{Courses, Unfolds}
 use Rattle.gptp_invariants.specs.ChoiceCalm.{delay_in, sync_paths_of}
 use Rattle.gptp_invariants.specs.ChoiceSettled.{Settled}
-use Rattle.gptp_invariants.specs.ChoiceSettlesAsMachine.{IsWorld}
-use Rattle.gptp_invariants.specs.DelayMeasured.{LinkIsMeasured}
 use Rattle.gptp_invariants.specs.WorldBounded.{IsBoundedWorld}
 use Rattle.gptp_invariants.specs.WorldCalmFor.{IsCalmFor, at_once_span, span_over}
-use Rattle.gptp_invariants.specs.WorldNews.{IsNews}
+use Rattle.gptp_invariants.specs.WorldNews.{AreReadyBy, AreSilentBy, IsNews}
 use Rattle.gptp_invariants.specs.WorldSound.{IsSoundWorld}
 use Rattle.gptp_invariants.specs.WorldStanding.{snapshot_of}
 use Rattle.gptp_invariants.proofs.WorldBoundedLemmas.{bounded_at_once, bounded_by_paths}
+use Rattle.gptp_invariants.proofs.WorldNewsActLemmas.{ready_later}
 use Rattle.gptp_invariants.proofs.WorldNewsLemmas.{news_go_on}
 use Rattle.gptp_invariants.proofs.WorldSettlingInvariantLemmas.{settled_at_once, settled_by_paths}
 use Rattle.gptp_invariants.proofs.WorldSoundLemmas.{sound_later}
@@ -50,25 +49,26 @@ use Rattle.gptp_theorem.proofs.SnapshotLemmas.{snapshots_stand}
 use Rattle.gptp_theorem.proofs.SyncPathLemmas.{paths_stand}
 use Rattle.gptp_settling_time.specs.Exactly.{SettlesBy}
 use Rattle.gptp_settling_time.specs.Gains.{ChangesNothing, IsIdleAfter, LeavesCapable, TakesNothing}
-use Rattle.gptp_settling_time.specs.InTurn.{ActsFindSettledInTurn, AnyPast, BeginsBy, BettersClock, BringsUp, Gained, Heard, LeadOn, EventLeads, Past, SettlesAfter, SettlesByEvents}
+use Rattle.gptp_settling_time.specs.InTurn.{ActsFindSettledInTurn, AnyPast, BeginsBy, BettersClock, BringsUp, EventLeads, Gained, Heard, LeadOn, LeavesSettled, Past, SettlesAfter, SettlesByEvents}
 use Rattle.gptp_settling_time.proofs.AlwaysClaimedLemmas.{IsClaimedAlways, since_later}
 use Rattle.gptp_settling_time.proofs.BegunLemmas.{begun_keeps, begun_last, begun_news, rested_sound}
 use Rattle.gptp_settling_time.proofs.ClaimedToLemmas.{IsClaimedTo, claimed_act, claimed_later, claimed_settled}
 use Rattle.gptp_settling_time.proofs.DocumentLemmas.{run_to}
 use Rattle.gptp_settling_time.proofs.GainLemmas.{all_live, down_so, few_so, gain_so, idle_so}
 use Rattle.gptp_settling_time.proofs.HeardLemmas.{heard_on}
-use Rattle.gptp_settling_time.proofs.IdleLemmas.{idle_now, idle_same}
+use Rattle.gptp_settling_time.proofs.IdleLemmas.{idle_still}
 use Rattle.gptp_settling_time.proofs.KeptToLemmas.{IsNewsTo, KeepsTo, keeps_act, keeps_later, news_act_to, news_later_to}
 use Rattle.gptp_settling_time.proofs.LaterLemmas.{AreSteps, steps_more}
 use Rattle.gptp_settling_time.proofs.LinkUpLemmas.{link_up_claimed}
-use Rattle.gptp_settling_time.proofs.MadeLemmas.{made_keeps, made_last, made_news, made_time, news_news, rest_news}
+use Rattle.gptp_settling_time.proofs.MadeLemmas.{anyway_ready, made_keeps, made_last, made_news, made_time, news_news, rest_news}
 use Rattle.gptp_settling_time.proofs.NewsClaimedLemmas.{news_claimed, news_on, news_settled}
 use Rattle.gptp_settling_time.proofs.PassLemmas.{passes_to}
 use Rattle.gptp_settling_time.proofs.RestClaimedLemmas.{AreOn, rest_claimed, rest_on, rest_settled}
+use Rattle.gptp_settling_time.proofs.SettledClaimedLemmas.{settled_claimed}
 use Rattle.gptp_settling_time.proofs.SettledSeenLemmas.{HasSettledSeen, always_settled}
 use Rattle.gptp_settling_time.proofs.BetterClockLemmas.{better_claimed}
 use Rattle.gptp_settling_time.proofs.StartDocumentLemmas.{begun_claimed}
-use Rattle.gptp_settling_time.proofs.StillClaimedLemmas.{claimed_still}
+use Rattle.gptp_settling_time.proofs.StandsStillLemmas.{StandsStill, claims_stand, news_stands}
 use Rattle.gptp_settling_time.proofs.TimedNewsLemmas.{CanSettle, has_settled}
 
 -- ---- what is so after some events
@@ -196,21 +196,33 @@ module _ {F : Type 0} (answers : Bounds → ℕ → F → Option ℕ → F → T
     }
 
   -- it changes nothing
-  pub left_so : (start : ℕ) → IsClaimedAlways p start then → ChangesNothing n made event.act
-      → IsClaimedTo d more start w'
-  left_so start claim nothing =
+  stands_still : ChangesNothing n made event.act → StandsStill then w'
+  stands_still nothing =
       let acts : Acts (Changing is.change) then k.draws done w' =
       subst (λ act. Acts act then k.draws done w') is.act k.acts in
       let idle_after : IsIdleAfter n made is.change = subst (ChangesNothing n made) is.act nothing in
       let idle = idle_so n made then keeps_then.stands keeps_then.claim.world.sound is.change idle_after in
-      let now : WorldState = record then { last_change = then.time } in
-      let same : w' ≡ now = idle_same is.change now k.draws w' (idle_now is.change then idle) acts.1 in
-      record {
-        keeps = after;
-        since = subst (IsClaimedAlways p start) (sym same)
-            (claimed_still p start then claim (subst (IsWorld p) same after.claim.world)
-            (subst LinkIsMeasured same after.claim.measured));
-      }
+      idle_still then keeps_then.claim.world.sound k.draws w' is.change idle acts.1
+
+  pub left_so : (start : ℕ) → IsClaimedAlways p start then → ChangesNothing n made event.act
+      → IsClaimedTo d more start w'
+  left_so start claim nothing = record {
+    keeps = after;
+    since = claims_stand p start then w' (stands_still nothing) after.claim.world after.claim.measured claim;
+  }
+
+  left_news : (start next : ℕ) → ChangesNothing n made event.act → next ≡ start → IsNews p start w → IsNews p next w'
+  left_news start next nothing same news =
+      subst (λ time. IsNews p time w') (sym same)
+      (news_stands p start then w' (stands_still nothing) after.claim.world after.claim.measured
+      (news_go_on p start event.at w k.ready.timely.now k.ready.timely.first news))
+
+  -- nor does it in a network that has settled
+  pub left_settled : (start next : ℕ) (claim : IsClaimedAlways p start then) → AreOn p start then claim.heard
+      → HasSettledSeen p then → LeavesSettled n made event next → AreReadyBy p next then → AreSilentBy p next then
+      → IsClaimedTo d more next w'
+  left_settled start next claim on settled leaves ready silent =
+      left_so next (settled_claimed p start next then claim on settled leaves.off ready silent) leaves.nothing
 
   module _ (moment : w.time ≡ event.at) where
     leads_to_heard : (past : Past) (next : ℕ) → EventLeads n made past event (Heard next) → IsAfter d made past w
@@ -227,8 +239,13 @@ module _ {F : Type 0} (answers : Bounds → ℕ → F → Option ℕ → F → T
         let on = rest_on p then keeps_then.claim sound_then late in
         elim brings [
           | inl up ↦ brought_up (suc event.at) next claim on (omega arith) sound up
-          | inr better ↦ bettered (suc event.at) next claim on (omega arith) sound
+          | inr (inl better) ↦ bettered (suc event.at) next claim on (omega arith) sound
               (rest_settled p then keeps_then.claim sound_then late) better
+          | inr (inr leaves) ↦
+              let since = leaves.since in
+              let (ready, silent) = anyway_ready d made next then keeps_then (inr (omega (arith, passed, since))) in
+              left_settled (suc event.at) next claim on (rest_settled p then keeps_then.claim sound_then late) leaves
+              ready silent
         ]
     leads_to_heard (Gained start) next (settled, brings) so =
         let news = news_go_on p start event.at w k.ready.timely.now k.ready.timely.first so.news in
@@ -239,8 +256,13 @@ module _ {F : Type 0} (answers : Bounds → ℕ → F → Option ℕ → F → T
         let on = news_on p start then news late in
         elim brings [
           | inl up ↦ brought_up (suc event.at) next claim on (omega arith) so.news.sound up
-          | inr better ↦ bettered (suc event.at) next claim on (omega arith) so.news.sound
+          | inr (inl better) ↦ bettered (suc event.at) next claim on (omega arith) so.news.sound
               (news_settled p start then news late) better
+          | inr (inr leaves) ↦
+              let since = leaves.since in
+              let (ready, silent) = ready_later p start next then (omega (arith, settled, since)) news.ready news.silent
+              in
+              left_settled (suc event.at) next claim on (news_settled p start then news late) leaves ready silent
         ]
     leads_to_heard (Heard start) next (inl (late, brings)) so =
         let claim = since_later p start event.at w k.ready.timely.now k.ready.timely.first so.since in
@@ -261,15 +283,18 @@ module _ {F : Type 0} (answers : Bounds → ℕ → F → Option ℕ → F → T
 
     leads_to_gain : (past : Past) (next : ℕ) → EventLeads n made past event (Gained next) → IsAfter d made past w
         → IsNews p next w'
-    leads_to_gain AnyPast next (nothing, (rested, (rest, anyway, capable))) so =
+    leads_to_gain AnyPast next (inl (nothing, (rested, (rest, anyway, capable)))) so =
         let sound = rested_sound d made event.at w playable rested (omega (arith, moment)) keeps in
         rest_news answers d playable made event fate fate_after w w' done is fit k rest next keeps sound nothing anyway
         capable
-    leads_to_gain (Gained start) next (nothing, capable) so =
+    leads_to_gain (Gained start) next (inl (nothing, capable)) so =
         news_news answers d playable made event fate fate_after w w' done is fit k start next so nothing capable
-    leads_to_gain (Heard start) next (nothing, capable) so =
+    leads_to_gain (Heard start) next (inl (nothing, capable)) so =
         news_news answers d playable made event fate fate_after w w' done is fit k start next
         (record { keeps = keeps; news = so.since.news }) nothing capable
+    leads_to_gain AnyPast next (inr (nothing, stays)) so = absurd stays
+    leads_to_gain (Gained start) next (inr (nothing, same)) so = left_news start next nothing same so.news
+    leads_to_gain (Heard start) next (inr (nothing, same)) so = left_news start next nothing same so.since.news
 
     pub leads_to : (past next : Past) → EventLeads n made past event next → IsAfter d made past w
         → IsAfter d more next w'

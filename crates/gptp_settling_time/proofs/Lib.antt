@@ -29,8 +29,10 @@ pub mod RaisedLemmas
 pub mod HeardLemmas
 pub mod LinkUpLemmas
 pub mod RestClaimedLemmas
-pub mod StillClaimedLemmas
+pub mod SameLinkLemmas
+pub mod StandsStillLemmas
 pub mod NewsClaimedLemmas
+pub mod SettledClaimedLemmas
 pub mod InTurnLemmas
 pub mod UnchangedLemmas
 mod ExactInTurnLemmas

@@ -27,10 +27,8 @@ use Rattle.gptp_model.proofs.StayLemmas.{acts_stay, done_stays}
 use Rattle.gptp_network.specs.Document.{DocumentState}
 use Rattle.gptp_invariants.specs.ChoiceCalm.{delay_in}
 use Rattle.gptp_invariants.specs.WorldSettlingInvariant.{KeepsAll}
-use Rattle.gptp_invariants.specs.ChoiceSettlesAsMachine.{IsWorld}
 use Rattle.gptp_invariants.specs.WorldEncodableLaws.{SetsAnOctet}
 use Rattle.gptp_invariants.specs.DelayLinkView.{LinkPlace}
-use Rattle.gptp_invariants.specs.DelayMeasured.{LinkIsMeasured}
 use Rattle.gptp_invariants.specs.WorldNews.{AreReadyBy, AreSilentBy, IsNews}
 use Rattle.gptp_invariants.specs.WorldSound.{IsGain, IsSoundWorld}
 use Rattle.gptp_invariants.specs.FailedUnanswered.{StandsUnanswered}
@@ -48,8 +46,9 @@ use Rattle.gptp_theorem.proofs.KeptLemmas.{time_stands}
 use Rattle.gptp_theorem.proofs.SyncPathLemmas.{paths_stand}
 use Rattle.gptp_settling_time.specs.Gains.{AreCapableAnyway, AreCapableNext, AreCapableStill, ChangesNothing, IsIdleAfter, JoinsLive, LeavesCapable, TakesNothing}
 use Rattle.gptp_settling_time.proofs.GainLemmas.{all_live, gain_so, idle_so, lives_so}
-use Rattle.gptp_settling_time.proofs.IdleLemmas.{idle_now, idle_same, news_still}
+use Rattle.gptp_settling_time.proofs.IdleLemmas.{idle_still}
 use Rattle.gptp_settling_time.proofs.KeptToLemmas.{IsNewsTo, KeepsTo}
+use Rattle.gptp_settling_time.proofs.StandsStillLemmas.{news_stands}
 
 -- what is so at both ends of a link is so where it leads to
 end_so : (So : ℕ → Type 0) (direction : Direction) (channel : Channel) → So channel.a.clock → So channel.b.clock
@@ -232,11 +231,8 @@ module _ {F : Type 0} (answers : Bounds → ℕ → F → Option ℕ → F → T
     by_idle : (start : ℕ) → IsNews p start then → IsIdleAfter n made is.change → IsNewsFrom start
     by_idle start news idle_after =
         let idle = idle_so n made then stands_then claim_then.world.sound is.change idle_after in
-        let now : WorldState = record then { last_change = then.time } in
-        let same : w' ≡ now = idle_same is.change now k.draws w' (idle_now is.change then idle) acts.1 in
-        subst (IsNews p start) (sym same)
-        (news_still p start then news (subst (IsWorld p) same after.claim.world)
-        (subst LinkIsMeasured same after.claim.measured))
+        news_stands p start then w' (idle_still then claim_then.world.sound k.draws w' is.change idle acts.1)
+        after.claim.world after.claim.measured news
 
     pub made_still : (start next : ℕ) → IsNews p start then → AreCapableStill n made start event next
         → IsNewsFrom next

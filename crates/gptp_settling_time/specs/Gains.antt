@@ -57,15 +57,23 @@ IsUpAfter n events port = (place : ℕ) (v : LinkSpec) → slice_get n.links pla
     → IsEnd port (link_after events v)
     → (link_after events v).up ≡ true
 
--- The change finds all as it would make it: a link goes down that is down, or comes up that is up; a system fails that
--- has failed, or recovers that lives; octets are put onto a link that is down. No other change is counted here.
+-- the system with this clock has failed after these events, or has the identity that it gets by this priority1
+abbrev pub KeepsIdentity : NetworkState → List Timed → ℕ → ℕ → Type 0
+KeepsIdentity n events number value = (place : ℕ) (m : SystemSpec) → slice_get n.systems place ≡ Some m
+    → clock_of m.identity ≡ number
+    → ((system_after events m).live ≡ false)
+    ⊎ (value * 2 ^ 104 + (system_after events m).identity % 2 ^ 104 ≡ (system_after events m).identity)
+
+-- The change makes nothing of what stands: a link goes down that is down, or comes up that is up; a system fails that
+-- has failed, or recovers that lives; a priority1 is that of a failed system, or the one that its system has; octets
+-- are put onto a link that is down. No other change is counted here.
 abbrev pub IsIdleAfter : NetworkState → List Timed → Change → Type 0
 IsIdleAfter n events (LinkDown number port) = IsDownAfter n events (port_id number port)
 IsIdleAfter n events (LinkUp number port) = IsUpAfter n events (port_id number port)
 IsIdleAfter n events (LinkSet number port min max loss) = ⊥
 IsIdleAfter n events (Fail number) = IsLive n.systems events number → ⊥
 IsIdleAfter n events (Recover number) = IsLive n.systems events number
-IsIdleAfter n events (Priority1 number value) = ⊥
+IsIdleAfter n events (Priority1 number value) = KeepsIdentity n events number value
 IsIdleAfter n events (Inject number port octets) = IsDownAfter n events (port_id number port)
 
 abbrev pub ChangesNothing : NetworkState → List Timed → Act → Type 0

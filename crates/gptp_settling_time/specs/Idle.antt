@@ -1,5 +1,5 @@
 -- Changes of a network that change nothing, and what is claimed of a world since news through them.
-use Rattle.std.specs.Prelude.{◌≡◌, ℕ, true, false, List, Option}
+use Rattle.std.specs.Prelude.{◌≡◌, ◌⊎◌, ◌+◌, ◌*◌, ◌^◌, ◌%◌, ℕ, true, false, List, Option}
 use Rattle.gptp_graph.specs.PathBound.{BoundsPaths}
 use Rattle.gptp_links.specs.declared.bounds.Bounds.{Bounds}
 use Rattle.gptp_setup.specs.SettlingParams.{SettlingParams}
@@ -33,15 +33,22 @@ HasFailed number w = (place : ℕ) (station : Station) → IsStation number plac
 abbrev pub Lives : ℕ → WorldState → Type 0
 Lives number w = (place : ℕ) (station : Station) → IsStation number place w station → station.live ≡ true
 
--- The change finds all as it would make it: a link goes down that is down, or comes up that is up; a system fails that
--- has failed, or recovers that lives; octets are put onto a link that is down. No other change is counted here.
+-- the system of this clock has failed, or has the identity that it gets by a priority1 of this value
+abbrev pub KeepsPriority : ℕ → ℕ → WorldState → Type 0
+KeepsPriority number value w = (place : ℕ) (station : Station) → IsStation number place w station
+    → (station.live ≡ false)
+    ⊎ (value * 2 ^ 104 + station.system.identity % 2 ^ 104 ≡ station.system.identity)
+
+-- The change makes nothing of what stands: a link goes down that is down, or comes up that is up; a system fails that
+-- has failed, or recovers that lives; a priority1 is that of a failed system, or the one that its system has; octets
+-- are put onto a link that is down. No other change is counted here.
 abbrev pub IsIdle : Change → WorldState → Type 0
 IsIdle (LinkDown number port) w = IsDownAt (port_id number port) w
 IsIdle (LinkUp number port) w = IsUpAt (port_id number port) w
 IsIdle (LinkSet number port min max loss) w = ⊥
 IsIdle (Fail number) w = HasFailed number w
 IsIdle (Recover number) w = Lives number w
-IsIdle (Priority1 number value) w = ⊥
+IsIdle (Priority1 number value) w = KeepsPriority number value w
 IsIdle (Inject number port octets) w = IsDownAt (port_id number port) w
 
 -- what is claimed of a world since news stays as it was, with the start that it had
@@ -53,8 +60,8 @@ IdlesStayNews {F} answers = (p : SettlingParams) (start time : ℕ) (change : Ch
     → WasDone answers (record { at = time; act = Changing change }) fate fate_after w w' done
     → IsNews p start w'
 
--- A world that has settled is settled at once after a change that finds all as it would make it, and while it goes on
--- by itself.
+-- A world that has settled is settled at once after a change that makes nothing of what stands, and while it goes on by
+-- itself.
 abbrev pub IdlesStaySettled : {F : Type 0} → (Bounds → ℕ → F → Option ℕ → F → Type 0) → Type 0
 IdlesStaySettled {F} answers = (p : SettlingParams) (start time until m : ℕ) (change : Change) (told : List Told)
     (fate drawn fate_after : F) (w between w' : WorldState) (done : Done)

@@ -3,12 +3,12 @@
 -- After some events of a document its network came from *any past*; or it has *gained* only, since it started or had
 -- rested, and its ports at links are capable from a start on; or the same is so and all that is told over its links is
 -- *heard*, so that no announce interval has to pass. An event leads from one to another (`EventLeads`). It may always
--- lead to
--- any past. To a gain it leads where it takes nothing away. And it leads to what is heard where the network has settled
--- and it brings up a link between live systems, or sets a better priority1. Where the delay of that link varies little
--- the first Announce over it comes to a port that is capable already, and a system that gets better tells so at once.
--- Where all was heard before, links may also come up one after another, as soon as ports are capable; and what changes
--- nothing asks for no time at all.
+-- lead to any past. To a gain it leads where it takes nothing away, or changes nothing. To what is heard it leads where
+-- the network has settled and it changes nothing, brings up a link between live systems, or sets a better priority1.
+-- Where the delay of that link varies little the first Announce over it comes to a port that is capable already, and a
+-- system that gets better tells so at once. What changes nothing leaves a network settled that had settled, whatever it
+-- came from. Where all was heard before, links may also come up one after another, as soon as ports are capable; and
+-- what changes nothing asks for no time at all.
 use Rattle.std.specs.Prelude.{◌≡◌, ◌<◌, ◌≤◌, ◌⊎◌, ◌+◌, ◌*◌, ℕ, ⊤, pred, List, [], ◌∷◌, ◌++◌, Option, Some, slice_get}
 use Rattle.gptp_lists.specs.Members.{In}
 use Rattle.gptp_vector.specs.declared.port.PortId.{PortId}
@@ -49,8 +49,7 @@ VariesLittleAfter n events port = (place : ℕ) (v : LinkSpec) → slice_get n.l
     → (link_after events v).bounds.max < 2 * (link_after events v).bounds.min
 
 -- After these events this one brings up a link that is down, between two systems that live; its delay varies little.
--- Its
--- ports are capable from the next time on.
+-- Its ports are capable from the next time on.
 pub record BringsUp (n : NetworkState) (before : List Timed) (event : Timed) (next : ℕ) : Type 0 where
   pub clock : ℕ
   pub port : ℕ
@@ -70,6 +69,13 @@ pub record BettersClock (n : NetworkState) (before : List Timed) (event : Timed)
   pub live : AllLiveAfter n before
   pub few : (sync_paths n before).systems ≤ 255
   pub later : event.at < next
+
+-- After these events this one changes nothing, and nothing lapses for want of Sync. What had settled is settled at its
+-- time: as if ports had been capable from the next time on, the greatest delay for each system of a path but one before.
+pub record LeavesSettled (n : NetworkState) (before : List Timed) (event : Timed) (next : ℕ) : Type 0 where
+  pub nothing : ChangesNothing n before event.act
+  pub off : NothingLapses n.params
+  pub since : next + pred (sync_paths n before).systems * (sync_paths n before).delay ≡ event.at
 
 -- the network has settled from any past by this time, or from such a start, where something may not be heard or all is
 pub record HasSettledAnyhow (n : NetworkState) (events : List Timed) (time : ℕ) : Type 0 where
@@ -94,17 +100,27 @@ LeadsToGain n before (Heard start) event next = AreCapableStill n before start e
 
 abbrev pub LeadsToHeard : NetworkState → List Timed → Past → Timed → ℕ → Type 0
 LeadsToHeard n before AnyPast event next =
-    HasSettledAnyhow n before event.at × (BringsUp n before event next ⊎ BettersClock n before event next)
+    HasSettledAnyhow n before event.at
+    × (BringsUp n before event next ⊎ (BettersClock n before event next ⊎ LeavesSettled n before event next))
 LeadsToHeard n before (Gained start) event next =
-    HasSettledSince n before start event.at × (BringsUp n before event next ⊎ BettersClock n before event next)
+    HasSettledSince n before start event.at
+    × (BringsUp n before event next ⊎ (BettersClock n before event next ⊎ LeavesSettled n before event next))
 LeadsToHeard n before (Heard start) event next =
     ((start ≤ event.at) × BringsUp n before event next)
     ⊎ ((HasSettledHeard n before start event.at × BettersClock n before event next)
     ⊎ (ChangesNothing n before event.act × (next ≡ start)))
 
+-- a gain, and what is heard, stays so from the start that it had
+abbrev pub StaysFrom : Past → ℕ → Type 0
+StaysFrom AnyPast next = ⊥
+StaysFrom (Gained start) next = next ≡ start
+StaysFrom (Heard start) next = next ≡ start
+
 abbrev pub EventLeads : NetworkState → List Timed → Past → Timed → Past → Type 0
 EventLeads n before past event AnyPast = ⊤
-EventLeads n before past event (Gained next) = TakesNothing n before event.act × LeadsToGain n before past event next
+EventLeads n before past event (Gained next) =
+    (TakesNothing n before event.act × LeadsToGain n before past event next)
+    ⊎ (ChangesNothing n before event.act × StaysFrom past next)
 EventLeads n before past event (Heard next) = LeadsToHeard n before past event next
 
 -- each event leads from one to the next

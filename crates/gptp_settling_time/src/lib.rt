@@ -7,13 +7,13 @@
 //! (`specs/Documents.antt`). `specs/Gains.antt` says what takes nothing away, when a network has rested, and from when
 //! on ports are capable.
 //!
-//! A change that finds all as it would make it leaves all that is claimed (`specs/Idle.antt`).
+//! A change that makes nothing of what stands leaves all that is claimed (`specs/Idle.antt`).
 //!
 //! Where the greatest delay of each new link is below twice its least no announce interval has to pass: after a start
-//! (`specs/Starts.antt`), and event by event after links come up and a priority1 gets better (`specs/InTurn.antt`). Once
-//! a document has settled no act leaves a system another (`specs/Unchanged.antt`), and offsets are exact as soon as a
-//! Sync has come down a way (`specs/ExactInTurn.antt`). `specs/HowSoon.antt` has the bounds of the choice and of rest at
-//! each time of a document; no law cites them yet.
+//! (`specs/Starts.antt`), and event by event after links come up and a priority1 gets better. An event that changes
+//! nothing asks for no time (`specs/InTurn.antt`). Once a document has settled no act leaves a system another
+//! (`specs/Unchanged.antt`), and offsets are exact as soon as a Sync has come down a way (`specs/ExactInTurn.antt`).
+//! `specs/HowSoon.antt` has the bounds of the choice and of rest at each time of a document; no law cites them yet.
 //!
 //! Each function of this crate is a law: it does nothing, and its contract is a theorem about the definitions.
 #![tactic(auto)]

@@ -1,0 +1,480 @@
+-- What is claimed of a world stays so in one that differs from it in nothing but what failed systems and those that
+-- recover start with, what is pending, and when the last change was.
+use Rattle.std.proofs.Common.{◌≡◌, ◌<◌, ◌+◌, ◌*◌, ℕ, ℤ, pos, zero, suc, false, List, [], ◌∷◌, map, Some, slice_get, refl, sym, ap, subst, ◌∙◌, inl, inr}
+use Rattle.std.specs.Option.{option_map_or}
+use Rattle.std.specs.Prelude.{◌==◌, if◌then◌else◌, max}
+use Rattle.gptp_lists.proofs.MappedLemmas.{alike}
+use Rattle.gptp_lists.proofs.PlaceLemmas.{map-set_same}
+use Rattle.gptp_graph.specs.PathBound.{BoundsPaths}
+use Rattle.gptp_graph.specs.Snapshot.{PortIdentity}
+use Rattle.gptp_vector.specs.declared.port.PortId.{PortId}
+use Rattle.gptp_pdelay.specs.Clock.{local_clock}
+use Rattle.gptp_scenario.specs.SyncWait.{sync_wait}
+use Rattle.gptp_setup.specs.declared.setup.Params.{Params}
+use Rattle.gptp_setup.specs.declared.setup.Setup.{Setup}
+use Rattle.gptp_setup.specs.Intervals.{interval_of}
+use Rattle.gptp_setup.specs.SettlingParams.{SettlingParams, lapse_span, largest_interval}
+use Rattle.gptp_system.specs.Measures.{measure_at}
+use Rattle.gptp_system.specs.State.{clock, number}
+use Rattle.gptp_model.specs.Changing.{with_setup, with_station}
+use Rattle.gptp_model.specs.declared.station.Station.{Station}
+use Rattle.gptp_model.specs.World.{WorldState, receiver, sender}
+use Rattle.gptp_pdelay_machine.specs.Setting.{Setting}
+use Rattle.gptp_pdelay_machine.specs.Silence.{InvUnanswered, Unanswered}
+use Rattle.gptp_bmca_machine.specs.Frame.{Lane}
+use Rattle.gptp_bmca_machine.specs.Levels.{Invariant}
+use Rattle.gptp_bmca_machine.specs.Network.{Network}
+use Rattle.gptp_bmca_machine.specs.SoundEverywhere.{IsSoundEverywhere}
+use Rattle.gptp_bmca_machine.specs.Station.{MachineState, Station as SeenStation}
+use Rattle.gptp_bmca_machine.specs.Syncs.{SyncsAreExpected, TellsBy}
+use Rattle.gptp_invariants.specs.ChoiceCalm.{HaveQuietLinks, SettlingTimes, clock_place, delay_in, greatest_channel_delay, lane_of, log_at, log_of, network_with, paths_with, setups_of, step_with, wait_with}
+use Rattle.gptp_invariants.specs.ChoiceSettlesAsMachine.{IsWorld}
+use Rattle.gptp_invariants.specs.ChoiceView.{lanes_view, says_announce, says_sync, station_view, view}
+use Rattle.gptp_invariants.specs.DelayLinkView.{IsEndAmong, IsLinkOf, IsMeasuring, LinkPlace, asker_view, link_identity, pair_view}
+use Rattle.gptp_invariants.specs.DelayMeasured.{LinkIsMeasured, LinkStandsAt, StationIsLiveAt}
+use Rattle.gptp_invariants.specs.FailedUnanswered.{IsFailedAmong, IsSilent, IsUnansweredAt, StandsUnanswered, silent_setting, silent_view}
+use Rattle.gptp_invariants.specs.WorldNews.{IsNews, news_network, turn_network}
+use Rattle.gptp_invariants.specs.WorldStanding.{channel_is_used, live_stations, snapshot_of, standing_system, used_channels}
+use Rattle.gptp_settling_time.proofs.AlwaysClaimedLemmas.{IsClaimedAlways, start_network}
+use Rattle.gptp_settling_time.proofs.OrderedLemmas.{opposite}
+use Rattle.gptp_settling_time.proofs.SameLinkLemmas.{StaysSameLink, heard_same, ready_same}
+
+-- a station but for the identity that it starts with
+abbrev pub plain : Station → Station
+plain station = record station { setup = record station.setup { identity = 0 } }
+
+-- nothing that is claimed of is another
+pub record StandsStill (w w' : WorldState) : Type 0 where
+  pub time : w'.time ≡ w.time
+  pub stations : map plain w'.stations ≡ map plain w.stations
+  pub channels : w'.net.channels ≡ w.net.channels
+
+-- the identity that a system starts with is another, and the time of the last change
+pub set_still : (value place : ℕ) (station : Station) (w : WorldState) → slice_get w.stations place ≡ Some station
+    → StandsStill w (with_station place (with_setup value station) (record w { last_change = w.time }))
+set_still value place station w here = record {
+  time = refl;
+  stations = map-set_same plain w.stations place station (with_setup value station) here refl;
+  channels = refl;
+}
+
+-- ---- what doesn't look at the identity that systems start with
+
+seen_plain : (stations : List Station) → map station_view (map plain stations) ≡ map station_view stations
+seen_plain [] = refl
+seen_plain (first ∷ stations) = ap (λ rest. station_view first ∷ rest) (seen_plain stations)
+
+live_plain : (stations : List Station) → live_stations (map plain stations) ≡ live_stations stations
+live_plain [] = refl
+live_plain (first ∷ stations) =
+    ap (λ rest. if first.live then standing_system first ∷ rest else rest) (live_plain stations)
+
+place_plain : (number : ℕ) (stations : List Station)
+    → clock_place (map plain stations) number ≡ clock_place stations number
+place_plain number [] = refl
+place_plain number (first ∷ stations) =
+    ap (λ rest. if clock first.system == number then 0 else suc rest) (place_plain number stations)
+
+-- the announce interval of a port, by the place of its station
+abbrev log_in : ℕ → ℕ → List Station → ℤ
+log_in port place stations =
+    option_map_or (λ (setup : Setup). log_at setup port) (slice_get (setups_of stations) place) (pos 0)
+
+log_plain : (port place : ℕ) (stations : List Station) → log_in port place (map plain stations)
+    ≡ log_in port place stations
+log_plain port place [] = refl
+log_plain port zero (first ∷ stations) = refl
+log_plain port (suc place) (first ∷ stations) = log_plain port place stations
+
+-- so it is the same of stations that are alike
+of_plain : {X : Type 0} (f : List Station → X) → ((stations : List Station) → f (map plain stations) ≡ f stations)
+    → (before after : List Station) → map plain after ≡ map plain before → f after ≡ f before
+of_plain f each before after same = sym (each after) ∙ ap f same ∙ each before
+
+-- ---- when frames of before are gone doesn't matter to Syncs
+
+module _ (n : Network) (gone : ℕ) where
+  abbrev other : Network
+  other = record n { gone = gone }
+
+  tells_same : (stations : List SeenStation) (lanes : List Lane) (d v by : ℕ)
+      → TellsBy says_sync n stations lanes d v by → TellsBy says_sync other stations lanes d v by
+  tells_same stations lanes zero v by tells = tells
+  tells_same stations lanes (suc d) v by (inl runs) = inl runs
+  tells_same stations lanes (suc d) v by (inr (l, follows, (come, comes, soon))) =
+      inr (
+        l,
+        follows,
+        (
+          come,
+          elim comes [
+            | inl on ↦ inl on
+            | inr (sent, tells, early) ↦ inr (sent, tells_same stations lanes d l.clock sent tells, early)
+          ],
+          soon,
+        ),
+      )
+
+  expected_same : (w : MachineState) → SyncsAreExpected says_sync n w → SyncsAreExpected says_sync other w
+  expected_same w expected i s d due here live near follows late lapse =
+      let e = expected i s d due here live near follows late lapse in
+      record {
+        by = e.by;
+        hears = elim e.hears [
+          | inl on ↦ inl on
+          | inr (sent, tells, early) ↦
+              inr (sent, tells_same w.stations w.lanes d follows.follows.from.clock sent tells, early)
+        ];
+        soon = e.soon;
+      }
+
+-- ---- such a world
+
+module _ (w w' : WorldState) (still : StandsStill w w') where
+  pub view_still : view w' ≡ view w
+  view_still =
+      let seen = of_plain (map station_view) seen_plain w.stations w'.stations still.stations in
+      let time = still.time in
+      let channels = still.channels in
+      λ i. record { time = time i; stations = seen i; lanes = lanes_view (channels i) }
+
+  systems_still : live_stations w'.stations ≡ live_stations w.stations
+  systems_still = of_plain live_stations live_plain w.stations w'.stations still.stations
+
+  pub snapshot_still : snapshot_of w' ≡ snapshot_of w
+  snapshot_still =
+      let systems = systems_still in
+      let channels = still.channels in
+      λ i. record { systems = systems i; links = used_channels (systems i) (channels i) }
+
+  delay_still : delay_in w' ≡ delay_in w
+  delay_still =
+      let systems = systems_still in
+      let channels = still.channels in
+      λ i. greatest_channel_delay (systems i) (channels i)
+
+  places_still : (number : ℕ) → clock_place w'.stations number ≡ clock_place w.stations number
+  places_still number =
+      of_plain (λ stations. clock_place stations number) (place_plain number) w.stations w'.stations still.stations
+
+  logs_still : (port : PortIdentity) → log_of w'.stations port ≡ log_of w.stations port
+  logs_still port =
+      ap (λ place. log_in port.port place w'.stations) (places_still port.clock)
+      ∙ of_plain (log_in port.port (clock_place w.stations port.clock))
+      (log_plain port.port (clock_place w.stations port.clock)) w.stations w'.stations still.stations
+
+  quiet_still : (p : Params) → HaveQuietLinks p w' → HaveQuietLinks p w
+  quiet_still p quiet link channel here used =
+      quiet link channel (ap (λ cs. slice_get cs link) still.channels ∙ here)
+      (ap (λ systems. channel_is_used systems channel) systems_still ∙ used)
+
+  -- ---- its network
+
+  module _ (p : SettlingParams) (m start gone : ℕ) (slack step wait lag : ℕ → ℕ) where
+    abbrev times : ℕ → SettlingTimes
+    times delay = record {
+      slack = slack delay;
+      step = step delay;
+      wait = wait delay;
+      lag = lag delay;
+      past = false;
+    }
+
+    network_still : record (network_with p m start (times (delay_in w')) w') { gone = gone }
+        ≡ record (network_with p m start (times (delay_in w)) w) { gone = gone }
+    network_still =
+        let snapshot = snapshot_still in
+        let delay = delay_still in
+        let places = places_still in
+        let logs = logs_still in
+        let channels = still.channels in
+        λ i. record {
+          graph = snapshot i;
+          reach = m;
+          place = λ number. places number i;
+          lane = lane_of (channels i);
+          log_of = λ port. logs port i;
+          interval_of = λ port. interval_of (logs port i);
+          interval = largest_interval p;
+          most = delay i;
+          timeout = p.params.timeout;
+          gone = gone;
+          start = start;
+          bare = start;
+          off = start;
+          ready = λ port. start;
+          sound = max 0 start;
+          syncs = record {
+            interval = interval_of p.params.sync;
+            residence = p.params.residence;
+            span = lapse_span p.params;
+          };
+          sync_wait = wait (delay i);
+          slack = slack (delay i);
+          step = step (delay i);
+          claimed = λ d port. max 0 start + wait (delay i) + d * lag (delay i);
+          until = λ d port. max 0 start + wait (delay i) + d * lag (delay i) + largest_interval p;
+        }
+
+  module _ (p : SettlingParams) (m start : ℕ) where
+    abbrev gone' : ℕ
+    gone' = w'.last_change + 2 * largest_interval p
+
+    abbrev Claims : Network → MachineState → Type 0
+    Claims n s = Invariant says_announce n s
+
+    news_still_network : news_network p m start w' ≡ record (news_network p m start w) { gone = gone' }
+    news_still_network =
+        network_still p m start gone' (λ delay. largest_interval p) (λ delay. delay) (λ delay. 0) (λ delay. 0)
+
+    turn_still_network : turn_network p m start w' ≡ record (turn_network p m start w) { gone = gone' }
+    turn_still_network =
+        network_still p m start gone' (λ delay. 0) (λ delay. step_with p (record { systems = m; delay = delay }))
+        (λ delay. wait_with p.params (record { systems = m; delay = delay }))
+        (λ delay. step_with p (record { systems = m; delay = delay }))
+
+    start_still_network : start_network p m start w' ≡ record (start_network p m start w) { gone = gone' }
+    start_still_network =
+        ap (λ (n : Network). record n {
+          start = 0;
+          sound = 0;
+          slack = start;
+          claimed = λ d port. 0;
+          until = λ d port. 0;
+        }) news_still_network
+
+    -- what is claimed of a network is claimed of it whenever old frames are gone
+    over : (n n' : Network) → n' ≡ record n { gone = gone' } → Claims n (view w) → Claims n' (view w')
+    over n n' same is =
+        let here : Claims (record n { gone = gone' }) (view w) = record { sound = is.sound; levels = is.levels } in
+        subst (Claims n') (sym view_still) (subst (λ x. Claims x (view w)) (sym same) here)
+
+    expects_over : (n n' : Network) → n' ≡ record n { gone = gone' } → SyncsAreExpected says_sync n (view w)
+        → SyncsAreExpected says_sync n' (view w')
+    expects_over n n' same is =
+        subst (SyncsAreExpected says_sync n') (sym view_still)
+        (subst (λ x. SyncsAreExpected says_sync x (view w)) (sym same) (expected_same n gone' (view w) is))
+
+  -- ---- its stations
+
+  record IsStill (old : Station) (place : ℕ) : Type 0 where
+    new : Station
+    here : slice_get w'.stations place ≡ Some new
+    same : plain new ≡ plain old
+
+  station_still : (place : ℕ) (old : Station) → slice_get w.stations place ≡ Some old → IsStill old place
+  station_still place old there =
+      let (new, here, same) = alike plain plain w'.stations w.stations still.stations place old there in
+      record { new = new; here = here; same = same }
+
+  lived : (place number : ℕ) → StationIsLiveAt place number w' → StationIsLiveAt place number w
+  lived place number x =
+      let (old, here, same) = alike plain plain w.stations w'.stations (sym still.stations) place x.station x.here in
+      record {
+        station = old;
+        here = here;
+        live = ap (λ (s : Station). s.live) same ∙ x.live;
+        named = ap (λ (s : Station). clock s.system) same ∙ x.named;
+      }
+
+  failed_before : (place number : ℕ) → IsFailedAmong place number w'.stations → IsFailedAmong place number w.stations
+  failed_before place number x =
+      let (old, here, same) = alike plain plain w.stations w'.stations (sym still.stations) place x.station x.here in
+      record {
+        station = old;
+        here = here;
+        failed = ap (λ (s : Station). s.live) same ∙ x.failed;
+        named = ap (λ (s : Station). clock s.system) same ∙ x.named;
+      }
+
+  record IsSameEnd (place : ℕ) (port : PortId) (e : IsEndAmong place port w.stations) : Type 0 where
+    end : IsEndAmong place port w'.stations
+    state : end.state ≡ e.state
+    same : plain end.station ≡ plain e.station
+
+  end_still : (place : ℕ) (port : PortId) (e : IsEndAmong place port w.stations) → IsSameEnd place port e
+  end_still place port e =
+      let x = station_still place e.station e.here in
+      let params = ap (λ (s : Station). s.setup.params) x.same in
+      record {
+        end = record {
+          station = x.new;
+          state = e.state;
+          here = x.here;
+          live = ap (λ (s : Station). s.live) x.same ∙ e.live;
+          set_up = record {
+            params = ap (λ (s : Station). s.system.params) x.same ∙ e.set_up.params ∙ sym params;
+            phase = ap (λ (s : Station). s.system.phase) x.same ∙ e.set_up.phase
+                ∙ sym (ap (λ (s : Station). s.setup.phase) x.same);
+            drift = ap (λ (s : Station). s.system.drift) x.same ∙ e.set_up.drift
+                ∙ sym (ap (λ (s : Station). s.setup.drift) x.same);
+          };
+          named = ap (λ (s : Station). clock s.system) x.same ∙ e.named;
+          there = ap (λ (s : Station). number s.system.ports port.port) x.same ∙ e.there;
+          measures = subst (λ set. IsMeasuring set port (measure_at e.state)) (sym params) e.measures;
+        };
+        state = refl;
+        same = x.same;
+      }
+
+  -- ---- its links
+
+  pub links_still : (at : LinkPlace) → StaysSameLink at w w'
+  links_still at l =
+      let a = end_still at.asking (sender at.direction l.channel) l.asking in
+      let b = end_still at.answering (receiver at.direction l.channel) l.answering in
+      let asks = ap (λ (s : Station). s.setup.params) a.same in
+      let answers = ap (λ (s : Station). s.setup.params) b.same in
+      let time = still.time in
+      let after : IsLinkOf at w' = record {
+        channel = l.channel;
+        here = ap (λ cs. slice_get cs at.link) still.channels ∙ l.here;
+        up = l.up;
+        lossless = l.lossless;
+        asking = a.end;
+        answering = b.end;
+        apart = l.apart;
+        good = rw (answers, asks) l.good;
+        fit = l.fit;
+      } in
+      record {
+        after = after;
+        settled = λ i. record {
+          asking = link_identity (sender at.direction l.channel);
+          answering = link_identity (receiver at.direction l.channel);
+          most = l.channel.bounds.max;
+          turnaround = (b.same i).setup.params.turnaround;
+          period = interval_of (a.same i).setup.params.pdelay;
+          allowed = (a.same i).setup.params.lost;
+          asking_clock = local_clock (a.same i).setup.phase (a.same i).setup.drift;
+          answering_clock = local_clock (b.same i).setup.phase (b.same i).setup.drift;
+        };
+        seen = λ i. record {
+          pair = pair_view (time i) (interval_of (a.same i).setup.params.pdelay) at.direction l.channel
+              (measure_at (a.state i)) (measure_at (b.state i));
+          last = (a.state i).peer.last;
+        };
+        bounds = refl;
+      }
+
+  pub stood_still : (p : SettlingParams) → IsWorld p w → IsWorld p w' → (at : LinkPlace) → LinkStandsAt at w'
+      → LinkStandsAt at w
+  stood_still p is is' at s =
+      let asking = lived at.asking (sender at.direction s.channel).clock s.asking in
+      let answering = lived at.answering (receiver at.direction s.channel).clock s.answering in
+      let asks = (is.known.set at.asking asking.station asking.here).starts.params
+      ∙ sym (is'.known.set at.asking s.asking.station s.asking.here).starts.params in
+      let answers = (is.known.set at.answering answering.station answering.here).starts.params
+      ∙ sym (is'.known.set at.answering s.answering.station s.answering.here).starts.params in
+      record {
+        channel = s.channel;
+        here = ap (λ cs. slice_get cs at.link) (sym still.channels) ∙ s.here;
+        up = s.up;
+        lossless = s.lossless;
+        asking = asking;
+        answering = answering;
+        apart = s.apart;
+        good = rw (answers, asks) s.good;
+      }
+
+  -- ---- ports beside failed systems
+
+  unanswered_before : (at : LinkPlace) → StandsUnanswered at w' → StandsUnanswered at w
+  unanswered_before at s = record {
+    channel = s.channel;
+    here = ap (λ cs. slice_get cs at.link) (sym still.channels) ∙ s.here;
+    up = s.up;
+    asking = lived at.asking (sender at.direction s.channel).clock s.asking;
+    answering = failed_before at.answering (receiver at.direction s.channel).clock s.answering;
+  }
+
+  pub silent_still : (gone : ℕ) (at : LinkPlace) → IsSilent gone at w → IsSilent gone at w'
+  silent_still gone at is =
+      let l = is.link in
+      let a = end_still at.asking (sender at.direction l.channel) l.asking in
+      let b = station_still at.answering l.answering.station l.answering.here in
+      let time = still.time in
+      let after : IsUnansweredAt at w' = record {
+        channel = l.channel;
+        here = ap (λ cs. slice_get cs at.link) still.channels ∙ l.here;
+        up = l.up;
+        asking = a.end;
+        answering = record {
+          station = b.new;
+          here = b.here;
+          failed = ap (λ (s : Station). s.live) b.same ∙ l.answering.failed;
+          named = ap (λ (s : Station). clock s.system) b.same ∙ l.answering.named;
+        };
+      } in
+      let settled : silent_setting at w' after ≡ silent_setting at w l = λ i. record {
+        asking = link_identity (sender at.direction l.channel);
+        answering = link_identity (receiver at.direction l.channel);
+        most = l.channel.bounds.max;
+        turnaround = (b.same i).setup.params.turnaround;
+        period = interval_of (a.same i).setup.params.pdelay;
+        allowed = (a.same i).setup.params.lost;
+        asking_clock = local_clock (a.same i).setup.phase (a.same i).setup.drift;
+        answering_clock = local_clock (b.same i).setup.phase (b.same i).setup.drift;
+      } in
+      let seen : silent_view at w' after ≡ silent_view at w l = λ i. record {
+        time = time i;
+        asker = asker_view (interval_of (a.same i).setup.params.pdelay) (measure_at (a.state i));
+      } in
+      record {
+        link = after;
+        old = is.old;
+        inv = subst (λ (k : Setting). InvUnanswered k gone (silent_view at w' after)) (sym settled)
+            (subst (λ (u : Unanswered). InvUnanswered (silent_setting at w l) gone u) (sym seen) is.inv);
+      }
+
+-- ---- the claims
+
+module _ (p : SettlingParams) (start : ℕ) (w w' : WorldState) (still : StandsStill w w') (world : IsWorld p w')
+    (measured : LinkIsMeasured w') where
+  paths_back : (m : ℕ) → BoundsPaths (snapshot_of w') m → BoundsPaths (snapshot_of w) m
+  paths_back m = subst (λ g. BoundsPaths g m) (snapshot_still w w' still)
+
+  wait_back : (m : ℕ) → sync_wait p.params (paths_with m w') < lapse_span p.params
+      → sync_wait p.params (paths_with m w) < lapse_span p.params
+  wait_back m =
+      subst (λ delay. sync_wait p.params (record { systems = m; delay = delay }) < lapse_span p.params)
+      (delay_still w w' still)
+
+  pub news_stands : IsNews p start w → IsNews p start w'
+  news_stands news = record {
+    pace = news.pace;
+    world = world;
+    measured = measured;
+    silent = λ at s.
+        let (change, one, soon) = news.silent at (unanswered_before w w' still at s) in
+        (change, silent_still w w' still (change + largest_interval p) at one, soon);
+    sound = subst (IsSoundEverywhere says_announce (snapshot_of w')) (sym (view_still w w' still))
+        (subst (λ g. IsSoundEverywhere says_announce g (view w)) (sym (snapshot_still w w' still)) news.sound);
+    ready = λ at s.
+        ready_same p start at w w' (links_still w w' still at)
+        (news.ready at (stood_still w w' still p news.world world at s));
+    settling = λ m bounded quiet off.
+        over w w' still p m start (news_network p m start w) (news_network p m start w')
+        (news_still_network w w' still p m start)
+        (news.settling m (paths_back m bounded) (quiet_still w w' still p.params quiet) off);
+    in_turn = λ m bounded quiet short.
+        let is = news.in_turn m (paths_back m bounded) (quiet_still w w' still p.params quiet) (wait_back m short) in
+        record {
+          invariant = over w w' still p m start (turn_network p m start w) (turn_network p m start w')
+              (turn_still_network w w' still p m start) is.invariant;
+          expected = expects_over w w' still p m start (turn_network p m start w) (turn_network p m start w')
+              (turn_still_network w w' still p m start) is.expected;
+        };
+  }
+
+  pub claims_stand : IsClaimedAlways p start w → IsClaimedAlways p start w'
+  claims_stand is = record {
+    news = news_stands is.news;
+    heard = λ at s.
+        heard_same p start at w w' still.time (links_still w w' still at) (links_still w w' still (opposite at))
+        (is.heard at (stood_still w w' still p is.news.world world at s));
+    settling = λ m bounded quiet off.
+        over w w' still p m start (start_network p m start w) (start_network p m start w')
+        (start_still_network w w' still p m start)
+        (is.settling m (paths_back m bounded) (quiet_still w w' still p.params quiet) off);
+  }
