@@ -33,6 +33,10 @@ pub mod StillClaimedLemmas
 pub mod NewsClaimedLemmas
 pub mod InTurnLemmas
 pub mod UnchangedLemmas
+pub mod SamePathsLemmas
+pub mod MomentLemmas
+pub mod FollowedLemmas
+pub mod ChoiceBoundLemmas
 pub mod ReactionStageLemmas
 pub mod ReactsLemmas
 pub mod SettledSeenLemmas

@@ -2,7 +2,8 @@ pub mod Exactly
 pub mod Gains
 pub mod Documents
 pub mod Idle
-pub mod HowSoon
 pub mod Starts
 pub mod InTurn
 pub mod Unchanged
+pub mod HowSoon
+pub mod ChoiceBounds
