@@ -27,11 +27,11 @@ use Rattle.gptp_settling_time.specs.Documents.{RunsBeginSo}
 
 -- ---- events
 
-abbrev IsBy : ℕ → Timed → Type 0
+abbrev pub IsBy : ℕ → Timed → Type 0
 IsBy until event = event.at ≤ until
 
 -- events up to a time are no later
-all_by : (until : ℕ) (events : List Timed) → AllByRecursion (IsBy until) (events_by until events)
+pub all_by : (until : ℕ) (events : List Timed) → AllByRecursion (IsBy until) (events_by until events)
 all_by until [] = tt
 all_by until (event ∷ events) = by (nat_le event.at until) refl (all_by until events)
   where

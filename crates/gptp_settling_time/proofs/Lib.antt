@@ -36,6 +36,10 @@ pub mod SettledClaimedLemmas
 pub mod InTurnLemmas
 pub mod UnchangedLemmas
 mod ExactInTurnLemmas
+pub mod SamePathsLemmas
+pub mod MomentLemmas
+pub mod FollowedLemmas
+pub mod ChoiceBoundLemmas
 pub mod ReactionStageLemmas
 pub mod ReactsLemmas
 pub mod SettledSeenLemmas

@@ -1,249 +1,128 @@
--- How soon the choice stands after the events of a time of a document, and by when the network then rests.
+-- How soon the choice stands after the events of a time of a document.
 --
--- A time of a document is 0, or that of an event. What stands *before* a time stands after all earlier events, and what
--- stands *at* it after those of that time too. The *choice bound* at a time is by how much later the choice and the
--- roles stand, and the *rest bound* by how much later the network rests, so that the next gains find it at rest. From
--- rest a gain costs what new ports take to become capable, perhaps one announce interval, and the greatest delay for
--- each system of a path but one. After anything that takes something away it is the span from any past
--- (`settling_span_at_once`).
-use Rattle.std.specs.Prelude.{◌≡◌, ◌≢◌, ◌<◌, ◌≤◌, ◌⊎◌, ◌+◌, ◌*◌, ◌^◌, ◌%◌, ◌==◌, ℕ, ⊤, pred, max, Bool, true, false, if◌then◌else◌, nat_lt, List, [], ◌∷◌, ◌++◌, filter, Some, slice_get}
-use Rattle.std.specs.List.{list_any}
+-- What stands *before* a time stands after all earlier events, and what stands *at* it after those of that time too. A
+-- *choice bound* at a time says by how much later the choice and the roles stand. Where nothing lapses for want of Sync
+-- the span from any past (`settling_span_at_once`) always is one. A time by which the choice of the time before stands
+-- has sharper ones, by its events. It is 0 where they change nothing. Where they are gains it is what ports take to
+-- become capable, an announce interval, and the greatest delay for each system of a path but one. No announce interval
+-- has to pass where one event alone changes something, and what it tells is heard at once. Nor has one at a start
+-- without events where all delays vary little.
+--
+-- These gains are followed: a link that comes up between live systems, and where all live a priority1 that gets better.
+-- The first is heard at once where its delay varies little, the second where no path has more than 255 systems. Not
+-- followed yet are a system that recovers, events at time 0, and bounds that are set. There the span stands.
+use Rattle.std.specs.Prelude.{◌≡◌, ◌<◌, ◌≤◌, ◌⊎◌, ◌+◌, ◌*◌, ◌==◌, ℕ, ⊤, pred, suc, List, [], ◌∷◌, ◌++◌, filter}
 use Rattle.gptp_lists.specs.Members.{In}
-use Rattle.gptp_roles.specs.Selection.{clock_of}
 use Rattle.gptp_setup.specs.Intervals.{interval_of}
 use Rattle.gptp_setup.specs.SettlingParams.{SettlingParams, largest_interval}
-use Rattle.gptp_scenario.specs.Calm.{IsCalm, IsLive, IsQuiet, IsUsed, NothingLapses}
-use Rattle.gptp_scenario.specs.Change.{link_after, member_with_bounds, system_after}
-use Rattle.gptp_scenario.specs.Network.{IsEnd, NetworkState, pace_of}
+use Rattle.gptp_scenario.specs.Calm.{IsCalm, NothingLapses}
+use Rattle.gptp_scenario.specs.Network.{NetworkState, pace_of}
 use Rattle.gptp_scenario.specs.SettlingAtOnce.{settling_span_at_once}
 use Rattle.gptp_scenario.specs.SettlingTime.{settling_span_with}
 use Rattle.gptp_scenario.specs.SyncWait.{sync_paths}
-use Rattle.gptp_scenario.specs.declared.change.Act.{Act}
-use Rattle.gptp_scenario.specs.declared.change.Act.TheVariants.{Deliver, Expire, Change as Changing}
-use Rattle.gptp_scenario.specs.declared.change.Change.{Change}
-use Rattle.gptp_scenario.specs.declared.change.Change.TheVariants.{LinkDown, LinkUp, LinkSet, Fail, Recover, Priority1, Inject}
 use Rattle.gptp_scenario.specs.declared.change.Timed.{Timed}
-use Rattle.gptp_scenario.specs.declared.network.LinkSpec.{LinkSpec}
-use Rattle.gptp_scenario.specs.declared.network.SystemSpec.{SystemSpec}
 use Rattle.gptp_scenario.specs.declared.sync_wait.SyncPaths.{SyncPaths}
-use Rattle.gptp_model.specs.World.{port_id}
 use Rattle.gptp_network.specs.Document.{DocumentState}
-use Rattle.gptp_settling_time.specs.Gains.{IsDownAfter, IsUpAfter, JoinsLive}
+use Rattle.gptp_network.specs.Snapshot.{events_by}
+use Rattle.gptp_settling_time.specs.Gains.{ChangesNothing, LeavesCapable, TakesNothing}
+use Rattle.gptp_settling_time.specs.InTurn.{BettersClock, BringsUp}
+use Rattle.gptp_settling_time.specs.Starts.{LinksVaryLittle}
 
 -- ---- times
 
--- the events before a time, and those at it
-abbrev pub events_before : ℕ → List Timed → List Timed
-events_before time = filter (λ (t : Timed). nat_lt t.at time)
-
+-- the events at a time
 abbrev pub events_at : ℕ → List Timed → List Timed
 events_at time = filter (λ (t : Timed). t.at == time)
 
--- the times of events in their order, each once, put before others that are earlier, the latest first
-abbrev pub with_times : List Timed → List ℕ → List ℕ
-with_times [] times = times
-with_times (event ∷ events) [] = with_times events (event.at ∷ [])
-with_times (event ∷ events) (last ∷ times) =
-    with_times events (if event.at == last then last ∷ times else event.at ∷ last ∷ times)
+-- no event lies between two times: one that is later than the first is no earlier than the second
+abbrev pub NoneBetween : List Timed → ℕ → ℕ → Type 0
+NoneBetween events last time = (event : Timed) → In event events → last < event.at → time ≤ event.at
 
--- the times of a document below this one, the latest first
-abbrev pub times_below : ℕ → List Timed → List ℕ
-times_below time events = filter (λ t. nat_lt t time) (with_times events (0 ∷ []))
+-- ---- events that are followed, by what stands just before each
 
--- ---- kinds of events, by what stands just before each
+-- it changes nothing
+abbrev pub IsIdleEvent : NetworkState → List Timed → Timed → Type 0
+IsIdleEvent n made event = ChangesNothing n made event.act
 
--- The port's link is in use, loses nothing and is good, and is so with these bounds too, of which the greatest delay
--- isn't lower than before.
-pub record WidensQuietly (n : NetworkState) (made : List Timed) (least greatest loss : ℕ) (v : LinkSpec) : Type 0 where
-  pub used : IsUsed n.systems made (link_after made v)
-  pub quiet : IsQuiet n.params.turnaround n.params.threshold (link_after made v)
-  pub still : IsQuiet n.params.turnaround n.params.threshold
-      (member_with_bounds least greatest loss (link_after made v))
-  pub wider : (link_after made v).bounds.max ≤ greatest
+-- it takes nothing away, and ports are capable from the next time on
+abbrev pub IsGainEvent : NetworkState → ℕ → List Timed → Timed → Type 0
+IsGainEvent n next made event = TakesNothing n made event.act × LeavesCapable n made event next event.act
 
--- the system of this clock has failed, or a priority1 of this value leaves its identity as it is
-abbrev pub KeepsIdentity : NetworkState → List Timed → ℕ → ℕ → Type 0
-KeepsIdentity n made number value = (place : ℕ) (m : SystemSpec) → slice_get n.systems place ≡ Some m
-    → clock_of m.identity ≡ number
-    → ((system_after made m).live ≡ false)
-    ⊎ (value * 2 ^ 104 + (system_after made m).identity % 2 ^ 104 ≡ (system_after made m).identity)
+-- what it tells is heard at once: a link comes up whose delay varies little, or a priority1 gets better
+abbrev pub IsHeardEvent : NetworkState → ℕ → List Timed → Timed → Type 0
+IsHeardEvent n next made event = BringsUp n made event next ⊎ BettersClock n made event next
 
--- a priority1 of this value makes the identity of the system of this clock worse
-abbrev pub WorsensIdentity : NetworkState → List Timed → ℕ → ℕ → Type 0
-WorsensIdentity n made number value = (place : ℕ) (m : SystemSpec) → slice_get n.systems place ≡ Some m
-    → clock_of m.identity ≡ number
-    → (system_after made m).identity < value * 2 ^ 104 + (system_after made m).identity % 2 ^ 104
+abbrev pub IsFollowedEvent : NetworkState → ℕ → List Timed → Timed → Type 0
+IsFollowedEvent n next made event = IsIdleEvent n made event ⊎ IsGainEvent n next made event
 
--- An *idle* event makes nothing of what stands. A link goes down that is down, or comes up that is up, or one of its
--- ends has failed. A system fails that has failed, or recovers that lives. A priority1 is that of a failed system, or
--- the one that the system has. And a link in use that is quiet gets bounds that leave it so, with no lower greatest
--- delay.
-abbrev pub IsIdleEvent : NetworkState → List Timed → Change → Type 0
-IsIdleEvent n made (LinkDown number port) =
-    IsDownAfter n made (port_id number port) ⊎ (JoinsLive n made (port_id number port) → ⊥)
-IsIdleEvent n made (LinkUp number port) =
-    IsUpAfter n made (port_id number port) ⊎ (JoinsLive n made (port_id number port) → ⊥)
-IsIdleEvent n made (LinkSet number port least greatest loss) = (place : ℕ) (v : LinkSpec)
-    → slice_get n.links place ≡ Some v → IsEnd (port_id number port) (link_after made v)
-    → WidensQuietly n made least greatest loss v
-IsIdleEvent n made (Fail number) = IsLive n.systems made number → ⊥
-IsIdleEvent n made (Recover number) = IsLive n.systems made number
-IsIdleEvent n made (Priority1 number value) = KeepsIdentity n made number value
-IsIdleEvent n made (Inject number port octets) = ⊥
+-- each of the events is such a one
+abbrev pub EachEvent : (List Timed → Timed → Type 0) → List Timed → List Timed → Type 0
+EachEvent Is made [] = ⊤
+EachEvent Is made (event ∷ events) = Is made event × EachEvent Is (made ++ event ∷ []) events
 
--- A *loss* takes something away: a link goes down, a system fails, or gets a worse identity.
-abbrev pub TakesAway : NetworkState → List Timed → Change → Type 0
-TakesAway n made (LinkDown number port) = ⊤
-TakesAway n made (LinkUp number port) = ⊥
-TakesAway n made (LinkSet number port least greatest loss) = ⊥
-TakesAway n made (Fail number) = ⊤
-TakesAway n made (Recover number) = ⊥
-TakesAway n made (Priority1 number value) = WorsensIdentity n made number value
-TakesAway n made (Inject number port octets) = ⊥
+-- one of them is of the one kind, and each other of the other
+abbrev pub OneEvent : (List Timed → Timed → Type 0) → (List Timed → Timed → Type 0) → List Timed → List Timed → Type 0
+OneEvent Is Other made [] = ⊥
+OneEvent Is Other made (event ∷ events) =
+    (Is made event × EachEvent Other (made ++ event ∷ []) events)
+    ⊎ (Other made event × OneEvent Is Other (made ++ event ∷ []) events)
 
-abbrev pub IsLossEvent : NetworkState → List Timed → Change → Type 0
-IsLossEvent n made change = (IsIdleEvent n made change → ⊥) × TakesAway n made change
+-- ---- sharp bounds
 
--- neither a loss nor a gain are bounds of a link that are set, and octets that are put onto one
-abbrev pub SetsOrInjects : Change → Type 0
-SetsOrInjects (LinkSet number port least greatest loss) = ⊤
-SetsOrInjects (Inject number port octets) = ⊤
-SetsOrInjects change = ⊥
-
-abbrev pub IsOtherEvent : NetworkState → List Timed → Change → Type 0
-IsOtherEvent n made change = (IsIdleEvent n made change → ⊥) × SetsOrInjects change
-
--- the system of this clock recovers, or fails, that hadn't, or had
-abbrev pub RecoversHere : ℕ → NetworkState → List Timed → Change → Type 0
-RecoversHere clock n made (Recover number) = (number ≡ clock) × (IsLive n.systems made number → ⊥)
-RecoversHere clock n made change = ⊥
-
-abbrev pub FailsHere : ℕ → NetworkState → List Timed → Change → Type 0
-FailsHere clock n made (Fail number) = (number ≡ clock) × IsLive n.systems made number
-FailsHere clock n made change = ⊥
-
--- at a start these leave frames of an earlier life, or of other bounds
-abbrev pub DisturbsStart : NetworkState → List Timed → Change → Type 0
-DisturbsStart n made (Recover number) = ⊤
-DisturbsStart n made change = SetsOrInjects change
-
-abbrev pub OfChange : (NetworkState → List Timed → Change → Type 0) → NetworkState → List Timed → Act → Type 0
-OfChange Is n made (Deliver link direction) = ⊥
-OfChange Is n made (Expire number timer) = ⊥
-OfChange Is n made (Changing change) = Is n made change
-
--- each of the events, or some of them, is such a one, by what stands just before it
-abbrev pub EachEvent : (NetworkState → List Timed → Change → Type 0) → NetworkState → List Timed → List Timed → Type 0
-EachEvent Is n made [] = ⊤
-EachEvent Is n made (event ∷ events) = OfChange Is n made event.act × EachEvent Is n (made ++ event ∷ []) events
-
-abbrev pub SomeEvent : (NetworkState → List Timed → Change → Type 0) → NetworkState → List Timed → List Timed → Type 0
-SomeEvent Is n made [] = ⊥
-SomeEvent Is n made (event ∷ events) = OfChange Is n made event.act ⊎ SomeEvent Is n (made ++ event ∷ []) events
-
--- ---- new links
-
--- A link is *new* at a time where it is in use then, and wasn't before; at 0 each link in use is.
-pub record IsNewLink (n : NetworkState) (made now : List Timed) (time : ℕ) (v : LinkSpec) : Type 0 where
-  pub among : In v n.links
-  pub used : IsUsed n.systems (made ++ now) (link_after (made ++ now) v)
-  pub new : (time ≡ 0) ⊎ (IsUsed n.systems made (link_after made v) → ⊥)
-
--- it is there *again* where an end of it recovers then
-abbrev pub IsAgain : NetworkState → List Timed → List Timed → LinkSpec → Type 0
-IsAgain n made now v = SomeEvent (RecoversHere v.a.clock) n made now ⊎ SomeEvent (RecoversHere v.b.clock) n made now
-
-abbrev pub AnyNew : NetworkState → List Timed → List Timed → ℕ → Type 0
-AnyNew n made now time = (v : LinkSpec) × IsNewLink n made now time v
-
-abbrev pub AnyAgain : NetworkState → List Timed → List Timed → ℕ → Type 0
-AnyAgain n made now time = (v : LinkSpec) × IsNewLink n made now time v × IsAgain n made now v
-
--- over such a new link the first Announce may come before the port that hears it is capable
-abbrev pub MayLoseFirst : NetworkState → List Timed → List Timed → LinkSpec → Type 0
-MayLoseFirst n made now v =
-    IsAgain n made now v ⊎ (2 * (link_after (made ++ now) v).bounds.min ≤ (link_after (made ++ now) v).bounds.max)
-
-abbrev pub AnyMayLoseFirst : NetworkState → List Timed → List Timed → ℕ → Type 0
-AnyMayLoseFirst n made now time = (v : LinkSpec) × IsNewLink n made now time v × MayLoseFirst n made now v
-
--- ---- numbers
-
--- two exchanges, an interval between requests apart, over the slowest link; and where a neighbour asks up to one later
+-- two exchanges, an interval between requests apart, over the slowest link
 abbrev pub two_exchanges : SettlingParams → SyncPaths → ℕ
 two_exchanges p paths = interval_of p.params.pdelay + (paths.delay + p.params.turnaround + paths.delay)
-
-abbrev pub two_exchanges_again : SettlingParams → SyncPaths → ℕ
-two_exchanges_again p paths = interval_of p.params.pdelay + two_exchanges p paths
-
--- By when new ports are capable: `ready`.
-abbrev pub IsReadyTime : NetworkState → List Timed → List Timed → ℕ → ℕ → Type 0
-IsReadyTime n made now time ready =
-    ((AnyNew n made now time → ⊥) × (ready ≡ 0))
-    ⊎ ((AnyAgain n made now time × (ready ≡ two_exchanges_again (pace_of n) (sync_paths n (made ++ now))))
-    ⊎ (AnyNew n made now time × (AnyAgain n made now time → ⊥)
-    × (ready ≡ two_exchanges (pace_of n) (sync_paths n (made ++ now)))))
-
--- How much later they have been told: `heard`, an announce interval where the first Announce may be lost.
-abbrev pub IsHeardTime : NetworkState → List Timed → List Timed → ℕ → ℕ → Type 0
-IsHeardTime n made now time heard =
-    ((AnyMayLoseFirst n made now time → ⊥) × (heard ≡ 0))
-    ⊎ (AnyMayLoseFirst n made now time × (heard ≡ largest_interval (pace_of n)))
 
 -- the greatest delay for each system of a path but one
 abbrev pub way_span : SyncPaths → ℕ
 way_span paths = pred paths.systems * paths.delay
 
--- ---- the rows
+-- at a start without events
+abbrev pub BoundsStart : NetworkState → ℕ → Type 0
+BoundsStart n choice =
+    (LinksVaryLittle n []
+    × (choice ≡ two_exchanges (pace_of n) (sync_paths n []) + way_span (sync_paths n [])))
+    ⊎ (choice
+    ≡ two_exchanges (pace_of n) (sync_paths n []) + largest_interval (pace_of n) + way_span (sync_paths n []))
 
--- The choice bound at a time, where it is known whether that is from rest; there is none where the network isn't calm.
-abbrev pub IsChoiceRow : NetworkState → Type 0 → List Timed → List Timed → ℕ → ℕ → Type 0
-IsChoiceRow n FromRest made now time choice =
-    IsCalm n (made ++ now)
+-- At a time with gains. Ports are capable so much later as `ready` says: at once after a priority1, and by two exchanges
+-- after a link.
+abbrev pub BoundsGains : NetworkState → List Timed → List Timed → ℕ → ℕ → ℕ → Type 0
+BoundsGains n made now time ready choice =
+    (OneEvent (IsHeardEvent n (suc (time + ready))) (IsIdleEvent n) made now
+    × (choice ≡ ready + way_span (sync_paths n (made ++ now))))
+    ⊎ (EachEvent (IsFollowedEvent n (suc (time + ready))) made now
+    × (choice ≡ ready + largest_interval (pace_of n) + way_span (sync_paths n (made ++ now))))
+
+-- At a time by which the choice stands: its events change nothing, or are gains.
+abbrev pub BoundsEvents : NetworkState → List Timed → List Timed → ℕ → ℕ → Type 0
+BoundsEvents n made now time choice =
+    (EachEvent (IsIdleEvent n) made now × (choice ≡ 0)) ⊎ ((ready : ℕ) × BoundsGains n made now time ready choice)
+
+-- ---- choice bounds
+
+-- After these events a calm network has the span, or where nothing lapses the sharper one or such a sharp bound.
+abbrev pub BoundsChoice : NetworkState → Type 0 → List Timed → ℕ → Type 0
+BoundsChoice n Sharp events choice =
+    IsCalm n events
     × (((NothingLapses n.params → ⊥)
-    × (choice ≡ settling_span_with (pace_of n) (sync_paths n (made ++ now)) (sync_paths n (made ++ now)).systems))
+    × (choice ≡ settling_span_with (pace_of n) (sync_paths n events) (sync_paths n events).systems))
     ⊎ (NothingLapses n.params
-    × (((FromRest → ⊥) × (choice ≡ settling_span_at_once (pace_of n) (sync_paths n (made ++ now))))
-    ⊎ ((FromRest × (time ≢ 0) × EachEvent IsIdleEvent n made now × (choice ≡ 0))
-    ⊎ ((FromRest × ((time ≡ 0) ⊎ ((EachEvent IsIdleEvent n made now → ⊥) × (SomeEvent IsLossEvent n made now → ⊥)))
-    × ((ready : ℕ) × (heard : ℕ) × IsReadyTime n made now time ready × IsHeardTime n made now time heard
-    × (choice ≡ ready + heard + way_span (sync_paths n (made ++ now)))))
-    ⊎ (FromRest × (time ≢ 0) × SomeEvent IsLossEvent n made now
-    × (choice ≡ settling_span_at_once (pace_of n) (sync_paths n (made ++ now)))))))))
+    × ((choice ≡ settling_span_at_once (pace_of n) (sync_paths n events)) ⊎ Sharp)))
 
--- bounds of a link are set
-abbrev pub sets_bounds : Act → Bool
-sets_bounds (Changing (LinkSet number port least greatest loss)) = true
-sets_bounds act = false
-
--- The rest bound at a time with this choice bound: what was sent before the choice stood has come too, and a link with
--- new bounds has been measured anew.
-abbrev pub rest_bound : NetworkState → List Timed → List Timed → ℕ → ℕ
-rest_bound n made now choice =
-    max (choice + (sync_paths n (made ++ now)).delay)
-    (if list_any (λ (t : Timed). sets_bounds t.act) now
-    then two_exchanges_again (pace_of n) (sync_paths n (made ++ now))
-    else 0)
-
--- no system fails and recovers at once
-abbrev pub NoneComesAndGoes : NetworkState → List Timed → List Timed → Type 0
-NoneComesAndGoes n made now = (clock : ℕ) → SomeEvent (FailsHere clock) n made now
-    → SomeEvent (RecoversHere clock) n made now → ⊥
-
--- The choice bound at a time, by the earlier times of the document, the latest first. Time 0 is from rest where nothing
--- disturbs the start. A later time is where no event then is of another kind, none fails and recovers, and it comes
--- after the network rests from the time before.
+-- A choice bound at a time, by the times before it, the latest first. The first of all is 0.
 abbrev pub IsChoiceBoundAfter : NetworkState → List Timed → List ℕ → ℕ → ℕ → Type 0
 IsChoiceBoundAfter n events [] time choice =
-    IsChoiceRow n (SomeEvent DisturbsStart n (events_before time events) (events_at time events) → ⊥)
-    (events_before time events) (events_at time events) time choice
+    (time ≡ 0)
+    × BoundsChoice n ((events_by time events ≡ []) × BoundsStart n choice) (events_by time events) choice
 IsChoiceBoundAfter n events (last ∷ earlier) time choice =
-    IsChoiceRow n
-    ((SomeEvent IsOtherEvent n (events_before time events) (events_at time events) → ⊥)
-    × NoneComesAndGoes n (events_before time events) (events_at time events)
-    × ((choice_then : ℕ) × IsChoiceBoundAfter n events earlier last choice_then
-    × (last + rest_bound n (events_before last events) (events_at last events) choice_then < time)))
-    (events_before time events) (events_at time events) time choice
+    (last < time)
+    × NoneBetween events last time
+    × BoundsChoice n
+    ((choice_then : ℕ) × IsChoiceBoundAfter n events earlier last choice_then
+    × (last + choice_then < time)
+    × BoundsEvents n (events_by last events) (events_at time events) time choice)
+    (events_by time events) choice
 
 abbrev pub IsChoiceBound : DocumentState → ℕ → ℕ → Type 0
-IsChoiceBound d time choice = IsChoiceBoundAfter d.network d.events (times_below time d.events) time choice
+IsChoiceBound d time choice = (earlier : List ℕ) × IsChoiceBoundAfter d.network d.events earlier time choice

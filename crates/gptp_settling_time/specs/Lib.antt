@@ -2,8 +2,9 @@ pub mod Exactly
 pub mod Gains
 pub mod Documents
 pub mod Idle
-pub mod HowSoon
 pub mod Starts
 pub mod InTurn
 pub mod ExactInTurn
 pub mod Unchanged
+pub mod HowSoon
+pub mod ChoiceBounds

@@ -12,12 +12,13 @@
 //! Where the greatest delay of each new link is below twice its least no announce interval has to pass: after a start
 //! (`specs/Starts.antt`), and event by event after links come up and a priority1 gets better. An event that changes
 //! nothing asks for no time (`specs/InTurn.antt`). Once a document has settled no act leaves a system another
-//! (`specs/Unchanged.antt`), and offsets are exact as soon as a Sync has come down a way (`specs/ExactInTurn.antt`).
-//! `specs/HowSoon.antt` has the bounds of the choice and of rest at each time of a document; no law cites them yet.
+//! (`specs/Unchanged.antt`), and offsets are exact as soon as a Sync has come down a way (`specs/ExactInTurn.antt`). So
+//! the choice stands by the bound that `specs/HowSoon.antt` has for each time of a document (`specs/ChoiceBounds.antt`).
 //!
 //! Each function of this crate is a law: it does nothing, and its contract is a theorem about the definitions.
 #![tactic(auto)]
 
+mod choice_bounds;
 mod documents;
 mod exact_in_turn;
 mod exactly;
@@ -26,6 +27,7 @@ mod in_turn;
 mod starts;
 mod unchanged;
 
+pub use choice_bounds::choice_bounds_hold;
 pub use documents::{documents_settle_soon, runs_are_exact_soon, runs_begin_so};
 pub use exact_in_turn::documents_are_exact_in_turn;
 pub use exactly::news_are_exact;

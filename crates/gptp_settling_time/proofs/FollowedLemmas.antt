@@ -1,0 +1,389 @@
+-- A choice bound of a time gives what the network came from then, and when it has settled by that.
+use Rattle.std.proofs.Common.{◌≡◌, inl, inr, ◌<◌, ◌≤◌, ◌+◌, ◌-◌, ◌*◌, ℕ, suc, pred, List, [], ◌∷◌, ◌++◌, refl, sym, ap, subst, ◌∙◌, append_assoc, append-nil, arith}
+use Rattle.std.specs.Prelude.{max, ⊤}
+use Rattle.std.specs.List.{AllByRecursion}
+use Rattle.std.proofs.Math.Nat.{le-max_left, le-max_right}
+use Rattle.gptp_setup.specs.SettlingParams.{largest_interval, longest_span}
+use Rattle.gptp_scenario.specs.Calm.{IsCalm, NothingLapses, last_change}
+use Rattle.gptp_scenario.specs.Network.{IsNetwork, NetworkState, pace_of}
+use Rattle.gptp_scenario.specs.SettlingAtOnce.{settling_span_at_once}
+use Rattle.gptp_scenario.specs.SettlingTime.{capability_span, settling_span_with}
+use Rattle.gptp_scenario.specs.SyncWait.{sync_paths}
+use Rattle.gptp_scenario.specs.declared.change.Timed.{Timed}
+use Rattle.gptp_scenario.specs.declared.sync_wait.SyncPaths.{SyncPaths}
+use Rattle.gptp_network.specs.Document.{DocumentState}
+use Rattle.gptp_network.specs.Events.{AreInOrder}
+use Rattle.gptp_network.specs.Snapshot.{events_by}
+use Rattle.gptp_settling_time.specs.Gains.{ChangesNothing}
+use Rattle.gptp_settling_time.specs.HowSoon.{BoundsEvents, BoundsStart, EachEvent, IsChoiceBound, IsChoiceBoundAfter, IsFollowedEvent, IsGainEvent, IsHeardEvent, IsIdleEvent, OneEvent, events_at, two_exchanges, way_span}
+use Rattle.gptp_settling_time.specs.InTurn.{AnyPast, BeginsBy, EventLeads, Gained, HasSettledAnyhow, HasSettledHeard, HasSettledSince, Heard, LeadOn, Past, SettlesAfter, SettlesByEvents}
+use Rattle.gptp_settling_time.proofs.MomentLemmas.{all_at, last_by, parted}
+use Rattle.gptp_settling_time.proofs.SamePathsLemmas.{idle_paths}
+
+-- ---- what leads on
+
+-- from any past events lead to any past
+any_leads : (n : NetworkState) (made events : List Timed) → LeadOn n made AnyPast events AnyPast
+any_leads n made [] = refl
+any_leads n made (event ∷ events) = (AnyPast, tt, any_leads n (made ++ event ∷ []) events)
+
+-- the one after the other
+leads_on : (n : NetworkState) (made : List Timed) (first mid last : Past) (events more : List Timed)
+    → LeadOn n made first events mid → LeadOn n (made ++ events) mid more last
+    → LeadOn n made first (events ++ more) last
+leads_on n made first mid last [] more is then =
+    subst (λ es. LeadOn n es first more last) (append-nil made)
+    (subst (λ past. LeadOn n (made ++ []) past more last) is then)
+leads_on n made first mid last (event ∷ events) more (next, leads, is) then = (
+  next,
+  leads,
+  leads_on n (made ++ event ∷ []) next mid last events more is
+      (subst (λ es. LeadOn n es mid more last) (sym (append_assoc made (event ∷ []) events)) then),
+)
+
+-- it is known what the network came from
+abbrev IsKnown : Past → Type 0
+IsKnown AnyPast = ⊥
+IsKnown (Gained start) = ⊤
+IsKnown (Heard start) = ⊤
+
+-- by a time it has settled, whatever it came from
+abbrev HasSettled : NetworkState → List Timed → Past → ℕ → Type 0
+HasSettled n events AnyPast time = HasSettledAnyhow n events time
+HasSettled n events (Gained start) time = HasSettledSince n events start time
+HasSettled n events (Heard start) time = HasSettledHeard n events start time
+
+settled_later : (n : NetworkState) (events : List Timed) (past : Past) (time later : ℕ) → time ≤ later
+    → HasSettled n events past time → HasSettled n events past later
+settled_later n events AnyPast time later less is =
+    let passed = is.passed in record { calm = is.calm; passed = omega (arith, passed, less) }
+settled_later n events (Gained start) time later less is = omega (arith, is, less)
+settled_later n events (Heard start) time later less is = omega (arith, is, less)
+
+settled_so : (n : NetworkState) (events : List Timed) (past : Past) (time : ℕ) → NothingLapses n.params
+    → HasSettled n events past time → SettlesAfter n events past time
+settled_so n events AnyPast time off is = inl (off, is.passed)
+settled_so n events (Gained start) time off is = inl (off, is)
+settled_so n events (Heard start) time off is = (off, is)
+
+-- ---- an event leads from a network that has settled
+
+-- the span from any past is enough to rest, and to become capable
+span_parts : (last capable clean one way time : ℕ) → last + (max capable clean + one + way) ≤ time
+    → (last + clean + one ≤ time) × (last + capable ≤ time)
+span_parts last capable clean one way time passed =
+    let left = le-max_left capable clean in
+    let right = le-max_right capable clean in
+    (omega (arith, passed, right), omega (arith, passed, left))
+
+module _ (n : NetworkState) (made : List Timed) (event : Timed) where
+  idle_leads : (past : Past) → IsKnown past → ChangesNothing n made event.act → EventLeads n made past event past
+  idle_leads AnyPast known nothing = absurd known
+  idle_leads (Gained start) known nothing = inr (nothing, refl)
+  idle_leads (Heard start) known nothing = inr (inr (nothing, refl))
+
+  gain_leads : (past : Past) (next : ℕ) → HasSettled n made past event.at → event.at ≤ next
+      → IsGainEvent n next made event → EventLeads n made past event (Gained next)
+  gain_leads AnyPast next settled less (takes, leaves) =
+      let p = pace_of n in
+      let paths = sync_paths n made in
+      let (rested, capable) = span_parts (last_change made) (capability_span p)
+      (2 * largest_interval p + paths.systems * (longest_span p + paths.delay)) (largest_interval p)
+      (pred paths.systems * paths.delay) event.at settled.passed in
+      inl (
+        takes,
+        (
+          record { calm = settled.calm; passed = rested },
+          (event.at, inr capable, inr (less, leaves)),
+        ),
+      )
+  gain_leads (Gained start) next settled less (takes, leaves) =
+      inl (takes, inl (inr (omega (arith, settled, less), leaves)))
+  gain_leads (Heard start) next settled less (takes, leaves) =
+      inl (takes, inl (inr (omega (arith, settled, less), leaves)))
+
+  heard_leads : (past : Past) (next : ℕ) → HasSettled n made past event.at → IsHeardEvent n next made event
+      → EventLeads n made past event (Heard next)
+  heard_leads AnyPast next settled (inl up) = (settled, inl up)
+  heard_leads AnyPast next settled (inr better) = (settled, inr (inl better))
+  heard_leads (Gained start) next settled (inl up) = (settled, inl up)
+  heard_leads (Gained start) next settled (inr better) = (settled, inr (inl better))
+  heard_leads (Heard start) next settled (inl up) = inl (omega (arith, settled), up)
+  heard_leads (Heard start) next settled (inr better) = inr (inl (settled, better))
+
+  -- what changes nothing leads from a network that has settled to one that has settled by then
+  module _ (network : IsNetwork n) (off : NothingLapses n.params) (nothing : ChangesNothing n made event.act) where
+    abbrev more : List Timed
+    more = made ++ event ∷ []
+
+    record LeavesSo (past : Past) : Type 0 where
+      pub next : Past
+      pub leads : EventLeads n made past event next
+      pub settled : HasSettled n more next event.at
+
+    idle_leaves : (past : Past) → HasSettled n made past event.at → LeavesSo past
+    idle_leaves AnyPast settled =
+        let passed = settled.passed in
+        let paths = sync_paths n made in
+        let way : ℕ = pred paths.systems * paths.delay in
+        let start : ℕ = event.at - way in
+        let since : start + way ≡ event.at = omega (arith, passed) in
+        record {
+          next = Heard start;
+          leads = (settled, inr (inr (record { nothing = nothing; off = off; since = since })));
+          settled = subst (λ (x : SyncPaths). start + pred x.systems * x.delay ≤ event.at)
+              (sym (idle_paths n network made event nothing)) (omega (arith, since));
+        }
+    idle_leaves (Gained start) settled = record {
+      next = Gained start;
+      leads = idle_leads (Gained start) tt nothing;
+      settled = subst (λ (x : SyncPaths). start + largest_interval (pace_of n) + pred x.systems * x.delay ≤ event.at)
+          (sym (idle_paths n network made event nothing)) settled;
+    }
+    idle_leaves (Heard start) settled = record {
+      next = Heard start;
+      leads = idle_leads (Heard start) tt nothing;
+      settled = subst (λ (x : SyncPaths). start + pred x.systems * x.delay ≤ event.at)
+          (sym (idle_paths n network made event nothing)) settled;
+    }
+
+-- ---- the events of a time lead from a network that has settled
+
+-- What the network came from after some events, of which the last are at this time, and by when it has settled.
+record IsLed (n : NetworkState) (made now : List Timed) (past : Past) (settled : ℕ) : Type 0 where
+  pub last : Past
+  pub lead : LeadOn n made past now last
+  pub settles : HasSettled n (made ++ now) last settled
+
+-- one event more comes before them
+led_more : (n : NetworkState) (made now : List Timed) (event : Timed) (past next : Past) (settled : ℕ)
+    → EventLeads n made past event next → IsLed n (made ++ event ∷ []) now next settled
+    → IsLed n made (event ∷ now) past settled
+led_more n made now event past next settled leads is = record {
+  last = is.last;
+  lead = (next, leads, is.lead);
+  settles = subst (λ es. HasSettled n es is.last settled) (append_assoc made (event ∷ []) now) is.settles;
+}
+
+module _ (n : NetworkState) (network : IsNetwork n) where
+  idles_lead : (past : Past) → IsKnown past → (made now : List Timed) → EachEvent (IsIdleEvent n) made now
+      → LeadOn n made past now past
+  idles_lead past known made [] idle = refl
+  idles_lead past known made (event ∷ now) (nothing, idle) =
+      (past, idle_leads n made event past known nothing, idles_lead past known (made ++ event ∷ []) now idle)
+
+  gains_lead : (next : ℕ) (made now : List Timed)
+      → EachEvent (IsFollowedEvent n next) made now
+      → LeadOn n made (Gained next) now (Gained next)
+  gains_lead next made [] each = refl
+  gains_lead next made (event ∷ now) (inl nothing, each) =
+      (Gained next, idle_leads n made event (Gained next) tt nothing, gains_lead next (made ++ event ∷ []) now each)
+  gains_lead next made (event ∷ now) (inr (takes, leaves), each) =
+      (Gained next, inl (takes, inl (inr (omega arith, leaves))), gains_lead next (made ++ event ∷ []) now each)
+
+  module _ (off : NothingLapses n.params) (time : ℕ) where
+    abbrev AllNow : List Timed → Type 0
+    AllNow = AllByRecursion (λ (t : Timed). t.at ≡ time)
+
+    -- no event comes
+    none_led : (made : List Timed) (past : Past) (settled : ℕ) → time ≤ settled → HasSettled n made past time
+        → IsLed n made [] past settled
+    none_led made past settled late is = record {
+      last = past;
+      lead = refl;
+      settles = subst (λ es. HasSettled n es past settled) (sym (append-nil made))
+          (settled_later n made past time settled late is);
+    }
+
+    -- they change nothing
+    idle_led : (made now : List Timed) (past : Past) → AllNow now → HasSettled n made past time
+        → EachEvent (IsIdleEvent n) made now → IsLed n made now past (suc (time + 0))
+    idle_led made [] past at settled idle = none_led made past (suc (time + 0)) (omega arith) settled
+    idle_led made (event ∷ now) past (here, at) settled (nothing, idle) =
+        let one = idle_leaves n made event network off nothing past
+        (subst (HasSettled n made past) (sym here) settled) in
+        led_more n made now event past one.next (suc (time + 0)) one.leads
+        (idle_led (made ++ event ∷ []) now one.next at
+        (subst (HasSettled n (made ++ event ∷ []) one.next) here one.settled) idle)
+
+    module _ (ready : ℕ) where
+      abbrev next : ℕ
+      next = suc (time + ready)
+
+      -- one is heard, and the others change nothing
+      heard_led : (made now all : List Timed) (past : Past) (choice : ℕ) → made ++ now ≡ all → AllNow now
+          → HasSettled n made past time → OneEvent (IsHeardEvent n next) (IsIdleEvent n) made now
+          → choice ≡ ready + way_span (sync_paths n all) → IsLed n made now past (suc (time + choice))
+      heard_led made [] all past choice are at settled none is = absurd none
+      heard_led made (event ∷ now) all past choice are (here, at) settled (inl (heard, idle)) is =
+          record {
+            last = Heard next;
+            lead = (
+              Heard next,
+              heard_leads n made event past next (subst (HasSettled n made past) (sym here) settled) heard,
+              idles_lead (Heard next) tt (made ++ event ∷ []) now idle,
+            );
+            settles = subst (λ es. next + way_span (sync_paths n es) ≤ suc (time + choice)) (sym are)
+                (omega (arith, is));
+          }
+      heard_led made (event ∷ now) all past choice are (here, at) settled (inr (nothing, more)) is =
+          let one = idle_leaves n made event network off nothing past
+          (subst (HasSettled n made past) (sym here) settled) in
+          led_more n made now event past one.next (suc (time + choice)) one.leads
+          (heard_led (made ++ event ∷ []) now all one.next choice (append_assoc made (event ∷ []) now ∙ are) at
+          (subst (HasSettled n (made ++ event ∷ []) one.next) here one.settled) more is)
+
+      -- each is a gain, or changes nothing
+      gains_led : (made now all : List Timed) (past : Past) (choice : ℕ) → made ++ now ≡ all → AllNow now
+          → HasSettled n made past time → EachEvent (IsFollowedEvent n next) made now
+          → choice ≡ ready + largest_interval (pace_of n) + way_span (sync_paths n all)
+          → IsLed n made now past (suc (time + choice))
+      gains_led made [] all past choice are at settled each is =
+          none_led made past (suc (time + choice)) (omega arith) settled
+      gains_led made (event ∷ now) all past choice are (here, at) settled (inl nothing, each) is =
+          let one = idle_leaves n made event network off nothing past
+          (subst (HasSettled n made past) (sym here) settled) in
+          led_more n made now event past one.next (suc (time + choice)) one.leads
+          (gains_led (made ++ event ∷ []) now all one.next choice (append_assoc made (event ∷ []) now ∙ are) at
+          (subst (HasSettled n (made ++ event ∷ []) one.next) here one.settled) each is)
+      gains_led made (event ∷ now) all past choice are (here, at) settled (inr gain, each) is =
+          record {
+            last = Gained next;
+            lead = (
+              Gained next,
+              gain_leads n made event past next (subst (HasSettled n made past) (sym here) settled)
+                  (omega (arith, here)) gain,
+              gains_lead next (made ++ event ∷ []) now each,
+            );
+            settles = subst (λ es. next + largest_interval (pace_of n) + way_span (sync_paths n es) ≤ suc (time + choice))
+                (sym are) (omega (arith, is));
+          }
+
+-- ---- a document
+
+-- What the network of a document came from after the events up to a time that has this choice bound.
+record IsFollowedTo (n : NetworkState) (events : List Timed) (time choice : ℕ) : Type 0 where
+  pub first : Past
+  pub begins : BeginsBy n first
+  pub last : Past
+  pub lead : LeadOn n [] first events last
+  pub settles : HasSettled n events last (suc (time + choice))
+
+module _ (n : NetworkState) (network : IsNetwork n) (off : NothingLapses n.params) (all : List Timed)
+    (order : AreInOrder all) where
+  -- by the span from any past
+  spanned : (time choice : ℕ) → IsCalm n (events_by time all)
+      → choice ≡ settling_span_at_once (pace_of n) (sync_paths n (events_by time all))
+      → IsFollowedTo n (events_by time all) time choice
+  spanned time choice calm is =
+      let last = last_by time all in
+      record {
+        first = AnyPast;
+        begins = tt;
+        last = AnyPast;
+        lead = any_leads n [] (events_by time all);
+        settles = record { calm = calm; passed = omega (arith, last, is) };
+      }
+
+  started : (choice : ℕ) → BoundsStart n choice → IsFollowedTo n [] 0 choice
+  started choice (inl (little, is)) =
+      let start : ℕ = two_exchanges (pace_of n) (sync_paths n []) + 1 in
+      record {
+        first = Heard start;
+        begins = (little, omega arith);
+        last = Heard start;
+        lead = refl;
+        settles = omega (arith, is);
+      }
+  started choice (inr is) =
+      let start : ℕ = two_exchanges (pace_of n) (sync_paths n []) + 1 in
+      record {
+        first = Gained start;
+        begins = omega arith;
+        last = Gained start;
+        lead = refl;
+        settles = omega (arith, is);
+      }
+
+  followed : (earlier : List ℕ) (time choice : ℕ) → IsChoiceBoundAfter n all earlier time choice
+      → IsFollowedTo n (events_by time all) time choice
+  followed [] time choice (start, (calm, inl (lapses, is))) = absurd (lapses off)
+  followed [] time choice (start, (calm, inr (nothing, inl is))) = spanned time choice calm is
+  followed [] time choice (start, (calm, inr (nothing, inr (none, is)))) =
+      subst (λ es. IsFollowedTo n es time choice) (sym none)
+      (subst (λ at. IsFollowedTo n [] at choice) (sym start) (started choice is))
+  followed (last ∷ earlier) time choice (later, between, (calm, inl (lapses, is))) = absurd (lapses off)
+  followed (last ∷ earlier) time choice (later, between, (calm, inr (nothing, inl is))) = spanned time choice calm is
+  followed (last ∷ earlier) time choice (later, between, (calm, inr (nothing, inr (then, bound, soon, sharp)))) =
+      let made = events_by last all in
+      let now = events_at time all in
+      let before = followed earlier last then bound in
+      let settled = settled_later n made before.last (suc (last + then)) time soon before.settles in
+      let led = by before.last settled sharp in
+      subst (λ es. IsFollowedTo n es time choice) (sym (parted all last time order later between)) (record {
+        first = before.first;
+        begins = before.begins;
+        last = led.last;
+        lead = leads_on n [] before.first before.last led.last made now before.lead led.lead;
+        settles = led.settles;
+      })
+    where
+      by : (past : Past) → HasSettled n (events_by last all) past time
+          → BoundsEvents n (events_by last all) (events_at time all) time choice
+          → IsLed n (events_by last all) (events_at time all) past (suc (time + choice))
+      by past settled (inl (idle, is)) =
+          subst (λ c. IsLed n (events_by last all) (events_at time all) past (suc (time + c))) (sym is)
+          (idle_led n network off time (events_by last all) (events_at time all) past (all_at time all) settled idle)
+      by past settled (inr (ready, inl (heard, is))) =
+          heard_led n network off time ready (events_by last all) (events_at time all)
+          (events_by last all ++ events_at time all) past choice refl (all_at time all) settled heard is
+      by past settled (inr (ready, inr (each, is))) =
+          gains_led n network off time ready (events_by last all) (events_at time all)
+          (events_by last all ++ events_at time all) past choice refl (all_at time all) settled each is
+
+-- A choice bound of a document at a time: by then it settles after all events up to any time before the next.
+module _ (d : DocumentState) (network : IsNetwork d.network) (order : AreInOrder d.events)
+    (time choice until settled : ℕ) (same : events_by until d.events ≡ events_by time d.events)
+    (late : time + choice < settled) where
+  abbrev n : NetworkState
+  n = d.network
+
+  abbrev made : List Timed
+  made = events_by time d.events
+
+  settles_so : (first last : Past) → BeginsBy n first → LeadOn n [] first made last → IsCalm n made
+      → SettlesAfter n made last settled → SettlesByEvents d until settled
+  settles_so first last begins lead calm settles = record {
+    calm = subst (IsCalm n) (sym same) calm;
+    first = first;
+    begins = begins;
+    last = last;
+    lead = subst (λ es. LeadOn n [] first es last) (sym same) lead;
+    settles = subst (λ es. SettlesAfter n es last settled) (sym same) settles;
+  }
+
+  any_settles : IsCalm n made → choice ≡ settling_span_with (pace_of n) (sync_paths n made) (sync_paths n made).systems
+      → SettlesByEvents d until settled
+  any_settles calm is =
+      let last = last_by time d.events in
+      settles_so AnyPast AnyPast tt (any_leads n [] made) calm (inr (omega (arith, last, is, late)))
+
+  follow_settles : IsCalm n made → NothingLapses n.params → IsFollowedTo n made time choice
+      → SettlesByEvents d until settled
+  follow_settles calm off so =
+      settles_so so.first so.last so.begins so.lead calm
+      (settled_so n made so.last settled off
+      (settled_later n made so.last (suc (time + choice)) settled late so.settles))
+
+  settles_after : (earlier : List ℕ) → IsChoiceBoundAfter n d.events earlier time choice
+      → SettlesByEvents d until settled
+  settles_after [] (start, (calm, inl (lapses, is))) = any_settles calm is
+  settles_after [] (start, (calm, inr (off, rest))) =
+      follow_settles calm off (followed n network off d.events order [] time choice (start, (calm, inr (off, rest))))
+  settles_after (last ∷ earlier) (later, between, (calm, inl (lapses, is))) = any_settles calm is
+  settles_after (last ∷ earlier) (later, between, (calm, inr (off, rest))) =
+      follow_settles calm off
+      (followed n network off d.events order (last ∷ earlier) time choice (later, between, (calm, inr (off, rest))))
+
+  pub bound_settles : IsChoiceBound d time choice → SettlesByEvents d until settled
+  bound_settles (earlier, bound) = settles_after earlier bound
