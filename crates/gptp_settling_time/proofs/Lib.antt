@@ -38,4 +38,5 @@ pub mod UnchangedLemmas
 pub mod ReactionStageLemmas
 pub mod ReactsLemmas
 pub mod SettledSeenLemmas
+pub mod PriorityNewsLemmas
 pub mod BetterClockLemmas
