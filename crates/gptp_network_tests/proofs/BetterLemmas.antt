@@ -18,7 +18,7 @@ use Rattle.gptp_scenario.specs.declared.sync_wait.SyncPaths.{SyncPaths}
 use Rattle.gptp_network.specs.Snapshot.{events_by}
 use Rattle.gptp_invariants.specs.WorldEncodableLaws.{SetsAnOctet}
 use Rattle.gptp_theorem.specs.PlayedLaws.{IsPlayable}
-use Rattle.gptp_settling_time.specs.Gains.{AllLiveAfter, IsNoWorse, exchanged_from}
+use Rattle.gptp_settling_time.specs.Gains.{IsNoWorse, exchanged_from}
 use Rattle.gptp_settling_time.specs.InTurn.{ActsFindSettledInTurn, BettersClock, Heard, LeadOn, SettlesAfter, SettlesByEvents}
 use Rattle.gptp_settling_time.specs.Starts.{LinksVaryLittle}
 use Rattle.gptp_network_tests.specs.Pair.{end_station, first_member, pair_network, pair_pace, pair_paths, second_member}
@@ -72,20 +72,12 @@ no_worse (suc zero) m there named =
     (same_Some (end_station second_member) m there) (refl, omega arith)
 no_worse (suc (suc place)) m there named = absurd (none-some m there)
 
-live : AllLiveAfter pair_network []
-live zero m there =
-    subst (λ (x : SystemSpec). (system_after [] x).live ≡ true) (same_Some (end_station first_member) m there) refl
-live (suc zero) m there =
-    subst (λ (x : SystemSpec). (system_after [] x).live ≡ true) (same_Some (end_station second_member) m there) refl
-live (suc (suc place)) m there = absurd (none-some m there)
-
 better : BettersClock pair_network [] event 2000000001
 better = record {
   clock = 2;
   value = 245;
   act = refl;
   better = no_worse;
-  live = live;
   few = subst (λ (x : SyncPaths). x.systems ≤ 255) (sym paths_are) (omega arith);
   later = omega arith;
 }

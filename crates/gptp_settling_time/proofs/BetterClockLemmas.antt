@@ -7,7 +7,6 @@ use Rattle.gptp_lists.proofs.MappedLemmas.{alike, same_there}
 use Rattle.gptp_graph.specs.PathBound.{BoundsPaths}
 use Rattle.gptp_graph.specs.Snapshot.{Joins, PortIdentity, System, port_of}
 use Rattle.gptp_graph.proofs.LinkLemmas.{Joins-sym}
-use Rattle.gptp_vector.specs.declared.port.PortId.{PortId}
 use Rattle.gptp_links.specs.declared.link.Direction.TheVariants.{FromA, FromB}
 use Rattle.gptp_links.specs.Fate.{Draw}
 use Rattle.gptp_setup.specs.Intervals.{interval_of}
@@ -17,9 +16,8 @@ use Rattle.gptp_scenario.specs.declared.change.Act.TheVariants.{Change as Changi
 use Rattle.gptp_scenario.specs.declared.change.Change.TheVariants.{Priority1}
 use Rattle.gptp_model.specs.Acts.{Acts}
 use Rattle.gptp_model.specs.declared.done.Done.{Done}
-use Rattle.gptp_model.specs.World.{Channel, WorldState, receiver, sender}
+use Rattle.gptp_model.specs.World.{Channel, WorldState}
 use Rattle.gptp_model.proofs.BareLemmas.{DifferInFlight, bare}
-use Rattle.gptp_model.proofs.StayLemmas.{Stays, acts_stay}
 use Rattle.gptp_bmca_machine.specs.Calm.{Calm}
 use Rattle.gptp_bmca_machine.specs.Levels.{Invariant, LeadsFarther}
 use Rattle.gptp_bmca_machine.specs.Link.{StaysOn}
@@ -32,16 +30,17 @@ use Rattle.gptp_invariants.specs.ChoiceCalm.{HaveQuietLinks, delay_in, greatest_
 use Rattle.gptp_invariants.specs.ChoiceSettlesAsMachine.{IsWorld}
 use Rattle.gptp_invariants.specs.ChoiceView.{lane_place, says_announce, view}
 use Rattle.gptp_invariants.specs.DelayLinkView.{LinkPlace}
-use Rattle.gptp_invariants.specs.DelayMeasured.{LinkStandsAt, StationIsLiveAt}
-use Rattle.gptp_invariants.specs.WorldNews.{AllLive, IsNews}
+use Rattle.gptp_invariants.specs.DelayMeasured.{LinkStandsAt}
+use Rattle.gptp_invariants.specs.WorldNews.{IsNews}
 use Rattle.gptp_invariants.specs.WorldSound.{IsGain}
 use Rattle.gptp_invariants.specs.WorldStanding.{channel_is_used, live_stations, snapshot_of, stations_have_clock}
-use Rattle.gptp_invariants.proofs.DelayCapableKeptLemmas.{known_params, same_receiver, same_sender}
 use Rattle.gptp_invariants.proofs.WorldSoundCallLemmas.{links_more}
 use Rattle.gptp_invariants.proofs.WorldSystemLemmas.{clock_lives}
 use Rattle.gptp_invariants.proofs.WorldWayLemmas.{way_of}
 use Rattle.gptp_settling_time.proofs.AlwaysClaimedLemmas.{AreHeard, IsClaimedAlways, asks_back, capable_is_on, place_of_way, start_calm, start_net, start_network, way_back, way_stands}
 use Rattle.gptp_settling_time.proofs.HeardLemmas.{StaysCapableAt, stays_elsewhere, stays_link, stays_on}
+use Rattle.gptp_settling_time.specs.Idle.{Lives}
+use Rattle.gptp_settling_time.proofs.PriorityNewsLemmas.{stood}
 use Rattle.gptp_settling_time.proofs.ReactionStageLemmas.{stage_after}
 use Rattle.gptp_settling_time.proofs.ReactsLemmas.{Reacts, reacts}
 use Rattle.gptp_settling_time.proofs.RestClaimedLemmas.{AreOn}
@@ -90,14 +89,14 @@ of_bare f each before after kept = sym (each after) ∙ ap f kept ∙ each befor
 
 module _ (p : SettlingParams) (start next owner value : ℕ) (w : WorldState) (draws : List Draw) (done : Done)
     (w' : WorldState) (is : IsClaimedAlways p start w) (on : AreOn p start w is.heard) (world' : IsWorld p w')
-    (live : AllLive w) (octet : value < 256) (gain : IsGain (Priority1 owner value) w)
+    (live : Lives owner w) (octet : value < 256) (gain : IsGain (Priority1 owner value) w)
     (acts : Acts (Changing (Priority1 owner value)) w draws done w') (soon : w.time < next) (news' : IsNews p next w')
     (near : AllAreNear (snapshot_of w)) (settled : HasSettledSeen p w) where
   abbrev world : IsWorld p w
   world = is.news.world
 
   r : Reacts w w'
-  r = reacts p w world live owner value octet gain draws done w' acts
+  r = reacts p w world owner value live octet gain draws done w' acts
 
   used_alike : (channel : Channel) → channel_is_used (live_stations w'.stations) channel
       ≡ channel_is_used (live_stations w.stations) channel
@@ -141,48 +140,9 @@ module _ (p : SettlingParams) (start next owner value : ℕ) (w : WorldState) (d
 
   -- ---- ports
 
-  stays : Stays w w'
-  stays = acts_stay (Changing (Priority1 owner value)) w draws done w' world.sound.wired.setups acts
-
-  lived : (place number was : ℕ) → was ≡ number → StationIsLiveAt place number w' → StationIsLiveAt place was w
-  lived place number was named x =
-      let old = stays.stations place x.station x.here in
-      record {
-        station = old.old;
-        here = old.here;
-        live = live place old.old old.here;
-        named = sym old.same.named ∙ x.named ∙ sym named;
-      }
-
-  stood : (at : LinkPlace) → LinkStandsAt at w' → LinkStandsAt at w
-  stood at stands =
-      let (old, here, same) = alike bare bare w.net.channels w'.net.channels (sym r.links) at.link stands.channel
-      stands.here in
-      let begins = ap (λ (q : PortId). q.clock) (same_sender at.direction old stands.channel same) in
-      let ends = ap (λ (q : PortId). q.clock) (same_receiver at.direction old stands.channel same) in
-      let asking = lived at.asking (sender at.direction stands.channel).clock _ begins stands.asking in
-      let answering = lived at.answering (receiver at.direction stands.channel).clock _ ends stands.answering in
-      let bounds = ap (λ (c : Channel). c.bounds) same in
-      let set = known_params p w world.known.set in
-      let set' = known_params p w' world'.known.set in
-      let asks = set at.asking asking.station asking.here
-      ∙ sym (set' at.asking stands.asking.station stands.asking.here) in
-      let answers = set at.answering answering.station answering.here
-      ∙ sym (set' at.answering stands.answering.station stands.answering.here) in
-      record {
-        channel = old;
-        here = here;
-        up = ap (λ (c : Channel). c.up) same ∙ stands.up;
-        lossless = rw bounds stands.lossless;
-        asking = asking;
-        answering = answering;
-        apart = stands.apart;
-        good = rw (bounds, answers, asks) stands.good;
-      }
-
   capable : (at : LinkPlace) → LinkStandsAt at w' → StaysCapableAt p at w'
   capable at stands =
-      let before = stood at stands in
+      let before = stood w w' r p world world' at stands in
       stays_elsewhere p start at (Priority1 owner value) w draws done w' world is.news.measured tt acts r.time
       (is.heard at before) (on at before)
 

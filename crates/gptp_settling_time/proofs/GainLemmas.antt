@@ -24,7 +24,7 @@ use Rattle.gptp_invariants.specs.WorldSound.{IsDownAt, IsGain}
 use Rattle.gptp_theorem.specs.Reached.{Shape, StandsAsPlanned, shape, shape_after, channel_wire}
 use Rattle.gptp_settling_time.specs.Gains.{AllLiveAfter, IsDownAfter, IsGainAfter, IsIdleAfter, IsNoWorse, IsUpAfter, KeepsIdentity}
 use Rattle.gptp_settling_time.specs.InTurn.{VariesLittleAfter}
-use Rattle.gptp_settling_time.specs.Idle.{IsIdle, IsUpAt, KeepsPriority}
+use Rattle.gptp_settling_time.specs.Idle.{IsIdle, IsUpAt, KeepsPriority, Lives}
 
 -- the identity that a system has, or will start with, names its clock
 clock_shape : (station : Station) → IsItsSetup station → clock_of (shape station).identity ≡ clock station.system
@@ -127,6 +127,13 @@ module _ (n : NetworkState) (events : List Timed) (w : WorldState) (so : StandsA
               clock = named_as place number station k of;
               live = lives_as place station of ∙ on;
             }))
+
+    -- so does one whose identity is no worse
+    pub better_lives : (number value : ℕ) → IsNoWorse n events number value → Lives number w
+    better_lives number value better place station k =
+        let of = member_at place station k.here in
+        let (live, less) = better place of.member of.there (named_as place number station k of) in
+        sym (lives_as place station of) ∙ live
 
     -- and so is an identity no worse
     no_worse_so : (number value : ℕ) → IsNoWorse n events number value → (place : ℕ) (station : Station)

@@ -54,7 +54,7 @@ use Rattle.gptp_settling_time.proofs.AlwaysClaimedLemmas.{IsClaimedAlways, since
 use Rattle.gptp_settling_time.proofs.BegunLemmas.{begun_keeps, begun_last, begun_news, rested_sound}
 use Rattle.gptp_settling_time.proofs.ClaimedToLemmas.{IsClaimedTo, claimed_act, claimed_later, claimed_settled}
 use Rattle.gptp_settling_time.proofs.DocumentLemmas.{run_to}
-use Rattle.gptp_settling_time.proofs.GainLemmas.{all_live, down_so, few_so, gain_so, idle_so}
+use Rattle.gptp_settling_time.proofs.GainLemmas.{better_lives, down_so, few_so, gain_so, idle_so}
 use Rattle.gptp_settling_time.proofs.HeardLemmas.{heard_on}
 use Rattle.gptp_settling_time.proofs.IdleLemmas.{idle_still}
 use Rattle.gptp_settling_time.proofs.KeptToLemmas.{IsNewsTo, KeepsTo, keeps_act, keeps_later, news_act_to, news_later_to}
@@ -184,13 +184,14 @@ module _ {F : Type 0} (answers : Bounds → ℕ → F → Option ℕ → F → T
         let later = up.later in
         made_news answers d playable made event fate fate_after w w' done is fit k keeps sound
         (subst (TakesNothing n made) (sym up.act) up.better) start next claim.news.ready claim.news.silent
-        (inr (omega (arith, early, later), subst (LeavesCapable n made event next) (sym up.act) (up.live, up.later)))
+        (inr (omega (arith, early, later), subst (LeavesCapable n made event next) (sym up.act) up.later))
 
     pub bettered : IsClaimedTo d more next w'
     bettered = record {
       keeps = after;
       since = better_claimed p start next up.clock up.value then k.draws done w' claim on after.claim.world
-          (all_live n made then keeps_then.stands up.live) (subst SetsAnOctet up.act fit.octet)
+          (better_lives n made then keeps_then.stands keeps_then.claim.world.sound up.clock up.value up.better)
+          (subst SetsAnOctet up.act fit.octet)
           (gain_so n made then keeps_then.stands keeps_then.claim.world.sound (Priority1 up.clock up.value) up.better)
           (subst (λ act. Acts act then k.draws done w') up.act k.acts) up.later set_news (near_then up.few) settled;
     }

@@ -43,4 +43,5 @@ pub mod ChoiceBoundLemmas
 pub mod ReactionStageLemmas
 pub mod ReactsLemmas
 pub mod SettledSeenLemmas
+pub mod PriorityNewsLemmas
 pub mod BetterClockLemmas

@@ -34,7 +34,7 @@ use Rattle.gptp_invariants.specs.WorldSound.{IsGain, IsSoundWorld}
 use Rattle.gptp_invariants.specs.FailedUnanswered.{StandsUnanswered}
 use Rattle.gptp_invariants.proofs.WorldClaimLemmas.{claim_kept, claim_later}
 use Rattle.gptp_invariants.proofs.WorldLinkUpNewsLemmas.{link_up_news}
-use Rattle.gptp_invariants.proofs.WorldNewsActLemmas.{gain_news, priority_news, ready_later, unanswered_silent, watched_ready}
+use Rattle.gptp_invariants.proofs.WorldNewsActLemmas.{gain_news, ready_later, unanswered_silent, watched_ready}
 use Rattle.gptp_invariants.proofs.WorldNewsLemmas.{news_go_on, none_silent}
 use Rattle.gptp_invariants.proofs.WorldOutlineLemmas.{change_is_last, change_time}
 use Rattle.gptp_invariants.proofs.WorldSoundLemmas.{sound_later}
@@ -44,10 +44,11 @@ use Rattle.gptp_theorem.proofs.ChangeLemmas.{changes_stand}
 use Rattle.gptp_theorem.proofs.SettlingInvariantLemmas.{IsFitEvent, least_of}
 use Rattle.gptp_theorem.proofs.KeptLemmas.{time_stands}
 use Rattle.gptp_theorem.proofs.SyncPathLemmas.{paths_stand}
-use Rattle.gptp_settling_time.specs.Gains.{AreCapableAnyway, AreCapableNext, AreCapableStill, ChangesNothing, IsIdleAfter, JoinsLive, LeavesCapable, TakesNothing}
-use Rattle.gptp_settling_time.proofs.GainLemmas.{all_live, gain_so, idle_so, lives_so}
+use Rattle.gptp_settling_time.specs.Gains.{AreCapableAnyway, AreCapableNext, AreCapableStill, ChangesNothing, IsGainAfter, IsIdleAfter, JoinsLive, LeavesCapable, TakesNothing}
+use Rattle.gptp_settling_time.proofs.GainLemmas.{all_live, better_lives, gain_so, idle_so, lives_so}
 use Rattle.gptp_settling_time.proofs.IdleLemmas.{idle_still}
 use Rattle.gptp_settling_time.proofs.KeptToLemmas.{IsNewsTo, KeepsTo}
+use Rattle.gptp_settling_time.proofs.PriorityNewsLemmas.{priority_stays_news}
 use Rattle.gptp_settling_time.proofs.StandsStillLemmas.{news_stands}
 
 -- what is so at both ends of a link is so where it leads to
@@ -207,11 +208,13 @@ module _ {F : Type 0} (answers : Bounds → ℕ → F → Option ℕ → F → T
           claim_then.measured silent sound_then ready
           (λ place s link channel at_port. apart number port live place s link channel at_port)
           (omega (arith, late, delay)) came
-      by_change (Priority1 number value) same (live, late) =
+      by_change (Priority1 number value) same late =
           let came : Acts (Changing (Priority1 number value)) then k.draws done w' =
           subst (λ change. Acts (Changing change) then k.draws done w') same acts in
-          priority_news p next number value then k.draws done w' claim_then.pace claim_then.world after.claim.world
-          claim_then.measured (all_live n made then stands_then live) sound_then ready
+          priority_stays_news p next number value then k.draws done w' claim_then.pace claim_then.world
+          after.claim.world claim_then.measured
+          (better_lives n made then stands_then claim_then.world.sound number value
+          (subst (IsGainAfter n made) same (subst (TakesNothing n made) is.act nothing))) sound_then ready silent
           (subst (λ change. IsGain change then) same gain)
           (subst (λ change. SetsAnOctet (Changing change)) same octet) late came
       by_change (LinkDown number port) same none = absurd none

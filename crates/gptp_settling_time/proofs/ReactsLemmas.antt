@@ -1,5 +1,5 @@
 -- A system whose priority1 gets no worse reacts, as the machine sees it, and the links stand as they did.
-use Rattle.std.proofs.Common.{◌≡◌, ◌≤◌, ◌<◌, ◌+◌, ◌*◌, ◌^◌, ◌%◌, ℕ, zero, suc, pos, Bool, true, false, List, [], ◌∷◌, Some, slice_get, slice_set, refl, sym, ap, subst, ◌∙◌, inl, inr, arith}
+use Rattle.std.proofs.Common.{◌≡◌, ◌≤◌, ◌<◌, ◌+◌, ◌*◌, ◌^◌, ◌%◌, ℕ, zero, suc, pos, Bool, true, false, List, [], ◌∷◌, map, Some, slice_get, slice_set, refl, sym, ap, subst, ◌∙◌, inl, inr, arith}
 use Rattle.std.specs.Option.{option_map_or}
 use Rattle.std.specs.Prelude.{◌==◌, ◌||◌, if◌then◌else◌}
 use Rattle.std.proofs.lemmas.Option.{same_Some}
@@ -31,7 +31,6 @@ use Rattle.gptp_bmca_machine.specs.Touch.{Other}
 use Rattle.gptp_invariants.specs.ChoiceCalm.{clock_place, log_at, log_of, setups_of}
 use Rattle.gptp_invariants.specs.ChoiceSettlesAsMachine.{IsWorld}
 use Rattle.gptp_invariants.specs.ChoiceView.{lanes_view, says_announce, station_view, touch_view, view}
-use Rattle.gptp_invariants.specs.WorldNews.{AllLive}
 use Rattle.gptp_invariants.specs.WorldSound.{IsGain}
 use Rattle.gptp_invariants.specs.WorldStanding.{live_stations, snapshot_of, standing_system, stations_have_clock}
 use Rattle.gptp_invariants.proofs.ChoiceSeenCallLemmas.{IsCallSeen, calls_seen}
@@ -41,6 +40,7 @@ use Rattle.gptp_invariants.proofs.WorldAnsweringLemmas.{CanAnswer, IsAnswering, 
 use Rattle.gptp_invariants.proofs.WorldChangeEncodableLemmas.{station_encodable}
 use Rattle.gptp_invariants.proofs.WorldSoundCallLemmas.{IsThereToo, links_more}
 use Rattle.gptp_invariants.proofs.WorldSystemLemmas.{IsLiveAt, live_from, live_there}
+use Rattle.gptp_settling_time.specs.Idle.{Lives}
 
 -- ---- one system becomes another of its clock
 
@@ -99,6 +99,10 @@ logs_set (first ∷ stations) (suc place) old new here same (suc i) k = logs_set
 
 -- ---- the reaction
 
+-- whether a station lives, and its clock
+abbrev pub lives_as : Station → Bool × ℕ
+lives_as station = (station.live, clock station.system)
+
 pub record Reacts (w w' : WorldState) : Type 0 where
   pub call : StationAnswers says_announce Other (view w) (view w')
   pub time : w'.time ≡ w.time
@@ -106,10 +110,11 @@ pub record Reacts (w w' : WorldState) : Type 0 where
   pub logs : (port : PortIdentity) → log_of w'.stations port ≡ log_of w.stations port
   pub lives : (number : ℕ) → stations_have_clock (live_stations w'.stations) number
       ≡ stations_have_clock (live_stations w.stations) number
+  pub stand : map lives_as w'.stations ≡ map lives_as w.stations
   pub links : DifferInFlight w.net.channels w'.net.channels
   pub news : HasNews (snapshot_of w) (snapshot_of w')
 
-module _ (p : SettlingParams) (w : WorldState) (is : IsWorld p w) (live : AllLive w) (owner value : ℕ)
+module _ (p : SettlingParams) (w : WorldState) (is : IsWorld p w) (owner value : ℕ) (live : Lives owner w)
     (octet : value < 256) (gain : IsGain (Priority1 owner value) w) (draws : List Draw) (done : Done)
     (w' : WorldState) (acts : Acts (Changing (Priority1 owner value)) w draws done w') where
   abbrev now : WorldState
@@ -273,6 +278,10 @@ module _ (p : SettlingParams) (w : WorldState) (is : IsWorld p w) (live : AllLiv
           ap (λ stations. stations_have_clock (live_stations stations) number) stations_are
           ∙ lives_set v.stations place c.station (in_state c.after c.station) c.here refl named number
           ∙ lives_set w.stations place station new here refl refl number;
+      stand = ap (map lives_as) stations_are
+          ∙ map-set_same lives_as v.stations place c.station (in_state c.after c.station) c.here
+          (λ i. (c.station.live, named i))
+          ∙ map-set_same lives_as w.stations place station new here refl;
       links = subst (λ (x : WorldState). DifferInFlight w.net.channels x.net.channels) (sym c.is)
           (calls_bare place (Priority value) v draws answer w' c);
       news = record {
@@ -289,6 +298,6 @@ module _ (p : SettlingParams) (w : WorldState) (is : IsWorld p w) (live : AllLiv
       by (inl (answer, c)) = called answer c
       by (inr (failed, none, same)) =
           let it = same_there v.stations place failed.station new failed.here there in
-          let on : station.live ≡ true = live place station here in
+          let on : station.live ≡ true = live place station (record { here = here; named = k.is.named }) in
           let off : station.live ≡ false = ap (λ (x : Station). x.live) (sym it) ∙ failed.failed in
           absurd (let both = sym on ∙ off in cc)

@@ -128,13 +128,12 @@ JoinsLive n events port = (place : ℕ) (v : LinkSpec) → slice_get n.links pla
     → IsLive n.systems events (link_after events v).a.clock × IsLive n.systems events (link_after events v).b.clock
 
 -- These changes leave other ports as capable as they are: a link between live systems that comes up, whose own two
--- ports ask then; and a priority1 that gets no worse, where all systems live.
+-- ports ask then; and a priority1 that gets no worse.
 abbrev pub LeavesCapable : NetworkState → List Timed → Timed → ℕ → Act → Type 0
 LeavesCapable n before event next (Changing (LinkUp number port)) =
     JoinsLive n (before ++ event ∷ []) (port_id number port)
     × (exchanged_from (pace_of n) (sync_paths n (before ++ event ∷ [])) event.at ≤ next)
-LeavesCapable n before event next (Changing (Priority1 number value)) =
-    AllLiveAfter n before × (event.at < next)
+LeavesCapable n before event next (Changing (Priority1 number value)) = event.at < next
 LeavesCapable n before event next act = ⊥
 
 -- Where ports are capable from a start on, they are so from the next one on after one event more.

@@ -31,7 +31,7 @@ use Rattle.gptp_report.specs.Transitions.{ActTrace, Unfolds}
 use Rattle.gptp_theorem.specs.PlayedLaws.{IsPlayable}
 use Rattle.gptp_settling_time.specs.Documents.{IsSettledAs}
 use Rattle.gptp_settling_time.specs.Exactly.{SettlesBy}
-use Rattle.gptp_settling_time.specs.Gains.{AllLiveAfter, AreCapableAnyway, AreCapableNext, AreCapableStill, ChangesNothing, HasRested, IsDownAfter, IsNoWorse, JoinsLive, TakesNothing, exchanged_from}
+use Rattle.gptp_settling_time.specs.Gains.{AreCapableAnyway, AreCapableNext, AreCapableStill, ChangesNothing, HasRested, IsDownAfter, IsNoWorse, JoinsLive, TakesNothing, exchanged_from}
 use Rattle.gptp_settling_time.specs.Starts.{LinksVaryLittle}
 
 -- what a network came from, and from when on its ports are capable
@@ -59,14 +59,13 @@ pub record BringsUp (n : NetworkState) (before : List Timed) (event : Timed) (ne
   pub live : JoinsLive n (before ++ event ∷ []) (port_id clock port)
   pub capable : exchanged_from (pace_of n) (sync_paths n (before ++ event ∷ [])) event.at ≤ next
 
--- After these events this one sets a priority1 that makes its system's identity no worse, where all systems live and no
--- path has more than 255 of them. The next time is later than that.
+-- After these events this one sets a priority1 that makes the identity of a system that lives no worse, where no path
+-- has more than 255 of them. The next time is later than that.
 pub record BettersClock (n : NetworkState) (before : List Timed) (event : Timed) (next : ℕ) : Type 0 where
   pub clock : ℕ
   pub value : ℕ
   pub act : event.act ≡ Changing (Priority1 clock value)
   pub better : IsNoWorse n before clock value
-  pub live : AllLiveAfter n before
   pub few : (sync_paths n before).systems ≤ 255
   pub later : event.at < next
 

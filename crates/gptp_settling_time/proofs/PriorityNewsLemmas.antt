@@ -1,0 +1,161 @@
+-- A priority1 that gets no worse leaves a world one since news, beside failed systems too.
+use Rattle.std.proofs.Common.{◌≡◌, ◌<◌, ◌+◌, ℕ, Bool, List, sym, ap, subst, ◌∙◌, inl, inr, arith}
+use Rattle.gptp_lists.proofs.MappedLemmas.{alike}
+use Rattle.gptp_vector.specs.declared.port.PortId.{PortId}
+use Rattle.gptp_links.specs.Fate.{Draw}
+use Rattle.gptp_scenario.specs.Params.{KeepPace}
+use Rattle.gptp_scenario.specs.declared.change.Act.TheVariants.{Change as Changing}
+use Rattle.gptp_scenario.specs.declared.change.Change.TheVariants.{Priority1}
+use Rattle.gptp_setup.specs.Intervals.{interval_of}
+use Rattle.gptp_setup.specs.SettlingParams.{SettlingParams, largest_interval}
+use Rattle.gptp_system.specs.declared.answer.Answer.{Answer}
+use Rattle.gptp_system.specs.Input.{Priority}
+use Rattle.gptp_system.specs.Measures.{measure_at}
+use Rattle.gptp_model.specs.Act.{Calls}
+use Rattle.gptp_model.specs.Acts.{Acts}
+use Rattle.gptp_model.specs.Changing.{CallsIfLive}
+use Rattle.gptp_model.specs.declared.done.Done.{Done}
+use Rattle.gptp_model.specs.Sound.{HaveOwnClocks}
+use Rattle.gptp_model.specs.World.{Channel, WorldState, receiver, sender}
+use Rattle.gptp_model.proofs.BareLemmas.{bare}
+use Rattle.gptp_model.proofs.StayLemmas.{stays_clocks, with_setup_stays}
+use Rattle.gptp_pdelay_machine.specs.Setting.{Setting}
+use Rattle.gptp_pdelay_machine.specs.Silence.{InvUnanswered}
+use Rattle.gptp_invariants.specs.ChoiceSettlesAsMachine.{IsWorld}
+use Rattle.gptp_invariants.specs.DelayLinkView.{LinkPlace, asker_view}
+use Rattle.gptp_invariants.specs.DelayMeasured.{LinkIsMeasured, LinkStandsAt, StationIsLiveAt}
+use Rattle.gptp_invariants.specs.FailedUnanswered.{IsFailedAmong, IsSilent, StandsUnanswered, silent_setting, silent_view}
+use Rattle.gptp_invariants.specs.WorldNews.{AreReadyBy, AreSilentBy, IsNews}
+use Rattle.gptp_invariants.specs.WorldSound.{IsGain, IsSoundWorld}
+use Rattle.gptp_invariants.proofs.DelayCapableKeptLemmas.{known_params, same_receiver, same_sender}
+use Rattle.gptp_invariants.proofs.DelayChangeKeptLemmas.{acts_measured}
+use Rattle.gptp_invariants.proofs.FailedUnansweredCallLemmas.{CallStep, call_seen, view_stays}
+use Rattle.gptp_invariants.proofs.WorldNewsLemmas.{news_begin, ready_goes_through}
+use Rattle.gptp_invariants.proofs.WorldSoundLemmas.{sound_gains}
+use Rattle.gptp_settling_time.specs.Idle.{Lives}
+use Rattle.gptp_settling_time.proofs.ReactsLemmas.{Reacts, lives_as, reacts}
+use Rattle.gptp_settling_time.proofs.StandsStillLemmas.{set_still, silent_still}
+
+-- ---- what stands after it stood before
+
+module _ (w w' : WorldState) (r : Reacts w w') where
+  lived : (place number was : ℕ) → was ≡ number → StationIsLiveAt place number w' → StationIsLiveAt place was w
+  lived place number was named x =
+      let (old, here, same) = alike lives_as lives_as w.stations w'.stations (sym r.stand) place x.station x.here in
+      record {
+        station = old;
+        here = here;
+        live = ap (λ (y : Bool × ℕ). y.0) same ∙ x.live;
+        named = ap (λ (y : Bool × ℕ). y.1) same ∙ x.named ∙ sym named;
+      }
+
+  had_failed : (place number was : ℕ) → was ≡ number → IsFailedAmong place number w'.stations
+      → IsFailedAmong place was w.stations
+  had_failed place number was named x =
+      let (old, here, same) = alike lives_as lives_as w.stations w'.stations (sym r.stand) place x.station x.here in
+      record {
+        station = old;
+        here = here;
+        failed = ap (λ (y : Bool × ℕ). y.0) same ∙ x.failed;
+        named = ap (λ (y : Bool × ℕ). y.1) same ∙ x.named ∙ sym named;
+      }
+
+  pub stood : (p : SettlingParams) → IsWorld p w → IsWorld p w' → (at : LinkPlace) → LinkStandsAt at w'
+      → LinkStandsAt at w
+  stood p is is' at stands =
+      let (old, here, same) = alike bare bare w.net.channels w'.net.channels (sym r.links) at.link stands.channel
+      stands.here in
+      let begins = ap (λ (q : PortId). q.clock) (same_sender at.direction old stands.channel same) in
+      let ends = ap (λ (q : PortId). q.clock) (same_receiver at.direction old stands.channel same) in
+      let asking = lived at.asking (sender at.direction stands.channel).clock _ begins stands.asking in
+      let answering = lived at.answering (receiver at.direction stands.channel).clock _ ends stands.answering in
+      let bounds = ap (λ (c : Channel). c.bounds) same in
+      let set = known_params p w is.known.set in
+      let set' = known_params p w' is'.known.set in
+      let asks = set at.asking asking.station asking.here
+      ∙ sym (set' at.asking stands.asking.station stands.asking.here) in
+      let answers = set at.answering answering.station answering.here
+      ∙ sym (set' at.answering stands.answering.station stands.answering.here) in
+      record {
+        channel = old;
+        here = here;
+        up = ap (λ (c : Channel). c.up) same ∙ stands.up;
+        lossless = rw bounds stands.lossless;
+        asking = asking;
+        answering = answering;
+        apart = stands.apart;
+        good = rw (bounds, answers, asks) stands.good;
+      }
+
+  stood_unanswered : (at : LinkPlace) → StandsUnanswered at w' → StandsUnanswered at w
+  stood_unanswered at s =
+      let (old, here, same) = alike bare bare w.net.channels w'.net.channels (sym r.links) at.link s.channel s.here in
+      let begins = ap (λ (q : PortId). q.clock) (same_sender at.direction old s.channel same) in
+      let ends = ap (λ (q : PortId). q.clock) (same_receiver at.direction old s.channel same) in
+      record {
+        channel = old;
+        here = here;
+        up = ap (λ (c : Channel). c.up) same ∙ s.up;
+        asking = lived at.asking (sender at.direction s.channel).clock _ begins s.asking;
+        answering = had_failed at.answering (receiver at.direction s.channel).clock _ ends s.answering;
+      }
+
+-- ---- a port beside a failed system
+
+module _ (gone : ℕ) (at : LinkPlace) (place value : ℕ) (w : WorldState) (draws : List Draw) (w' : WorldState)
+    (clocks : HaveOwnClocks w) (is : IsSilent gone at w) where
+  module _ (answer : Answer) (k : Calls place (Priority value) w draws answer w') where
+    step : CallStep place (Priority value) gone at w w' is.link
+    step = call_seen gone at place (Priority value) w draws answer w' k clocks is.link is.old (λ same. tt)
+
+    same_part : measure_at step.after.asking.state ≡ measure_at is.link.asking.state
+    same_part = elim step.part [ inl called ↦ called.1 | inr left ↦ left.1 ]
+
+    same_view : silent_view at w' step.after ≡ silent_view at w is.link
+    same_view = view_stays step (ap (asker_view (interval_of is.link.asking.station.setup.params.pdelay)) same_part)
+
+    called_silent : IsSilent gone at w'
+    called_silent = record {
+      link = step.after;
+      old = step.old;
+      inv = subst (λ (x : Setting). InvUnanswered x gone (silent_view at w' step.after)) (sym step.settled)
+          (subst (InvUnanswered (silent_setting at w is.link) gone) (sym same_view) is.inv);
+    }
+
+  prioritized_silent : CallsIfLive place (Priority value) w draws w' → IsSilent gone at w'
+  prioritized_silent (inl (answer, k)) = called_silent answer k
+  prioritized_silent (inr (failed, none, same)) = subst (IsSilent gone at) (sym same) is
+
+-- ---- news
+
+module _ (p : SettlingParams) (start owner value : ℕ) (w : WorldState) (draws : List Draw) (done : Done)
+    (w' : WorldState) (pace : KeepPace p) (is : IsWorld p w) (is' : IsWorld p w') (measured : LinkIsMeasured w)
+    (live : Lives owner w) (sound : IsSoundWorld w) (ready : AreReadyBy p start w) (silent : AreSilentBy p start w)
+    (gain : IsGain (Priority1 owner value) w) (octet : value < 256) (early : w.time < start)
+    (acts : Acts (Changing (Priority1 owner value)) w draws done w') where
+  r : Reacts w w'
+  r = reacts p w is owner value live octet gain draws done w' acts
+
+  silent' : AreSilentBy p start w'
+  silent' at s =
+      let (change, one, soon) = silent at (stood_unanswered w w' r at s) in
+      let k = acts.1 in
+      let still = set_still value k.place k.station w k.is.here in
+      let gone = change + largest_interval p in (
+        change,
+        prioritized_silent gone at k.place value _ draws w'
+            (stays_clocks w _ (with_setup_stays value k.place k.station w k.is.here is.sound.wired.setups)
+            is.sound.wired.clocks) (silent_still w _ still gone at one) k.so,
+        soon,
+      )
+
+  pub priority_stays_news : IsNews p start w'
+  priority_stays_news =
+      let time = r.time in
+      news_begin p start w' pace is'
+      (acts_measured (Changing (Priority1 owner value)) w w' draws done is.sound measured octet acts) silent'
+      (sound_gains p (Priority1 owner value) w draws done w' gain octet acts is is' sound)
+      (λ at stands.
+      ready_goes_through p start at (Changing (Priority1 owner value)) w w' draws done is.sound measured tt acts
+      (ready at (stood w w' r p is is' at stands)))
+      (omega (arith, early, time))
