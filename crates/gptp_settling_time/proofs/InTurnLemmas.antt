@@ -128,8 +128,8 @@ module _ {F : Type 0} (answers : Bounds → ℕ → F → Option ℕ → F → T
   paths_then = paths_stand n made then playable.network keeps_then.stands keeps_then.claim.world.sound
 
   -- it brings up a link
-  module _ (start next : ℕ) (claim : IsClaimedAlways p start then) (on : AreOn p start then claim.heard)
-      (early : start ≤ suc event.at) (sound : IsSoundWorld w) (up : BringsUp n made event next) where
+  module _ (start next : ℕ) (claim : IsClaimedAlways p start then) (ahead : start ≤ next) (sound : IsSoundWorld w)
+      (up : BringsUp n made event next) where
     came : Acts (Changing (LinkUp up.clock up.port)) then k.draws done w'
     came = subst (λ act. Acts act then k.draws done w') up.act k.acts
 
@@ -143,11 +143,10 @@ module _ {F : Type 0} (answers : Bounds → ℕ → F → Option ℕ → F → T
 
     news_then : IsNews p next w'
     news_then =
-        let capable = up.capable in
         made_news answers d playable made event fate fate_after w w' done is fit k keeps sound
         (subst (TakesNothing n made) (sym up.act) tt) start next claim.news.ready claim.news.silent
         (inr (
-          omega (arith, early, capable),
+          ahead,
           subst (LeavesCapable n made event next) (sym up.act)
               (up.live, up.capable),
         ))
@@ -155,7 +154,7 @@ module _ {F : Type 0} (answers : Bounds → ℕ → F → Option ℕ → F → T
     pub brought_up : IsClaimedTo d more next w'
     brought_up = record {
       keeps = after;
-      since = link_up_claimed p start next up.clock up.port then k.draws done w' claim on after.claim.world early soon
+      since = link_up_claimed p start next up.clock up.port then k.draws done w' claim after.claim.world ahead soon
           came
           (down_so n made then keeps_then.stands (port_id up.clock up.port) up.down came.1.place came.1.channel
           came.1.is)
@@ -239,7 +238,9 @@ module _ {F : Type 0} (answers : Bounds → ℕ → F → Option ℕ → F → T
         let claim = rest_claimed p then keeps_then.claim sound_then late in
         let on = rest_on p then keeps_then.claim sound_then late in
         elim brings [
-          | inl up ↦ brought_up (suc event.at) next claim on (omega arith) sound up
+          | inl up ↦
+              let capable = up.capable in
+              brought_up (suc event.at) next claim (omega (arith, capable)) sound up
           | inr (inl better) ↦ bettered (suc event.at) next claim on (omega arith) sound
               (rest_settled p then keeps_then.claim sound_then late) better
           | inr (inr leaves) ↦
@@ -256,7 +257,9 @@ module _ {F : Type 0} (answers : Bounds → ℕ → F → Option ℕ → F → T
         let claim = news_claimed p start then news late in
         let on = news_on p start then news late in
         elim brings [
-          | inl up ↦ brought_up (suc event.at) next claim on (omega arith) so.news.sound up
+          | inl up ↦
+              let capable = up.capable in
+              brought_up (suc event.at) next claim (omega (arith, capable)) so.news.sound up
           | inr (inl better) ↦ bettered (suc event.at) next claim on (omega arith) so.news.sound
               (news_settled p start then news late) better
           | inr (inr leaves) ↦
@@ -265,11 +268,9 @@ module _ {F : Type 0} (answers : Bounds → ℕ → F → Option ℕ → F → T
               in
               left_settled (suc event.at) next claim on (news_settled p start then news late) leaves ready silent
         ]
-    leads_to_heard (Heard start) next (inl (late, brings)) so =
-        let claim = since_later p start event.at w k.ready.timely.now k.ready.timely.first so.since in
-        brought_up start next claim
-        (λ at_link stands. heard_on p start at_link then claim.news.world (claim.heard at_link stands) late)
-        (omega (arith, late)) so.since.news.sound brings
+    leads_to_heard (Heard start) next (inl (ahead, brings)) so =
+        brought_up start next (since_later p start event.at w k.ready.timely.now k.ready.timely.first so.since) ahead
+        so.since.news.sound brings
     leads_to_heard (Heard start) next (inr (inl (settled, better))) so =
         let claim = since_later p start event.at w k.ready.timely.now k.ready.timely.first so.since in
         let late : start + pred (path_bound (snapshot_of then)) * delay_in then ≤ event.at =

@@ -27,6 +27,8 @@ pub mod GainStageLemmas
 pub mod QuietUpLemmas
 pub mod RaisedLemmas
 pub mod HeardLemmas
+pub mod SamePartsLemmas
+pub mod BesideUpLemmas
 pub mod LinkUpLemmas
 pub mod RestClaimedLemmas
 pub mod SameLinkLemmas

@@ -1,4 +1,4 @@
--- A link that comes up leaves claims made of all links always, where the ports of the others are capable by then.
+-- A link that comes up leaves claims made of all links always.
 use Rattle.std.proofs.Common.{◌≡◌, ◌≢◌, ◌<◌, ◌≤◌, ◌+◌, ◌*◌, ℕ, zero, suc, true, false, List, [], ◌∷◌, Some, is_some, slice_get, slice_set, refl, sym, ap, subst, ◌∙◌, inl, inr, arith}
 use Rattle.std.proofs.Math.Nat.{mul-le-mul_left}
 use Rattle.std.proofs.lemmas.Option.{none-some, same_Some}
@@ -43,7 +43,8 @@ use Rattle.gptp_invariants.proofs.WorldGreatestDelayLemmas.{delay_of_used}
 use Rattle.gptp_invariants.proofs.WorldNewsLemmas.{link_used}
 use Rattle.gptp_invariants.proofs.WorldSoundCallLemmas.{tells_keep}
 use Rattle.gptp_settling_time.proofs.AlwaysClaimedLemmas.{AreHeard, IsClaimedAlways}
-use Rattle.gptp_settling_time.proofs.HeardLemmas.{IsToldAt, heard_elsewhere}
+use Rattle.gptp_settling_time.proofs.BesideUpLemmas.{beside_same}
+use Rattle.gptp_settling_time.proofs.HeardLemmas.{IsHeardAt, IsToldAt, heard_elsewhere, stays_on}
 use Rattle.gptp_settling_time.proofs.OrderedLemmas.{IsOrderedAt, IsTimelyAt, VariesLittle, opposite, turned}
 use Rattle.gptp_settling_time.proofs.RaisedLemmas.{IsRaised, raised, unmeasured_then}
 use Rattle.gptp_settling_time.proofs.UntoldLemmas.{IsUnmeasured, unmeasured_off}
@@ -77,7 +78,7 @@ use Rattle.gptp_invariants.proofs.WorldWayLemmas.{IsWay, one_way, used_joins, wa
 use Rattle.gptp_settling_time.proofs.AlwaysClaimedLemmas.{same_start, start_calm, start_net, start_network}
 use Rattle.gptp_settling_time.proofs.GainStageLemmas.{ClaimsAlways, stage_kept}
 use Rattle.gptp_settling_time.proofs.RaisedLemmas.{unmeasured_at}
-use Rattle.gptp_settling_time.proofs.RestClaimedLemmas.{AreOn}
+use Rattle.gptp_settling_time.proofs.SameLinkLemmas.{StaysSameLink, told_same}
 use Rattle.gptp_settling_time.proofs.TimedNewsLemmas.{used_within}
 
 -- where a lane stands is known by the ends of links alone
@@ -95,8 +96,7 @@ lane_set (x ∷ xs) (suc i) c d q there a b =
     else (if has_port_id x.b q then lane_place 0 FromB else suc (suc rest))) (lane_set xs i c d q there a b)
 
 module _ (p : SettlingParams) (start next owner port : ℕ) (w : WorldState) (draws : List Draw) (done : Done)
-    (w' : WorldState) (is : IsClaimedAlways p start w) (on : AreOn p start w is.heard) (world' : IsWorld p w')
-    (now : start ≤ suc w.time)
+    (w' : WorldState) (is : IsClaimedAlways p start w) (world' : IsWorld p w') (ahead : start ≤ next)
     (soon : w.time + interval_of p.params.pdelay + (delay_in w' + p.params.turnaround + delay_in w') < next)
     (acts : Acts (Changing (LinkUp owner port)) w draws done w') where
   abbrev world : IsWorld p w
@@ -292,13 +292,22 @@ module _ (p : SettlingParams) (start next owner port : ℕ) (w : WorldState) (dr
           by = omega (arith, period, turnaround, most, soon);
         }
 
+    -- what is heard over another link is heard still
+    same : (at : LinkPlace) → StaysSameLink at w w'
+    same at l = beside_same p w world k.place k.channel k.is.here down draws w' is_raised told at l
+
+    other_heard : (at : LinkPlace) → IsHeardAt p start at w → IsHeardAt p next at w'
+    other_heard at (inl (first, x)) =
+        inl (first, told_same first start next at w w' ahead (same at) (same (opposite at)) x)
+    other_heard at (inr stays) =
+        heard_elsewhere p start next at (LinkUp owner port) w draws done w' world is.news.measured tt acts
+        is_raised.time (inr stays) (stays_on p at w world stays)
+
     heard_then : AreHeard p next w'
     heard_then at stands = elim (same_place at.link k.place) [
       | inl same ↦ inl (w.time, comes_told at same stands)
       | inr apart ↦
-          let x = is.heard at (beside at apart (before at stands)) in
-          heard_elsewhere p start next at (LinkUp owner port) w draws done w' world is.news.measured tt acts
-          is_raised.time x (on at (beside at apart (before at stands)))
+          other_heard at (is.heard at (beside at apart (before at stands)))
     ]
 
     -- ---- the network
@@ -387,7 +396,7 @@ module _ (p : SettlingParams) (start next owner port : ℕ) (w : WorldState) (dr
       later_since d =
           let more : suc d * delay_in w ≤ suc d * delay_in brought =
           mul-le-mul_left (suc d) delay_more in
-          omega (arith, more, now, soon)
+          omega (arith, more, ahead)
 
       always : ClaimsAlways n
       always = record { claimed = λ d pp v. refl; until = λ d pp v. refl; sound = refl }
