@@ -1,5 +1,5 @@
 -- A choice bound of a time gives what the network came from then, and when it has settled by that.
-use Rattle.std.proofs.Common.{◌≡◌, inl, inr, ◌<◌, ◌≤◌, ◌+◌, ◌-◌, ◌*◌, ℕ, suc, pred, List, [], ◌∷◌, ◌++◌, refl, sym, ap, subst, ◌∙◌, append_assoc, append-nil, arith}
+use Rattle.std.proofs.Common.{◌≡◌, inl, inr, ◌<◌, ◌≤◌, ◌+◌, ◌-◌, ◌*◌, ℕ, suc, pred, List, [], ◌∷◌, ◌++◌, refl, sym, subst, ◌∙◌, append_assoc, append-nil, arith}
 use Rattle.std.specs.Prelude.{max, ⊤}
 use Rattle.std.specs.List.{AllByRecursion}
 use Rattle.std.proofs.Math.Nat.{le-max_left, le-max_right}
@@ -15,7 +15,7 @@ use Rattle.gptp_network.specs.Document.{DocumentState}
 use Rattle.gptp_network.specs.Events.{AreInOrder}
 use Rattle.gptp_network.specs.Snapshot.{events_by}
 use Rattle.gptp_settling_time.specs.Gains.{ChangesNothing}
-use Rattle.gptp_settling_time.specs.HowSoon.{BoundsEvents, BoundsStart, EachEvent, IsChoiceBound, IsChoiceBoundAfter, IsFollowedEvent, IsGainEvent, IsHeardEvent, IsIdleEvent, OneEvent, events_at, two_exchanges, way_span}
+use Rattle.gptp_settling_time.specs.HowSoon.{AreHeardEvents, BoundsEvents, BoundsStart, EachEvent, IsChoiceBound, IsChoiceBoundAfter, IsFollowedEvent, IsGainEvent, IsHeardEvent, IsHeardToo, IsIdleEvent, events_at, two_exchanges, way_span}
 use Rattle.gptp_settling_time.specs.InTurn.{AnyPast, BeginsBy, EventLeads, Gained, HasSettledAnyhow, HasSettledHeard, HasSettledSince, Heard, LeadOn, Past, SettlesAfter, SettlesByEvents}
 use Rattle.gptp_settling_time.proofs.MomentLemmas.{all_at, last_by, parted}
 use Rattle.gptp_settling_time.proofs.SamePathsLemmas.{idle_paths}
@@ -108,7 +108,8 @@ module _ (n : NetworkState) (made : List Timed) (event : Timed) where
   heard_leads AnyPast next settled (inr better) = (settled, inr (inl better))
   heard_leads (Gained start) next settled (inl up) = (settled, inl up)
   heard_leads (Gained start) next settled (inr better) = (settled, inr (inl better))
-  heard_leads (Heard start) next settled (inl up) = inl (omega (arith, settled), up)
+  heard_leads (Heard start) next settled (inl up) =
+      let capable = up.capable in inl (omega (arith, settled, capable), up)
   heard_leads (Heard start) next settled (inr better) = inr (inl (settled, better))
 
   -- what changes nothing leads from a network that has settled to one that has settled by then
@@ -166,11 +167,13 @@ led_more n made now event past next settled leads is = record {
 }
 
 module _ (n : NetworkState) (network : IsNetwork n) where
-  idles_lead : (past : Past) → IsKnown past → (made now : List Timed) → EachEvent (IsIdleEvent n) made now
-      → LeadOn n made past now past
-  idles_lead past known made [] idle = refl
-  idles_lead past known made (event ∷ now) (nothing, idle) =
-      (past, idle_leads n made event past known nothing, idles_lead past known (made ++ event ∷ []) now idle)
+  heard_lead : (next : ℕ) (made now : List Timed) → EachEvent (IsHeardToo n next) made now
+      → LeadOn n made (Heard next) now (Heard next)
+  heard_lead next made [] each = refl
+  heard_lead next made (event ∷ now) (inl up, each) =
+      (Heard next, inl (omega arith, up), heard_lead next (made ++ event ∷ []) now each)
+  heard_lead next made (event ∷ now) (inr nothing, each) =
+      (Heard next, idle_leads n made event (Heard next) tt nothing, heard_lead next (made ++ event ∷ []) now each)
 
   gains_lead : (next : ℕ) (made now : List Timed)
       → EachEvent (IsFollowedEvent n next) made now
@@ -210,18 +213,18 @@ module _ (n : NetworkState) (network : IsNetwork n) where
       abbrev next : ℕ
       next = suc (time + ready)
 
-      -- one is heard, and the others change nothing
+      -- one is heard at once, and after it others
       heard_led : (made now all : List Timed) (past : Past) (choice : ℕ) → made ++ now ≡ all → AllNow now
-          → HasSettled n made past time → OneEvent (IsHeardEvent n next) (IsIdleEvent n) made now
+          → HasSettled n made past time → AreHeardEvents n next made now
           → choice ≡ ready + way_span (sync_paths n all) → IsLed n made now past (suc (time + choice))
       heard_led made [] all past choice are at settled none is = absurd none
-      heard_led made (event ∷ now) all past choice are (here, at) settled (inl (heard, idle)) is =
+      heard_led made (event ∷ now) all past choice are (here, at) settled (inl (heard, each)) is =
           record {
             last = Heard next;
             lead = (
               Heard next,
               heard_leads n made event past next (subst (HasSettled n made past) (sym here) settled) heard,
-              idles_lead (Heard next) tt (made ++ event ∷ []) now idle,
+              heard_lead next (made ++ event ∷ []) now each,
             );
             settles = subst (λ es. next + way_span (sync_paths n es) ≤ suc (time + choice)) (sym are)
                 (omega (arith, is));

@@ -5,12 +5,12 @@
 -- the span from any past (`settling_span_at_once`) always is one. A time by which the choice of the time before stands
 -- has sharper ones, by its events. It is 0 where they change nothing. Where they are gains it is what ports take to
 -- become capable, an announce interval, and the greatest delay for each system of a path but one. No announce interval
--- has to pass where one event alone changes something, and what it tells is heard at once. Nor has one at a start
--- without events where all delays vary little.
+-- has to pass where what the first gain tells is heard at once, and after it links alone come up whose delay varies
+-- little. Nor has one at a start without events where all delays vary little.
 --
--- These gains are followed: a link that comes up between live systems, and where all live a priority1 that gets better.
--- The first is heard at once where its delay varies little, the second where no path has more than 255 systems. Not
--- followed yet are a system that recovers, events at time 0, and bounds that are set. There the span stands.
+-- These gains are followed: a link that comes up between live systems, and a priority1 of a live system that gets
+-- better. The first is heard at once where its delay varies little, the second where no path has more than 255 systems.
+-- Not followed yet are a system that recovers, events at time 0, and bounds that are set. There the span stands.
 use Rattle.std.specs.Prelude.{◌≡◌, ◌<◌, ◌≤◌, ◌⊎◌, ◌+◌, ◌*◌, ◌==◌, ℕ, ⊤, pred, suc, List, [], ◌∷◌, ◌++◌, filter}
 use Rattle.gptp_lists.specs.Members.{In}
 use Rattle.gptp_setup.specs.Intervals.{interval_of}
@@ -52,6 +52,9 @@ IsGainEvent n next made event = TakesNothing n made event.act × LeavesCapable n
 abbrev pub IsHeardEvent : NetworkState → ℕ → List Timed → Timed → Type 0
 IsHeardEvent n next made event = BringsUp n made event next ⊎ BettersClock n made event next
 
+abbrev pub IsHeardToo : NetworkState → ℕ → List Timed → Timed → Type 0
+IsHeardToo n next made event = BringsUp n made event next ⊎ IsIdleEvent n made event
+
 abbrev pub IsFollowedEvent : NetworkState → ℕ → List Timed → Timed → Type 0
 IsFollowedEvent n next made event = IsIdleEvent n made event ⊎ IsGainEvent n next made event
 
@@ -60,12 +63,12 @@ abbrev pub EachEvent : (List Timed → Timed → Type 0) → List Timed → List
 EachEvent Is made [] = ⊤
 EachEvent Is made (event ∷ events) = Is made event × EachEvent Is (made ++ event ∷ []) events
 
--- one of them is of the one kind, and each other of the other
-abbrev pub OneEvent : (List Timed → Timed → Type 0) → (List Timed → Timed → Type 0) → List Timed → List Timed → Type 0
-OneEvent Is Other made [] = ⊥
-OneEvent Is Other made (event ∷ events) =
-    (Is made event × EachEvent Other (made ++ event ∷ []) events)
-    ⊎ (Other made event × OneEvent Is Other (made ++ event ∷ []) events)
+-- One of them is heard at once. Before it come none but such that change nothing, after it links too that come up.
+abbrev pub AreHeardEvents : NetworkState → ℕ → List Timed → List Timed → Type 0
+AreHeardEvents n next made [] = ⊥
+AreHeardEvents n next made (event ∷ events) =
+    (IsHeardEvent n next made event × EachEvent (IsHeardToo n next) (made ++ event ∷ []) events)
+    ⊎ (IsIdleEvent n made event × AreHeardEvents n next (made ++ event ∷ []) events)
 
 -- ---- sharp bounds
 
@@ -89,7 +92,7 @@ BoundsStart n choice =
 -- after a link.
 abbrev pub BoundsGains : NetworkState → List Timed → List Timed → ℕ → ℕ → ℕ → Type 0
 BoundsGains n made now time ready choice =
-    (OneEvent (IsHeardEvent n (suc (time + ready))) (IsIdleEvent n) made now
+    (AreHeardEvents n (suc (time + ready)) made now
     × (choice ≡ ready + way_span (sync_paths n (made ++ now))))
     ⊎ (EachEvent (IsFollowedEvent n (suc (time + ready))) made now
     × (choice ≡ ready + largest_interval (pace_of n) + way_span (sync_paths n (made ++ now))))
