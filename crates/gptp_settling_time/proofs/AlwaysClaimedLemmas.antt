@@ -144,7 +144,7 @@ asks_back w from to way channel same =
     (ap port_identity_number (sender_opposite way.direction way.channel) ∙ way.to)
 
 -- its lane stands where that of the port does
-lane_at : {p : SettlingParams} (w : WorldState) → IsWorld p w → (from to : PortIdentity) (way : IsWay w from to)
+pub lane_at : {p : SettlingParams} (w : WorldState) → IsWorld p w → (from to : PortIdentity) (way : IsWay w from to)
     → lane_place way.link way.direction ≡ lane_of w.net.channels from
 lane_at w is from to way =
     subst (λ port. lane_place way.link way.direction ≡ lane_of w.net.channels port) way.from
@@ -251,7 +251,7 @@ same_start p m start w w' keeps =
 -- ---- ports are capable from the start on
 
 -- the port that is unanswered isn't capable
-silent_off : (p : SettlingParams) (start : ℕ) (w : WorldState) → IsNews p start w → start ≤ w.time
+pub silent_off : (p : SettlingParams) (start : ℕ) (w : WorldState) → IsNews p start w → start ≤ w.time
     → (at : LinkPlace) (s : StandsUnanswered at w) (q : Port)
     → number s.asking.station.system.ports (sender at.direction s.channel).port ≡ Some q → is_capable q.peer ≡ false
 silent_off p start w news late at s q there =

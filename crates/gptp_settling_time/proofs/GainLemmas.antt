@@ -1,6 +1,6 @@
 -- What takes nothing away from a network takes nothing away from a world that stands so.
 use Rattle.std.proofs.Common.{◌≡◌, ◌∙◌, ◌<◌, ◌≤◌, ◌⊎◌, ◌+◌, ◌*◌, ◌^◌, ◌%◌, ℕ, Bool, true, false, List, Some, slice_get, refl, sym, ap, subst, inl, inr}
-use Rattle.std.specs.Prelude.{if◌then◌else◌}
+use Rattle.std.specs.Prelude.{◌&&◌, if◌then◌else◌}
 use Rattle.gptp_lists.proofs.MappedLemmas.{alike, same_there}
 use Rattle.gptp_vector.specs.declared.port.PortId.{PortId}
 use Rattle.gptp_roles.specs.Selection.{clock_of}
@@ -19,12 +19,19 @@ use Rattle.gptp_model.specs.Changing.{IsChannel, IsStation}
 use Rattle.gptp_model.specs.Sound.{IsItsSetup, IsSound}
 use Rattle.gptp_model.specs.World.{Channel, WorldState, port_id}
 use Rattle.gptp_network.proofs.SnapshotLemmas.{clock_after}
+use Rattle.gptp_graph.specs.Snapshot.{System}
 use Rattle.gptp_invariants.specs.WorldNews.{AllLive}
 use Rattle.gptp_invariants.specs.WorldSound.{IsDownAt, IsGain}
+use Rattle.gptp_invariants.specs.WorldStanding.{channel_is_used, live_stations, stations_have_clock}
+use Rattle.gptp_invariants.proofs.WorldSystemLemmas.{clock_lives, live_from}
 use Rattle.gptp_theorem.specs.Reached.{Shape, StandsAsPlanned, shape, shape_after, channel_wire}
-use Rattle.gptp_settling_time.specs.Gains.{AllLiveAfter, IsDownAfter, IsGainAfter, IsIdleAfter, IsNoWorse, IsUpAfter, KeepsIdentity}
+use Rattle.gptp_settling_time.specs.Gains.{AllLiveAfter, EndHasFailed, IsDownAfter, IsGainAfter, IsIdleAfter, IsNoWorse, IsUpAfter, KeepsIdentity}
 use Rattle.gptp_settling_time.specs.InTurn.{VariesLittleAfter}
 use Rattle.gptp_settling_time.specs.Idle.{IsIdle, IsUpAt, KeepsPriority, Lives}
+
+none_and : (b : Bool) → (b && false) ≡ false
+none_and true = refl
+none_and false = refl
 
 -- the identity that a system has, or will start with, names its clock
 clock_shape : (station : Station) → IsItsSetup station → clock_of (shape station).identity ≡ clock station.system
@@ -147,6 +154,42 @@ module _ (n : NetworkState) (events : List Timed) (w : WorldState) (so : StandsA
         let same : (system_after events of.member).identity ≡ station.system.identity =
         ap (λ (x : Shape). x.identity) of.is ∙ given in
         subst (λ identity. value * 2 ^ 104 + identity % 2 ^ 104 ≤ identity) same less
+
+    -- a link of which an end has failed isn't in use, even where it is up
+    no_clock : (number : ℕ) → (IsLive n.systems events number → ⊥)
+        → stations_have_clock (live_stations w.stations) number ≡ false
+    no_clock number none = by (stations_have_clock (live_stations w.stations) number) refl
+      where
+        by : (has : Bool) → stations_have_clock (live_stations w.stations) number ≡ has
+            → stations_have_clock (live_stations w.stations) number ≡ false
+        by false is = is
+        by true is =
+            let (s, member, named) = clock_lives w.stations number is in
+            let at = live_from w.stations s member in
+            let failed = failed_so number none at.place at.station (record {
+              here = at.here;
+              named = ap (λ (x : System). x.clock) (sym at.is) ∙ named;
+            }) in
+            let both : true ≡ false = sym at.live ∙ failed in
+            absurd cc
+
+    pub unused_so : (port : PortId) → EndHasFailed n events port → (place : ℕ) (channel : Channel)
+        → IsChannel port place w.net channel
+        → channel_is_used (live_stations w.stations) (record channel { up = true }) ≡ false
+    unused_so port failed place channel is =
+        let (v, there, same) = alike (link_after events) channel_wire n.links w.net.channels (sym so.links) place
+        channel is.here in
+        let end : IsEnd port (channel_wire channel) = is.joined in
+        elim (failed place v there (subst (IsEnd port) (sym same) end)) [
+          | inl a ↦
+              let none = no_clock channel.a.clock
+              (subst (λ (x : LinkSpec). IsLive n.systems events x.a.clock → ⊥) same a) in
+              rw none refl
+          | inr b ↦
+              let none = no_clock channel.b.clock
+              (subst (λ (x : LinkSpec). IsLive n.systems events x.b.clock → ⊥) same b) in
+              rw none (none_and (stations_have_clock (live_stations w.stations) channel.a.clock))
+        ]
 
     -- and so is a priority1 that of a failed system, or the one that the system has
     keeps_so : (number value : ℕ) → KeepsIdentity n events number value → KeepsPriority number value w

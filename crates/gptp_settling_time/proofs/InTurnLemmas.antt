@@ -9,13 +9,14 @@ use Rattle.gptp_invariants.specs.WorldEncodableLaws.{SetsAnOctet}
 use Rattle.gptp_links.specs.declared.bounds.Bounds.{Bounds}
 use Rattle.gptp_setup.specs.Intervals.{interval_of}
 use Rattle.gptp_setup.specs.SettlingParams.{SettlingParams, largest_interval}
-use Rattle.gptp_scenario.specs.Calm.{IsCalm, last_change}
+use Rattle.gptp_scenario.specs.Calm.{IsCalm, NothingLapses, last_change}
 use Rattle.gptp_scenario.specs.Network.{NetworkState, pace_of}
 use Rattle.gptp_scenario.specs.SettlingAtOnce.{settling_span_at_once}
 use Rattle.gptp_scenario.specs.SettlingTime.{settling_span_with}
 use Rattle.gptp_scenario.specs.SyncWait.{sync_paths}
 use Rattle.gptp_scenario.specs.declared.change.Act.TheVariants.{Change as Changing}
-use Rattle.gptp_scenario.specs.declared.change.Change.TheVariants.{LinkUp, Priority1}
+use Rattle.gptp_scenario.specs.declared.change.Change.{Change}
+use Rattle.gptp_scenario.specs.declared.change.Change.TheVariants.{LinkDown, LinkUp, LinkSet, Fail, Recover, Priority1, Inject}
 use Rattle.gptp_scenario.specs.declared.change.Timed.{Timed}
 use Rattle.gptp_scenario.specs.declared.sync_wait.SyncPaths.{SyncPaths}
 use Rattle.gptp_model.specs.Acts.{Acts, at}
@@ -49,12 +50,14 @@ use Rattle.gptp_theorem.proofs.SnapshotLemmas.{snapshots_stand}
 use Rattle.gptp_theorem.proofs.SyncPathLemmas.{paths_stand}
 use Rattle.gptp_settling_time.specs.Exactly.{SettlesBy}
 use Rattle.gptp_settling_time.specs.Gains.{ChangesNothing, IsIdleAfter, LeavesCapable, TakesNothing}
-use Rattle.gptp_settling_time.specs.InTurn.{ActsFindSettledInTurn, AnyPast, BeginsBy, BettersClock, BringsUp, EventLeads, Gained, Heard, LeadOn, LeavesSettled, Past, SettlesAfter, SettlesByEvents}
+use Rattle.gptp_settling_time.specs.InTurn.{ActsFindSettledInTurn, AnyPast, BeginsBy, BettersClock, BringsUp, EventLeads, Gained, Heard, LeadOn, LeavesSettled, MakesNothing, Past, SettlesAfter, SettlesByEvents, TurnsInVain}
 use Rattle.gptp_settling_time.proofs.AlwaysClaimedLemmas.{IsClaimedAlways, since_later}
 use Rattle.gptp_settling_time.proofs.BegunLemmas.{begun_keeps, begun_last, begun_news, rested_sound}
 use Rattle.gptp_settling_time.proofs.ClaimedToLemmas.{IsClaimedTo, claimed_act, claimed_later, claimed_settled}
 use Rattle.gptp_settling_time.proofs.DocumentLemmas.{run_to}
-use Rattle.gptp_settling_time.proofs.GainLemmas.{better_lives, down_so, few_so, gain_so, idle_so}
+use Rattle.gptp_settling_time.proofs.GainLemmas.{better_lives, down_so, few_so, gain_so, idle_so, unused_so}
+use Rattle.gptp_settling_time.proofs.FailedDownLemmas.{lowered_claimed, lowered_news}
+use Rattle.gptp_settling_time.proofs.FailedUpLemmas.{raised_claimed, raised_news}
 use Rattle.gptp_settling_time.proofs.HeardLemmas.{heard_on}
 use Rattle.gptp_settling_time.proofs.IdleLemmas.{idle_still}
 use Rattle.gptp_settling_time.proofs.KeptToLemmas.{IsNewsTo, KeepsTo, keeps_act, keeps_later, news_act_to, news_later_to}
@@ -195,6 +198,12 @@ module _ {F : Type 0} (answers : Bounds → ℕ → F → Option ℕ → F → T
           (subst (λ act. Acts act then k.draws done w') up.act k.acts) up.later set_news (near_then up.few) settled;
     }
 
+  -- the event is this change
+  came_so : (change : Change) → is.change ≡ change → Acts (Changing change) then k.draws done w'
+  came_so change same =
+      subst (λ c. Acts (Changing c) then k.draws done w') same
+      (subst (λ act. Acts act then k.draws done w') is.act k.acts)
+
   -- it changes nothing
   stands_still : ChangesNothing n made event.act → StandsStill then w'
   stands_still nothing =
@@ -204,18 +213,62 @@ module _ {F : Type 0} (answers : Bounds → ℕ → F → Option ℕ → F → T
       let idle = idle_so n made then keeps_then.stands keeps_then.claim.world.sound is.change idle_after in
       idle_still then keeps_then.claim.world.sound k.draws w' is.change idle acts.1
 
-  pub left_so : (start : ℕ) → IsClaimedAlways p start then → ChangesNothing n made event.act
-      → IsClaimedTo d more start w'
-  left_so start claim nothing = record {
-    keeps = after;
-    since = claims_stand p start then w' (stands_still nothing) after.claim.world after.claim.measured claim;
-  }
+  -- or turns a link of which an end has failed
+  module _ (start : ℕ) (off : NothingLapses n.params) where
+    turned_news : (change : Change) → is.change ≡ change → TurnsInVain n made event start (Changing change)
+        → IsNews p start then → IsNews p start w'
+    turned_news (LinkUp number port) same (failed, late) =
+        raised_news p start number port then k.draws done w' keeps_then.claim.world after.claim off late
+        (unused_so n made then keeps_then.stands keeps_then.claim.world.sound (port_id number port) failed)
+        (came_so (LinkUp number port) same)
+    turned_news (LinkDown number port) same (failed, late) =
+        lowered_news p start number port then k.draws done w' after.claim off late
+        (unused_so n made then keeps_then.stands keeps_then.claim.world.sound (port_id number port) failed)
+        (came_so (LinkDown number port) same)
+    turned_news (LinkSet number port min max loss) same none = absurd none
+    turned_news (Fail number) same none = absurd none
+    turned_news (Recover number) same none = absurd none
+    turned_news (Priority1 number value) same none = absurd none
+    turned_news (Inject number port octets) same none = absurd none
 
-  left_news : (start next : ℕ) → ChangesNothing n made event.act → next ≡ start → IsNews p start w → IsNews p next w'
+    turned_claimed : (change : Change) → is.change ≡ change → TurnsInVain n made event start (Changing change)
+        → IsClaimedAlways p start then → IsClaimedAlways p start w'
+    turned_claimed (LinkUp number port) same (failed, late) =
+        raised_claimed p start number port then k.draws done w' keeps_then.claim.world after.claim off late
+        (unused_so n made then keeps_then.stands keeps_then.claim.world.sound (port_id number port) failed)
+        (came_so (LinkUp number port) same)
+    turned_claimed (LinkDown number port) same (failed, late) =
+        lowered_claimed p start number port then k.draws done w' after.claim off late
+        (unused_so n made then keeps_then.stands keeps_then.claim.world.sound (port_id number port) failed)
+        (came_so (LinkDown number port) same)
+    turned_claimed (LinkSet number port min max loss) same none = absurd none
+    turned_claimed (Fail number) same none = absurd none
+    turned_claimed (Recover number) same none = absurd none
+    turned_claimed (Priority1 number value) same none = absurd none
+    turned_claimed (Inject number port octets) same none = absurd none
+
+  news_so : (start : ℕ) → MakesNothing n made event start → IsNews p start then → IsNews p start w'
+  news_so start (inl nothing) news =
+      news_stands p start then w' (stands_still nothing) after.claim.world after.claim.measured news
+  news_so start (inr (off, turns)) news =
+      turned_news start off is.change refl (subst (TurnsInVain n made event start) is.act turns) news
+
+  claimed_so : (start : ℕ) → MakesNothing n made event start → IsClaimedAlways p start then
+      → IsClaimedAlways p start w'
+  claimed_so start (inl nothing) claim =
+      claims_stand p start then w' (stands_still nothing) after.claim.world after.claim.measured claim
+  claimed_so start (inr (off, turns)) claim =
+      turned_claimed start off is.change refl (subst (TurnsInVain n made event start) is.act turns) claim
+
+  pub left_so : (start : ℕ) → IsClaimedAlways p start then → MakesNothing n made event start
+      → IsClaimedTo d more start w'
+  left_so start claim nothing = record { keeps = after; since = claimed_so start nothing claim }
+
+  left_news : (start next : ℕ) → MakesNothing n made event next → next ≡ start → IsNews p start w → IsNews p next w'
   left_news start next nothing same news =
-      subst (λ time. IsNews p time w') (sym same)
-      (news_stands p start then w' (stands_still nothing) after.claim.world after.claim.measured
-      (news_go_on p start event.at w k.ready.timely.now k.ready.timely.first news))
+      news_so next nothing
+      (news_go_on p next event.at w k.ready.timely.now k.ready.timely.first (subst (λ time. IsNews p time w) (sym same)
+      news))
 
   -- nor does it in a network that has settled
   pub left_settled : (start next : ℕ) (claim : IsClaimedAlways p start then) → AreOn p start then claim.heard

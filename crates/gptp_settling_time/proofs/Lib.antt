@@ -30,8 +30,11 @@ pub mod HeardLemmas
 pub mod SamePartsLemmas
 pub mod BesideUpLemmas
 pub mod LinkUpLemmas
+pub mod FailedUpLemmas
+pub mod FailedDownLemmas
 pub mod RestClaimedLemmas
 pub mod SameLinkLemmas
+pub mod StandsLikeLemmas
 pub mod StandsStillLemmas
 pub mod NewsClaimedLemmas
 pub mod SettledClaimedLemmas

@@ -82,7 +82,7 @@ use Rattle.gptp_settling_time.proofs.SameLinkLemmas.{StaysSameLink, told_same}
 use Rattle.gptp_settling_time.proofs.TimedNewsLemmas.{used_within}
 
 -- where a lane stands is known by the ends of links alone
-lane_set : (channels : List Channel) (i : ℕ) (c d : Channel) (q : PortIdentity) → slice_get channels i ≡ Some c
+pub lane_set : (channels : List Channel) (i : ℕ) (c d : Channel) (q : PortIdentity) → slice_get channels i ≡ Some c
     → d.a ≡ c.a → d.b ≡ c.b → lane_of (slice_set channels i d) q ≡ lane_of channels q
 lane_set [] i c d q there a b = absurd (none-some c there)
 lane_set (x ∷ xs) zero c d q there a b =

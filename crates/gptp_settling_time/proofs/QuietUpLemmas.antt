@@ -47,7 +47,7 @@ asks_alone p now s s' sends q there none k =
 -- ---- what is seen of it
 
 -- a change of a port that leaves its interval and its Announce timer isn't seen
-unseen_at : (keep : ℤ → ℕ) (f : Port → Port)
+pub unseen_at : (keep : ℤ → ℕ) (f : Port → Port)
     → ((q : Port) → (h : Held) → port_view keep h (f q) ≡ port_view keep h q)
     → (hs : List Held) (i : ℕ) (qs : List Port) → ports_view keep hs (change_at f i qs) ≡ ports_view keep hs qs
 unseen_at keep f same [] i qs = refl

@@ -1,11 +1,10 @@
 -- What is claimed of a world stays so in one that differs from it in nothing but what failed systems and those that
 -- recover start with, what is pending, and when the last change was.
-use Rattle.std.proofs.Common.{◌≡◌, ◌<◌, ◌+◌, ◌*◌, ℕ, ℤ, pos, zero, suc, false, List, [], ◌∷◌, map, Some, slice_get, refl, sym, ap, subst, ◌∙◌, inl, inr}
+use Rattle.std.proofs.Common.{◌≡◌, ◌<◌, ◌+◌, ◌*◌, ℕ, ℤ, pos, zero, suc, List, [], ◌∷◌, map, Some, slice_get, refl, sym, ap, subst, ◌∙◌, inl, inr}
 use Rattle.std.specs.Option.{option_map_or}
-use Rattle.std.specs.Prelude.{◌==◌, if◌then◌else◌, max}
+use Rattle.std.specs.Prelude.{◌==◌, if◌then◌else◌}
 use Rattle.gptp_lists.proofs.MappedLemmas.{alike}
 use Rattle.gptp_lists.proofs.PlaceLemmas.{map-set_same}
-use Rattle.gptp_graph.specs.PathBound.{BoundsPaths}
 use Rattle.gptp_graph.specs.Snapshot.{PortIdentity}
 use Rattle.gptp_vector.specs.declared.port.PortId.{PortId}
 use Rattle.gptp_pdelay.specs.Clock.{local_clock}
@@ -22,22 +21,22 @@ use Rattle.gptp_model.specs.World.{WorldState, receiver, sender}
 use Rattle.gptp_pdelay_machine.specs.Setting.{Setting}
 use Rattle.gptp_pdelay_machine.specs.Silence.{InvUnanswered, Unanswered}
 use Rattle.gptp_bmca_machine.specs.Frame.{Lane}
-use Rattle.gptp_bmca_machine.specs.Levels.{Invariant}
 use Rattle.gptp_bmca_machine.specs.Network.{Network}
 use Rattle.gptp_bmca_machine.specs.SoundEverywhere.{IsSoundEverywhere}
 use Rattle.gptp_bmca_machine.specs.Station.{MachineState, Station as SeenStation}
 use Rattle.gptp_bmca_machine.specs.Syncs.{SyncsAreExpected, TellsBy}
-use Rattle.gptp_invariants.specs.ChoiceCalm.{HaveQuietLinks, SettlingTimes, clock_place, delay_in, greatest_channel_delay, lane_of, log_at, log_of, network_with, paths_with, setups_of, step_with, wait_with}
+use Rattle.gptp_invariants.specs.ChoiceCalm.{HaveQuietLinks, clock_place, delay_in, greatest_channel_delay, lane_of, log_at, log_of, paths_with, setups_of}
 use Rattle.gptp_invariants.specs.ChoiceSettlesAsMachine.{IsWorld}
 use Rattle.gptp_invariants.specs.ChoiceView.{lanes_view, says_announce, says_sync, station_view, view}
 use Rattle.gptp_invariants.specs.DelayLinkView.{IsEndAmong, IsLinkOf, IsMeasuring, LinkPlace, asker_view, link_identity, pair_view}
 use Rattle.gptp_invariants.specs.DelayMeasured.{LinkIsMeasured, LinkStandsAt, StationIsLiveAt}
 use Rattle.gptp_invariants.specs.FailedUnanswered.{IsFailedAmong, IsSilent, IsUnansweredAt, StandsUnanswered, silent_setting, silent_view}
-use Rattle.gptp_invariants.specs.WorldNews.{IsNews, news_network, turn_network}
+use Rattle.gptp_invariants.specs.WorldNews.{AreSilentBy, IsNews, turn_network}
+use Rattle.gptp_invariants.specs.WorldSound.{IsSoundWorld}
 use Rattle.gptp_invariants.specs.WorldStanding.{channel_is_used, live_stations, snapshot_of, standing_system, used_channels}
-use Rattle.gptp_settling_time.proofs.AlwaysClaimedLemmas.{IsClaimedAlways, start_network}
-use Rattle.gptp_settling_time.proofs.OrderedLemmas.{opposite}
-use Rattle.gptp_settling_time.proofs.SameLinkLemmas.{StaysSameLink, heard_same, ready_same}
+use Rattle.gptp_settling_time.proofs.AlwaysClaimedLemmas.{IsClaimedAlways}
+use Rattle.gptp_settling_time.proofs.SameLinkLemmas.{StaysSameLink}
+use Rattle.gptp_settling_time.proofs.StandsLikeLemmas.{StandsLike, claims_like, news_like, turn_like_network}
 
 -- a station but for the identity that it starts with
 abbrev pub plain : Station → Station
@@ -167,93 +166,6 @@ module _ (w w' : WorldState) (still : StandsStill w w') where
   quiet_still p quiet link channel here used =
       quiet link channel (ap (λ cs. slice_get cs link) still.channels ∙ here)
       (ap (λ systems. channel_is_used systems channel) systems_still ∙ used)
-
-  -- ---- its network
-
-  module _ (p : SettlingParams) (m start gone : ℕ) (slack step wait lag : ℕ → ℕ) where
-    abbrev times : ℕ → SettlingTimes
-    times delay = record {
-      slack = slack delay;
-      step = step delay;
-      wait = wait delay;
-      lag = lag delay;
-      past = false;
-    }
-
-    network_still : record (network_with p m start (times (delay_in w')) w') { gone = gone }
-        ≡ record (network_with p m start (times (delay_in w)) w) { gone = gone }
-    network_still =
-        let snapshot = snapshot_still in
-        let delay = delay_still in
-        let places = places_still in
-        let logs = logs_still in
-        let channels = still.channels in
-        λ i. record {
-          graph = snapshot i;
-          reach = m;
-          place = λ number. places number i;
-          lane = lane_of (channels i);
-          log_of = λ port. logs port i;
-          interval_of = λ port. interval_of (logs port i);
-          interval = largest_interval p;
-          most = delay i;
-          timeout = p.params.timeout;
-          gone = gone;
-          start = start;
-          bare = start;
-          off = start;
-          ready = λ port. start;
-          sound = max 0 start;
-          syncs = record {
-            interval = interval_of p.params.sync;
-            residence = p.params.residence;
-            span = lapse_span p.params;
-          };
-          sync_wait = wait (delay i);
-          slack = slack (delay i);
-          step = step (delay i);
-          claimed = λ d port. max 0 start + wait (delay i) + d * lag (delay i);
-          until = λ d port. max 0 start + wait (delay i) + d * lag (delay i) + largest_interval p;
-        }
-
-  module _ (p : SettlingParams) (m start : ℕ) where
-    abbrev gone' : ℕ
-    gone' = w'.last_change + 2 * largest_interval p
-
-    abbrev Claims : Network → MachineState → Type 0
-    Claims n s = Invariant says_announce n s
-
-    news_still_network : news_network p m start w' ≡ record (news_network p m start w) { gone = gone' }
-    news_still_network =
-        network_still p m start gone' (λ delay. largest_interval p) (λ delay. delay) (λ delay. 0) (λ delay. 0)
-
-    turn_still_network : turn_network p m start w' ≡ record (turn_network p m start w) { gone = gone' }
-    turn_still_network =
-        network_still p m start gone' (λ delay. 0) (λ delay. step_with p (record { systems = m; delay = delay }))
-        (λ delay. wait_with p.params (record { systems = m; delay = delay }))
-        (λ delay. step_with p (record { systems = m; delay = delay }))
-
-    start_still_network : start_network p m start w' ≡ record (start_network p m start w) { gone = gone' }
-    start_still_network =
-        ap (λ (n : Network). record n {
-          start = 0;
-          sound = 0;
-          slack = start;
-          claimed = λ d port. 0;
-          until = λ d port. 0;
-        }) news_still_network
-
-    -- what is claimed of a network is claimed of it whenever old frames are gone
-    over : (n n' : Network) → n' ≡ record n { gone = gone' } → Claims n (view w) → Claims n' (view w')
-    over n n' same is =
-        let here : Claims (record n { gone = gone' }) (view w) = record { sound = is.sound; levels = is.levels } in
-        subst (Claims n') (sym view_still) (subst (λ x. Claims x (view w)) (sym same) here)
-
-    expects_over : (n n' : Network) → n' ≡ record n { gone = gone' } → SyncsAreExpected says_sync n (view w)
-        → SyncsAreExpected says_sync n' (view w')
-    expects_over n n' same is =
-        subst (SyncsAreExpected says_sync n') (sym view_still)
-        (subst (λ x. SyncsAreExpected says_sync x (view w)) (sym same) (expected_same n gone' (view w) is))
 
   -- ---- its stations
 
@@ -427,54 +339,56 @@ module _ (w w' : WorldState) (still : StandsStill w w') where
             (subst (λ (u : Unanswered). InvUnanswered (silent_setting at w l) gone u) (sym seen) is.inv);
       }
 
+  pub stands_like : StandsLike w w'
+  stands_like =
+      let channels = still.channels in
+      let seen = view_still in
+      record {
+        time = still.time;
+        stations = ap (λ (x : MachineState). x.stations) seen;
+        snapshot = snapshot_still;
+        delay = delay_still;
+        places = places_still;
+        logs = logs_still;
+        lane_places = λ port. ap (λ cs. lane_of cs port) channels;
+        lanes = λ from to joins l there.
+            subst (λ (x : MachineState). slice_get x.lanes (lane_of w.net.channels from) ≡ Some l) seen there;
+        quiet = quiet_still;
+        links = links_still;
+        stood = stood_still;
+      }
+
 -- ---- the claims
 
 module _ (p : SettlingParams) (start : ℕ) (w w' : WorldState) (still : StandsStill w w') (world : IsWorld p w')
     (measured : LinkIsMeasured w') where
-  paths_back : (m : ℕ) → BoundsPaths (snapshot_of w') m → BoundsPaths (snapshot_of w) m
-  paths_back m = subst (λ g. BoundsPaths g m) (snapshot_still w w' still)
+  like : StandsLike w w'
+  like = stands_like w w' still
 
-  wait_back : (m : ℕ) → sync_wait p.params (paths_with m w') < lapse_span p.params
-      → sync_wait p.params (paths_with m w) < lapse_span p.params
-  wait_back m =
-      subst (λ delay. sync_wait p.params (record { systems = m; delay = delay }) < lapse_span p.params)
-      (delay_still w w' still)
+  silent_then : AreSilentBy p start w → AreSilentBy p start w'
+  silent_then silent at s =
+      let (change, one, soon) = silent at (unanswered_before w w' still at s) in
+      (change, silent_still w w' still (change + largest_interval p) at one, soon)
+
+  sound_then : IsSoundWorld w → IsSoundWorld w'
+  sound_then sound =
+      subst (IsSoundEverywhere says_announce (snapshot_of w')) (sym (view_still w w' still))
+      (subst (λ g. IsSoundEverywhere says_announce g (view w)) (sym (snapshot_still w w' still)) sound)
+
+  expects : (m : ℕ) → SyncsAreExpected says_sync (turn_network p m start w) (view w)
+      → sync_wait p.params (paths_with m w') < lapse_span p.params
+      → SyncsAreExpected says_sync (turn_network p m start w') (view w')
+  expects m is short =
+      let n = turn_network p m start w in
+      let n' = turn_network p m start w' in
+      subst (SyncsAreExpected says_sync n') (sym (view_still w w' still))
+      (subst (λ x. SyncsAreExpected says_sync x (view w)) (sym (turn_like_network w w' like p m start))
+      (expected_same n (w'.last_change + 2 * largest_interval p) (view w) is))
 
   pub news_stands : IsNews p start w → IsNews p start w'
-  news_stands news = record {
-    pace = news.pace;
-    world = world;
-    measured = measured;
-    silent = λ at s.
-        let (change, one, soon) = news.silent at (unanswered_before w w' still at s) in
-        (change, silent_still w w' still (change + largest_interval p) at one, soon);
-    sound = subst (IsSoundEverywhere says_announce (snapshot_of w')) (sym (view_still w w' still))
-        (subst (λ g. IsSoundEverywhere says_announce g (view w)) (sym (snapshot_still w w' still)) news.sound);
-    ready = λ at s.
-        ready_same p start at w w' (links_still w w' still at)
-        (news.ready at (stood_still w w' still p news.world world at s));
-    settling = λ m bounded quiet off.
-        over w w' still p m start (news_network p m start w) (news_network p m start w')
-        (news_still_network w w' still p m start)
-        (news.settling m (paths_back m bounded) (quiet_still w w' still p.params quiet) off);
-    in_turn = λ m bounded quiet short.
-        let is = news.in_turn m (paths_back m bounded) (quiet_still w w' still p.params quiet) (wait_back m short) in
-        record {
-          invariant = over w w' still p m start (turn_network p m start w) (turn_network p m start w')
-              (turn_still_network w w' still p m start) is.invariant;
-          expected = expects_over w w' still p m start (turn_network p m start w) (turn_network p m start w')
-              (turn_still_network w w' still p m start) is.expected;
-        };
-  }
+  news_stands news =
+      news_like p start w w' like world measured (silent_then news.silent) (sound_then news.sound) expects news
 
   pub claims_stand : IsClaimedAlways p start w → IsClaimedAlways p start w'
-  claims_stand is = record {
-    news = news_stands is.news;
-    heard = λ at s.
-        heard_same p start at w w' still.time (links_still w w' still at) (links_still w w' still (opposite at))
-        (is.heard at (stood_still w w' still p is.news.world world at s));
-    settling = λ m bounded quiet off.
-        over w w' still p m start (start_network p m start w) (start_network p m start w')
-        (start_still_network w w' still p m start)
-        (is.settling m (paths_back m bounded) (quiet_still w w' still p.params quiet) off);
-  }
+  claims_stand is =
+      claims_like p start w w' like world measured (silent_then is.news.silent) (sound_then is.news.sound) expects is

@@ -127,6 +127,13 @@ JoinsLive n events port = (place : ℕ) (v : LinkSpec) → slice_get n.links pla
     → IsEnd port (link_after events v)
     → IsLive n.systems events (link_after events v).a.clock × IsLive n.systems events (link_after events v).b.clock
 
+-- an end of the link at the port has failed after these events
+abbrev pub EndHasFailed : NetworkState → List Timed → PortId → Type 0
+EndHasFailed n events port = (place : ℕ) (v : LinkSpec) → slice_get n.links place ≡ Some v
+    → IsEnd port (link_after events v)
+    → (IsLive n.systems events (link_after events v).a.clock → ⊥)
+    ⊎ (IsLive n.systems events (link_after events v).b.clock → ⊥)
+
 -- These changes leave other ports as capable as they are: a link between live systems that comes up, whose own two
 -- ports ask then; and a priority1 that gets no worse.
 abbrev pub LeavesCapable : NetworkState → List Timed → Timed → ℕ → Act → Type 0

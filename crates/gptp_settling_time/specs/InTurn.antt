@@ -18,10 +18,11 @@ use Rattle.gptp_scenario.specs.Calm.{IsCalm, NothingLapses, last_change}
 use Rattle.gptp_scenario.specs.Change.{link_after}
 use Rattle.gptp_scenario.specs.Network.{IsEnd, NetworkState, pace_of}
 use Rattle.gptp_scenario.specs.SettlingAtOnce.{settling_span_at_once}
-use Rattle.gptp_scenario.specs.SettlingTime.{settling_span_with}
+use Rattle.gptp_scenario.specs.SettlingTime.{capability_span, settling_span_with}
 use Rattle.gptp_scenario.specs.SyncWait.{sync_paths}
+use Rattle.gptp_scenario.specs.declared.change.Act.{Act}
 use Rattle.gptp_scenario.specs.declared.change.Act.TheVariants.{Change as Changing}
-use Rattle.gptp_scenario.specs.declared.change.Change.TheVariants.{LinkUp, Priority1}
+use Rattle.gptp_scenario.specs.declared.change.Change.TheVariants.{LinkDown, LinkUp, Priority1}
 use Rattle.gptp_scenario.specs.declared.change.Timed.{Timed}
 use Rattle.gptp_scenario.specs.declared.network.LinkSpec.{LinkSpec}
 use Rattle.gptp_model.specs.World.{WorldState, port_id}
@@ -31,7 +32,7 @@ use Rattle.gptp_report.specs.Transitions.{ActTrace, Unfolds}
 use Rattle.gptp_theorem.specs.PlayedLaws.{IsPlayable}
 use Rattle.gptp_settling_time.specs.Documents.{IsSettledAs}
 use Rattle.gptp_settling_time.specs.Exactly.{SettlesBy}
-use Rattle.gptp_settling_time.specs.Gains.{AreCapableAnyway, AreCapableNext, AreCapableStill, ChangesNothing, HasRested, IsDownAfter, IsNoWorse, JoinsLive, TakesNothing, exchanged_from}
+use Rattle.gptp_settling_time.specs.Gains.{AreCapableAnyway, AreCapableNext, AreCapableStill, ChangesNothing, EndHasFailed, HasRested, IsDownAfter, IsNoWorse, JoinsLive, TakesNothing, exchanged_from}
 use Rattle.gptp_settling_time.specs.Starts.{LinksVaryLittle}
 
 -- what a network came from, and from when on its ports are capable
@@ -69,10 +70,25 @@ pub record BettersClock (n : NetworkState) (before : List Timed) (event : Timed)
   pub few : (sync_paths n before).systems ≤ 255
   pub later : event.at < next
 
--- After these events this one changes nothing, and nothing lapses for want of Sync. What had settled is settled at its
--- time: as if ports had been capable from the next time on, the greatest delay for each system of a path but one before.
+-- After these events a link comes up or goes down of which an end has failed. The port at its other end takes no part:
+-- unanswered it isn't capable from the start on, and one that comes up isn't capable before it is answered.
+abbrev pub TurnsInVain : NetworkState → List Timed → Timed → ℕ → Act → Type 0
+TurnsInVain n before event start (Changing (LinkUp number port)) =
+    EndHasFailed n before (port_id number port) × (capability_span (pace_of n) ≤ start)
+TurnsInVain n before event start (Changing (LinkDown number port)) =
+    EndHasFailed n before (port_id number port) × (start ≤ event.at)
+TurnsInVain n before event start act = ⊥
+
+-- the event makes nothing of what stands, whose ports are capable from a start on
+abbrev pub MakesNothing : NetworkState → List Timed → Timed → ℕ → Type 0
+MakesNothing n before event start =
+    ChangesNothing n before event.act ⊎ (NothingLapses n.params × TurnsInVain n before event start event.act)
+
+-- After these events this one makes nothing of what stands, and nothing lapses for want of Sync. What had settled is
+-- settled at its time: as if ports had been capable from the next time on, the greatest delay for each system of a path
+-- but one before.
 pub record LeavesSettled (n : NetworkState) (before : List Timed) (event : Timed) (next : ℕ) : Type 0 where
-  pub nothing : ChangesNothing n before event.act
+  pub nothing : MakesNothing n before event next
   pub off : NothingLapses n.params
   pub since : next + pred (sync_paths n before).systems * (sync_paths n before).delay ≡ event.at
 
@@ -107,7 +123,7 @@ LeadsToHeard n before (Gained start) event next =
 LeadsToHeard n before (Heard start) event next =
     ((start ≤ next) × BringsUp n before event next)
     ⊎ ((HasSettledHeard n before start event.at × BettersClock n before event next)
-    ⊎ (ChangesNothing n before event.act × (next ≡ start)))
+    ⊎ (MakesNothing n before event start × (next ≡ start)))
 
 -- a gain, and what is heard, stays so from the start that it had
 abbrev pub StaysFrom : Past → ℕ → Type 0
@@ -119,7 +135,7 @@ abbrev pub EventLeads : NetworkState → List Timed → Past → Timed → Past 
 EventLeads n before past event AnyPast = ⊤
 EventLeads n before past event (Gained next) =
     (TakesNothing n before event.act × LeadsToGain n before past event next)
-    ⊎ (ChangesNothing n before event.act × StaysFrom past next)
+    ⊎ (MakesNothing n before event next × StaysFrom past next)
 EventLeads n before past event (Heard next) = LeadsToHeard n before past event next
 
 -- each event leads from one to the next
