@@ -79,8 +79,8 @@ span_parts last capable clean one way time passed =
 module _ (n : NetworkState) (made : List Timed) (event : Timed) where
   idle_leads : (past : Past) → IsKnown past → ChangesNothing n made event.act → EventLeads n made past event past
   idle_leads AnyPast known nothing = absurd known
-  idle_leads (Gained start) known nothing = inr (nothing, refl)
-  idle_leads (Heard start) known nothing = inr (inr (nothing, refl))
+  idle_leads (Gained start) known nothing = inr (inl nothing, refl)
+  idle_leads (Heard start) known nothing = inr (inr (inl nothing, refl))
 
   gain_leads : (past : Past) (next : ℕ) → HasSettled n made past event.at → event.at ≤ next
       → IsGainEvent n next made event → EventLeads n made past event (Gained next)
@@ -131,7 +131,7 @@ module _ (n : NetworkState) (made : List Timed) (event : Timed) where
         let since : start + way ≡ event.at = omega (arith, passed) in
         record {
           next = Heard start;
-          leads = (settled, inr (inr (record { nothing = nothing; off = off; since = since })));
+          leads = (settled, inr (inr (record { nothing = inl nothing; off = off; since = since })));
           settled = subst (λ (x : SyncPaths). start + pred x.systems * x.delay ≤ event.at)
               (sym (idle_paths n network made event nothing)) (omega (arith, since));
         }
