@@ -205,7 +205,7 @@ module _ {F : Type 0} (answers : Bounds → ℕ → F → Option ℕ → F → T
       let can : CanSettle p m start w'.time w' =
       record { quiet = (quiet_as p w' calm).links; bounded = bounded; settles = late } in
       let now : w'.time ≤ w'.time = omega arith in
-      let both = has_settled p m start w'.time w' after can now in
+      let both = has_settled p m start w'.time w' (inl after) can now in
       is_settled w' (record {
         pace = p;
         is = advanced_claimed answers p until told drawn fate_after between w' course claimed;

@@ -38,7 +38,6 @@ use Rattle.gptp_invariants.specs.WorldNews.{IsNews}
 use Rattle.gptp_invariants.specs.WorldSound.{IsSoundWorld}
 use Rattle.gptp_invariants.specs.WorldStanding.{snapshot_of}
 use Rattle.gptp_invariants.proofs.WorldBoundedLemmas.{bounded_at_once, bounded_by_paths}
-use Rattle.gptp_invariants.proofs.WorldNewsLemmas.{news_go_on}
 use Rattle.gptp_invariants.proofs.WorldSettlingInvariantLemmas.{settled_at_once, settled_by_paths}
 use Rattle.gptp_invariants.proofs.WorldSoundLemmas.{sound_later}
 use Rattle.gptp_invariants.proofs.WorldStandsLemmas.{stands_well}
@@ -61,8 +60,9 @@ use Rattle.gptp_settling_time.proofs.IdleLemmas.{idle_now, idle_same}
 use Rattle.gptp_settling_time.proofs.KeptToLemmas.{IsNewsTo, KeepsTo, keeps_act, keeps_later, news_act_to, news_later_to}
 use Rattle.gptp_settling_time.proofs.LaterLemmas.{AreSteps, steps_more}
 use Rattle.gptp_settling_time.proofs.LinkUpLemmas.{link_up_claimed}
-use Rattle.gptp_settling_time.proofs.MadeLemmas.{made_keeps, made_last, made_news, made_time, news_news, rest_news}
+use Rattle.gptp_settling_time.proofs.MadeLemmas.{made_keeps, made_known, made_last, made_time, news_news, rest_news}
 use Rattle.gptp_settling_time.proofs.NewsClaimedLemmas.{news_claimed, news_on, news_settled}
+use Rattle.gptp_settling_time.proofs.NewsSoonLemmas.{IsNewsFrom, from_later, from_sound, news_now}
 use Rattle.gptp_settling_time.proofs.PassLemmas.{passes_to}
 use Rattle.gptp_settling_time.proofs.RestClaimedLemmas.{AreOn, rest_claimed, rest_on, rest_settled}
 use Rattle.gptp_settling_time.proofs.SettledSeenLemmas.{HasSettledSeen, always_settled}
@@ -144,8 +144,9 @@ module _ {F : Type 0} (answers : Bounds → ℕ → F → Option ℕ → F → T
     news_then : IsNews p next w'
     news_then =
         let capable = up.capable in
-        made_news answers d playable made event fate fate_after w w' done is fit k keeps sound
-        (subst (TakesNothing n made) (sym up.act) tt) start next claim.news.ready claim.news.silent
+        made_known answers d playable made event fate fate_after w w' done is fit k keeps sound
+        (subst (TakesNothing n made) (sym up.act) tt) start next
+        (λ number same. let one = sym up.act ∙ is.act ∙ ap Changing same in cc) claim.news.ready claim.news.silent
         (inr (
           omega (arith, early, capable),
           subst (LeavesCapable n made event next) (sym up.act)
@@ -182,8 +183,9 @@ module _ {F : Type 0} (answers : Bounds → ℕ → F → Option ℕ → F → T
     set_news : IsNews p next w'
     set_news =
         let later = up.later in
-        made_news answers d playable made event fate fate_after w w' done is fit k keeps sound
-        (subst (TakesNothing n made) (sym up.act) up.better) start next claim.news.ready claim.news.silent
+        made_known answers d playable made event fate fate_after w w' done is fit k keeps sound
+        (subst (TakesNothing n made) (sym up.act) up.better) start next
+        (λ number same. let one = sym up.act ∙ is.act ∙ ap Changing same in cc) claim.news.ready claim.news.silent
         (inr (omega (arith, early, later), subst (LeavesCapable n made event next) (sym up.act) (up.live, up.later)))
 
     pub bettered : IsClaimedTo d more next w'
@@ -231,15 +233,16 @@ module _ {F : Type 0} (answers : Bounds → ℕ → F → Option ℕ → F → T
               (rest_settled p then keeps_then.claim sound_then late) better
         ]
     leads_to_heard (Gained start) next (settled, brings) so =
-        let news = news_go_on p start event.at w k.ready.timely.now k.ready.timely.first so.news in
         let late : start + largest_interval p + pred (path_bound (snapshot_of then)) * delay_in then ≤ event.at =
         subst (λ (x : SyncPaths). start + largest_interval p + pred x.systems * x.delay ≤ event.at) paths_then
         settled in
+        let news = news_now p start then (omega (arith, late))
+        (from_later p start event.at w k.ready.timely.now k.ready.timely.first so.news) in
         let claim = news_claimed p start then news late in
         let on = news_on p start then news late in
         elim brings [
-          | inl up ↦ brought_up (suc event.at) next claim on (omega arith) so.news.sound up
-          | inr better ↦ bettered (suc event.at) next claim on (omega arith) so.news.sound
+          | inl up ↦ brought_up (suc event.at) next claim on (omega arith) (from_sound p start w so.news) up
+          | inr better ↦ bettered (suc event.at) next claim on (omega arith) (from_sound p start w so.news)
               (news_settled p start then news late) better
         ]
     leads_to_heard (Heard start) next (inl (late, brings)) so =
@@ -260,7 +263,7 @@ module _ {F : Type 0} (answers : Bounds → ℕ → F → Option ℕ → F → T
         (left_so start (since_later p start event.at w k.ready.timely.now k.ready.timely.first so.since) nothing)
 
     leads_to_gain : (past : Past) (next : ℕ) → EventLeads n made past event (Gained next) → IsAfter d made past w
-        → IsNews p next w'
+        → IsNewsFrom p next w'
     leads_to_gain AnyPast next (nothing, (rested, (rest, anyway, capable))) so =
         let sound = rested_sound d made event.at w playable rested (omega (arith, moment)) keeps in
         rest_news answers d playable made event fate fate_after w w' done is fit k rest next keeps sound nothing anyway
@@ -269,7 +272,7 @@ module _ {F : Type 0} (answers : Bounds → ℕ → F → Option ℕ → F → T
         news_news answers d playable made event fate fate_after w w' done is fit k start next so nothing capable
     leads_to_gain (Heard start) next (nothing, capable) so =
         news_news answers d playable made event fate fate_after w w' done is fit k start next
-        (record { keeps = keeps; news = so.since.news }) nothing capable
+        (record { keeps = keeps; news = inl so.since.news }) nothing capable
 
     pub leads_to : (past next : Past) → EventLeads n made past event next → IsAfter d made past w
         → IsAfter d more next w'
