@@ -1,14 +1,13 @@
 -- Ports that come up elsewhere leave those in time that are beside failed systems.
-use Rattle.std.proofs.Common.{◌≡◌, ◌≢◌, ℕ, Bool, true, false, List, [], ◌∷◌, map, Some, slice_get, refl, sym, ap, subst, ◌∙◌, inl, inr}
+use Rattle.std.proofs.Common.{◌≡◌, ◌≢◌, ℕ, Bool, true, false, List, [], ◌∷◌, map, Some, slice_get, refl, sym, ap, subst, ◌∙◌, ◌+◌, inl, inr, arith}
 use Rattle.gptp_lists.proofs.MappedLemmas.{same_there}
 use Rattle.gptp_lists.proofs.PlaceLemmas.{get-set_other}
-use Rattle.gptp_vector.specs.declared.port.PortId.{PortId}
-use Rattle.gptp_links.specs.declared.link.Direction.{Direction}
 use Rattle.gptp_links.specs.declared.link.Direction.TheVariants.{FromA, FromB}
 use Rattle.gptp_links.specs.Fate.{Draw}
 use Rattle.gptp_pdelay.specs.Peer.{reset_peer}
 use Rattle.gptp_scenario.specs.declared.change.Act.TheVariants.{Change as Changing}
 use Rattle.gptp_scenario.specs.declared.change.Change.TheVariants.{LinkUp}
+use Rattle.gptp_setup.specs.declared.setup.Params.{Params}
 use Rattle.gptp_setup.specs.Intervals.{interval_of}
 use Rattle.gptp_system.specs.declared.answer.Answer.{Answer}
 use Rattle.gptp_system.specs.Input.{PortUp}
@@ -23,15 +22,16 @@ use Rattle.gptp_model.specs.Ahead.{IsPortAmong}
 use Rattle.gptp_model.specs.Changing.{CallsAll, CallsIfLive, ComesUpIf, Nothing, TellsEnds, brought_up}
 use Rattle.gptp_model.specs.Sound.{IsSound}
 use Rattle.gptp_model.specs.World.{Channel, WorldState, port_id, sender}
-use Rattle.gptp_model.proofs.StayLemmas.{JoinTheSame, Stays, begins_same, calls_if_live_stay, calls_stay, carry_same, join_on, set_join}
+use Rattle.gptp_model.proofs.StayLemmas.{JoinTheSame, Stays, calls_if_live_stay, calls_stay, carry_same, set_join}
 use Rattle.gptp_invariants.specs.DelayElsewhere.{IsOtherLink}
 use Rattle.gptp_invariants.specs.DelayLinkView.{LinkPlace, asked_at}
-use Rattle.gptp_invariants.specs.FailedUnanswered.{IsUnansweredAt, StandsUnanswered}
+use Rattle.gptp_invariants.specs.FailedUnanswered.{StandsUnanswered}
 use Rattle.gptp_invariants.proofs.DelayElsewhereLemmas.{calls_orderly}
 use Rattle.gptp_invariants.proofs.DelayLinkCallLemmas.{at_own}
 use Rattle.gptp_invariants.proofs.DelayLinkKeptLemmas.{HasAll, all_stay, among_stays}
 use Rattle.gptp_invariants.proofs.DelayLinkLemmas.{IsOrderly, net_orderly, sound_orderly}
 use Rattle.gptp_invariants.proofs.WorldBeforeLemmas.{IsAsBefore, as_was, calls_before, stood}
+use Rattle.gptp_settling_time.proofs.BetweenFailedLemmas.{AreGoneBetween, IsGoneBetween, StandsFailed, gone_still, live_gone}
 use Rattle.gptp_settling_time.proofs.AskedInTimeLemmas.{AreAskedInTime, AsksAfter, IsAskedInTime, called_in_time}
 
 -- ---- a port comes up
@@ -39,42 +39,49 @@ use Rattle.gptp_settling_time.proofs.AskedInTimeLemmas.{AreAskedInTime, AsksAfte
 same_up : (m n : ℕ) → PortUp m ≡ PortUp n → m ≡ n
 same_up m n e = cc
 
--- it is another port than the one beside a failed system
+-- if it is the one beside a failed system it asks now
 up_in_time : (gone : ℕ) (at : LinkPlace) (place q : ℕ) (w : WorldState) (draws : List Draw) (answer : Answer)
     (w' : WorldState) → (k : Calls place (PortUp q) w draws answer w') → HasPortNumber k.station.system q → IsOrderly w
-    → (is : IsAskedInTime gone at w) → (at.asking ≡ place → (sender at.direction is.link.channel).port ≢ q)
-    → IsAskedInTime gone at w'
-up_in_time gone at place q w draws answer w' k of orderly is other =
-    called_in_time gone at place (PortUp q) w draws answer w' k of orderly is (λ same. tt) asks
+    → IsAskedInTime gone at w → IsAskedInTime gone at w'
+up_in_time gone at place q w draws answer w' k of orderly is =
+    called_in_time gone at place (PortUp q) w draws answer w' k of orderly is (λ same. tt) (λ here. asks)
   where
-    asks : at.asking ≡ place → (x' : Part)
+    port : ℕ
+    port = (sender at.direction is.link.channel).port
+
+    interval : ℕ
+    interval = interval_of is.link.asking.station.setup.params.pdelay
+
+    asks : (x' : Part)
         → IsPartAfter is.link.asking.station.system w.time (PortUp q) (sender at.direction is.link.channel).port
         (measure_at is.link.asking.state) x'
         → AsksAfter w.time (interval_of is.link.asking.station.setup.params.pdelay) (PortUp q)
         (sender at.direction is.link.channel).port (measure_at is.link.asking.state) x'
-    asks here x' h = elim (at_own q (sender at.direction is.link.channel).port
-        (part_asked is.link.asking.station.system w.time reset_peer) (measure_at is.link.asking.state) x' h) [
-          | inl one ↦ absurd (other here one.0)
+    asks x' h = elim (at_own q port (part_asked is.link.asking.station.system w.time reset_peer)
+        (measure_at is.link.asking.state) x' h) [
+          | inl one ↦
+              let back : asked_at interval (Some (w.time + interval)) ≡ w.time = omega arith in
+              inl (ap (λ (y : Part). asked_at interval y.pdelay) one.1
+              ∙ ap (λ (p : Params). asked_at interval (Some (w.time + interval_of p.pdelay))) is.link.asking.set_up.params
+              ∙ back)
           | inr beside ↦ inr (
-            ap (λ (y : Part). asked_at (interval_of is.link.asking.station.setup.params.pdelay) y.pdelay) beside.1,
-            ((λ e. absurd cc), λ e. other here (sym (same_up q (sender at.direction is.link.channel).port e))),
+            ap (λ (y : Part). asked_at interval y.pdelay) beside.1,
+            ((λ e. absurd cc), λ e. beside.0 (sym (same_up q port e))),
           )
         ]
 
--- ---- ports of another system come up
+-- ---- ports of a system come up
 
 pub all_in_time : (gone : ℕ) (at : LinkPlace) (place : ℕ) (ps : List ℕ) (w : WorldState) (draws : List Draw)
     (w' : WorldState) → CallsAll place (map PortUp ps) w draws w' → HasAll place ps w → IsOrderly w
-    → at.asking ≢ place → IsAskedInTime gone at w → IsAskedInTime gone at w'
-all_in_time gone at place [] w draws w' (none, same) has orderly apart is =
-    subst (IsAskedInTime gone at) (sym same) is
-all_in_time gone at place (q ∷ ps) w draws w' (first, rest, between, answer, split, k, more) has orderly apart is =
+    → IsAskedInTime gone at w → IsAskedInTime gone at w'
+all_in_time gone at place [] w draws w' (none, same) has orderly is = subst (IsAskedInTime gone at) (sym same) is
+all_in_time gone at place (q ∷ ps) w draws w' (first, rest, between, answer, split, k, more) has orderly is =
     let stays = calls_stay place (PortUp q) w first answer between orderly.setups k in
     all_in_time gone at place ps between rest w' more
     (all_stay place ps w between stays (λ n member. has n (inr member)))
-    (calls_orderly place (PortUp q) w first answer between orderly k) apart
-    (up_in_time gone at place q w first answer between k (has q (inl refl) k.station k.here) orderly is
-    (λ same. absurd (apart same)))
+    (calls_orderly place (PortUp q) w first answer between orderly k)
+    (up_in_time gone at place q w first answer between k (has q (inl refl) k.station k.here) orderly is)
 
 -- ---- a link comes up
 
@@ -100,23 +107,13 @@ still_in_time gone w asked at s =
     let one = asked at (changed_stood at w s) in
     record { link = one.link; asked = one.asked; frames = one.frames; requests = one.requests; old = one.old }
 
--- a live system is told, and this port is none of the link that comes up
-live_in_time : (gone : ℕ) (at : LinkPlace) (place : ℕ) (port : PortId) (w : WorldState) (draws : List Draw)
-    (w' : WorldState)
-    → ((station : Station) → slice_get w.stations place ≡ Some station → clock station.system ≡ port.clock)
-    → ((station : Station) → slice_get w.stations place ≡ Some station → HasPortNumber station.system port.port)
-    → IsOrderly w → (is : IsAskedInTime gone at w) → sender at.direction is.link.channel ≢ port
-    → CallsIfLive place (PortUp port.port) w draws w' → IsAskedInTime gone at w'
-live_in_time gone at place port w draws w' named of orderly is apart (inl (answer, k)) =
-    up_in_time gone at place port.port w draws answer w' k (of k.station k.here) orderly is other
-  where
-    other : at.asking ≡ place → (sender at.direction is.link.channel).port ≢ port.port
-    other same number_is =
-        let clock_is : (sender at.direction is.link.channel).clock ≡ port.clock =
-        sym is.link.asking.named
-        ∙ named is.link.asking.station (ap (slice_get w.stations) (sym same) ∙ is.link.asking.here) in
-        apart (λ i. record { clock = clock_is i; port = number_is i })
-live_in_time gone at place port w draws w' named of orderly is apart (inr (failed, none, same)) =
+-- a system is told, if it lives
+live_in_time : (gone : ℕ) (at : LinkPlace) (place port : ℕ) (w : WorldState) (draws : List Draw) (w' : WorldState)
+    → ((station : Station) → slice_get w.stations place ≡ Some station → HasPortNumber station.system port)
+    → IsOrderly w → IsAskedInTime gone at w → CallsIfLive place (PortUp port) w draws w' → IsAskedInTime gone at w'
+live_in_time gone at place port w draws w' of orderly is (inl (answer, k)) =
+    up_in_time gone at place port w draws answer w' k (of k.station k.here) orderly is
+live_in_time gone at place port w draws w' of orderly is (inr (failed, none, same)) =
     subst (IsAskedInTime gone at) (sym same) is
 
 live_before : (place port : ℕ) (w : WorldState) (draws : List Draw) (w' : WorldState)
@@ -140,8 +137,7 @@ module _ (gone number port : ℕ) (w : WorldState) (draws : List Draw) (done : D
   abbrev k : AtLink (port_id number port) w.net (λ place channel. ComesUpIf channel.up place channel now draws w')
   k = acts.1
 
-  module _ (asked : AreAskedInTime gone w) (down : k.channel.up ≡ false) (at : LinkPlace) (other : at.link ≢ k.place)
-      (s : StandsUnanswered at w') where
+  module _ (down : k.channel.up ≡ false) where
     abbrev raised : Channel
     raised = record k.channel { up = true }
 
@@ -159,95 +155,98 @@ module _ (gone number port : ℕ) (w : WorldState) (draws : List Draw) (done : D
         let old = net_orderly w brought.net joins (sound_orderly w sound) in
         record { setups = old.setups; clocks = old.clocks; apart = old.apart; params = old.params }
 
-    -- the port isn't at an end of it
-    no_end : (v : WorldState) → JoinTheSame w.net.channels v.net.channels → (l : IsUnansweredAt at v) (way : Direction)
-        → sender at.direction l.channel ≢ sender way k.channel
-    no_end v on l way same =
-        let was = on at.link l.channel l.here in
-        other (sound.wired.apart at.link k.place at.direction way was.old k.channel was.here k.is.here
-        (sym (begins_same w.net.channels at.link at.direction l.channel was) ∙ same))
+    module _ (asked : AreAskedInTime gone w) (at : LinkPlace) (other : at.link ≢ k.place) (s : StandsUnanswered at w') where
+      before : StandsUnanswered at brought
+      unfolding told
+      before =
+          stood at brought told.between
+          (live_before told.place_a k.channel.a.port brought told.first told.between told.at_a)
+          (stood at told.between w' (live_before told.place_b k.channel.b.port told.between told.second w' told.at_b) s)
 
-    before : StandsUnanswered at brought
-    unfolding told
-    before =
-        stood at brought told.between
-        (live_before told.place_a k.channel.a.port brought told.first told.between told.at_a)
-        (stood at told.between w' (live_before told.place_b k.channel.b.port told.between told.second w' told.at_b) s)
+      was : StandsUnanswered at w
+      was = record {
+        channel = before.channel;
+        here = sym (get-set_other w.net.channels k.place at.link raised other) ∙ before.here;
+        up = before.up;
+        asking = record {
+          station = before.asking.station;
+          here = before.asking.here;
+          live = before.asking.live;
+          named = before.asking.named;
+        };
+        answering = before.answering;
+      }
 
-    was : StandsUnanswered at w
-    was = record {
-      channel = before.channel;
-      here = sym (get-set_other w.net.channels k.place at.link raised other) ∙ before.here;
-      up = before.up;
-      asking = record {
-        station = before.asking.station;
-        here = before.asking.here;
-        live = before.asking.live;
-        named = before.asking.named;
-      };
-      answering = before.answering;
-    }
+      begun : IsAskedInTime gone at brought
+      begun =
+          let one = asked at was in
+          record {
+            link = record {
+              channel = one.link.channel;
+              here = get-set_other w.net.channels k.place at.link raised other ∙ one.link.here;
+              up = one.link.up;
+              asking = one.link.asking;
+              answering = one.link.answering;
+            };
+            asked = one.asked;
+            frames = one.frames;
+            requests = one.requests;
+            old = one.old;
+          }
 
-    begun : IsAskedInTime gone at brought
-    begun =
-        let one = asked at was in
-        record {
-          link = record {
-            channel = one.link.channel;
-            here = get-set_other w.net.channels k.place at.link raised other ∙ one.link.here;
-            up = one.link.up;
-            asking = one.link.asking;
-            answering = one.link.answering;
-          };
-          asked = one.asked;
-          frames = one.frames;
-          requests = one.requests;
-          old = one.old;
-        }
+      named_a : (station : Station) → slice_get brought.stations told.place_a ≡ Some station
+          → clock station.system ≡ k.channel.a.clock
+      named_a station there =
+          ap (λ (x : Station). clock x.system)
+          (same_there brought.stations told.place_a station told.station_a there told.is_a.here)
+          ∙ told.is_a.named
 
-    named_a : (station : Station) → slice_get brought.stations told.place_a ≡ Some station
-        → clock station.system ≡ k.channel.a.clock
-    named_a station there =
-        ap (λ (x : Station). clock x.system)
-        (same_there brought.stations told.place_a station told.station_a there told.is_a.here)
-        ∙ told.is_a.named
+      port_a : IsPortAmong k.channel.a brought.stations
+      port_a place station there named = sound.wired.ports k.place place FromA k.channel station k.is.here there named
 
-    port_a : IsPortAmong k.channel.a brought.stations
-    port_a place station there named = sound.wired.ports k.place place FromA k.channel station k.is.here there named
+      port_b : IsPortAmong k.channel.b brought.stations
+      port_b place station there named = sound.wired.ports k.place place FromB k.channel station k.is.here there named
 
-    port_b : IsPortAmong k.channel.b brought.stations
-    port_b place station there named = sound.wired.ports k.place place FromB k.channel station k.is.here there named
+      first : IsAskedInTime gone at told.between
+      unfolding begun
+      first =
+          live_in_time gone at told.place_a k.channel.a.port brought told.first told.between
+          (λ station there. port_a told.place_a station there (named_a station there)) orderly begun told.at_a
 
-    first : IsAskedInTime gone at told.between
-    unfolding begun
-    first =
-        live_in_time gone at told.place_a k.channel.a brought told.first told.between named_a
-        (λ station there. port_a told.place_a station there (named_a station there)) orderly begun
-        (no_end brought joins begun.link FromA) told.at_a
+      stays : Stays brought told.between
+      stays =
+          calls_if_live_stay told.place_a (PortUp k.channel.a.port) brought told.first told.between sound.wired.setups
+          told.at_a
 
-    stays : Stays brought told.between
-    stays =
-        calls_if_live_stay told.place_a (PortUp k.channel.a.port) brought told.first told.between sound.wired.setups
-        told.at_a
+      named_b : (station : Station) → slice_get told.between.stations told.place_b ≡ Some station
+          → clock station.system ≡ k.channel.b.clock
+      named_b station there =
+          let near = stays.stations told.place_b station there in
+          near.same.named
+          ∙ ap (λ (x : Station). clock x.system)
+          (same_there brought.stations told.place_b near.old told.station_b near.here told.is_b.here) ∙ told.is_b.named
 
-    on : JoinTheSame w.net.channels told.between.net.channels
-    on = join_on w.net.channels brought.net.channels told.between.net.channels joins stays.links
+      raised_in_time : IsAskedInTime gone at w'
+      raised_in_time =
+          live_in_time gone at told.place_b k.channel.b.port told.between told.second w'
+          (λ station there.
+          among_stays brought told.between k.channel.b stays port_b told.place_b station there (named_b station there))
+          (live_orderly told.place_a k.channel.a.port brought told.first told.between orderly told.at_a) first
+          told.at_b
 
-    named_b : (station : Station) → slice_get told.between.stations told.place_b ≡ Some station
-        → clock station.system ≡ k.channel.b.clock
-    named_b station there =
-        let near = stays.stations told.place_b station there in
-        near.same.named
-        ∙ ap (λ (x : Station). clock x.system)
-        (same_there brought.stations told.place_b near.old told.station_b near.here told.is_b.here) ∙ told.is_b.named
-
-    raised_in_time : IsAskedInTime gone at w'
-    raised_in_time =
-        live_in_time gone at told.place_b k.channel.b told.between told.second w' named_b
-        (λ station there.
-        among_stays brought told.between k.channel.b stays port_b told.place_b station there (named_b station there))
-        (live_orderly told.place_a k.channel.a.port brought told.first told.between orderly told.at_a) first
-        (no_end told.between on first.link FromB) told.at_b
+    -- what is in flight between two failed systems
+    raised_gone : AreGoneBetween gone w → (at : LinkPlace) → at.link ≢ k.place → IsGoneBetween gone at w'
+    raised_gone all at other =
+        live_gone gone at told.place_b (PortUp k.channel.b.port) told.between told.second w' told.at_b
+        (live_orderly told.place_a k.channel.a.port brought told.first told.between orderly told.at_a)
+        (live_gone gone at told.place_a (PortUp k.channel.a.port) brought told.first told.between told.at_a orderly
+        (λ s. all at (record {
+          channel = s.channel;
+          here = sym (get-set_other w.net.channels k.place at.link raised other) ∙ s.here;
+          up = s.up;
+          asking = s.asking;
+          answering = s.answering;
+        })))
 
   pub up_in_time_still : AreAskedInTime gone w
       → ((at : LinkPlace) → StandsUnanswered at w' → IsOtherLink at (port_id number port) w) → AreAskedInTime gone w'
@@ -258,4 +257,16 @@ module _ (gone number port : ℕ) (w : WorldState) (draws : List Draw) (done : D
           let nothing : Nothing now draws w' =
           subst (λ b. ComesUpIf b k.place k.channel now draws w') up k.so in
           subst (AreAskedInTime gone) (sym nothing.1) (still_in_time gone w asked)
-      go false down = λ at s. raised_in_time asked down at (λ e. apart at s k.place k.channel k.is (sym e)) s
+      go false down = λ at s. raised_in_time down asked at (λ e. apart at s k.place k.channel k.is (sym e)) s
+
+  -- so it is of frames between two failed systems
+  pub up_gone_still : AreGoneBetween gone w
+      → ((at : LinkPlace) → StandsFailed at w' → IsOtherLink at (port_id number port) w) → AreGoneBetween gone w'
+  up_gone_still all apart = go k.channel.up refl
+    where
+      go : (b : Bool) → k.channel.up ≡ b → AreGoneBetween gone w'
+      go true up =
+          let nothing : Nothing now draws w' =
+          subst (λ b. ComesUpIf b k.place k.channel now draws w') up k.so in
+          subst (AreGoneBetween gone) (sym nothing.1) (gone_still gone w all)
+      go false down = λ at s. raised_gone down all at (λ e. apart at s k.place k.channel k.is (sym e)) s

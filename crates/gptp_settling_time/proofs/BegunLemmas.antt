@@ -1,5 +1,5 @@
 -- The world of a document begins, or has rested.
-use Rattle.std.proofs.Common.{◌≡◌, ◌≤◌, ◌+◌, ◌*◌, ℕ, List, [], Option, refl, sym, ap, subst, ◌∙◌, inl, arith}
+use Rattle.std.proofs.Common.{◌≡◌, ◌≤◌, ◌+◌, ◌*◌, ℕ, false, List, [], Option, Some, slice_get, refl, sym, ap, subst, ◌∙◌, inl, arith}
 use Rattle.gptp_graph.specs.PathBound.{path_bound}
 use Rattle.gptp_links.specs.declared.bounds.Bounds.{Bounds}
 use Rattle.gptp_setup.specs.SettlingParams.{SettlingParams, largest_interval, longest_span}
@@ -8,6 +8,7 @@ use Rattle.gptp_scenario.specs.Network.{NetworkState, pace_of}
 use Rattle.gptp_scenario.specs.SyncWait.{sync_paths}
 use Rattle.gptp_scenario.specs.declared.change.Timed.{Timed}
 use Rattle.gptp_scenario.specs.declared.sync_wait.SyncPaths.{SyncPaths}
+use Rattle.gptp_model.specs.declared.station.Station.{Station}
 use Rattle.gptp_model.specs.Course.{Begun}
 use Rattle.gptp_model.specs.Initial.{initial}
 use Rattle.gptp_model.specs.Sound.{IsSound}
@@ -46,6 +47,14 @@ module _ {F : Type 0} (answers : Bounds → ℕ → F → Option ℕ → F → T
     sound : IsSound (initial n)
     sound = initial_sound n playable.network
 
+    -- none has failed
+    none_failed : (place : ℕ) (station : Station) → slice_get w.stations place ≡ Some station
+        → station.live ≡ false → ⊥
+    none_failed place station here failed =
+        let lives = start_lives answers n fate fate_after w playable.network sound k place station here in
+        let both = sym lives ∙ failed in
+        cc
+
     pub begun_keeps : KeepsTo d [] w
     begun_keeps = record {
       claim = claim_begins answers n fate fate_after w playable.network sound k;
@@ -54,11 +63,8 @@ module _ {F : Type 0} (answers : Bounds → ℕ → F → Option ℕ → F → T
       asked = λ time spared. (
         0,
         spared,
-        λ place s.
-            let lives = start_lives answers n fate fate_after w playable.network sound k place.answering
-            s.answering.station s.answering.here in
-            let both = sym lives ∙ s.answering.failed in
-            absurd cc,
+        λ place s. absurd (none_failed place.answering s.answering.station s.answering.here s.answering.failed),
+        λ place s. absurd (none_failed place.answering s.answering.station s.answering.here s.answering.failed),
       );
     }
 

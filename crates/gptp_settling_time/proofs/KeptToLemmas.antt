@@ -26,12 +26,13 @@ use Rattle.gptp_theorem.proofs.KeptLemmas.{acts_stand, time_stands}
 use Rattle.gptp_theorem.proofs.PlayedLemmas.{no_change}
 use Rattle.gptp_settling_time.specs.Gains.{AreSparedBy}
 use Rattle.gptp_settling_time.proofs.AskedInTimeLemmas.{AreAskedInTime, are_asked_acts, are_asked_later}
+use Rattle.gptp_settling_time.proofs.BetweenFailedLemmas.{AreGoneBetween, gone_acts, gone_later}
 use Rattle.gptp_settling_time.proofs.NewsSoonLemmas.{IsNewsFrom, from_done, from_later}
 use Rattle.gptp_settling_time.proofs.TimedNewsLemmas.{IsTimed, timed_act, timed_later}
 
 -- what is old beside failed systems was due by an earlier time than this
 abbrev pub WereAskedInTime : ℕ → WorldState → Type 0
-WereAskedInTime time w = (gone : ℕ) × (gone < time) × AreAskedInTime gone w
+WereAskedInTime time w = (gone : ℕ) × (gone < time) × AreAskedInTime gone w × AreGoneBetween gone w
 
 -- A world keeps what all do, and stands as the network of the document does after these events.
 pub record KeepsTo (d : DocumentState) (events : List Timed) (w : WorldState) : Type 0 where
@@ -60,7 +61,8 @@ module _ (d : DocumentState) (events : List Timed) where
     stands = time_stands d.network events w time keeps.stands;
     slow = keeps.slow;
     asked = λ by spared.
-        let (gone, past, asked) = keeps.asked by spared in (gone, past, are_asked_later gone time w later asked);
+        let (gone, past, asked, all) = keeps.asked by spared in
+        (gone, past, are_asked_later gone time w later asked, gone_later gone time w all);
   }
 
   pub news_later_to : (start : ℕ) (w : WorldState) (time : ℕ) → w.time ≤ time → NothingBefore time w.net.pending
@@ -88,12 +90,14 @@ module _ (d : DocumentState) (events : List Timed) where
         let p = pace_of d.network in
         let none = no_change next.item timed.act w next.act in
         let then = claim_later p w timed.at was.ready.timely.now was.ready.timely.first keeps.claim in
-        let (gone, past, asked) = keeps.asked time spared in (
+        let (gone, past, asked, all) = keeps.asked time spared in (
           gone,
           past,
           are_asked_acts gone timed.act (at timed.at w) t.after was.draws t.told.done then.world.sound then.measured
               (no_change_is timed.act none) was.acts
               (are_asked_later gone timed.at w was.ready.timely.now asked),
+          gone_acts gone timed.act (at timed.at w) t.after was.draws t.told.done then.world.sound
+              (no_change_is timed.act none) was.acts (gone_later gone timed.at w all),
         )
 
     pub keeps_act : KeepsTo d events w → KeepsTo d events t.after

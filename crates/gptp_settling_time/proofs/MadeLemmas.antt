@@ -34,7 +34,7 @@ use Rattle.gptp_invariants.specs.DelayLinkView.{LinkPlace}
 use Rattle.gptp_invariants.specs.DelayMeasured.{LinkIsMeasured}
 use Rattle.gptp_invariants.specs.WorldNews.{AreReadyBy, AreSilentBy, IsNews}
 use Rattle.gptp_invariants.specs.WorldSound.{IsGain, IsSoundWorld}
-use Rattle.gptp_invariants.specs.FailedUnanswered.{StandsUnanswered}
+use Rattle.gptp_invariants.specs.FailedUnanswered.{IsFailedAmong, StandsUnanswered}
 use Rattle.gptp_invariants.proofs.WorldClaimLemmas.{claim_kept, claim_later}
 use Rattle.gptp_invariants.proofs.WorldLinkUpNewsLemmas.{link_up_news}
 use Rattle.gptp_invariants.proofs.WorldNewsActLemmas.{gain_news, priority_news, ready_later, unanswered_silent, watched_ready}
@@ -50,8 +50,9 @@ use Rattle.gptp_theorem.proofs.SyncPathLemmas.{paths_stand}
 use Rattle.gptp_settling_time.specs.Gains.{AreCapableAnyway, AreCapableNext, AreCapableStill, AreSparedBy, ChangesNothing, IsIdleAfter, IsSparedBy, JoinsLive, LeadsToLive, LeavesCapable, SparesFailed, TakesNothing}
 use Rattle.gptp_settling_time.proofs.GainLemmas.{all_live, failed_so, gain_so, idle_so, lives_so}
 use Rattle.gptp_settling_time.proofs.IdleLemmas.{idle_now, idle_same, news_still}
-use Rattle.gptp_settling_time.proofs.AskedElsewhereLemmas.{still_in_time, up_in_time_still}
+use Rattle.gptp_settling_time.proofs.AskedElsewhereLemmas.{still_in_time, up_gone_still, up_in_time_still}
 use Rattle.gptp_settling_time.proofs.AskedInTimeLemmas.{AreAskedInTime, are_asked_begin, are_asked_later}
+use Rattle.gptp_settling_time.proofs.BetweenFailedLemmas.{AreGoneBetween, gone_begins, gone_later, gone_still}
 use Rattle.gptp_settling_time.proofs.KeptToLemmas.{IsNewsTo, KeepsTo, WereAskedInTime, keeps_later}
 use Rattle.gptp_settling_time.proofs.NewsSoonLemmas.{AreComing, HowComing, IsNewsFrom, IsNewsSoon, coming_later, from_coming, from_later, from_sound, soon_still}
 use Rattle.gptp_settling_time.proofs.RecoverLemmas.{recover_in_time, recover_soon}
@@ -183,31 +184,37 @@ module _ {F : Type 0} (answers : Bounds → ℕ → F → Option ℕ → F → T
         cc
 
     -- a link between live systems isn't one that leads to a failed one
-    apart : (number port : ℕ) → JoinsLive n more (port_id number port) → (place : LinkPlace)
-        → StandsUnanswered place w' → (link : ℕ) (channel : Channel)
-        → IsChannel (port_id number port) link then.net channel → link ≢ place.link
-    apart number port live place s link channel at_port = λ same.
+    apart_from : (number port : ℕ) → JoinsLive n more (port_id number port) → (place : LinkPlace) (now : Channel)
+        → slice_get w'.net.channels place.link ≡ Some now
+        → IsFailedAmong place.answering (receiver place.direction now).clock w'.stations
+        → (link : ℕ) (channel : Channel) → IsChannel (port_id number port) link then.net channel → link ≢ place.link
+    apart_from number port live place now here failed link channel at_port = λ same.
         let stays = acts_stay event.act then k.draws done w' claim_now.world.sound.wired.setups k.acts in
-        let near = stays.links place.link s.channel s.here in
+        let near = stays.links place.link now here in
         let one : channel ≡ near.old =
         same_there then.net.channels place.link channel near.old
         (subst (λ i. slice_get then.net.channels i ≡ Some channel) same at_port.here) near.here in
-        let joined : IsEnd (port_id number port) (channel_wire s.channel) = elim at_port.joined [
+        let joined : IsEnd (port_id number port) (channel_wire now) = elim at_port.joined [
           | inl a ↦ inl (near.a ∙ sym (ap (λ (c : Channel). c.a) one) ∙ a)
           | inr b ↦ inr (near.b ∙ sym (ap (λ (c : Channel). c.b) one) ∙ b)
         ] in
         let (v, there, wire) = alike (link_after more) channel_wire n.links w'.net.channels (sym stands_after.links)
-        place.link s.channel s.here in
+        place.link now here in
         let ends = live place.link v there (subst (IsEnd (port_id number port)) (sym wire) joined) in
-        let lives : IsLive n.systems more (receiver place.direction s.channel).clock =
-        end_so (IsLive n.systems more) place.direction s.channel
+        let lives : IsLive n.systems more (receiver place.direction now).clock =
+        end_so (IsLive n.systems more) place.direction now
         (subst (λ (x : LinkSpec). IsLive n.systems more x.a.clock) wire ends.0)
         (subst (λ (x : LinkSpec). IsLive n.systems more x.b.clock) wire ends.1) in
-        let on = lives_so n more w' stands_after claim_after.world.sound (receiver place.direction s.channel).clock
-        lives place.answering s.answering.station
-        (record { here = s.answering.here; named = s.answering.named }) in
-        let both = sym on ∙ s.answering.failed in
+        let on = lives_so n more w' stands_after claim_after.world.sound (receiver place.direction now).clock
+        lives place.answering failed.station
+        (record { here = failed.here; named = failed.named }) in
+        let both = sym on ∙ failed.failed in
         cc
+
+    apart : (number port : ℕ) → JoinsLive n more (port_id number port) → (place : LinkPlace)
+        → StandsUnanswered place w' → (link : ℕ) (channel : Channel)
+        → IsChannel (port_id number port) link then.net channel → link ≢ place.link
+    apart number port live place s = apart_from number port live place s.channel s.here s.answering
 
     acts_as : (change : Change) → is.change ≡ change → Acts (Changing change) then k.draws done w'
     acts_as change same = subst (λ c. Acts (Changing c) then k.draws done w') same acts
@@ -219,28 +226,33 @@ module _ {F : Type 0} (answers : Bounds → ℕ → F → Option ℕ → F → T
         let now : WorldState = record then { last_change = then.time } in
         idle_same is.change now k.draws w' (idle_now is.change then idle) acts.1
 
-    -- requests are in time beside failed systems
-    spared : (gone : ℕ) → AreAskedInTime gone then → (change : Change) → is.change ≡ change
-        → SparesFailed n made event (Changing change) → AreAskedInTime gone w'
-    spared gone asked (LinkUp number port) same live =
-        up_in_time_still gone number port then k.draws done w' claim_now.world.sound (acts_as (LinkUp number port) same)
-        asked (λ place s link channel at_port. apart number port live place s link channel at_port)
-    spared gone asked (Recover number) same live =
+    -- what is in flight beside failed systems and between them is in time
+    spared : (gone : ℕ) → AreAskedInTime gone then → AreGoneBetween gone then → (change : Change)
+        → is.change ≡ change → SparesFailed n made event (Changing change)
+        → AreAskedInTime gone w' × AreGoneBetween gone w'
+    spared gone asked all (LinkUp number port) same live = (
+      up_in_time_still gone number port then k.draws done w' claim_now.world.sound (acts_as (LinkUp number port) same)
+          asked (λ place s link channel at_port. apart number port live place s link channel at_port),
+      up_gone_still gone number port then k.draws done w' claim_now.world.sound (acts_as (LinkUp number port) same) all
+          (λ place s link channel at_port.
+          apart_from number port live place s.channel s.here s.answering link channel at_port),
+    )
+    spared gone asked all (Recover number) same recovers =
         recover_in_time p 0 0 number then k.draws done w' claim_now.pace claim_now.world claim_after.world
-        claim_now.measured claim_after.measured (acts_as (Recover number) same) gone (beside_live number live) asked
-    spared gone asked (Priority1 number value) same none = absurd none
-    spared gone asked (LinkDown number port) same none = absurd none
-    spared gone asked (LinkSet number port min max loss) same none = absurd none
-    spared gone asked (Fail number) same none = absurd none
-    spared gone asked (Inject number port octets) same none = absurd none
+        claim_now.measured claim_after.measured (acts_as (Recover number) same) gone asked all
+    spared gone asked all (Priority1 number value) same none = absurd none
+    spared gone asked all (LinkDown number port) same none = absurd none
+    spared gone asked all (LinkSet number port min max loss) same none = absurd none
+    spared gone asked all (Fail number) same none = absurd none
+    spared gone asked all (Inject number port octets) same none = absurd none
 
     asked_now : (gone : ℕ) → AreAskedInTime gone w → AreAskedInTime gone then
     asked_now gone asked = are_asked_later gone event.at w k.ready.timely.now asked
 
     asked_after : (time : ℕ) → AreSparedBy n [] more time → WereAskedInTime time w'
-    asked_after time all =
-        let (before, last) = one_more n [] made event time all in
-        let (gone, past, asked) = keeps.asked time before in
+    asked_after time spare =
+        let (before, last) = one_more n [] made event time spare in
+        let (gone, past, asked, all) = keeps.asked time before in
         elim last [
           | inl over ↦
               let change = made_last in
@@ -248,19 +260,19 @@ module _ {F : Type 0} (answers : Bounds → ℕ → F → Option ℕ → F → T
                 w'.last_change + largest_interval p,
                 omega (arith, over, change, now),
                 are_asked_begin p w' claim_after.world.sound claim_after.measured claim_after.world.known made_last,
+                gone_begins p w' claim_after.world.known made_last,
               )
-          | inr (inl nothing) ↦ (
-            gone,
-            past,
-            subst (AreAskedInTime gone)
-                (sym (still_now (subst (ChangesNothing n made) is.act nothing)))
-                (still_in_time gone then (asked_now gone asked)),
-          )
-          | inr (inr spares) ↦ (
-            gone,
-            past,
-            spared gone (asked_now gone asked) is.change refl (subst (SparesFailed n made event) is.act spares),
-          )
+          | inr (inl nothing) ↦
+              let same = still_now (subst (ChangesNothing n made) is.act nothing) in (
+                gone,
+                past,
+                subst (AreAskedInTime gone) (sym same) (still_in_time gone then (asked_now gone asked)),
+                subst (AreGoneBetween gone) (sym same) (gone_still gone then (gone_later gone event.at w all)),
+              )
+          | inr (inr spares) ↦
+              let both = spared gone (asked_now gone asked) (gone_later gone event.at w all) is.change refl
+              (subst (SparesFailed n made event) is.act spares) in
+              (gone, past, both.0, both.1)
         ]
 
     pub made_keeps : KeepsTo d more w'
@@ -345,7 +357,7 @@ module _ {F : Type 0} (answers : Bounds → ℕ → F → Option ℕ → F → T
         sound_then (subst (λ change. IsGain change then) same gain) coming early before
     soon_change next by silent early before coming (Recover number) same (failed, live, alone, late) =
         let delay = delay_is keeps in
-        let (gone, past, asked) = keeps.asked event.at alone in
+        let (gone, past, asked, all) = keeps.asked event.at alone in
         let came = acts_as keeps (Recover number) same in
         let asks : ℕ = max by (event.at + interval_of p.params.pdelay) in
         recover_soon p asks next number then k.draws done w' claim_then.pace claim_then.world after.claim.world
@@ -353,7 +365,11 @@ module _ {F : Type 0} (answers : Bounds → ℕ → F → Option ℕ → F → T
         (failed_so n made then stands_then claim_then.world.sound number failed came.1.place came.1.station
         (record { here = came.1.is.here; named = came.1.is.named }))
         sound_then gone past (asked_now keeps gone asked)
-        (beside_live keeps number live) (omega arith) (omega (arith, before, late)) (omega (arith, late, delay)) silent
+        (gone_later gone event.at w all)
+        (λ place s same_clock. elim live [
+          | inl leads ↦ absurd (beside_live keeps number leads place s same_clock)
+          | inr long ↦ long
+        ]) (omega arith) (omega (arith, before, late)) (omega (arith, late, delay)) silent
         (λ at stands. coming_later p by next at asks next then (omega arith) (omega arith) (coming at stands))
     soon_change next by silent early before coming (LinkDown number port) same none = absurd none
     soon_change next by silent early before coming (LinkSet number port min max loss) same none = absurd none

@@ -12,13 +12,15 @@ use Rattle.gptp_links.specs.Fate.{Draw}
 use Rattle.gptp_links.specs.Queue.{Frame}
 use Rattle.gptp_setup.specs.Intervals.{AreParams, interval_of}
 use Rattle.gptp_setup.specs.SettlingParams.{SettlingParams, largest_interval}
+use Rattle.gptp_pdelay.specs.Peer.{is_capable, reset_peer}
 use Rattle.gptp_scenario.specs.Params.{KeepPace}
+use Rattle.gptp_scenario.specs.SettlingTime.{capability_span}
 use Rattle.gptp_scenario.specs.declared.change.Act.TheVariants.{Change as Changing}
 use Rattle.gptp_scenario.specs.declared.change.Change.TheVariants.{Recover}
 use Rattle.gptp_system.specs.declared.port.Port.{Port}
 use Rattle.gptp_system.specs.declared.answer.Answer.{Answer}
 use Rattle.gptp_system.specs.Input.{PortUp}
-use Rattle.gptp_system.specs.Measures.{measure_at}
+use Rattle.gptp_system.specs.Measures.{measure_at, part_asked}
 use Rattle.gptp_system.specs.Start.{started}
 use Rattle.gptp_system.specs.State.{SystemState, clock, number as port_number}
 use Rattle.gptp_system.specs.Steps.{HasPortNumber}
@@ -31,30 +33,32 @@ use Rattle.gptp_model.specs.Changing.{CallsAll, Nothing, RecoversIf, Starts, fre
 use Rattle.gptp_model.specs.World.{Channel, WorldState, receiver, sender, world_queue}
 use Rattle.gptp_model.proofs.StayLemmas.{Stays, refreshed_stays, stays_apart, stays_clocks, starts_stays, stays_ports, stays_setups}
 use Rattle.gptp_model.proofs.UpLemmas.{brings_port, brought_ports}
+use Rattle.gptp_pdelay_machine.specs.Asker.{Asker}
 use Rattle.gptp_pdelay_machine.specs.Lanes.{LaneFrame}
 use Rattle.gptp_pdelay_machine.specs.Messages.{Request}
 use Rattle.gptp_pdelay_machine.specs.Setting.{Setting}
 use Rattle.gptp_pdelay_machine.specs.Silence.{InvUnanswered}
 use Rattle.gptp_invariants.specs.ChoiceCalm.{delay_in}
 use Rattle.gptp_invariants.specs.ChoiceSettlesAsMachine.{IsWorld}
-use Rattle.gptp_invariants.specs.DelayLinkView.{IsEndOf, IsLinkOf, LinkPlace, asker_view, link_setting, other_direction, pair, reads_as_request, waits_by}
+use Rattle.gptp_invariants.specs.DelayLinkView.{IsEndOf, IsLinkOf, LinkPlace, asked_at, asker_view, link_setting, other_direction, pair, reads_as_request, waits_by}
 use Rattle.gptp_invariants.specs.DelayMeasured.{IsStationMeasured, LinkIsMeasured, LinkStandsAt, StationIsLiveAt}
-use Rattle.gptp_invariants.specs.FailedUnanswered.{IsSilent, IsUnansweredAt, StandsUnanswered, silent_setting, silent_view}
+use Rattle.gptp_invariants.specs.FailedUnanswered.{IsFailedAmong, IsSilent, IsUnansweredAt, StandsUnanswered, silent_setting, silent_view}
 use Rattle.gptp_invariants.specs.WorldNews.{AreSilentBy, IsSilentBy}
 use Rattle.gptp_invariants.specs.WorldSound.{IsSoundWorld}
 use Rattle.gptp_invariants.proofs.ChoiceCalmKeptLemmas.{KeepsNetwork, calls_keep, keeps_on, net_keeps}
 use Rattle.gptp_invariants.proofs.DelayCapableKeptLemmas.{HaveParams, known_params, stood_among}
 use Rattle.gptp_invariants.proofs.DelayElsewhereLemmas.{calls_orderly}
-use Rattle.gptp_invariants.proofs.DelayLinkCallLemmas.{seen_from}
+use Rattle.gptp_invariants.proofs.DelayLinkCallLemmas.{at_own, seen_from}
 use Rattle.gptp_invariants.proofs.DelayLinkKeptLemmas.{HasAll, started_measured}
 use Rattle.gptp_invariants.proofs.DelayLinkLemmas.{IsOrderly, sender_opposite, sound_orderly}
 use Rattle.gptp_invariants.proofs.DelayLinkStandLemmas.{end_is}
-use Rattle.gptp_invariants.proofs.FailedUnansweredCallLemmas.{call_seen, view_stays}
+use Rattle.gptp_invariants.proofs.FailedUnansweredCallLemmas.{asker_is, call_seen, view_stays}
 use Rattle.gptp_invariants.proofs.WorldBeforeLemmas.{calls_before, stood}
 use Rattle.gptp_invariants.proofs.WorldSoundLemmas.{sound_gains}
 use Rattle.gptp_settling_time.proofs.AskedElsewhereLemmas.{all_in_time, still_in_time}
 use Rattle.gptp_settling_time.proofs.AskedInTimeLemmas.{AreAskedInTime, IsAskedInTime}
 use Rattle.gptp_settling_time.proofs.AsksSoonLemmas.{alone_asks, asked_before, both_ways, due_now, now_asks, seen_due, soon_after}
+use Rattle.gptp_settling_time.proofs.BetweenFailedLemmas.{AreGoneBetween, StandsFailed, all_gone, gone_still}
 use Rattle.gptp_settling_time.proofs.NewsSoonLemmas.{AreComing, IsComing, IsNewsSoon, coming_goes_through}
 use Rattle.gptp_settling_time.proofs.OrderedLemmas.{opposite, turned}
 use Rattle.gptp_settling_time.proofs.RestartLemmas.{AskedAlone, HasAskedNow, IsPrompt, alone_all, asks_all}
@@ -71,33 +75,53 @@ all_keep place (p ∷ ps) w draws w' (first, rest, between, answer, split, k, mo
       when ∙ ap (λ (v : WorldState). v.time) k.is,
     )
 
--- a port that comes up at another system leaves one beside a failed system silent
+-- a port that comes up leaves one beside a failed system silent
 beside_silent : (gone : ℕ) (at : LinkPlace) (place q : ℕ) (w : WorldState) (draws : List Draw) (answer : Answer)
-    (w' : WorldState) → Calls place (PortUp q) w draws answer w' → IsOrderly w → at.asking ≢ place
-    → IsSilent gone at w → IsSilent gone at w'
-beside_silent gone at place q w draws answer w' k orderly apart is =
+    (w' : WorldState) → Calls place (PortUp q) w draws answer w' → IsOrderly w → IsSilent gone at w → IsSilent gone at w'
+beside_silent gone at place q w draws answer w' k orderly is =
     let step = call_seen gone at place (PortUp q) w draws answer w' k orderly.clocks is.link is.old (λ same. tt) in
-    let part : measure_at step.after.asking.state ≡ measure_at is.link.asking.state = elim step.part [
-      | inl called ↦ absurd (apart called.0)
-      | inr left ↦ left.1
-    ] in
+    let period = interval_of is.link.asking.station.setup.params.pdelay in
+    let x = measure_at is.link.asking.state in
+    let still : measure_at step.after.asking.state ≡ x → IsSilent gone at w' = λ part.
     let seen : silent_view at w' step.after ≡ silent_view at w is.link =
-    view_stays step (ap (asker_view (interval_of is.link.asking.station.setup.params.pdelay)) part) in
+    view_stays step (ap (asker_view period) part) in
     record {
       link = step.after;
       old = step.old;
-      inv = subst (λ (x : Setting). InvUnanswered x gone (silent_view at w' step.after)) (sym step.settled)
+      inv = subst (λ (y : Setting). InvUnanswered y gone (silent_view at w' step.after)) (sym step.settled)
           (subst (InvUnanswered (silent_setting at w is.link) gone) (sym seen) is.inv);
-    }
+    } in
+    elim step.part [
+      | inl called ↦ elim (at_own q (sender at.direction is.link.channel).port
+          (part_asked is.link.asking.station.system w.time reset_peer) x (measure_at step.after.asking.state) called.1) [
+            | inl one ↦
+                let becomes : (silent_view at w' step.after).asker
+                ≡ asker_view period (part_asked is.link.asking.station.system w.time reset_peer x) =
+                asker_is step ∙ ap (asker_view period) one.1 in
+                let lost : (silent_view at w' step.after).asker.lost ≡ 0 = ap (λ (a : Asker). a.lost) becomes in
+                let off : (silent_view at w' step.after).asker.capable ≡ false =
+                ap (λ (a : Asker). a.capable) becomes in
+                record {
+                  link = step.after;
+                  old = step.old;
+                  inv = record {
+                    lost = omega (arith, lost);
+                    counts = λ capable. absurd (let both = sym off ∙ capable in cc);
+                  };
+                }
+            | inr beside ↦ still beside.1
+          ]
+      | inr left ↦ still left.1
+    ]
 
 all_silent : (gone : ℕ) (at : LinkPlace) (place : ℕ) (ps : List ℕ) (w : WorldState) (draws : List Draw)
-    (w' : WorldState) → CallsAll place (map PortUp ps) w draws w' → IsOrderly w → at.asking ≢ place
-    → IsSilent gone at w → IsSilent gone at w'
-all_silent gone at place [] w draws w' (none, same) orderly apart is = subst (IsSilent gone at) (sym same) is
-all_silent gone at place (q ∷ ps) w draws w' (first, rest, between, answer, split, k, more) orderly apart is =
+    (w' : WorldState) → CallsAll place (map PortUp ps) w draws w' → IsOrderly w → IsSilent gone at w
+    → IsSilent gone at w'
+all_silent gone at place [] w draws w' (none, same) orderly is = subst (IsSilent gone at) (sym same) is
+all_silent gone at place (q ∷ ps) w draws w' (first, rest, between, answer, split, k, more) orderly is =
     all_silent gone at place ps between rest w' more
-    (calls_orderly place (PortUp q) w first answer between orderly k) apart
-    (beside_silent gone at place q w first answer between k orderly apart is)
+    (calls_orderly place (PortUp q) w first answer between orderly k)
+    (beside_silent gone at place q w first answer between k orderly is)
 
 -- and it stood there
 all_stood : (at : LinkPlace) (place : ℕ) (ps : List ℕ) (w : WorldState) (draws : List Draw) (w' : WorldState)
@@ -107,18 +131,24 @@ all_stood at place (q ∷ ps) w draws w' (first, rest, between, answer, split, k
     stood at w between (calls_before place (PortUp q) w first answer between k)
     (all_stood at place ps between rest w' more s)
 
--- no answer waits at a port of a system as it starts
-none_waits : (place now : ℕ) (port : PortId) (station : Station) (w : WorldState) (e : IsEndOf place port w)
-    → e.station.system ≡ started station.setup now → e.state.respond ≡ None
-none_waits place now port station w e is = by port.port e.there
+-- A port of a system as it starts answers nothing, hasn't asked, and isn't capable.
+record IsFreshPort (q : Port) : Type 0 where
+  respond : q.respond ≡ None
+  pdelay : q.pdelay ≡ None
+  lost : q.peer.lost ≡ 0
+  off : is_capable q.peer ≡ false
+
+fresh_port : (place now : ℕ) (port : PortId) (station : Station) (w : WorldState) (e : IsEndOf place port w)
+    → e.station.system ≡ started station.setup now → IsFreshPort e.state
+fresh_port place now port station w e is = by port.port e.there
   where
-    by : (i : ℕ) → port_number e.station.system.ports i ≡ Some e.state → e.state.respond ≡ None
+    by : (i : ℕ) → port_number e.station.system.ports i ≡ Some e.state → IsFreshPort e.state
     by zero there = absurd (none-some e.state there)
     by (suc i) there =
         let set = station.setup in
         let (log, found, port_is) = new_port_at (clock_of set.identity) set.params set.intervals.items i e.state
         (subst (λ (s : SystemState). slice_get s.ports i ≡ Some e.state) is there) in
-        ap (λ (x : Port). x.respond) port_is
+        subst IsFreshPort (sym port_is) (record { respond = refl; pdelay = refl; lost = refl; off = refl })
 
 module _ (p : SettlingParams) (by next number : ℕ) (w : WorldState) (draws : List Draw) (done : Done) (w' : WorldState)
     (pace : KeepPace p) (is : IsWorld p w) (is' : IsWorld p w') (measured : LinkIsMeasured w)
@@ -355,8 +385,8 @@ module _ (p : SettlingParams) (by next number : ℕ) (w : WorldState) (draws : L
               subst (λ (x : LaneFrame). x.due ≤ (pair at begun link).asker.asked + s.channel.bounds.max) (sym same)
               (request_due f r there (subst (λ (x : LaneFrame). reads_as_request x.octets r) same says));
           waits = ap (λ o. waits_by o link.answering.state.peer.waiting)
-              (none_waits at.answering w.time (receiver at.direction s.channel) starts.station begun link.answering
-              (ap (λ (x : Station). x.system) answering_is));
+              (fresh_port at.answering w.time (receiver at.direction s.channel) starts.station begun link.answering
+              (ap (λ (x : Station). x.system) answering_is)).respond;
           mute = λ g member.
               let (f, there, same) = seen_from (world_queue (other_direction at.direction) s.channel) g member in
               absurd (none_back f there);
@@ -457,20 +487,11 @@ module _ (p : SettlingParams) (by next number : ℕ) (w : WorldState) (draws : L
 
     -- ---- ports beside failed systems
 
-    module _ (led : (at : LinkPlace) → (s : StandsUnanswered at w') → clock s.asking.station.system ≢ number)
-        (at : LinkPlace) (s : StandsUnanswered at w') where
+    module _ (at : LinkPlace) (s : StandsUnanswered at w') where
       stood_begun : StandsUnanswered at begun
       stood_begun = all_stood at k.place ports begun draws w' starts.calls s
 
-      asking_apart : at.asking ≢ k.place
-      asking_apart same =
-          let near = (starts_stays k.place now draws w' is.sound.wired.setups starts).stations at.asking
-          s.asking.station s.asking.here in
-          let one : near.old ≡ k.station =
-          same_there w.stations k.place near.old k.station (ap (slice_get w.stations) (sym same) ∙ near.here)
-          k.is.here in
-          led at s (near.same.named ∙ ap (λ (x : Station). clock x.system) one ∙ k.is.named)
-
+      -- what is failed is another system than the one that recovers
       answering_apart : at.answering ≢ k.place
       answering_apart same =
           let one : stood_begun.answering.station ≡ new =
@@ -479,83 +500,230 @@ module _ (p : SettlingParams) (by next number : ℕ) (w : WorldState) (draws : L
           let off : false ≡ new.live = sym stood_begun.answering.failed ∙ ap (λ (x : Station). x.live) one in
           absurd cc
 
-      was : StandsUnanswered at w
-      was = record {
-        channel = stood_begun.channel;
-        here = stood_begun.here;
-        up = stood_begun.up;
-        asking = record {
-          station = stood_begun.asking.station;
-          here = sym (get-set_other w.stations k.place at.asking new asking_apart) ∙ stood_begun.asking.here;
-          live = stood_begun.asking.live;
-          named = stood_begun.asking.named;
-        };
-        answering = record {
-          station = stood_begun.answering.station;
-          here = sym (get-set_other w.stations k.place at.answering new answering_apart)
-              ∙ stood_begun.answering.here;
-          failed = stood_begun.answering.failed;
-          named = stood_begun.answering.named;
-        };
-      }
+      failed_was : slice_get w.stations at.answering ≡ Some stood_begun.answering.station
+      failed_was = sym (get-set_other w.stations k.place at.answering new answering_apart) ∙ stood_begun.answering.here
 
-      abbrev unanswered_begun : IsUnansweredAt at w → IsUnansweredAt at begun
-      unanswered_begun l = record {
-        channel = l.channel;
-        here = l.here;
-        up = l.up;
-        asking = record {
-          station = l.asking.station;
-          state = l.asking.state;
-          here = get-set_other w.stations k.place at.asking new asking_apart ∙ l.asking.here;
-          live = l.asking.live;
-          set_up = l.asking.set_up;
-          named = l.asking.named;
-          there = l.asking.there;
-          measures = l.asking.measures;
-        };
-        answering = record {
-          station = l.answering.station;
-          here = get-set_other w.stations k.place at.answering new answering_apart ∙ l.answering.here;
-          failed = l.answering.failed;
-          named = l.answering.named;
-        };
-      }
+      -- ---- a port of another system
 
-      begun_silent : (old_by : ℕ) → IsSilent old_by at w → IsSilent old_by at begun
-      begun_silent old_by one = record { link = unanswered_begun one.link; old = one.old; inv = one.inv }
+      module _ (asking_apart : at.asking ≢ k.place) where
+        was : StandsUnanswered at w
+        was = record {
+          channel = stood_begun.channel;
+          here = stood_begun.here;
+          up = stood_begun.up;
+          asking = record {
+            station = stood_begun.asking.station;
+            here = sym (get-set_other w.stations k.place at.asking new asking_apart) ∙ stood_begun.asking.here;
+            live = stood_begun.asking.live;
+            named = stood_begun.asking.named;
+          };
+          answering = record {
+            station = stood_begun.answering.station;
+            here = failed_was;
+            failed = stood_begun.answering.failed;
+            named = stood_begun.answering.named;
+          };
+        }
 
-      recovers_silent : AreSilentBy p next w → IsSilentBy p next at w'
-      recovers_silent silent =
-          let (change, one, from) = silent at was in
-          let old_by = change + largest_interval p in (
-            change,
-            all_silent old_by at k.place ports begun draws w' starts.calls orderly asking_apart
-                (begun_silent old_by one),
-            from,
-          )
+        abbrev unanswered_begun : IsUnansweredAt at w → IsUnansweredAt at begun
+        unanswered_begun l = record {
+          channel = l.channel;
+          here = l.here;
+          up = l.up;
+          asking = record {
+            station = l.asking.station;
+            state = l.asking.state;
+            here = get-set_other w.stations k.place at.asking new asking_apart ∙ l.asking.here;
+            live = l.asking.live;
+            set_up = l.asking.set_up;
+            named = l.asking.named;
+            there = l.asking.there;
+            measures = l.asking.measures;
+          };
+          answering = record {
+            station = l.answering.station;
+            here = get-set_other w.stations k.place at.answering new answering_apart ∙ l.answering.here;
+            failed = l.answering.failed;
+            named = l.answering.named;
+          };
+        }
 
-      recovers_in_time : (gone : ℕ) → AreAskedInTime gone w → IsAskedInTime gone at w'
-      recovers_in_time gone asked =
-          let one = asked at was in
-          let l = one.link in
-          all_in_time gone at k.place ports begun draws w' starts.calls has orderly asking_apart
-          (record {
-            link = unanswered_begun l;
-            asked = one.asked;
-            frames = one.frames;
-            requests = one.requests;
-            old = one.old;
-          })
+        begun_silent : (old_by : ℕ) → IsSilent old_by at w → IsSilent old_by at begun
+        begun_silent old_by one = record { link = unanswered_begun one.link; old = one.old; inv = one.inv }
+
+        others_silent : AreSilentBy p next w → IsSilentBy p next at w'
+        others_silent silent =
+            let (change, one, from) = silent at was in
+            let old_by = change + largest_interval p in (
+              change,
+              all_silent old_by at k.place ports begun draws w' starts.calls orderly
+                  (begun_silent old_by one),
+              from,
+            )
+
+        others_in_time : (gone : ℕ) → AreAskedInTime gone w → IsAskedInTime gone at w'
+        others_in_time gone asked =
+            let one = asked at was in
+            let l = one.link in
+            all_in_time gone at k.place ports begun draws w' starts.calls has orderly
+            (record {
+              link = unanswered_begun l;
+              asked = one.asked;
+              frames = one.frames;
+              requests = one.requests;
+              old = one.old;
+            })
+
+      -- ---- a port of the system that recovers
+
+      module _ (here : at.asking ≡ k.place) (gone : ℕ) (all : AreGoneBetween gone w) where
+        asking_new : stood_begun.asking.station ≡ new
+        asking_new =
+            same_there begun.stations k.place stood_begun.asking.station new
+            (ap (slice_get begun.stations) (sym here) ∙ stood_begun.asking.here) here_new
+
+        between : StandsFailed at w
+        between =
+            let near = stays.stations at.asking stood_begun.asking.station stood_begun.asking.here in
+            let one : near.old ≡ k.station =
+            same_there w.stations k.place near.old k.station (ap (slice_get w.stations) (sym here) ∙ near.here)
+            k.is.here in
+            record {
+              channel = stood_begun.channel;
+              here = stood_begun.here;
+              up = stood_begun.up;
+              asking = record {
+                station = near.old;
+                here = near.here;
+                failed = ap (λ (x : Station). x.live) one ∙ dead;
+                named = sym near.same.named ∙ stood_begun.asking.named;
+              };
+              answering = record {
+                station = stood_begun.answering.station;
+                here = failed_was;
+                failed = stood_begun.answering.failed;
+                named = stood_begun.answering.named;
+              };
+            }
+
+        abbrev end : IsEndOf at.asking (sender at.direction stood_begun.channel) begun
+        end = end_is at.asking (sender at.direction stood_begun.channel) begun measured_begun stood_begun.asking
+            (stays_ports now begun stays is.sound.wired.ports at.link at.asking at.direction stood_begun.channel
+            stood_begun.asking.station stood_begun.here stood_begun.asking.here stood_begun.asking.named)
+
+        fresh_end : IsFreshPort end.state
+        fresh_end =
+            fresh_port at.asking w.time (sender at.direction stood_begun.channel) starts.station begun end
+            (ap (λ (x : Station). x.system) asking_new)
+
+        own_begun : IsUnansweredAt at begun
+        own_begun = record {
+          channel = stood_begun.channel;
+          here = stood_begun.here;
+          up = stood_begun.up;
+          asking = end;
+          answering = stood_begun.answering;
+        }
+
+        due_by : (direction : Direction) (f : Frame) → In f (world_queue direction stood_begun.channel) → f.due ≤ gone
+        unfolding between
+        due_by direction f member = all at between direction f member
+
+        own_in_time : IsAskedInTime gone at w'
+        unfolding own_begun
+        own_in_time =
+            all_in_time gone at k.place ports begun draws w' starts.calls has orderly
+            (record {
+              link = own_begun;
+              asked =
+                  (let never : asked_at (interval_of end.station.setup.params.pdelay) end.state.pdelay ≡ 0 =
+                  ap (asked_at (interval_of end.station.setup.params.pdelay)) fresh_end.pdelay in
+                  omega (arith, never));
+              frames = λ lossless f member. (let due = due_by at.direction f member in omega (arith, due));
+              requests = λ lossless f r member says. (let due = due_by at.direction f member in omega (arith, due));
+              old = due_by (other_direction at.direction);
+            })
+
+        -- it never becomes capable
+        own_silent : gone < w.time → capability_span p ≤ next → IsSilentBy p next at w'
+        unfolding own_begun
+        own_silent past long = (
+          0,
+          all_silent (0 + largest_interval p) at k.place ports begun draws w' starts.calls orderly
+              (record {
+                link = own_begun;
+                old = λ f member.
+                    let due = due_by (other_direction at.direction) f member in
+                    let late = due_now w is.sound at.link (other_direction at.direction) stood_begun.channel
+                    stood_begun.here f member in
+                    absurd (omega (arith, due, late, past));
+                inv = record {
+                  lost = (let none = fresh_end.lost in omega (arith, none));
+                  counts = λ capable. absurd (let both = sym fresh_end.off ∙ capable in cc);
+                };
+              }),
+          omega (arith, long),
+        )
+
+    recovers_in_time : (gone : ℕ) → AreAskedInTime gone w → AreGoneBetween gone w → AreAskedInTime gone w'
+    recovers_in_time gone asked all at s = elim (same_place at.asking k.place) [
+      | inl here ↦ own_in_time at s here gone all
+      | inr apart ↦ others_in_time at s apart gone asked
+    ]
+
+    recovers_silent : (gone : ℕ) → gone < w.time → AreGoneBetween gone w
+        → ((at : LinkPlace) → (s : StandsUnanswered at w') → at.asking ≡ k.place → capability_span p ≤ next)
+        → AreSilentBy p next w → AreSilentBy p next w'
+    recovers_silent gone past all led silent at s = elim (same_place at.asking k.place) [
+      | inl here ↦ own_silent at s here gone all past (led at s here)
+      | inr apart ↦ others_silent at s apart silent
+    ]
+
+    recovers_gone : (gone : ℕ) → AreGoneBetween gone w → AreGoneBetween gone w'
+    recovers_gone gone all at =
+        all_gone gone at k.place (map PortUp ports) begun draws w' starts.calls orderly
+        (λ s. all at (record {
+          channel = s.channel;
+          here = s.here;
+          up = s.up;
+          asking = failed_begun at.asking (sender at.direction s.channel).clock s.asking;
+          answering = failed_begun at.answering (receiver at.direction s.channel).clock s.answering;
+        }))
+      where
+        failed_begun : (there named : ℕ) → IsFailedAmong there named begun.stations → IsFailedAmong there named w.stations
+        failed_begun there named e = record {
+          station = e.station;
+          here = sym (get-set_other w.stations k.place there new (λ same.
+              let one : e.station ≡ new =
+              same_there begun.stations k.place e.station new (ap (slice_get begun.stations) (sym same) ∙ e.here) here_new
+              in
+              let off : false ≡ new.live = sym e.failed ∙ ap (λ (x : Station). x.live) one in
+              absurd cc))
+              ∙ e.here;
+          failed = e.failed;
+          named = e.named;
+        }
+
+    -- where it asks beside a failed system it is the one that recovers
+    is_own : (at : LinkPlace) → (s : StandsUnanswered at w') → at.asking ≡ k.place
+        → clock s.asking.station.system ≡ number
+    is_own at s same =
+        let near = (starts_stays k.place now draws w' is.sound.wired.setups starts).stations at.asking
+        s.asking.station s.asking.here in
+        let one : near.old ≡ k.station =
+        same_there w.stations k.place near.old k.station (ap (slice_get w.stations) (sym same) ∙ near.here) k.is.here in
+        near.same.named ∙ ap (λ (x : Station). clock x.system) one ∙ k.is.named
 
   -- ---- it is one since news soon
 
   pub recover_soon : k.station.live ≡ false → IsSoundWorld w → (gone : ℕ) → gone < w.time → AreAskedInTime gone w
-      → ((at : LinkPlace) → (s : StandsUnanswered at w') → clock s.asking.station.system ≢ number)
+      → AreGoneBetween gone w
+      → ((at : LinkPlace) → (s : StandsUnanswered at w') → clock s.asking.station.system ≡ number
+      → capability_span p ≤ next)
       → w.time + interval_of p.params.pdelay ≤ by → by < next
       → w.time + 2 * interval_of p.params.pdelay + (delay_in w' + p.params.turnaround + delay_in w') < next
       → AreSilentBy p next w → AreComing p by next w → IsNewsSoon p next w'
-  recover_soon dead sound gone past asked led reach soon_by soon silent coming =
+  recover_soon dead sound gone past asked all led reach soon_by soon silent coming =
       let time = same_time dead in
       record {
         by = by;
@@ -564,19 +732,19 @@ module _ (p : SettlingParams) (by next number : ℕ) (w : WorldState) (draws : L
         pace = pace;
         world = is';
         measured = measured';
-        silent = λ at s. recovers_silent dead led at s silent;
+        silent = recovers_silent dead gone past all (λ at s here. led at s (is_own dead at s here)) silent;
         sound = sound_gains p (Recover number) w draws done w' tt tt acts is is' sound;
         coming = recovers_coming dead gone past asked reach soon coming;
       }
 
-  -- and beside other failed systems requests are in time still
-  pub recover_in_time : (gone : ℕ)
-      → ((at : LinkPlace) → (s : StandsUnanswered at w') → clock s.asking.station.system ≢ number)
-      → AreAskedInTime gone w → AreAskedInTime gone w'
-  recover_in_time gone led asked = go k.station.live refl
+  -- and beside failed systems requests are in time still
+  pub recover_in_time : (gone : ℕ) → AreAskedInTime gone w → AreGoneBetween gone w
+      → AreAskedInTime gone w' × AreGoneBetween gone w'
+  recover_in_time gone asked all = go k.station.live refl
     where
-      go : (b : Bool) → k.station.live ≡ b → AreAskedInTime gone w'
+      go : (b : Bool) → k.station.live ≡ b → AreAskedInTime gone w' × AreGoneBetween gone w'
       go true live =
           let nothing : Nothing now draws w' = subst (λ b. RecoversIf b k.place now draws w') live k.so in
-          subst (AreAskedInTime gone) (sym nothing.1) (still_in_time gone w asked)
-      go false dead = λ at s. recovers_in_time dead led at s gone asked
+          subst (λ v. AreAskedInTime gone v × AreGoneBetween gone v) (sym nothing.1)
+          (still_in_time gone w asked, gone_still gone w all)
+      go false dead = (recovers_in_time dead gone asked all, recovers_gone dead gone all)

@@ -131,11 +131,11 @@ LeadsToLive n events number = (place : ℕ) (v : LinkSpec) → slice_get n.links
     → IsLive n.systems events (link_after events v).a.clock × IsLive n.systems events (link_after events v).b.clock
 
 -- These events leave all as it was beside failed systems: a link between live ones that comes up, and a system that
--- recovers beside live ones.
+-- recovers.
 abbrev pub SparesFailed : NetworkState → List Timed → Timed → Act → Type 0
 SparesFailed n before event (Changing (LinkUp number port)) =
     JoinsLive n (before ++ event ∷ []) (port_id number port)
-SparesFailed n before event (Changing (Recover number)) = LeadsToLive n (before ++ event ∷ []) number
+SparesFailed n before event (Changing (Recover number)) = ⊤
 SparesFailed n before event act = ⊥
 
 -- So does one that changes nothing. After any other the largest announce interval is over by this time.
@@ -151,16 +151,17 @@ AreSparedBy n before (event ∷ events) time =
     IsSparedBy n before event time × AreSparedBy n (before ++ event ∷ []) events time
 
 -- These changes leave other ports as capable as they are: a link between live systems that comes up, whose own two
--- ports ask then; a failed system that recovers beside live ones, whose own ports ask then, and theirs within a peer
--- delay interval; and a priority1 that gets no worse, where all systems live. What a system that recovers sent before
--- it failed is gone by then.
+-- ports ask then; a failed system that recovers, whose own ports ask then, and those beside it within a peer delay
+-- interval; and a priority1 that gets no worse, where all systems live. What a system that recovers sent before it
+-- failed is gone by then. Beside another that has failed its port never becomes capable, as is known once L + 5 announce
+-- intervals are over since the network began.
 abbrev pub LeavesCapable : NetworkState → List Timed → Timed → ℕ → Act → Type 0
 LeavesCapable n before event next (Changing (LinkUp number port)) =
     JoinsLive n (before ++ event ∷ []) (port_id number port)
     × (exchanged_from (pace_of n) (sync_paths n (before ++ event ∷ [])) event.at ≤ next)
 LeavesCapable n before event next (Changing (Recover number)) =
     (IsLive n.systems before number → ⊥)
-    × LeadsToLive n (before ++ event ∷ []) number
+    × (LeadsToLive n (before ++ event ∷ []) number ⊎ (capability_span (pace_of n) ≤ next))
     × AreSparedBy n [] before event.at
     × (exchanged_again_from (pace_of n) (sync_paths n (before ++ event ∷ [])) event.at ≤ next)
 LeavesCapable n before event next (Changing (Priority1 number value)) =
