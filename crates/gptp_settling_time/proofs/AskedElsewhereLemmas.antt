@@ -62,7 +62,8 @@ up_in_time gone at place q w draws answer w' k of orderly is =
           | inl one ↦
               let back : asked_at interval (Some (w.time + interval)) ≡ w.time = omega arith in
               inl (ap (λ (y : Part). asked_at interval y.pdelay) one.1
-              ∙ ap (λ (p : Params). asked_at interval (Some (w.time + interval_of p.pdelay))) is.link.asking.set_up.params
+              ∙ ap (λ (p : Params). asked_at interval (Some (w.time + interval_of p.pdelay)))
+              is.link.asking.set_up.params
               ∙ back)
           | inr beside ↦ inr (
             ap (λ (y : Part). asked_at interval y.pdelay) beside.1,
@@ -155,7 +156,8 @@ module _ (gone number port : ℕ) (w : WorldState) (draws : List Draw) (done : D
         let old = net_orderly w brought.net joins (sound_orderly w sound) in
         record { setups = old.setups; clocks = old.clocks; apart = old.apart; params = old.params }
 
-    module _ (asked : AreAskedInTime gone w) (at : LinkPlace) (other : at.link ≢ k.place) (s : StandsUnanswered at w') where
+    module _ (asked : AreAskedInTime gone w) (at : LinkPlace) (other : at.link ≢ k.place)
+        (s : StandsUnanswered at w') where
       before : StandsUnanswered at brought
       unfolding told
       before =

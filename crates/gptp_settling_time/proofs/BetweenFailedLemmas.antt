@@ -88,7 +88,8 @@ module _ (gone : ℕ) (at : LinkPlace) (place : ℕ) (input : Input) (w : WorldS
           let one : e.station ≡ new =
           same_Some e.station new
           (sym e.here ∙ ap (λ (v : WorldState). slice_get v.stations there) k.is
-          ∙ ap (slice_get (slice_set w.stations place new)) same ∙ get-set_same w.stations place k.station new k.here) in
+          ∙ ap (slice_get (slice_set w.stations place new)) same
+          ∙ get-set_same w.stations place k.station new k.here) in
           let both = sym k.live ∙ ap (λ (x : Station). x.live) (sym one) ∙ e.failed in
           cc
 
@@ -144,7 +145,8 @@ module _ (gone : ℕ) (at : LinkPlace) (place : ℕ) (input : Input) (w : WorldS
 -- ---- acts
 
 -- the same systems have failed where the links alone are others
-net_stood : (at : LinkPlace) (w : WorldState) (net : Net) (old : Channel) → (s : StandsFailed at (record w { net = net }))
+net_stood : (at : LinkPlace) (w : WorldState) (net : Net) (old : Channel)
+    → (s : StandsFailed at (record w { net = net }))
     → slice_get w.net.channels at.link ≡ Some old → s.channel.a ≡ old.a → s.channel.b ≡ old.b → old.up ≡ true
     → StandsFailed at w
 net_stood at w net old s here a b up = record {
@@ -201,7 +203,8 @@ module _ (gone : ℕ) (w : WorldState) (sound : IsSound w) (all : AreGoneBetween
         by : (a : Option Answer) → Hears k.place (receiver direction k.channel).port octets emptied draws a w'
             → AreGoneBetween gone w'
         by (Some told) calls =
-            λ at. call_gone gone at k.place (FrameHeard (receiver direction k.channel).port octets) emptied draws told w'
+            λ at. call_gone gone at k.place (FrameHeard (receiver direction k.channel).port octets) emptied draws told
+            w'
             calls sound.wired.clocks (emptied_gone at)
         by None (failed, none, same) = subst (AreGoneBetween gone) (sym same) emptied_gone
 

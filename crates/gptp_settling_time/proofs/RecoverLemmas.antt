@@ -77,7 +77,8 @@ all_keep place (p ∷ ps) w draws w' (first, rest, between, answer, split, k, mo
 
 -- a port that comes up leaves one beside a failed system silent
 beside_silent : (gone : ℕ) (at : LinkPlace) (place q : ℕ) (w : WorldState) (draws : List Draw) (answer : Answer)
-    (w' : WorldState) → Calls place (PortUp q) w draws answer w' → IsOrderly w → IsSilent gone at w → IsSilent gone at w'
+    (w' : WorldState) → Calls place (PortUp q) w draws answer w' → IsOrderly w → IsSilent gone at w
+    → IsSilent gone at w'
 beside_silent gone at place q w draws answer w' k orderly is =
     let step = call_seen gone at place (PortUp q) w draws answer w' k orderly.clocks is.link is.old (λ same. tt) in
     let period = interval_of is.link.asking.station.setup.params.pdelay in
@@ -93,7 +94,8 @@ beside_silent gone at place q w draws answer w' k orderly is =
     } in
     elim step.part [
       | inl called ↦ elim (at_own q (sender at.direction is.link.channel).port
-          (part_asked is.link.asking.station.system w.time reset_peer) x (measure_at step.after.asking.state) called.1) [
+          (part_asked is.link.asking.station.system w.time reset_peer) x (measure_at step.after.asking.state)
+          called.1) [
             | inl one ↦
                 let becomes : (silent_view at w' step.after).asker
                 ≡ asker_view period (part_asked is.link.asking.station.system w.time reset_peer x) =
@@ -690,13 +692,14 @@ module _ (p : SettlingParams) (by next number : ℕ) (w : WorldState) (draws : L
           answering = failed_begun at.answering (receiver at.direction s.channel).clock s.answering;
         }))
       where
-        failed_begun : (there named : ℕ) → IsFailedAmong there named begun.stations → IsFailedAmong there named w.stations
+        failed_begun : (there named : ℕ) → IsFailedAmong there named begun.stations
+            → IsFailedAmong there named w.stations
         failed_begun there named e = record {
           station = e.station;
           here = sym (get-set_other w.stations k.place there new (λ same.
               let one : e.station ≡ new =
-              same_there begun.stations k.place e.station new (ap (slice_get begun.stations) (sym same) ∙ e.here) here_new
-              in
+              same_there begun.stations k.place e.station new (ap (slice_get begun.stations) (sym same) ∙ e.here)
+              here_new in
               let off : false ≡ new.live = sym e.failed ∙ ap (λ (x : Station). x.live) one in
               absurd cc))
               ∙ e.here;

@@ -153,8 +153,8 @@ AreSparedBy n before (event ∷ events) time =
 -- These changes leave other ports as capable as they are: a link between live systems that comes up, whose own two
 -- ports ask then; a failed system that recovers, whose own ports ask then, and those beside it within a peer delay
 -- interval; and a priority1 that gets no worse, where all systems live. What a system that recovers sent before it
--- failed is gone by then. Beside another that has failed its port never becomes capable, as is known once L + 5 announce
--- intervals are over since the network began.
+-- failed is gone by then. Beside another that has failed its port doesn't become capable, which is known only once L + 5
+-- announce intervals are over since the network began.
 abbrev pub LeavesCapable : NetworkState → List Timed → Timed → ℕ → Act → Type 0
 LeavesCapable n before event next (Changing (LinkUp number port)) =
     JoinsLive n (before ++ event ∷ []) (port_id number port)
