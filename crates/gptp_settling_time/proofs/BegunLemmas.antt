@@ -1,5 +1,5 @@
 -- The world of a document begins, or has rested.
-use Rattle.std.proofs.Common.{◌≡◌, ◌≤◌, ◌+◌, ◌*◌, ℕ, List, [], Option, refl, ap, subst, arith}
+use Rattle.std.proofs.Common.{◌≡◌, ◌≤◌, ◌+◌, ◌*◌, ℕ, false, List, [], Option, Some, slice_get, refl, sym, ap, subst, ◌∙◌, inl, arith}
 use Rattle.gptp_graph.specs.PathBound.{path_bound}
 use Rattle.gptp_links.specs.declared.bounds.Bounds.{Bounds}
 use Rattle.gptp_setup.specs.SettlingParams.{SettlingParams, largest_interval, longest_span}
@@ -8,6 +8,7 @@ use Rattle.gptp_scenario.specs.Network.{NetworkState, pace_of}
 use Rattle.gptp_scenario.specs.SyncWait.{sync_paths}
 use Rattle.gptp_scenario.specs.declared.change.Timed.{Timed}
 use Rattle.gptp_scenario.specs.declared.sync_wait.SyncPaths.{SyncPaths}
+use Rattle.gptp_model.specs.declared.station.Station.{Station}
 use Rattle.gptp_model.specs.Course.{Begun}
 use Rattle.gptp_model.specs.Initial.{initial}
 use Rattle.gptp_model.specs.Sound.{IsSound}
@@ -16,9 +17,9 @@ use Rattle.gptp_model.proofs.PromptLemmas.{begun_none_faster}
 use Rattle.gptp_world.proofs.InitialLemmas.{initial_sound}
 use Rattle.gptp_network.specs.Document.{DocumentState}
 use Rattle.gptp_invariants.specs.ChoiceCalm.{delay_in}
-use Rattle.gptp_invariants.specs.WorldNews.{IsNews}
 use Rattle.gptp_invariants.specs.WorldSound.{IsSoundWorld}
 use Rattle.gptp_invariants.specs.WorldStanding.{snapshot_of}
+use Rattle.gptp_invariants.proofs.DelayStartFirstLemmas.{start_lives}
 use Rattle.gptp_invariants.proofs.WorldClaimLemmas.{claim_begins}
 use Rattle.gptp_invariants.proofs.ChoiceSettlesAsMachineLemmas.{paths_bound}
 use Rattle.gptp_invariants.proofs.WorldOutlineLemmas.{starts_are_last}
@@ -30,6 +31,7 @@ use Rattle.gptp_theorem.proofs.CalmLemmas.{quiet_stands}
 use Rattle.gptp_theorem.proofs.SyncPathLemmas.{paths_stand}
 use Rattle.gptp_settling_time.specs.Gains.{HasRested, exchanged_from}
 use Rattle.gptp_settling_time.proofs.KeptToLemmas.{KeepsTo}
+use Rattle.gptp_settling_time.proofs.NewsSoonLemmas.{IsNewsFrom}
 
 -- ---- a document begins
 
@@ -45,11 +47,25 @@ module _ {F : Type 0} (answers : Bounds → ℕ → F → Option ℕ → F → T
     sound : IsSound (initial n)
     sound = initial_sound n playable.network
 
+    -- none has failed
+    none_failed : (place : ℕ) (station : Station) → slice_get w.stations place ≡ Some station
+        → station.live ≡ false → ⊥
+    none_failed place station here failed =
+        let lives = start_lives answers n fate fate_after w playable.network sound k place station here in
+        let both = sym lives ∙ failed in
+        cc
+
     pub begun_keeps : KeepsTo d [] w
     begun_keeps = record {
       claim = claim_begins answers n fate fate_after w playable.network sound k;
       stands = begun_stands answers n fate fate_after w k;
       slow = begun_none_faster answers n fate fate_after w sound.wired.setups k;
+      asked = λ time spared. (
+        0,
+        spared,
+        λ place s. absurd (none_failed place.answering s.answering.station s.answering.here s.answering.failed),
+        λ place s. absurd (none_failed place.answering s.answering.station s.answering.here s.answering.failed),
+      );
     }
 
     -- it began just now
@@ -57,13 +73,13 @@ module _ {F : Type 0} (answers : Bounds → ℕ → F → Option ℕ → F → T
     begun_last = starts_are_last _ (initial n) k.draws w refl k.starts
 
     -- it is one since news, whose ports are capable from one interval between requests and one exchange on
-    pub begun_news : (start : ℕ) → exchanged_from p (sync_paths n []) 0 ≤ start → IsNews p start w
+    pub begun_news : (start : ℕ) → exchanged_from p (sync_paths n []) 0 ≤ start → IsNewsFrom p start w
     begun_news start late =
         let delay : (sync_paths n []).delay ≡ delay_in w =
         ap (λ (x : SyncPaths). x.delay)
         (paths_stand n [] w playable.network begun_keeps.stands begun_keeps.claim.world.sound) in
-        start_news answers n fate fate_after w start playable.network sound k begun_keeps.claim.world
-        (omega (arith, late, delay))
+        inl (start_news answers n fate fate_after w start playable.network sound k begun_keeps.claim.world
+        (omega (arith, late, delay)))
 
 -- ---- a network that has rested holds what is sound
 

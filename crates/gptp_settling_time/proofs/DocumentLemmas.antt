@@ -34,6 +34,7 @@ use Rattle.gptp_settling_time.proofs.TimedNewsLemmas.{CanSettle, has_settled}
 use Rattle.gptp_settling_time.proofs.KeptToLemmas.{IsLastTo, KeepsTo}
 use Rattle.gptp_settling_time.proofs.BegunLemmas.{begun_keeps, begun_last, begun_news}
 use Rattle.gptp_settling_time.proofs.CutLemmas.{acts_by, runs_begin_so}
+use Rattle.gptp_settling_time.proofs.NewsSoonLemmas.{from_sound}
 use Rattle.gptp_settling_time.proofs.FindsLemmas.{Finds, finds_gains, finds_rested}
 
 module _ {F : Type 0} (answers : Bounds → ℕ → F → Option ℕ → F → Type 0) (d : DocumentState) (until start settled : ℕ)
@@ -102,7 +103,7 @@ module _ {F : Type 0} (answers : Bounds → ℕ → F → Option ℕ → F → T
   pub document_settles : settled ≤ until → IsSettledAs d until w × IsSoundWorld w
   document_settles on =
       let now = found.now in
-      (settled_as w found.end (omega (arith, on, now)), found.end.news.sound)
+      (settled_as w found.end (omega (arith, on, now)), from_sound p start w found.end.news)
 
   pub act_finds : (t : ActTrace) → In t ts → settled ≤ t.told.timed.at → last_change all < t.told.timed.at
       → IsSettledAs d until t.after

@@ -38,6 +38,7 @@ use Rattle.gptp_settling_time.proofs.DocumentLemmas.{run_to}
 use Rattle.gptp_settling_time.proofs.InTurnLemmas.{IsAfter, after_act, after_keeps, after_later, after_settles, begins_after, in_turn}
 use Rattle.gptp_settling_time.proofs.LaterLemmas.{AreSteps}
 use Rattle.gptp_settling_time.proofs.NewsMeasuredLemmas.{news_measured}
+use Rattle.gptp_settling_time.proofs.NewsSoonLemmas.{news_now}
 use Rattle.gptp_settling_time.proofs.SoonOffsetLemmas.{CarriesRight, carried_exact}
 use Rattle.gptp_settling_time.proofs.TimedNewsLemmas.{used_within}
 
@@ -66,7 +67,7 @@ module _ (d : DocumentState) (playable : IsPlayable d) (all : List Timed) (calm 
       by (inl (off, passed)) change = omega (arith, passed, on, change)
       by (inr passed) change = omega (arith, passed, on, change)
   have_measured (Gained start) w so settles links on =
-      news_measured p start w so.news links (by settles)
+      let late = by settles in news_measured p start w (news_now p start w late so.news) links late
     where
       by : SettlesAfter d.network all (Gained start) settled → start ≤ w.time
       by (inl (off, late)) = omega (arith, late, on)

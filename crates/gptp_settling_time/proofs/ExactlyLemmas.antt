@@ -67,7 +67,7 @@ news_are_exact answers p start settled until m told timed fate drawn fate_after 
     record { quiet = (quiet_as p now calm).links; bounded = by.bounded; settles = by.settles } in
     act_exact answers timed drawn fate_after now w' p m start settled
     (advances_timed answers until p m start settled told fate drawn w now course
-    (timed_begins p m start settled w news early)) can by.old moment done k
+    (timed_begins p m start settled w (inl news) early)) can by.old moment done k
 
 -- ---- since a change
 

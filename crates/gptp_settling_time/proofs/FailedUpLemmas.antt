@@ -39,7 +39,7 @@ use Rattle.gptp_invariants.specs.ChoiceView.{lane_view, port_identity_number, sa
 use Rattle.gptp_invariants.specs.DelayLinkView.{IsEndOf, LinkPlace, other_direction}
 use Rattle.gptp_invariants.specs.DelayMeasured.{LinkStandsAt}
 use Rattle.gptp_invariants.specs.FailedUnanswered.{FailedNeighboursAreSilent, IsSilent, StandsUnanswered}
-use Rattle.gptp_invariants.specs.WorldNews.{AreSilentBy, IsNews, turn_network}
+use Rattle.gptp_invariants.specs.WorldNews.{AreSilentBy, turn_network}
 use Rattle.gptp_invariants.specs.WorldSettlingInvariant.{KeepsAll}
 use Rattle.gptp_invariants.specs.WorldSound.{IsSoundWorld}
 use Rattle.gptp_invariants.specs.WorldStanding.{channel_is_used, live_stations, snapshot_of, standing_link, used_channels}
@@ -59,8 +59,9 @@ use Rattle.gptp_settling_time.proofs.AlwaysClaimedLemmas.{IsClaimedAlways, lane_
 use Rattle.gptp_settling_time.proofs.BesideUpLemmas.{beside_same}
 use Rattle.gptp_settling_time.proofs.LinkUpLemmas.{lane_set}
 use Rattle.gptp_settling_time.proofs.RaisedLemmas.{IsRaised, raised, unmeasured_then}
-use Rattle.gptp_settling_time.proofs.StandsLikeLemmas.{StandsLike, claims_like, news_like}
-use Rattle.gptp_settling_time.proofs.StandsStillLemmas.{StandsStill, claims_stand, news_stands}
+use Rattle.gptp_settling_time.proofs.NewsSoonLemmas.{IsNewsFrom, from_silent, from_sound}
+use Rattle.gptp_settling_time.proofs.StandsLikeLemmas.{StandsLike, claims_like, from_like}
+use Rattle.gptp_settling_time.proofs.StandsStillLemmas.{StandsStill, claims_stand, from_stands}
 use Rattle.gptp_settling_time.proofs.UntoldLemmas.{unmeasured_off}
 
 -- ---- a link that isn't in use becomes another that isn't
@@ -444,14 +445,14 @@ module _ (p : SettlingParams) (start owner port : ℕ) (w : WorldState) (draws :
   expects m expected short =
       let none : lapse_span p.params ≡ 0 = rw nothing (omega arith) in absurd (omega (arith, none, short))
 
-  pub raised_news : IsNews p start w → IsNews p start w'
-  raised_news news = by k.channel.up refl
+  pub raised_from : IsNewsFrom p start w → IsNewsFrom p start w'
+  raised_from news = by k.channel.up refl
     where
-      by : (up : Bool) → k.channel.up ≡ up → IsNews p start w'
-      by true up = news_stands p start w w' (was_up up) claim'.world claim'.measured news
+      by : (up : Bool) → k.channel.up ≡ up → IsNewsFrom p start w'
+      by true up = from_stands p start w w' (was_up up) claim'.world claim'.measured news
       by false down =
-          news_like p start w w' (like down) claim'.world claim'.measured (silent_then down news.silent)
-          (sound_then news.sound) expects news
+          from_like p start w w' (like down) claim'.world claim'.measured
+          (silent_then down (from_silent p start w news)) (sound_then (from_sound p start w news)) expects news
 
   pub raised_claimed : IsClaimedAlways p start w → IsClaimedAlways p start w'
   raised_claimed claim = by k.channel.up refl

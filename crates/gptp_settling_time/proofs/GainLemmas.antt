@@ -119,7 +119,7 @@ module _ (n : NetworkState) (events : List Timed) (w : WorldState) (so : StandsA
         ap (λ (x : Station). x.live) is ∙ ap (λ (x : Shape). x.live) same ∙ lives.live
 
     -- so has a system failed
-    failed_so : (number : ℕ) → (IsLive n.systems events number → ⊥) → (place : ℕ) (station : Station)
+    pub failed_so : (number : ℕ) → (IsLive n.systems events number → ⊥) → (place : ℕ) (station : Station)
         → IsStation number place w station → station.live ≡ false
     failed_so number none place station k = by station.live refl
       where

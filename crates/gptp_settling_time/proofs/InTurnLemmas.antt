@@ -38,7 +38,6 @@ use Rattle.gptp_invariants.specs.WorldSound.{IsSoundWorld}
 use Rattle.gptp_invariants.specs.WorldStanding.{snapshot_of}
 use Rattle.gptp_invariants.proofs.WorldBoundedLemmas.{bounded_at_once, bounded_by_paths}
 use Rattle.gptp_invariants.proofs.WorldNewsActLemmas.{ready_later}
-use Rattle.gptp_invariants.proofs.WorldNewsLemmas.{news_go_on}
 use Rattle.gptp_invariants.proofs.WorldSettlingInvariantLemmas.{settled_at_once, settled_by_paths}
 use Rattle.gptp_invariants.proofs.WorldSoundLemmas.{sound_later}
 use Rattle.gptp_invariants.proofs.WorldStandsLemmas.{stands_well}
@@ -57,21 +56,22 @@ use Rattle.gptp_settling_time.proofs.ClaimedToLemmas.{IsClaimedTo, claimed_act, 
 use Rattle.gptp_settling_time.proofs.DocumentLemmas.{run_to}
 use Rattle.gptp_settling_time.proofs.GainLemmas.{better_lives, down_so, few_so, gain_so, idle_so, unused_so}
 use Rattle.gptp_settling_time.proofs.FailedDownLemmas.{lowered_claimed, lowered_news}
-use Rattle.gptp_settling_time.proofs.FailedUpLemmas.{raised_claimed, raised_news}
+use Rattle.gptp_settling_time.proofs.FailedUpLemmas.{raised_claimed, raised_from}
 use Rattle.gptp_settling_time.proofs.HeardLemmas.{heard_on}
 use Rattle.gptp_settling_time.proofs.IdleLemmas.{idle_still}
 use Rattle.gptp_settling_time.proofs.KeptToLemmas.{IsNewsTo, KeepsTo, keeps_act, keeps_later, news_act_to, news_later_to}
 use Rattle.gptp_settling_time.proofs.LaterLemmas.{AreSteps, steps_more}
 use Rattle.gptp_settling_time.proofs.LinkUpLemmas.{link_up_claimed}
-use Rattle.gptp_settling_time.proofs.MadeLemmas.{anyway_ready, made_keeps, made_last, made_news, made_time, news_news, rest_news}
+use Rattle.gptp_settling_time.proofs.MadeLemmas.{anyway_ready, made_keeps, made_known, made_last, made_time, news_news, rest_news}
 use Rattle.gptp_settling_time.proofs.NewsClaimedLemmas.{news_claimed, news_on, news_settled}
+use Rattle.gptp_settling_time.proofs.NewsSoonLemmas.{IsNewsFrom, from_later, from_sound, news_now}
 use Rattle.gptp_settling_time.proofs.PassLemmas.{passes_to}
 use Rattle.gptp_settling_time.proofs.RestClaimedLemmas.{AreOn, rest_claimed, rest_on, rest_settled}
 use Rattle.gptp_settling_time.proofs.SettledClaimedLemmas.{settled_claimed}
 use Rattle.gptp_settling_time.proofs.SettledSeenLemmas.{HasSettledSeen, always_settled}
 use Rattle.gptp_settling_time.proofs.BetterClockLemmas.{better_claimed}
 use Rattle.gptp_settling_time.proofs.StartDocumentLemmas.{begun_claimed}
-use Rattle.gptp_settling_time.proofs.StandsStillLemmas.{StandsStill, claims_stand, news_stands}
+use Rattle.gptp_settling_time.proofs.StandsStillLemmas.{StandsStill, claims_stand, from_stands}
 use Rattle.gptp_settling_time.proofs.TimedNewsLemmas.{CanSettle, has_settled}
 
 -- ---- what is so after some events
@@ -146,8 +146,9 @@ module _ {F : Type 0} (answers : Bounds → ℕ → F → Option ℕ → F → T
 
     news_then : IsNews p next w'
     news_then =
-        made_news answers d playable made event fate fate_after w w' done is fit k keeps sound
-        (subst (TakesNothing n made) (sym up.act) tt) start next claim.news.ready claim.news.silent
+        made_known answers d playable made event fate fate_after w w' done is fit k keeps sound
+        (subst (TakesNothing n made) (sym up.act) tt) start next
+        (λ number same. let one = sym up.act ∙ is.act ∙ ap Changing same in cc) claim.news.ready claim.news.silent
         (inr (
           ahead,
           subst (LeavesCapable n made event next) (sym up.act)
@@ -184,8 +185,9 @@ module _ {F : Type 0} (answers : Bounds → ℕ → F → Option ℕ → F → T
     set_news : IsNews p next w'
     set_news =
         let later = up.later in
-        made_news answers d playable made event fate fate_after w w' done is fit k keeps sound
-        (subst (TakesNothing n made) (sym up.act) up.better) start next claim.news.ready claim.news.silent
+        made_known answers d playable made event fate fate_after w w' done is fit k keeps sound
+        (subst (TakesNothing n made) (sym up.act) up.better) start next
+        (λ number same. let one = sym up.act ∙ is.act ∙ ap Changing same in cc) claim.news.ready claim.news.silent
         (inr (omega (arith, early, later), subst (LeavesCapable n made event next) (sym up.act) up.later))
 
     pub bettered : IsClaimedTo d more next w'
@@ -216,20 +218,20 @@ module _ {F : Type 0} (answers : Bounds → ℕ → F → Option ℕ → F → T
   -- or turns a link of which an end has failed
   module _ (start : ℕ) (off : NothingLapses n.params) where
     turned_news : (change : Change) → is.change ≡ change → TurnsInVain n made event start (Changing change)
-        → IsNews p start then → IsNews p start w'
-    turned_news (LinkUp number port) same (failed, late) =
-        raised_news p start number port then k.draws done w' keeps_then.claim.world after.claim off late
+        → IsNewsFrom p start then → IsNewsFrom p start w'
+    turned_news (LinkUp number port) same (failed, late) news =
+        raised_from p start number port then k.draws done w' keeps_then.claim.world after.claim off late
         (unused_so n made then keeps_then.stands keeps_then.claim.world.sound (port_id number port) failed)
-        (came_so (LinkUp number port) same)
-    turned_news (LinkDown number port) same (failed, late) =
-        lowered_news p start number port then k.draws done w' after.claim off late
+        (came_so (LinkUp number port) same) news
+    turned_news (LinkDown number port) same (failed, late) news =
+        inl (lowered_news p start number port then k.draws done w' after.claim off late
         (unused_so n made then keeps_then.stands keeps_then.claim.world.sound (port_id number port) failed)
-        (came_so (LinkDown number port) same)
-    turned_news (LinkSet number port min max loss) same none = absurd none
-    turned_news (Fail number) same none = absurd none
-    turned_news (Recover number) same none = absurd none
-    turned_news (Priority1 number value) same none = absurd none
-    turned_news (Inject number port octets) same none = absurd none
+        (came_so (LinkDown number port) same) (news_now p start then late news))
+    turned_news (LinkSet number port min max loss) same none news = absurd none
+    turned_news (Fail number) same none news = absurd none
+    turned_news (Recover number) same none news = absurd none
+    turned_news (Priority1 number value) same none news = absurd none
+    turned_news (Inject number port octets) same none news = absurd none
 
     turned_claimed : (change : Change) → is.change ≡ change → TurnsInVain n made event start (Changing change)
         → IsClaimedAlways p start then → IsClaimedAlways p start w'
@@ -247,9 +249,9 @@ module _ {F : Type 0} (answers : Bounds → ℕ → F → Option ℕ → F → T
     turned_claimed (Priority1 number value) same none = absurd none
     turned_claimed (Inject number port octets) same none = absurd none
 
-  news_so : (start : ℕ) → MakesNothing n made event start → IsNews p start then → IsNews p start w'
+  news_so : (start : ℕ) → MakesNothing n made event start → IsNewsFrom p start then → IsNewsFrom p start w'
   news_so start (inl nothing) news =
-      news_stands p start then w' (stands_still nothing) after.claim.world after.claim.measured news
+      from_stands p start then w' (stands_still nothing) after.claim.world after.claim.measured news
   news_so start (inr (off, turns)) news =
       turned_news start off is.change refl (subst (TurnsInVain n made event start) is.act turns) news
 
@@ -264,11 +266,12 @@ module _ {F : Type 0} (answers : Bounds → ℕ → F → Option ℕ → F → T
       → IsClaimedTo d more start w'
   left_so start claim nothing = record { keeps = after; since = claimed_so start nothing claim }
 
-  left_news : (start next : ℕ) → MakesNothing n made event next → next ≡ start → IsNews p start w → IsNews p next w'
+  left_news : (start next : ℕ) → MakesNothing n made event next → next ≡ start → IsNewsFrom p start w
+      → IsNewsFrom p next w'
   left_news start next nothing same news =
       news_so next nothing
-      (news_go_on p next event.at w k.ready.timely.now k.ready.timely.first (subst (λ time. IsNews p time w) (sym same)
-      news))
+      (from_later p next event.at w k.ready.timely.now k.ready.timely.first
+      (subst (λ time. IsNewsFrom p time w) (sym same) news))
 
   -- nor does it in a network that has settled
   pub left_settled : (start next : ℕ) (claim : IsClaimedAlways p start then) → AreOn p start then claim.heard
@@ -303,17 +306,18 @@ module _ {F : Type 0} (answers : Bounds → ℕ → F → Option ℕ → F → T
               ready silent
         ]
     leads_to_heard (Gained start) next (settled, brings) so =
-        let news = news_go_on p start event.at w k.ready.timely.now k.ready.timely.first so.news in
         let late : start + largest_interval p + pred (path_bound (snapshot_of then)) * delay_in then ≤ event.at =
         subst (λ (x : SyncPaths). start + largest_interval p + pred x.systems * x.delay ≤ event.at) paths_then
         settled in
+        let news = news_now p start then (omega (arith, late))
+        (from_later p start event.at w k.ready.timely.now k.ready.timely.first so.news) in
         let claim = news_claimed p start then news late in
         let on = news_on p start then news late in
         elim brings [
           | inl up ↦
               let capable = up.capable in
-              brought_up (suc event.at) next claim (omega (arith, capable)) so.news.sound up
-          | inr (inl better) ↦ bettered (suc event.at) next claim on (omega arith) so.news.sound
+              brought_up (suc event.at) next claim (omega (arith, capable)) (from_sound p start w so.news) up
+          | inr (inl better) ↦ bettered (suc event.at) next claim on (omega arith) (from_sound p start w so.news)
               (news_settled p start then news late) better
           | inr (inr leaves) ↦
               let since = leaves.since in
@@ -337,7 +341,7 @@ module _ {F : Type 0} (answers : Bounds → ℕ → F → Option ℕ → F → T
         (left_so start (since_later p start event.at w k.ready.timely.now k.ready.timely.first so.since) nothing)
 
     leads_to_gain : (past : Past) (next : ℕ) → EventLeads n made past event (Gained next) → IsAfter d made past w
-        → IsNews p next w'
+        → IsNewsFrom p next w'
     leads_to_gain AnyPast next (inl (nothing, (rested, (rest, anyway, capable)))) so =
         let sound = rested_sound d made event.at w playable rested (omega (arith, moment)) keeps in
         rest_news answers d playable made event fate fate_after w w' done is fit k rest next keeps sound nothing anyway
@@ -346,10 +350,10 @@ module _ {F : Type 0} (answers : Bounds → ℕ → F → Option ℕ → F → T
         news_news answers d playable made event fate fate_after w w' done is fit k start next so nothing capable
     leads_to_gain (Heard start) next (inl (nothing, capable)) so =
         news_news answers d playable made event fate fate_after w w' done is fit k start next
-        (record { keeps = keeps; news = so.since.news }) nothing capable
+        (record { keeps = keeps; news = inl so.since.news }) nothing capable
     leads_to_gain AnyPast next (inr (nothing, stays)) so = absurd stays
     leads_to_gain (Gained start) next (inr (nothing, same)) so = left_news start next nothing same so.news
-    leads_to_gain (Heard start) next (inr (nothing, same)) so = left_news start next nothing same so.since.news
+    leads_to_gain (Heard start) next (inr (nothing, same)) so = left_news start next nothing same (inl so.since.news)
 
     pub leads_to : (past next : Past) → EventLeads n made past event next → IsAfter d made past w
         → IsAfter d more next w'

@@ -1,4 +1,13 @@
 pub mod NewsMeasuredLemmas
+pub mod WillAskLemmas
+pub mod NewsSoonLemmas
+pub mod AskedInTimeLemmas
+pub mod BetweenFailedLemmas
+pub mod AskedElsewhereLemmas
+pub mod RestartLemmas
+pub mod AsksSoonLemmas
+pub mod RecoverLemmas
+pub mod UpSoonLemmas
 pub mod TimedNewsLemmas
 pub mod SoonOffsetLemmas
 pub mod ExactlyLemmas

@@ -1,5 +1,5 @@
 -- An event of a document is made: what the world keeps, and from when on it is one since news.
-use Rattle.std.proofs.Common.{◌≡◌, ◌≢◌, ◌∙◌, ◌≤◌, ◌+◌, ◌*◌, ℕ, List, [], ◌∷◌, ◌++◌, Option, Some, slice_get, refl, inl, inr, sym, ap, subst, arith}
+use Rattle.std.proofs.Common.{◌≡◌, ◌≢◌, ◌⊎◌, ◌∙◌, ◌<◌, ◌≤◌, ◌+◌, ◌*◌, max, ℕ, List, [], ◌∷◌, ◌++◌, append_assoc, append-nil, Option, Some, slice_get, refl, inl, inr, sym, ap, subst, arith}
 use Rattle.gptp_lists.proofs.MappedLemmas.{alike, same_there}
 use Rattle.gptp_links.specs.declared.bounds.Bounds.{Bounds}
 use Rattle.gptp_links.specs.declared.link.Direction.{Direction}
@@ -17,11 +17,12 @@ use Rattle.gptp_scenario.specs.declared.change.Change.TheVariants.{LinkDown, Lin
 use Rattle.gptp_scenario.specs.declared.change.Timed.{Timed}
 use Rattle.gptp_scenario.specs.declared.network.LinkSpec.{LinkSpec}
 use Rattle.gptp_scenario.specs.declared.sync_wait.SyncPaths.{SyncPaths}
+use Rattle.gptp_system.specs.State.{clock}
 use Rattle.gptp_model.specs.Acts.{Acts, at}
 use Rattle.gptp_model.specs.Changing.{IsChannel}
 use Rattle.gptp_model.specs.Course.{WasDone}
 use Rattle.gptp_model.specs.declared.done.Done.{Done}
-use Rattle.gptp_model.specs.World.{Channel, WorldState, port_id, receiver}
+use Rattle.gptp_model.specs.World.{Channel, WorldState, port_id, receiver, sender}
 use Rattle.gptp_model.proofs.PromptLemmas.{prompt_within, stays_none_faster}
 use Rattle.gptp_model.proofs.StayLemmas.{acts_stay, done_stays}
 use Rattle.gptp_network.specs.Document.{DocumentState}
@@ -31,11 +32,11 @@ use Rattle.gptp_invariants.specs.WorldEncodableLaws.{SetsAnOctet}
 use Rattle.gptp_invariants.specs.DelayLinkView.{LinkPlace}
 use Rattle.gptp_invariants.specs.WorldNews.{AreReadyBy, AreSilentBy, IsNews}
 use Rattle.gptp_invariants.specs.WorldSound.{IsGain, IsSoundWorld}
-use Rattle.gptp_invariants.specs.FailedUnanswered.{StandsUnanswered}
+use Rattle.gptp_invariants.specs.FailedUnanswered.{IsFailedAmong, StandsUnanswered}
 use Rattle.gptp_invariants.proofs.WorldClaimLemmas.{claim_kept, claim_later}
 use Rattle.gptp_invariants.proofs.WorldLinkUpNewsLemmas.{link_up_news}
 use Rattle.gptp_invariants.proofs.WorldNewsActLemmas.{gain_news, ready_later, unanswered_silent, watched_ready}
-use Rattle.gptp_invariants.proofs.WorldNewsLemmas.{news_go_on, none_silent}
+use Rattle.gptp_invariants.proofs.WorldNewsLemmas.{none_silent}
 use Rattle.gptp_invariants.proofs.WorldOutlineLemmas.{change_is_last, change_time}
 use Rattle.gptp_invariants.proofs.WorldSoundLemmas.{sound_later}
 use Rattle.gptp_theorem.specs.PlayedLaws.{IsMade, IsPlayable}
@@ -44,18 +45,31 @@ use Rattle.gptp_theorem.proofs.ChangeLemmas.{changes_stand}
 use Rattle.gptp_theorem.proofs.SettlingInvariantLemmas.{IsFitEvent, least_of}
 use Rattle.gptp_theorem.proofs.KeptLemmas.{time_stands}
 use Rattle.gptp_theorem.proofs.SyncPathLemmas.{paths_stand}
-use Rattle.gptp_settling_time.specs.Gains.{AreCapableAnyway, AreCapableNext, AreCapableStill, ChangesNothing, IsGainAfter, IsIdleAfter, JoinsLive, LeavesCapable, TakesNothing}
-use Rattle.gptp_settling_time.proofs.GainLemmas.{all_live, better_lives, gain_so, idle_so, lives_so}
-use Rattle.gptp_settling_time.proofs.IdleLemmas.{idle_still}
-use Rattle.gptp_settling_time.proofs.KeptToLemmas.{IsNewsTo, KeepsTo}
-use Rattle.gptp_settling_time.proofs.PriorityNewsLemmas.{priority_stays_news}
-use Rattle.gptp_settling_time.proofs.StandsStillLemmas.{news_stands}
+use Rattle.gptp_settling_time.specs.Gains.{AreCapableAnyway, AreCapableNext, AreCapableStill, AreSparedBy, ChangesNothing, IsGainAfter, IsIdleAfter, IsSparedBy, JoinsLive, LeadsToLive, LeavesAll, LeavesCapable, SparesFailed, TakesNothing}
+use Rattle.gptp_settling_time.specs.Idle.{Lives}
+use Rattle.gptp_settling_time.proofs.GainLemmas.{all_live, better_lives, failed_so, gain_so, idle_so, lives_so}
+use Rattle.gptp_settling_time.proofs.IdleLemmas.{LeavesWorld, idle_same, idle_still}
+use Rattle.gptp_settling_time.proofs.AskedElsewhereLemmas.{still_in_time, up_gone_still, up_in_time_still}
+use Rattle.gptp_settling_time.proofs.AskedInTimeLemmas.{AreAskedInTime, are_asked_begin, are_asked_later}
+use Rattle.gptp_settling_time.proofs.BetweenFailedLemmas.{AreGoneBetween, gone_begins, gone_later, gone_still}
+use Rattle.gptp_settling_time.proofs.KeptToLemmas.{IsNewsTo, KeepsTo, WereAskedInTime, keeps_later}
+use Rattle.gptp_settling_time.proofs.NewsSoonLemmas.{AreComing, HowComing, IsNewsFrom, IsNewsSoon, coming_later, from_coming, from_later, from_sound}
+use Rattle.gptp_settling_time.proofs.PriorityNewsLemmas.{priority_soon, priority_stays_news}
+use Rattle.gptp_settling_time.proofs.RecoverLemmas.{recover_in_time, recover_soon}
+use Rattle.gptp_settling_time.proofs.StandsStillLemmas.{from_stands}
+use Rattle.gptp_settling_time.proofs.UpSoonLemmas.{up_soon}
 
 -- what is so at both ends of a link is so where it leads to
 end_so : (So : ℕ → Type 0) (direction : Direction) (channel : Channel) → So channel.a.clock → So channel.b.clock
     → So (receiver direction channel).clock
 end_so So FromA channel a b = b
 end_so So FromB channel a b = a
+
+-- and where it begins is one of its ends
+end_is : (number : ℕ) (direction : Direction) (channel : Channel) → (sender direction channel).clock ≡ number
+    → (channel.a.clock ≡ number) ⊎ (channel.b.clock ≡ number)
+end_is number FromA channel same = inl same
+end_is number FromB channel same = inr same
 
 -- ---- from when ports are capable by what every world keeps
 
@@ -92,6 +106,17 @@ anyway_ready d events start w keeps anyway = (
         ≤ start
     soon = late_by anyway
 
+-- ---- what was so of some events and one more
+
+one_more : (n : NetworkState) (before events : List Timed) (event : Timed) (time : ℕ)
+    → AreSparedBy n before (events ++ event ∷ []) time
+    → AreSparedBy n before events time × IsSparedBy n (before ++ events) event time
+one_more n before [] event time (one, some) =
+    (some, subst (λ es. IsSparedBy n es event time) (sym (append-nil before)) one)
+one_more n before (first ∷ events) event time (one, more) =
+    let (rest, last) = one_more n (before ++ first ∷ []) events event time more in
+    ((one, rest), subst (λ es. IsSparedBy n es event time) (append_assoc before (first ∷ []) events) last)
+
 -- ---- an event is made
 
 module _ {F : Type 0} (answers : Bounds → ℕ → F → Option ℕ → F → Type 0) (d : DocumentState)
@@ -119,28 +144,169 @@ module _ {F : Type 0} (answers : Bounds → ℕ → F → Option ℕ → F → T
   pub made_last : w'.last_change ≡ w'.time
   made_last = change_is_last is.change then k.draws done w' acts
 
-  pub made_keeps : KeepsTo d made w → KeepsTo d more w'
-  made_keeps keeps = record {
-    claim = claim_kept answers p event fate fate_after w w' done fit.fit
-        (prompt_within (least_of d) event.act w keeps.slow fit.prompt) fit.octet k keeps.claim;
-    stands = changes_stand n made event is.change w k.draws done w' is.act keeps.claim.world.sound k.acts keeps.stands;
-    slow = stays_none_faster (least_of d) w w'
-        (done_stays answers event fate fate_after w w' done keeps.claim.world.sound.wired.setups k) keeps.slow;
-  }
+  module _ (keeps : KeepsTo d made w) where
+    claim_now : KeepsAll p then
+    claim_now = claim_later p w event.at k.ready.timely.now k.ready.timely.first keeps.claim
 
-  -- from a time on it is one since news
-  abbrev IsNewsFrom : ℕ → Type 0
-  IsNewsFrom next = IsNews p next w'
+    stands_now : StandsAsPlanned n made then
+    stands_now = time_stands n made w event.at keeps.stands
+
+    claim_after : KeepsAll p w'
+    claim_after =
+        claim_kept answers p event fate fate_after w w' done fit.fit
+        (prompt_within (least_of d) event.act w keeps.slow fit.prompt) fit.octet k keeps.claim
+
+    stands_after : StandsAsPlanned n more w'
+    stands_after = changes_stand n made event is.change w k.draws done w' is.act keeps.claim.world.sound k.acts
+        keeps.stands
+
+    delay_is : (sync_paths n more).delay ≡ delay_in w'
+    delay_is =
+        ap (λ (x : SyncPaths). x.delay)
+        (paths_stand n more w' playable.network stands_after claim_after.world.sound)
+
+    -- a system whose links lead to live ones is beside no failed one
+    beside_live : (number : ℕ) → LeadsToLive n more number → (place : LinkPlace) → (s : StandsUnanswered place w')
+        → clock s.asking.station.system ≢ number
+    beside_live number live place s same =
+        let (v, there, wire) = alike (link_after more) channel_wire n.links w'.net.channels (sym stands_after.links)
+        place.link s.channel s.here in
+        let ends = live place.link v there (ap (λ (x : LinkSpec). x.up) wire ∙ s.up)
+        (subst (λ (x : LinkSpec). (x.a.clock ≡ number) ⊎ (x.b.clock ≡ number)) (sym wire)
+        (end_is number place.direction s.channel (sym s.asking.named ∙ same))) in
+        let lives : IsLive n.systems more (receiver place.direction s.channel).clock =
+        end_so (IsLive n.systems more) place.direction s.channel
+        (subst (λ (x : LinkSpec). IsLive n.systems more x.a.clock) wire ends.0)
+        (subst (λ (x : LinkSpec). IsLive n.systems more x.b.clock) wire ends.1) in
+        let on = lives_so n more w' stands_after claim_after.world.sound (receiver place.direction s.channel).clock
+        lives place.answering s.answering.station
+        (record { here = s.answering.here; named = s.answering.named }) in
+        let both = sym on ∙ s.answering.failed in
+        cc
+
+    -- a link between live systems isn't one that leads to a failed one
+    apart_from : (number port : ℕ) → JoinsLive n more (port_id number port) → (place : LinkPlace) (now : Channel)
+        → slice_get w'.net.channels place.link ≡ Some now
+        → IsFailedAmong place.answering (receiver place.direction now).clock w'.stations
+        → (link : ℕ) (channel : Channel) → IsChannel (port_id number port) link then.net channel → link ≢ place.link
+    apart_from number port live place now here failed link channel at_port = λ same.
+        let stays = acts_stay event.act then k.draws done w' claim_now.world.sound.wired.setups k.acts in
+        let near = stays.links place.link now here in
+        let one : channel ≡ near.old =
+        same_there then.net.channels place.link channel near.old
+        (subst (λ i. slice_get then.net.channels i ≡ Some channel) same at_port.here) near.here in
+        let joined : IsEnd (port_id number port) (channel_wire now) = elim at_port.joined [
+          | inl a ↦ inl (near.a ∙ sym (ap (λ (c : Channel). c.a) one) ∙ a)
+          | inr b ↦ inr (near.b ∙ sym (ap (λ (c : Channel). c.b) one) ∙ b)
+        ] in
+        let (v, there, wire) = alike (link_after more) channel_wire n.links w'.net.channels (sym stands_after.links)
+        place.link now here in
+        let ends = live place.link v there (subst (IsEnd (port_id number port)) (sym wire) joined) in
+        let lives : IsLive n.systems more (receiver place.direction now).clock =
+        end_so (IsLive n.systems more) place.direction now
+        (subst (λ (x : LinkSpec). IsLive n.systems more x.a.clock) wire ends.0)
+        (subst (λ (x : LinkSpec). IsLive n.systems more x.b.clock) wire ends.1) in
+        let on = lives_so n more w' stands_after claim_after.world.sound (receiver place.direction now).clock
+        lives place.answering failed.station
+        (record { here = failed.here; named = failed.named }) in
+        let both = sym on ∙ failed.failed in
+        cc
+
+    apart : (number port : ℕ) → JoinsLive n more (port_id number port) → (place : LinkPlace)
+        → StandsUnanswered place w' → (link : ℕ) (channel : Channel)
+        → IsChannel (port_id number port) link then.net channel → link ≢ place.link
+    apart number port live place s = apart_from number port live place s.channel s.here s.answering
+
+    acts_as : (change : Change) → is.change ≡ change → Acts (Changing change) then k.draws done w'
+    acts_as change same = subst (λ c. Acts (Changing c) then k.draws done w') same acts
+
+    -- an event that changes nothing at all leaves the world as it is
+    still_now : LeavesAll n made event.act → w' ≡ record then { last_change = then.time }
+    still_now leaves = by is.change refl (subst (LeavesAll n made) is.act leaves)
+      where
+        same_so : (change : Change) → is.change ≡ change → IsIdleAfter n made change → LeavesWorld change
+            → w' ≡ record then { last_change = then.time }
+        same_so change same idle_after other =
+            idle_same then claim_now.world.sound k.draws w' change other
+            (idle_so n made then stands_now claim_now.world.sound change idle_after) (acts_as change same).1
+
+        by : (change : Change) → is.change ≡ change → LeavesAll n made (Changing change)
+            → w' ≡ record then { last_change = then.time }
+        by (LinkDown number port) same idle = same_so (LinkDown number port) same idle tt
+        by (LinkUp number port) same idle = same_so (LinkUp number port) same idle tt
+        by (LinkSet number port min max loss) same idle = absurd idle
+        by (Fail number) same idle = same_so (Fail number) same idle tt
+        by (Recover number) same idle = same_so (Recover number) same idle tt
+        by (Priority1 number value) same none = absurd none
+        by (Inject number port octets) same idle = same_so (Inject number port octets) same idle tt
+
+    -- what is in flight beside failed systems and between them is in time
+    spared : (gone : ℕ) → AreAskedInTime gone then → AreGoneBetween gone then → (change : Change)
+        → is.change ≡ change → SparesFailed n made event (Changing change)
+        → AreAskedInTime gone w' × AreGoneBetween gone w'
+    spared gone asked all (LinkUp number port) same live = (
+      up_in_time_still gone number port then k.draws done w' claim_now.world.sound (acts_as (LinkUp number port) same)
+          asked (λ place s link channel at_port. apart number port live place s link channel at_port),
+      up_gone_still gone number port then k.draws done w' claim_now.world.sound (acts_as (LinkUp number port) same) all
+          (λ place s link channel at_port.
+          apart_from number port live place s.channel s.here s.answering link channel at_port),
+    )
+    spared gone asked all (Recover number) same recovers =
+        recover_in_time p 0 0 number then k.draws done w' claim_now.pace claim_now.world claim_after.world
+        claim_now.measured claim_after.measured (acts_as (Recover number) same) gone asked all
+    spared gone asked all (Priority1 number value) same none = absurd none
+    spared gone asked all (LinkDown number port) same none = absurd none
+    spared gone asked all (LinkSet number port min max loss) same none = absurd none
+    spared gone asked all (Fail number) same none = absurd none
+    spared gone asked all (Inject number port octets) same none = absurd none
+
+    asked_now : (gone : ℕ) → AreAskedInTime gone w → AreAskedInTime gone then
+    asked_now gone asked = are_asked_later gone event.at w k.ready.timely.now asked
+
+    asked_after : (time : ℕ) → AreSparedBy n [] more time → WereAskedInTime time w'
+    asked_after time spare =
+        let (before, last) = one_more n [] made event time spare in
+        let (gone, past, asked, all) = keeps.asked time before in
+        elim last [
+          | inl over ↦
+              let change = made_last in
+              let now = made_time in (
+                w'.last_change + largest_interval p,
+                omega (arith, over, change, now),
+                are_asked_begin p w' claim_after.world.sound claim_after.measured claim_after.world.known made_last,
+                gone_begins p w' claim_after.world.known made_last,
+              )
+          | inr (inl nothing) ↦
+              let same = still_now nothing in (
+                gone,
+                past,
+                subst (AreAskedInTime gone) (sym same) (still_in_time gone then (asked_now gone asked)),
+                subst (AreGoneBetween gone) (sym same) (gone_still gone then (gone_later gone event.at w all)),
+              )
+          | inr (inr spares) ↦
+              let both = spared gone (asked_now gone asked) (gone_later gone event.at w all) is.change refl
+              (subst (SparesFailed n made event) is.act spares) in
+              (gone, past, both.0, both.1)
+        ]
+
+    pub made_keeps : KeepsTo d more w'
+    made_keeps = record {
+      claim = claim_after;
+      stands = stands_after;
+      slow = stays_none_faster (least_of d) w w'
+          (done_stays answers event fate fate_after w w' done keeps.claim.world.sound.wired.setups k) keeps.slow;
+      asked = asked_after;
+    }
 
   module _ (keeps : KeepsTo d made w) (sound : IsSoundWorld w) (nothing : TakesNothing n made event.act) where
-    claim_then : KeepsAll p then
-    claim_then = claim_later p w event.at k.ready.timely.now k.ready.timely.first keeps.claim
-
-    stands_then : StandsAsPlanned n made then
-    stands_then = time_stands n made w event.at keeps.stands
-
     sound_then : IsSoundWorld then
     sound_then = sound_later w event.at sound
+
+    abbrev claim_then : KeepsAll p then
+    claim_then = claim_now keeps
+
+    abbrev stands_then : StandsAsPlanned n made then
+    stands_then = stands_now keeps
 
     after : KeepsTo d more w'
     after = made_keeps keeps
@@ -151,35 +317,8 @@ module _ {F : Type 0} (answers : Bounds → ℕ → F → Option ℕ → F → T
     gain : IsGain is.change then
     gain = gain_so n made then stands_then claim_then.world.sound is.change (subst (TakesNothing n made) is.act nothing)
 
-    -- a link between live systems isn't one that leads to a failed one
-    apart : (number port : ℕ) → JoinsLive n more (port_id number port) → (place : LinkPlace)
-        → StandsUnanswered place w' → (link : ℕ) (channel : Channel)
-        → IsChannel (port_id number port) link then.net channel → link ≢ place.link
-    apart number port live place s link channel at_port = λ same.
-        let stays = acts_stay event.act then k.draws done w' claim_then.world.sound.wired.setups k.acts in
-        let near = stays.links place.link s.channel s.here in
-        let one : channel ≡ near.old =
-        same_there then.net.channels place.link channel near.old
-        (subst (λ i. slice_get then.net.channels i ≡ Some channel) same at_port.here) near.here in
-        let joined : IsEnd (port_id number port) (channel_wire s.channel) = elim at_port.joined [
-          | inl a ↦ inl (near.a ∙ sym (ap (λ (c : Channel). c.a) one) ∙ a)
-          | inr b ↦ inr (near.b ∙ sym (ap (λ (c : Channel). c.b) one) ∙ b)
-        ] in
-        let (v, there, wire) = alike (link_after more) channel_wire n.links w'.net.channels (sym after.stands.links)
-        place.link s.channel s.here in
-        let ends = live place.link v there (subst (IsEnd (port_id number port)) (sym wire) joined) in
-        let lives : IsLive n.systems more (receiver place.direction s.channel).clock =
-        end_so (IsLive n.systems more) place.direction s.channel
-        (subst (λ (x : LinkSpec). IsLive n.systems more x.a.clock) wire ends.0)
-        (subst (λ (x : LinkSpec). IsLive n.systems more x.b.clock) wire ends.1) in
-        let on = lives_so n more w' after.stands after.claim.world.sound (receiver place.direction s.channel).clock
-        lives place.answering s.answering.station
-        (record { here = s.answering.here; named = s.answering.named }) in
-        let both = sym on ∙ s.answering.failed in
-        cc
-
     -- by what every world keeps
-    made_anyway : (next : ℕ) → AreCapableAnyway n more next → IsNewsFrom next
+    made_anyway : (next : ℕ) → AreCapableAnyway n more next → IsNews p next w'
     made_anyway next anyway =
         let (ready, silent) = anyway_ready d more next w' after anyway in
         gain_news p next is.change then k.draws done w' claim_then.world after.claim gain octet acts sound_then silent
@@ -194,67 +333,179 @@ module _ {F : Type 0} (answers : Bounds → ℕ → F → Option ℕ → F → T
         by (inr late) =
             let now = last in let requests = after.claim.pace.requests in omega (arith, late, now, requests)
 
-    -- or where other ports stay as capable as they are from a time on
-    module _ (next : ℕ) (ready : AreReadyBy p next then) (silent : AreSilentBy p next then) where
-      by_change : (change : Change) → is.change ≡ change → LeavesCapable n made event next (Changing change)
-          → IsNewsFrom next
-      by_change (LinkUp number port) same (live, late) =
-          let came : Acts (Changing (LinkUp number port)) then k.draws done w' =
-          subst (λ change. Acts (Changing change) then k.draws done w') same acts in
-          let delay : (sync_paths n more).delay ≡ delay_in w' =
-          ap (λ (x : SyncPaths). x.delay)
-          (paths_stand n more w' playable.network after.stands after.claim.world.sound) in
-          link_up_news p next number port then k.draws done w' claim_then.pace claim_then.world after.claim.world
-          claim_then.measured silent sound_then ready
-          (λ place s link channel at_port. apart number port live place s link channel at_port)
-          (omega (arith, late, delay)) came
-      by_change (Priority1 number value) same late =
-          let came : Acts (Changing (Priority1 number value)) then k.draws done w' =
-          subst (λ change. Acts (Changing change) then k.draws done w') same acts in
-          priority_stays_news p next number value then k.draws done w' claim_then.pace claim_then.world
-          after.claim.world claim_then.measured
-          (better_lives n made then stands_then claim_then.world.sound number value
-          (subst (IsGainAfter n made) same (subst (TakesNothing n made) is.act nothing))) sound_then ready silent
-          (subst (λ change. IsGain change then) same gain)
-          (subst (λ change. SetsAnOctet (Changing change)) same octet) late came
-      by_change (LinkDown number port) same none = absurd none
-      by_change (LinkSet number port min max loss) same none = absurd none
-      by_change (Fail number) same none = absurd none
-      by_change (Recover number) same none = absurd none
-      by_change (Inject number port octets) same none = absurd none
+    -- a priority1 that gets no worse is that of a live system
+    betters_live : (number value : ℕ) → is.change ≡ Priority1 number value → Lives number then
+    betters_live number value same =
+        better_lives n made then stands_then claim_then.world.sound number value
+        (subst (IsGainAfter n made) same (subst (TakesNothing n made) is.act nothing))
 
-    pub made_news : (start next : ℕ) → AreReadyBy p start then → AreSilentBy p start then
-        → AreCapableNext n made start event next → IsNewsFrom next
-    made_news start next ready silent (inl anyway) = made_anyway next anyway
-    made_news start next ready silent (inr (more_than, leaves)) =
+    -- or where other ports stay as capable as they are from a time on
+    ready_change : (next : ℕ) → AreReadyBy p next then → AreSilentBy p next then → (change : Change)
+        → is.change ≡ change → ((number : ℕ) → change ≢ Recover number)
+        → LeavesCapable n made event next (Changing change) → IsNews p next w'
+    ready_change next ready silent (LinkUp number port) same other (live, late) =
+        let delay = delay_is keeps in
+        link_up_news p next number port then k.draws done w' claim_then.pace claim_then.world after.claim.world
+        claim_then.measured silent sound_then ready
+        (λ place s link channel at_port. apart keeps number port live place s link channel at_port)
+        (omega (arith, late, delay)) (acts_as keeps (LinkUp number port) same)
+    ready_change next ready silent (Priority1 number value) same other late =
+        priority_stays_news p next number value then k.draws done w' claim_then.pace claim_then.world after.claim.world
+        claim_then.measured (betters_live number value same) sound_then silent
+        (subst (λ change. IsGain change then) same gain)
+        (subst (λ change. SetsAnOctet (Changing change)) same octet) (acts_as keeps (Priority1 number value) same) ready
+        late
+    ready_change next ready silent (Recover number) same other leaves = absurd (other number refl)
+    ready_change next ready silent (LinkDown number port) same other none = absurd none
+    ready_change next ready silent (LinkSet number port min max loss) same other none = absurd none
+    ready_change next ready silent (Fail number) same other none = absurd none
+    ready_change next ready silent (Inject number port octets) same other none = absurd none
+
+    -- or some of them ask soon
+    soon_change : (next by : ℕ) → AreSilentBy p next then → event.at ≤ by → by < next → AreComing p by next then
+        → (change : Change) → is.change ≡ change → LeavesCapable n made event next (Changing change)
+        → IsNewsSoon p next w'
+    soon_change next by silent early before coming (LinkUp number port) same (live, late) =
+        let delay = delay_is keeps in
+        up_soon p by next number port then k.draws done w' claim_then.pace claim_then.world after.claim.world
+        claim_then.measured coming (omega (arith, late, delay)) (acts_as keeps (LinkUp number port) same) silent
+        (λ place s link channel at_port. apart keeps number port live place s link channel at_port) sound_then early
+        before
+    soon_change next by silent early before coming (Priority1 number value) same late =
+        priority_soon p next number value then k.draws done w' claim_then.pace claim_then.world after.claim.world
+        claim_then.measured (betters_live number value same) sound_then silent
+        (subst (λ change. IsGain change then) same gain)
+        (subst (λ change. SetsAnOctet (Changing change)) same octet) (acts_as keeps (Priority1 number value) same) by
+        coming early before
+    soon_change next by silent early before coming (Recover number) same (failed, live, alone, late) =
+        let delay = delay_is keeps in
+        let (gone, past, asked, all) = keeps.asked event.at alone in
+        let came = acts_as keeps (Recover number) same in
+        let asks : ℕ = max by (event.at + interval_of p.params.pdelay) in
+        recover_soon p asks next number then k.draws done w' claim_then.pace claim_then.world after.claim.world
+        claim_then.measured after.claim.measured came
+        (failed_so n made then stands_then claim_then.world.sound number failed came.1.place came.1.station
+        (record { here = came.1.is.here; named = came.1.is.named }))
+        sound_then gone past (asked_now keeps gone asked)
+        (gone_later gone event.at w all)
+        (λ place s same_clock. elim live [
+          | inl leads ↦ absurd (beside_live keeps number leads place s same_clock)
+          | inr long ↦ long
+        ]) (omega arith) (omega (arith, before, late)) (omega (arith, late, delay)) silent
+        (λ at stands. coming_later p by next at asks next then (omega arith) (omega arith) (coming at stands))
+    soon_change next by silent early before coming (LinkDown number port) same none = absurd none
+    soon_change next by silent early before coming (LinkSet number port min max loss) same none = absurd none
+    soon_change next by silent early before coming (Fail number) same none = absurd none
+    soon_change next by silent early before coming (Inject number port octets) same none = absurd none
+
+    -- ports are capable later than the event comes
+    event_before : (next : ℕ) (change : Change) → LeavesCapable n made event next (Changing change) → event.at < next
+    event_before next (LinkUp number port) (live, late) = omega (arith, late)
+    event_before next (Priority1 number value) late = late
+    event_before next (Recover number) (failed, live, alone, late) = omega (arith, late)
+    event_before next (LinkDown number port) none = absurd none
+    event_before next (LinkSet number port min max loss) none = absurd none
+    event_before next (Fail number) none = absurd none
+    event_before next (Inject number port octets) none = absurd none
+
+    leaves_so : (next : ℕ) → LeavesCapable n made event next event.act
+        → LeavesCapable n made event next (Changing is.change)
+    leaves_so next leaves = subst (LeavesCapable n made event next) is.act leaves
+
+    -- all its ports are known to be capable by then, where no system recovers
+    pub made_known : (start next : ℕ) → ((number : ℕ) → is.change ≢ Recover number) → AreReadyBy p start then
+        → AreSilentBy p start then → AreCapableNext n made start event next → IsNews p next w'
+    made_known start next other ready silent (inl anyway) = made_anyway next anyway
+    made_known start next other ready silent (inr (more_than, leaves)) =
         let (ready_then, silent_then) = ready_later p start next then more_than ready silent in
-        by_change next ready_then silent_then is.change refl (subst (LeavesCapable n made event next) is.act leaves)
+        ready_change next ready_then silent_then is.change refl other (leaves_so next leaves)
+
+    made_soon : (start next : ℕ) → start ≤ next → HowComing p start then → AreSilentBy p start then
+        → LeavesCapable n made event next (Changing is.change) → IsNewsSoon p next w'
+    made_soon start next more_than how silent leaves =
+        let early = how.early in
+        let after_event = event_before next is.change leaves in
+        let before : how.by < next = elim how.soon [
+          | inl less ↦ omega (arith, less, more_than)
+          | inr same ↦ omega (arith, same, after_event)
+        ] in
+        soon_change next how.by (λ place s. let (change, one, from) = silent place s in (
+          change,
+          one,
+          omega (
+            arith,
+            from,
+            more_than,
+          ),
+        ))
+        early before
+        (λ place stands.
+        coming_later p how.by start place how.by next then (omega arith) more_than (how.coming place stands))
+        is.change refl leaves
+
+    -- so it is where they are all known to be capable from a time on
+    made_ready : (start next : ℕ) → AreReadyBy p start then → AreSilentBy p start then
+        → AreCapableNext n made start event next → IsNewsFrom p next w'
+    made_ready start next ready silent (inl anyway) = inl (made_anyway next anyway)
+    made_ready start next ready silent (inr (more_than, leaves)) = by is.change refl (leaves_so next leaves)
+      where
+        known : (change : Change) → is.change ≡ change → ((number : ℕ) → change ≢ Recover number)
+            → LeavesCapable n made event next (Changing change) → IsNewsFrom p next w'
+        known change same other leave =
+            let (ready_then, silent_then) = ready_later p start next then more_than ready silent in
+            inl (ready_change next ready_then silent_then change same other leave)
+
+        by : (change : Change) → is.change ≡ change → LeavesCapable n made event next (Changing change)
+            → IsNewsFrom p next w'
+        by (Recover number) same leave =
+            inr (made_soon start next more_than
+            (record {
+              by = event.at;
+              early = omega arith;
+              soon = inr refl;
+              coming = λ place stands. inl (ready place stands);
+            })
+            silent (leaves_so next leaves))
+        by (LinkUp number port) same leave = known (LinkUp number port) same (λ other e. cc) leave
+        by (Priority1 number value) same leave = known (Priority1 number value) same (λ other e. cc) leave
+        by (LinkDown number port) same none = absurd none
+        by (LinkSet number port min max loss) same none = absurd none
+        by (Fail number) same none = absurd none
+        by (Inject number port octets) same none = absurd none
+
+    made_from : (start next : ℕ) → IsNewsFrom p start then → AreCapableNext n made start event next
+        → IsNewsFrom p next w'
+    made_from start next (inl news) capable = made_ready start next news.ready news.silent capable
+    made_from start next (inr soon) (inl anyway) = inl (made_anyway next anyway)
+    made_from start next (inr soon) (inr (more_than, leaves)) =
+        inr (made_soon start next more_than (from_coming p start then (inr soon)) soon.silent (leaves_so next leaves))
 
     -- or where the event changes nothing
-    by_idle : (start : ℕ) → IsNews p start then → IsIdleAfter n made is.change → IsNewsFrom start
+    by_idle : (start : ℕ) → IsNewsFrom p start then → IsIdleAfter n made is.change → IsNewsFrom p start w'
     by_idle start news idle_after =
         let idle = idle_so n made then stands_then claim_then.world.sound is.change idle_after in
-        news_stands p start then w' (idle_still then claim_then.world.sound k.draws w' is.change idle acts.1)
+        from_stands p start then w' (idle_still then claim_then.world.sound k.draws w' is.change idle acts.1)
         after.claim.world after.claim.measured news
 
-    pub made_still : (start next : ℕ) → IsNews p start then → AreCapableStill n made start event next
-        → IsNewsFrom next
-    made_still start next news (inl capable) = made_news start next news.ready news.silent capable
+    made_still : (start next : ℕ) → IsNewsFrom p start then → AreCapableStill n made start event next
+        → IsNewsFrom p next w'
+    made_still start next news (inl capable) = made_from start next news capable
     made_still start next news (inr (nothing_new, same)) =
-        subst IsNewsFrom (sym same) (by_idle start news (subst (ChangesNothing n made) is.act nothing_new))
+        subst (λ time. IsNewsFrom p time w') (sym same)
+        (by_idle start news (subst (ChangesNothing n made) is.act nothing_new))
 
   -- so it is where it was one since news
   pub news_news : (start next : ℕ) → IsNewsTo d start made w → TakesNothing n made event.act
-      → AreCapableStill n made start event next → IsNewsFrom next
+      → AreCapableStill n made start event next → IsNewsFrom p next w'
   news_news start next so nothing capable =
-      let news = news_go_on p start event.at w k.ready.timely.now k.ready.timely.first so.news in
-      made_still so.keeps so.news.sound nothing start next news capable
+      made_still so.keeps (from_sound p start w so.news) nothing start next
+      (from_later p start event.at w k.ready.timely.now k.ready.timely.first so.news) capable
 
   -- or where it only holds what is sound
   pub rest_news : (start next : ℕ) → KeepsTo d made w → IsSoundWorld w → TakesNothing n made event.act
-      → AreCapableAnyway n made start → AreCapableNext n made start event next → IsNewsFrom next
+      → AreCapableAnyway n made start → AreCapableNext n made start event next → IsNewsFrom p next w'
   rest_news start next keeps sound nothing anyway capable =
       let then_keeps : KeepsTo d made then =
-      record { claim = claim_then keeps sound nothing; stands = stands_then keeps sound nothing; slow = keeps.slow } in
+      keeps_later d made w event.at k.ready.timely.now k.ready.timely.first keeps in
       let (ready, silent) = anyway_ready d made start then then_keeps anyway in
-      made_news keeps sound nothing start next ready silent capable
+      made_ready keeps sound nothing start next ready silent capable

@@ -1,5 +1,5 @@
 -- A priority1 that gets no worse leaves a world one since news, beside failed systems too.
-use Rattle.std.proofs.Common.{◌≡◌, ◌<◌, ◌+◌, ℕ, Bool, List, sym, ap, subst, ◌∙◌, inl, inr, arith}
+use Rattle.std.proofs.Common.{◌≡◌, ◌<◌, ◌≤◌, ◌+◌, ℕ, Bool, List, sym, ap, subst, ◌∙◌, inl, inr, arith}
 use Rattle.gptp_lists.proofs.MappedLemmas.{alike}
 use Rattle.gptp_vector.specs.declared.port.PortId.{PortId}
 use Rattle.gptp_links.specs.Fate.{Draw}
@@ -33,6 +33,7 @@ use Rattle.gptp_invariants.proofs.FailedUnansweredCallLemmas.{CallStep, call_see
 use Rattle.gptp_invariants.proofs.WorldNewsLemmas.{news_begin, ready_goes_through}
 use Rattle.gptp_invariants.proofs.WorldSoundLemmas.{sound_gains}
 use Rattle.gptp_settling_time.specs.Idle.{Lives}
+use Rattle.gptp_settling_time.proofs.NewsSoonLemmas.{AreComing, IsNewsSoon, coming_goes_through}
 use Rattle.gptp_settling_time.proofs.ReactsLemmas.{Reacts, lives_as, reacts}
 use Rattle.gptp_settling_time.proofs.StandsStillLemmas.{set_still, silent_still}
 
@@ -130,8 +131,8 @@ module _ (gone : ℕ) (at : LinkPlace) (place value : ℕ) (w : WorldState) (dra
 
 module _ (p : SettlingParams) (start owner value : ℕ) (w : WorldState) (draws : List Draw) (done : Done)
     (w' : WorldState) (pace : KeepPace p) (is : IsWorld p w) (is' : IsWorld p w') (measured : LinkIsMeasured w)
-    (live : Lives owner w) (sound : IsSoundWorld w) (ready : AreReadyBy p start w) (silent : AreSilentBy p start w)
-    (gain : IsGain (Priority1 owner value) w) (octet : value < 256) (early : w.time < start)
+    (live : Lives owner w) (sound : IsSoundWorld w) (silent : AreSilentBy p start w)
+    (gain : IsGain (Priority1 owner value) w) (octet : value < 256)
     (acts : Acts (Changing (Priority1 owner value)) w draws done w') where
   r : Reacts w w'
   r = reacts p w is owner value live octet gain draws done w' acts
@@ -149,13 +150,35 @@ module _ (p : SettlingParams) (start owner value : ℕ) (w : WorldState) (draws 
         soon,
       )
 
-  pub priority_stays_news : IsNews p start w'
-  priority_stays_news =
+  measured' : LinkIsMeasured w'
+  measured' = acts_measured (Changing (Priority1 owner value)) w w' draws done is.sound measured octet acts
+
+  sound' : IsSoundWorld w'
+  sound' = sound_gains p (Priority1 owner value) w draws done w' gain octet acts is is' sound
+
+  pub priority_stays_news : AreReadyBy p start w → w.time < start → IsNews p start w'
+  priority_stays_news ready early =
       let time = r.time in
-      news_begin p start w' pace is'
-      (acts_measured (Changing (Priority1 owner value)) w w' draws done is.sound measured octet acts) silent'
-      (sound_gains p (Priority1 owner value) w draws done w' gain octet acts is is' sound)
+      news_begin p start w' pace is' measured' silent' sound'
       (λ at stands.
       ready_goes_through p start at (Changing (Priority1 owner value)) w w' draws done is.sound measured tt acts
       (ready at (stood w w' r p is is' at stands)))
       (omega (arith, early, time))
+
+  -- some ports may ask again before they are capable
+  pub priority_soon : (by : ℕ) → AreComing p by start w → w.time ≤ by → by < start → IsNewsSoon p start w'
+  priority_soon by coming early before =
+      let time = r.time in
+      record {
+        by = by;
+        early = omega (arith, early, time);
+        soon = before;
+        pace = pace;
+        world = is';
+        measured = measured';
+        silent = silent';
+        sound = sound';
+        coming = λ at stands.
+            coming_goes_through p by start at (Changing (Priority1 owner value)) w w' draws done is.sound measured tt
+            acts (coming at (stood w w' r p is is' at stands));
+      }

@@ -16,6 +16,7 @@ use Rattle.gptp_invariants.specs.DelayWatched.{IsWatched}
 use Rattle.gptp_invariants.specs.WorldNews.{IsReadyBy}
 use Rattle.gptp_settling_time.proofs.HeardLemmas.{IsHeardAt, IsToldAt}
 use Rattle.gptp_settling_time.proofs.OrderedLemmas.{IsTimelyAt, opposite, tells}
+use Rattle.gptp_settling_time.proofs.WillAskLemmas.{IsBeforeOrAsked, WillAsk}
 
 -- the machine sees the same of it, and its delays are the same
 pub record IsSameLink (at : LinkPlace) (w w' : WorldState) (l : IsLinkOf at w) : Type 0 where
@@ -67,6 +68,17 @@ timely_same first at w w' x s = record {
   inv = goes_over at w w' x.link s (λ k least m. InvFirst k least reads_as_request reads_as_reply first m) x.inv;
   before = goes_over at w w' x.link s (λ k least m. IsNotBefore k least first m.pair) x.before;
 }
+
+pub will_same : (gone calm start : ℕ) (at : LinkPlace) (w w' : WorldState) (x : WillAsk gone calm start at w)
+    → IsSameLink at w w' x.watched.link → WillAsk gone calm start at w'
+unfolding watched_same
+will_same gone calm start at w w' x s =
+    let l = x.watched.link in
+    record {
+      watched = watched_same gone calm at w w' x.watched s;
+      asks = goes_over at w w' l s (λ k least m. IsBeforeOrAsked k calm m.pair.asker.asked) x.asks;
+      by = goes_over at w w' l s (λ k least m. calm + k.period + exchange_span k < start) x.by;
+    }
 
 -- when its ports are capable
 pub ready_same : (p : SettlingParams) (start : ℕ) (at : LinkPlace) (w w' : WorldState) → StaysSameLink at w w'

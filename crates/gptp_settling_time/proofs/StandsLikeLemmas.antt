@@ -1,5 +1,5 @@
 -- What is claimed of a world stays so in one in which the machine sees the same of its systems and of the links in use.
-use Rattle.std.proofs.Common.{◌≡◌, ◌<◌, ◌≤◌, ◌+◌, ◌*◌, ℕ, suc, false, Some, slice_get, refl, sym, ap, subst}
+use Rattle.std.proofs.Common.{◌≡◌, ◌<◌, ◌≤◌, ◌+◌, ◌*◌, ℕ, suc, false, Some, slice_get, refl, sym, ap, subst, inl, inr, arith}
 use Rattle.std.specs.Prelude.{max}
 use Rattle.gptp_graph.specs.PathBound.{BoundsPaths}
 use Rattle.gptp_graph.specs.Snapshot.{Joins, PortIdentity, System, port_of}
@@ -22,8 +22,9 @@ use Rattle.gptp_invariants.specs.WorldNews.{AreSilentBy, IsNews, news_network, t
 use Rattle.gptp_invariants.specs.WorldSound.{IsSoundWorld}
 use Rattle.gptp_invariants.specs.WorldStanding.{snapshot_of}
 use Rattle.gptp_settling_time.proofs.AlwaysClaimedLemmas.{IsClaimedAlways, start_network}
+use Rattle.gptp_settling_time.proofs.NewsSoonLemmas.{IsComing, IsNewsFrom}
 use Rattle.gptp_settling_time.proofs.OrderedLemmas.{opposite}
-use Rattle.gptp_settling_time.proofs.SameLinkLemmas.{StaysSameLink, heard_same, ready_same}
+use Rattle.gptp_settling_time.proofs.SameLinkLemmas.{StaysSameLink, heard_same, ready_same, will_same}
 
 -- the same is seen of systems and of links in use, and each of these stood before
 pub record StandsLike (w w' : WorldState) : Type 0 where
@@ -179,6 +180,30 @@ module _ (p : SettlingParams) (start : ℕ) (w w' : WorldState) (like : StandsLi
           expected = expects m is.expected short;
         };
   }
+
+  -- some ports may ask again before they are capable
+  coming_like : (by : ℕ) (at : LinkPlace) → IsComing p by start at w → IsComing p by start at w'
+  coming_like by at (inl ready) = inl (ready_same p start at w w' (like.links at) ready)
+  coming_like by at (inr (gone, calm, less, will)) =
+      inr (gone, calm, less, will_same gone calm start at w w' will (like.links at will.watched.link))
+
+  pub from_like : IsNewsFrom p start w → IsNewsFrom p start w'
+  from_like (inl news) = inl (news_like news)
+  from_like (inr soon) =
+      let time = like.time in
+      let early = soon.early in
+      inr (record {
+        by = soon.by;
+        early = omega (arith, early, time);
+        soon = soon.soon;
+        pace = soon.pace;
+        world = world;
+        measured = measured;
+        silent = silent;
+        sound = sound;
+        coming = λ at stands.
+            coming_like soon.by at (soon.coming at (like.stood p soon.world world at stands));
+      })
 
   pub claims_like : IsClaimedAlways p start w → IsClaimedAlways p start w'
   claims_like is = record {

@@ -36,7 +36,8 @@ use Rattle.gptp_invariants.specs.WorldSound.{IsSoundWorld}
 use Rattle.gptp_invariants.specs.WorldStanding.{channel_is_used, live_stations, snapshot_of, standing_system, used_channels}
 use Rattle.gptp_settling_time.proofs.AlwaysClaimedLemmas.{IsClaimedAlways}
 use Rattle.gptp_settling_time.proofs.SameLinkLemmas.{StaysSameLink}
-use Rattle.gptp_settling_time.proofs.StandsLikeLemmas.{StandsLike, claims_like, news_like, turn_like_network}
+use Rattle.gptp_settling_time.proofs.NewsSoonLemmas.{IsNewsFrom, from_silent, from_sound}
+use Rattle.gptp_settling_time.proofs.StandsLikeLemmas.{StandsLike, claims_like, from_like, news_like, turn_like_network}
 
 -- a station but for the identity that it starts with
 abbrev pub plain : Station → Station
@@ -388,6 +389,11 @@ module _ (p : SettlingParams) (start : ℕ) (w w' : WorldState) (still : StandsS
   pub news_stands : IsNews p start w → IsNews p start w'
   news_stands news =
       news_like p start w w' like world measured (silent_then news.silent) (sound_then news.sound) expects news
+
+  pub from_stands : IsNewsFrom p start w → IsNewsFrom p start w'
+  from_stands news =
+      from_like p start w w' like world measured (silent_then (from_silent p start w news))
+      (sound_then (from_sound p start w news)) expects news
 
   pub claims_stand : IsClaimedAlways p start w → IsClaimedAlways p start w'
   claims_stand is =

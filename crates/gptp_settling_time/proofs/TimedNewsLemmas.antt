@@ -27,10 +27,10 @@ use Rattle.gptp_invariants.proofs.SyncFollowLaterLemmas.{time_begins, time_carri
 use Rattle.gptp_invariants.proofs.SyncFollowMeasureLemmas.{measured_right}
 use Rattle.gptp_invariants.proofs.SyncFollowWorldLemmas.{done_carries}
 use Rattle.gptp_invariants.proofs.ChoiceSettlesAsMachineLemmas.{kept_back}
-use Rattle.gptp_invariants.proofs.WorldNewsActLemmas.{news_done}
-use Rattle.gptp_invariants.proofs.WorldNewsLemmas.{news_above, news_above_in_turn, news_go_on, news_worlds_settle, news_worlds_settle_in_turn}
+use Rattle.gptp_invariants.proofs.WorldNewsLemmas.{news_above, news_above_in_turn, news_worlds_settle, news_worlds_settle_in_turn}
 use Rattle.gptp_settling_time.specs.Exactly.{SettlesBy}
 use Rattle.gptp_settling_time.proofs.NewsMeasuredLemmas.{news_measured}
+use Rattle.gptp_settling_time.proofs.NewsSoonLemmas.{IsNewsFrom, from_done, from_later, from_world, news_now}
 
 -- ---- delays
 
@@ -97,11 +97,21 @@ can_later p m start settled w time can =
 -- ---- since news
 
 module _ (p : SettlingParams) (m start settled : ℕ) where
+  -- its ports are capable by then
+  news_then : (w : WorldState) → IsNewsFrom p start w → CanSettle p m start settled w → settled ≤ w.time
+      → IsNews p start w
+  news_then w from can on =
+      let before = starts_before p m start settled w can in
+      news_now p start w (omega (arith, before, on)) from
+
   -- by then it has settled, and what its systems state is bounded
-  pub has_settled : (w : WorldState) → IsNews p start w → CanSettle p m start settled w → settled ≤ w.time
+  pub has_settled : (w : WorldState) → IsNewsFrom p start w → CanSettle p m start settled w → settled ≤ w.time
       → Settled w × IsBoundedWorld w
-  has_settled w news can on = by can.settles
+  has_settled w from can on = by can.settles
     where
+      news : IsNews p start w
+      news = news_then w from can on
+
       by : SettlesBy p (paths_with m w) start settled → Settled w × IsBoundedWorld w
       by (inl (off, late)) =
           let passed : start + largest_interval p + pred m * delay_in w ≤ settled = late in
@@ -120,36 +130,38 @@ module _ (p : SettlingParams) (m start settled : ℕ) where
           )
 
   -- so it is settled from then on, and its ports have measured right
-  pub settled_from : (w : WorldState) → IsNews p start w → CanSettle p m start settled w → IsOldBy p settled w
+  pub settled_from : (w : WorldState) → IsNewsFrom p start w → CanSettle p m start settled w → IsOldBy p settled w
       → settled ≤ w.time → w.time ≤ 10 ^ 18 → IsSettledFrom p settled p.params.threshold w
-  settled_from w news can old on shown = record {
-    pace = news.pace;
-    world = news.world;
-    measured = news.measured;
-    links = can.quiet;
-    choice = (has_settled w news can on).0;
-    old = old;
-    late = on;
-    shown = shown;
-    short = used_within (live_stations w.stations) w.net.channels p.params.threshold
-        (λ link channel here used. let good = (can.quiet link channel here used).good in omega (arith, good));
-    limit = news.pace.params.ranges.threshold;
-  }
+  settled_from w from can old on shown =
+      let news = news_then w from can on in
+      record {
+        pace = news.pace;
+        world = news.world;
+        measured = news.measured;
+        links = can.quiet;
+        choice = (has_settled w from can on).0;
+        old = old;
+        late = on;
+        shown = shown;
+        short = used_within (live_stations w.stations) w.net.channels p.params.threshold
+            (λ link channel here used. let good = (can.quiet link channel here used).good in omega (arith, good));
+        limit = news.pace.params.ranges.threshold;
+      }
 
-  pub right_from : (w : WorldState) → IsNews p start w → CanSettle p m start settled w → IsOldBy p settled w
+  pub right_from : (w : WorldState) → IsNewsFrom p start w → CanSettle p m start settled w → IsOldBy p settled w
       → settled ≤ w.time → w.time ≤ 10 ^ 18 → AllMeasureRight p.params w
-  right_from w news can old on shown =
+  right_from w from can old on shown =
       let before = starts_before p m start settled w can in
-      measured_right p settled p.params.threshold w (settled_from w news can old on shown)
-      (news_measured p start w news can.quiet (omega (arith, before, on)))
+      measured_right p settled p.params.threshold w (settled_from w from can old on shown)
+      (news_measured p start w (news_then w from can on) can.quiet (omega (arith, before, on)))
 
   -- what is kept: the news, and that time is carried right from then on
   pub record IsTimed (w : WorldState) : Type 0 where
-    pub news : IsNews p start w
+    pub news : IsNewsFrom p start w
     pub carries : CanSettle p m start settled w → IsOldBy p settled w → settled ≤ w.time → w.time ≤ 10 ^ 18
         → CarriesTime p.params settled p.params.threshold w
 
-  pub timed_begins : (w : WorldState) → IsNews p start w → w.time < settled → IsTimed w
+  pub timed_begins : (w : WorldState) → IsNewsFrom p start w → w.time < settled → IsTimed w
   timed_begins w news early = record { news = news; carries = λ can old on shown. absurd (omega (arith, early, on)) }
 
   pub timed_later : (w : WorldState) (time : ℕ) → w.time ≤ time → NothingBefore time w.net.pending → IsTimed w
@@ -159,13 +171,13 @@ module _ (p : SettlingParams) (m start settled : ℕ) where
     carries = λ can old on shown. by can old on shown (cases_lt w.time settled);
   }
     where
-      after : IsNews p start (at time w)
-      after = news_go_on p start time w later first is.news
+      after : IsNewsFrom p start (at time w)
+      after = from_later p start time w later first is.news
 
       by : CanSettle p m start settled (at time w) → IsOldBy p settled (at time w) → settled ≤ time → time ≤ 10 ^ 18
           → (w.time < settled) ⊎ (settled ≤ w.time) → CarriesTime p.params settled p.params.threshold (at time w)
       by can old on shown (inl early) =
-          time_begins p settled p.params.threshold w time early is.news.world.known
+          time_begins p settled p.params.threshold w time early (from_world p start w is.news).known
           (settled_from (at time w) after can old on shown)
       by can old on shown (inr already) =
           time_carries p settled p.params.threshold w time later
@@ -177,11 +189,11 @@ module _ (p : SettlingParams) (m start settled : ℕ) where
     abbrev moved : WorldState
     moved = at timed.at w
 
-    news_then : IsNews p start moved
-    news_then = news_go_on p start timed.at w k.ready.timely.now k.ready.timely.first is.news
+    from_then : IsNewsFrom p start moved
+    from_then = from_later p start timed.at w k.ready.timely.now k.ready.timely.first is.news
 
-    news_after : IsNews p start w'
-    news_after = news_done answers p start timed fate fate_after w w' done none octet k is.news
+    from_after : IsNewsFrom p start w'
+    from_after = from_done p start answers timed fate fate_after w w' done none octet k is.news
 
     carries_after : CanSettle p m start settled w' → IsOldBy p settled w' → settled ≤ w'.time → w'.time ≤ 10 ^ 18
         → CarriesTime p.params settled p.params.threshold w'
@@ -194,12 +206,13 @@ module _ (p : SettlingParams) (m start settled : ℕ) where
         let on_then : settled ≤ timed.at = omega (arith, on, time) in
         let shown_then : timed.at ≤ 10 ^ 18 = omega (arith, shown, time) in
         let now = k.ready.timely.now in
-        done_carries answers p settled p.params.threshold timed fate fate_after w w' done none k is.news.world.known
-        (settled_from moved news_then can_then old_then on_then shown_then)
-        (right_from moved news_then can_then old_then on_then shown_then)
-        (settled_from w' news_after can old on shown)
+        done_carries answers p settled p.params.threshold timed fate fate_after w w' done none k
+        (from_world p start w is.news).known
+        (settled_from moved from_then can_then old_then on_then shown_then)
+        (right_from moved from_then can_then old_then on_then shown_then)
+        (settled_from w' from_after can old on shown)
         (λ already. is.carries (can_earlier p m start settled w timed.at can_then) old_then already
         (omega (arith, now, shown_then)))
 
     pub timed_act : IsTimed w'
-    timed_act = record { news = news_after; carries = carries_after }
+    timed_act = record { news = from_after; carries = carries_after }

@@ -121,6 +121,10 @@ abbrev pub exchanged_from : SettlingParams → SyncPaths → ℕ → ℕ
 exchanged_from p paths time =
     time + interval_of p.params.pdelay + (paths.delay + p.params.turnaround + paths.delay) + 1
 
+-- ports are capable that ask within a peer delay interval from this time on
+abbrev pub exchanged_again_from : SettlingParams → SyncPaths → ℕ → ℕ
+exchanged_again_from p paths time = exchanged_from p paths (time + interval_of p.params.pdelay)
+
 -- both ends of the link at the port live after these events
 abbrev pub JoinsLive : NetworkState → List Timed → PortId → Type 0
 JoinsLive n events port = (place : ℕ) (v : LinkSpec) → slice_get n.links place ≡ Some v
@@ -134,12 +138,51 @@ EndHasFailed n events port = (place : ℕ) (v : LinkSpec) → slice_get n.links 
     → (IsLive n.systems events (link_after events v).a.clock → ⊥)
     ⊎ (IsLive n.systems events (link_after events v).b.clock → ⊥)
 
+-- each link that is up and ends at the system with this clock joins live systems after these events
+abbrev pub LeadsToLive : NetworkState → List Timed → ℕ → Type 0
+LeadsToLive n events number = (place : ℕ) (v : LinkSpec) → slice_get n.links place ≡ Some v
+    → (link_after events v).up ≡ true
+    → ((link_after events v).a.clock ≡ number) ⊎ ((link_after events v).b.clock ≡ number)
+    → IsLive n.systems events (link_after events v).a.clock × IsLive n.systems events (link_after events v).b.clock
+
+-- These events leave all as it was beside failed systems: a link between live ones that comes up, and a system that
+-- recovers.
+abbrev pub SparesFailed : NetworkState → List Timed → Timed → Act → Type 0
+SparesFailed n before event (Changing (LinkUp number port)) =
+    JoinsLive n (before ++ event ∷ []) (port_id number port)
+SparesFailed n before event (Changing (Recover number)) = ⊤
+SparesFailed n before event act = ⊥
+
+-- an event that changes nothing, not even what a failed system will start with
+abbrev pub LeavesAll : NetworkState → List Timed → Act → Type 0
+LeavesAll n before (Changing (Priority1 number value)) = ⊥
+LeavesAll n before act = ChangesNothing n before act
+
+-- So does one that changes nothing at all. After any other the largest announce interval is over by this time.
+abbrev pub IsSparedBy : NetworkState → List Timed → Timed → ℕ → Type 0
+IsSparedBy n before event time =
+    (event.at + largest_interval (pace_of n) < time)
+    ⊎ (LeavesAll n before event.act ⊎ SparesFailed n before event event.act)
+
+-- by this time what failed systems sent is gone, after each of these events
+abbrev pub AreSparedBy : NetworkState → List Timed → List Timed → ℕ → Type 0
+AreSparedBy n before [] time = 0 < time
+AreSparedBy n before (event ∷ events) time =
+    IsSparedBy n before event time × AreSparedBy n (before ++ event ∷ []) events time
+
 -- These changes leave other ports as capable as they are: a link between live systems that comes up, whose own two
--- ports ask then; and a priority1 that gets no worse.
+-- ports ask then; a failed system that recovers, whose own ports ask then, and those beside it within a peer delay
+-- interval; and a priority1 that gets no worse. What a system that recovers sent before it failed is gone by then. Beside another that has failed its port doesn't become capable, which is known only once L + 5
+-- announce intervals are over since the network began.
 abbrev pub LeavesCapable : NetworkState → List Timed → Timed → ℕ → Act → Type 0
 LeavesCapable n before event next (Changing (LinkUp number port)) =
     JoinsLive n (before ++ event ∷ []) (port_id number port)
     × (exchanged_from (pace_of n) (sync_paths n (before ++ event ∷ [])) event.at ≤ next)
+LeavesCapable n before event next (Changing (Recover number)) =
+    (IsLive n.systems before number → ⊥)
+    × (LeadsToLive n (before ++ event ∷ []) number ⊎ (capability_span (pace_of n) ≤ next))
+    × AreSparedBy n [] before event.at
+    × (exchanged_again_from (pace_of n) (sync_paths n (before ++ event ∷ [])) event.at ≤ next)
 LeavesCapable n before event next (Changing (Priority1 number value)) = event.at < next
 LeavesCapable n before event next act = ⊥
 

@@ -1,0 +1,274 @@
+-- Ports that come up elsewhere leave those in time that are beside failed systems.
+use Rattle.std.proofs.Common.{◌≡◌, ◌≢◌, ℕ, Bool, true, false, List, [], ◌∷◌, map, Some, slice_get, refl, sym, ap, subst, ◌∙◌, ◌+◌, inl, inr, arith}
+use Rattle.gptp_lists.proofs.MappedLemmas.{same_there}
+use Rattle.gptp_lists.proofs.PlaceLemmas.{get-set_other}
+use Rattle.gptp_links.specs.declared.link.Direction.TheVariants.{FromA, FromB}
+use Rattle.gptp_links.specs.Fate.{Draw}
+use Rattle.gptp_pdelay.specs.Peer.{reset_peer}
+use Rattle.gptp_scenario.specs.declared.change.Act.TheVariants.{Change as Changing}
+use Rattle.gptp_scenario.specs.declared.change.Change.TheVariants.{LinkUp}
+use Rattle.gptp_setup.specs.declared.setup.Params.{Params}
+use Rattle.gptp_setup.specs.Intervals.{interval_of}
+use Rattle.gptp_system.specs.declared.answer.Answer.{Answer}
+use Rattle.gptp_system.specs.Input.{PortUp}
+use Rattle.gptp_system.specs.Measures.{IsPartAfter, Part, measure_at, part_asked}
+use Rattle.gptp_system.specs.State.{clock}
+use Rattle.gptp_system.specs.Steps.{HasPortNumber}
+use Rattle.gptp_model.specs.declared.done.Done.{Done}
+use Rattle.gptp_model.specs.declared.station.Station.{Station}
+use Rattle.gptp_model.specs.Act.{Calls}
+use Rattle.gptp_model.specs.Acts.{Acts, AtLink}
+use Rattle.gptp_model.specs.Ahead.{IsPortAmong}
+use Rattle.gptp_model.specs.Changing.{CallsAll, CallsIfLive, ComesUpIf, Nothing, TellsEnds, brought_up}
+use Rattle.gptp_model.specs.Sound.{IsSound}
+use Rattle.gptp_model.specs.World.{Channel, WorldState, port_id, sender}
+use Rattle.gptp_model.proofs.StayLemmas.{JoinTheSame, Stays, calls_if_live_stay, calls_stay, carry_same, set_join}
+use Rattle.gptp_invariants.specs.DelayElsewhere.{IsOtherLink}
+use Rattle.gptp_invariants.specs.DelayLinkView.{LinkPlace, asked_at}
+use Rattle.gptp_invariants.specs.FailedUnanswered.{StandsUnanswered}
+use Rattle.gptp_invariants.proofs.DelayElsewhereLemmas.{calls_orderly}
+use Rattle.gptp_invariants.proofs.DelayLinkCallLemmas.{at_own}
+use Rattle.gptp_invariants.proofs.DelayLinkKeptLemmas.{HasAll, all_stay, among_stays}
+use Rattle.gptp_invariants.proofs.DelayLinkLemmas.{IsOrderly, net_orderly, sound_orderly}
+use Rattle.gptp_invariants.proofs.WorldBeforeLemmas.{IsAsBefore, as_was, calls_before, stood}
+use Rattle.gptp_settling_time.proofs.BetweenFailedLemmas.{AreGoneBetween, IsGoneBetween, StandsFailed, gone_still, live_gone}
+use Rattle.gptp_settling_time.proofs.AskedInTimeLemmas.{AreAskedInTime, AsksAfter, IsAskedInTime, called_in_time}
+
+-- ---- a port comes up
+
+same_up : (m n : ℕ) → PortUp m ≡ PortUp n → m ≡ n
+same_up m n e = cc
+
+-- if it is the one beside a failed system it asks now
+up_in_time : (gone : ℕ) (at : LinkPlace) (place q : ℕ) (w : WorldState) (draws : List Draw) (answer : Answer)
+    (w' : WorldState) → (k : Calls place (PortUp q) w draws answer w') → HasPortNumber k.station.system q → IsOrderly w
+    → IsAskedInTime gone at w → IsAskedInTime gone at w'
+up_in_time gone at place q w draws answer w' k of orderly is =
+    called_in_time gone at place (PortUp q) w draws answer w' k of orderly is (λ same. tt) (λ here. asks)
+  where
+    port : ℕ
+    port = (sender at.direction is.link.channel).port
+
+    interval : ℕ
+    interval = interval_of is.link.asking.station.setup.params.pdelay
+
+    asks : (x' : Part)
+        → IsPartAfter is.link.asking.station.system w.time (PortUp q) (sender at.direction is.link.channel).port
+        (measure_at is.link.asking.state) x'
+        → AsksAfter w.time (interval_of is.link.asking.station.setup.params.pdelay) (PortUp q)
+        (sender at.direction is.link.channel).port (measure_at is.link.asking.state) x'
+    asks x' h = elim (at_own q port (part_asked is.link.asking.station.system w.time reset_peer)
+        (measure_at is.link.asking.state) x' h) [
+          | inl one ↦
+              let back : asked_at interval (Some (w.time + interval)) ≡ w.time = omega arith in
+              inl (ap (λ (y : Part). asked_at interval y.pdelay) one.1
+              ∙ ap (λ (p : Params). asked_at interval (Some (w.time + interval_of p.pdelay)))
+              is.link.asking.set_up.params
+              ∙ back)
+          | inr beside ↦ inr (
+            ap (λ (y : Part). asked_at interval y.pdelay) beside.1,
+            ((λ e. absurd cc), λ e. beside.0 (sym (same_up q port e))),
+          )
+        ]
+
+-- ---- ports of a system come up
+
+pub all_in_time : (gone : ℕ) (at : LinkPlace) (place : ℕ) (ps : List ℕ) (w : WorldState) (draws : List Draw)
+    (w' : WorldState) → CallsAll place (map PortUp ps) w draws w' → HasAll place ps w → IsOrderly w
+    → IsAskedInTime gone at w → IsAskedInTime gone at w'
+all_in_time gone at place [] w draws w' (none, same) has orderly is = subst (IsAskedInTime gone at) (sym same) is
+all_in_time gone at place (q ∷ ps) w draws w' (first, rest, between, answer, split, k, more) has orderly is =
+    let stays = calls_stay place (PortUp q) w first answer between orderly.setups k in
+    all_in_time gone at place ps between rest w' more
+    (all_stay place ps w between stays (λ n member. has n (inr member)))
+    (calls_orderly place (PortUp q) w first answer between orderly k)
+    (up_in_time gone at place q w first answer between k (has q (inl refl) k.station k.here) orderly is)
+
+-- ---- a link comes up
+
+-- the time of the last change alone is another
+changed_stood : (at : LinkPlace) (w : WorldState) → StandsUnanswered at (record w { last_change = w.time })
+    → StandsUnanswered at w
+changed_stood at w s = record {
+  channel = s.channel;
+  here = s.here;
+  up = s.up;
+  asking = record {
+    station = s.asking.station;
+    here = s.asking.here;
+    live = s.asking.live;
+    named = s.asking.named;
+  };
+  answering = s.answering;
+}
+
+pub still_in_time : (gone : ℕ) (w : WorldState) → AreAskedInTime gone w
+    → AreAskedInTime gone (record w { last_change = w.time })
+still_in_time gone w asked at s =
+    let one = asked at (changed_stood at w s) in
+    record { link = one.link; asked = one.asked; frames = one.frames; requests = one.requests; old = one.old }
+
+-- a system is told, if it lives
+live_in_time : (gone : ℕ) (at : LinkPlace) (place port : ℕ) (w : WorldState) (draws : List Draw) (w' : WorldState)
+    → ((station : Station) → slice_get w.stations place ≡ Some station → HasPortNumber station.system port)
+    → IsOrderly w → IsAskedInTime gone at w → CallsIfLive place (PortUp port) w draws w' → IsAskedInTime gone at w'
+live_in_time gone at place port w draws w' of orderly is (inl (answer, k)) =
+    up_in_time gone at place port w draws answer w' k (of k.station k.here) orderly is
+live_in_time gone at place port w draws w' of orderly is (inr (failed, none, same)) =
+    subst (IsAskedInTime gone at) (sym same) is
+
+live_before : (place port : ℕ) (w : WorldState) (draws : List Draw) (w' : WorldState)
+    → CallsIfLive place (PortUp port) w draws w' → IsAsBefore w w'
+live_before place port w draws w' (inl (answer, k)) = calls_before place (PortUp port) w draws answer w' k
+live_before place port w draws w' (inr (failed, none, same)) =
+    subst (IsAsBefore w) (sym same)
+    (record { stations = as_was w.stations; links = carry_same w.net.channels; change = refl })
+
+live_orderly : (place port : ℕ) (w : WorldState) (draws : List Draw) (w' : WorldState) → IsOrderly w
+    → CallsIfLive place (PortUp port) w draws w' → IsOrderly w'
+live_orderly place port w draws w' orderly (inl (answer, k)) =
+    calls_orderly place (PortUp port) w draws answer w' orderly k
+live_orderly place port w draws w' orderly (inr (failed, none, same)) = subst IsOrderly (sym same) orderly
+
+module _ (gone number port : ℕ) (w : WorldState) (draws : List Draw) (done : Done) (w' : WorldState) (sound : IsSound w)
+    (acts : Acts (Changing (LinkUp number port)) w draws done w') where
+  abbrev now : WorldState
+  now = record w { last_change = w.time }
+
+  abbrev k : AtLink (port_id number port) w.net (λ place channel. ComesUpIf channel.up place channel now draws w')
+  k = acts.1
+
+  module _ (down : k.channel.up ≡ false) where
+    abbrev raised : Channel
+    raised = record k.channel { up = true }
+
+    abbrev brought : WorldState
+    brought = record now { net = brought_up k.place k.channel w.net }
+
+    told : TellsEnds PortUp k.channel brought draws w'
+    told = subst (λ b. ComesUpIf b k.place k.channel now draws w') down k.so
+
+    joins : JoinTheSame w.net.channels brought.net.channels
+    joins = set_join w.net.channels k.place k.channel raised k.is.here refl refl
+
+    orderly : IsOrderly brought
+    orderly =
+        let old = net_orderly w brought.net joins (sound_orderly w sound) in
+        record { setups = old.setups; clocks = old.clocks; apart = old.apart; params = old.params }
+
+    module _ (asked : AreAskedInTime gone w) (at : LinkPlace) (other : at.link ≢ k.place)
+        (s : StandsUnanswered at w') where
+      before : StandsUnanswered at brought
+      unfolding told
+      before =
+          stood at brought told.between
+          (live_before told.place_a k.channel.a.port brought told.first told.between told.at_a)
+          (stood at told.between w' (live_before told.place_b k.channel.b.port told.between told.second w' told.at_b) s)
+
+      was : StandsUnanswered at w
+      was = record {
+        channel = before.channel;
+        here = sym (get-set_other w.net.channels k.place at.link raised other) ∙ before.here;
+        up = before.up;
+        asking = record {
+          station = before.asking.station;
+          here = before.asking.here;
+          live = before.asking.live;
+          named = before.asking.named;
+        };
+        answering = before.answering;
+      }
+
+      begun : IsAskedInTime gone at brought
+      begun =
+          let one = asked at was in
+          record {
+            link = record {
+              channel = one.link.channel;
+              here = get-set_other w.net.channels k.place at.link raised other ∙ one.link.here;
+              up = one.link.up;
+              asking = one.link.asking;
+              answering = one.link.answering;
+            };
+            asked = one.asked;
+            frames = one.frames;
+            requests = one.requests;
+            old = one.old;
+          }
+
+      named_a : (station : Station) → slice_get brought.stations told.place_a ≡ Some station
+          → clock station.system ≡ k.channel.a.clock
+      named_a station there =
+          ap (λ (x : Station). clock x.system)
+          (same_there brought.stations told.place_a station told.station_a there told.is_a.here)
+          ∙ told.is_a.named
+
+      port_a : IsPortAmong k.channel.a brought.stations
+      port_a place station there named = sound.wired.ports k.place place FromA k.channel station k.is.here there named
+
+      port_b : IsPortAmong k.channel.b brought.stations
+      port_b place station there named = sound.wired.ports k.place place FromB k.channel station k.is.here there named
+
+      first : IsAskedInTime gone at told.between
+      unfolding begun
+      first =
+          live_in_time gone at told.place_a k.channel.a.port brought told.first told.between
+          (λ station there. port_a told.place_a station there (named_a station there)) orderly begun told.at_a
+
+      stays : Stays brought told.between
+      stays =
+          calls_if_live_stay told.place_a (PortUp k.channel.a.port) brought told.first told.between sound.wired.setups
+          told.at_a
+
+      named_b : (station : Station) → slice_get told.between.stations told.place_b ≡ Some station
+          → clock station.system ≡ k.channel.b.clock
+      named_b station there =
+          let near = stays.stations told.place_b station there in
+          near.same.named
+          ∙ ap (λ (x : Station). clock x.system)
+          (same_there brought.stations told.place_b near.old told.station_b near.here told.is_b.here) ∙ told.is_b.named
+
+      raised_in_time : IsAskedInTime gone at w'
+      raised_in_time =
+          live_in_time gone at told.place_b k.channel.b.port told.between told.second w'
+          (λ station there.
+          among_stays brought told.between k.channel.b stays port_b told.place_b station there (named_b station there))
+          (live_orderly told.place_a k.channel.a.port brought told.first told.between orderly told.at_a) first
+          told.at_b
+
+    -- what is in flight between two failed systems
+    raised_gone : AreGoneBetween gone w → (at : LinkPlace) → at.link ≢ k.place → IsGoneBetween gone at w'
+    raised_gone all at other =
+        live_gone gone at told.place_b (PortUp k.channel.b.port) told.between told.second w' told.at_b
+        (live_orderly told.place_a k.channel.a.port brought told.first told.between orderly told.at_a)
+        (live_gone gone at told.place_a (PortUp k.channel.a.port) brought told.first told.between told.at_a orderly
+        (λ s. all at (record {
+          channel = s.channel;
+          here = sym (get-set_other w.net.channels k.place at.link raised other) ∙ s.here;
+          up = s.up;
+          asking = s.asking;
+          answering = s.answering;
+        })))
+
+  pub up_in_time_still : AreAskedInTime gone w
+      → ((at : LinkPlace) → StandsUnanswered at w' → IsOtherLink at (port_id number port) w) → AreAskedInTime gone w'
+  up_in_time_still asked apart = go k.channel.up refl
+    where
+      go : (b : Bool) → k.channel.up ≡ b → AreAskedInTime gone w'
+      go true up =
+          let nothing : Nothing now draws w' =
+          subst (λ b. ComesUpIf b k.place k.channel now draws w') up k.so in
+          subst (AreAskedInTime gone) (sym nothing.1) (still_in_time gone w asked)
+      go false down = λ at s. raised_in_time down asked at (λ e. apart at s k.place k.channel k.is (sym e)) s
+
+  -- so it is of frames between two failed systems
+  pub up_gone_still : AreGoneBetween gone w
+      → ((at : LinkPlace) → StandsFailed at w' → IsOtherLink at (port_id number port) w) → AreGoneBetween gone w'
+  up_gone_still all apart = go k.channel.up refl
+    where
+      go : (b : Bool) → k.channel.up ≡ b → AreGoneBetween gone w'
+      go true up =
+          let nothing : Nothing now draws w' =
+          subst (λ b. ComesUpIf b k.place k.channel now draws w') up k.so in
+          subst (AreGoneBetween gone) (sym nothing.1) (gone_still gone w all)
+      go false down = λ at s. raised_gone down all at (λ e. apart at s k.place k.channel k.is (sym e)) s

@@ -1,0 +1,208 @@
+-- A link that comes up between live systems, where some ports ask again soon.
+use Rattle.std.proofs.Common.{◌≡◌, ◌<◌, ◌≤◌, ◌+◌, ℕ, Bool, true, false, List, Some, slice_get, refl, sym, ap, subst, ◌∙◌, inl, inr, arith}
+use Rattle.std.proofs.lemmas.Option.{same_Some}
+use Rattle.gptp_lists.proofs.PlaceLemmas.{get-set_other, get-set_same, same_place}
+use Rattle.gptp_vector.specs.declared.port.PortId.{PortId}
+use Rattle.gptp_links.specs.Fate.{Draw}
+use Rattle.gptp_scenario.specs.Params.{KeepPace}
+use Rattle.gptp_scenario.specs.declared.change.Act.TheVariants.{Change as Changing}
+use Rattle.gptp_scenario.specs.declared.change.Change.TheVariants.{LinkUp}
+use Rattle.gptp_setup.specs.declared.setup.Params.{Params}
+use Rattle.gptp_setup.specs.Intervals.{interval_of}
+use Rattle.gptp_setup.specs.SettlingParams.{SettlingParams}
+use Rattle.gptp_system.specs.Input.{PortUp}
+use Rattle.gptp_model.specs.declared.done.Done.{Done}
+use Rattle.gptp_model.specs.Acts.{Acts, AtLink}
+use Rattle.gptp_model.specs.Changing.{ComesUpIf, Nothing, TellsEnds, brought_up}
+use Rattle.gptp_model.specs.World.{Channel, WorldState, port_id, receiver, sender}
+use Rattle.gptp_invariants.specs.ChoiceCalm.{delay_in}
+use Rattle.gptp_invariants.specs.ChoiceSettlesAsMachine.{IsWorld}
+use Rattle.gptp_invariants.specs.DelayElsewhere.{IsOtherLink}
+use Rattle.gptp_invariants.specs.DelayFirstAt.{IsFirstAt, StandsDown}
+use Rattle.gptp_invariants.specs.DelayLinkView.{LinkPlace, link_setting}
+use Rattle.gptp_invariants.specs.DelayMeasured.{LinkIsMeasured, LinkStandsAt}
+use Rattle.gptp_invariants.specs.FailedUnanswered.{StandsUnanswered}
+use Rattle.gptp_invariants.specs.WorldNews.{AreSilentBy}
+use Rattle.gptp_invariants.specs.WorldSound.{IsSoundWorld}
+use Rattle.gptp_invariants.specs.WorldStanding.{live_stations}
+use Rattle.gptp_invariants.proofs.ChoiceCalmKeptLemmas.{KeepsNetwork}
+use Rattle.gptp_invariants.proofs.DelayCapableKeptLemmas.{known_params, stood_among}
+use Rattle.gptp_invariants.proofs.DelayChangeKeptLemmas.{acts_measured}
+use Rattle.gptp_invariants.proofs.DelayFirstUpLemmas.{link_up_first, receiver_up, sender_up}
+use Rattle.gptp_invariants.proofs.FailedSilentElsewhereLemmas.{changed_silent, up_silences}
+use Rattle.gptp_invariants.proofs.WorldGreatestDelayLemmas.{delay_of_used}
+use Rattle.gptp_invariants.proofs.WorldNewsLemmas.{link_used}
+use Rattle.gptp_invariants.proofs.WorldOutlineLemmas.{change_time}
+use Rattle.gptp_invariants.proofs.WorldSoundCallLemmas.{tells_keep}
+use Rattle.gptp_invariants.proofs.WorldSoundLemmas.{sound_gains}
+use Rattle.gptp_settling_time.proofs.NewsSoonLemmas.{AreComing, IsComing, IsNewsSoon, coming_goes_through}
+
+module _ (p : SettlingParams) (by next number port : ℕ) (w : WorldState) (draws : List Draw) (done : Done)
+    (w' : WorldState) (pace : KeepPace p) (is : IsWorld p w) (is' : IsWorld p w') (measured : LinkIsMeasured w)
+    (coming : AreComing p by next w)
+    (soon : w.time + interval_of p.params.pdelay + (delay_in w' + p.params.turnaround + delay_in w') < next)
+    (acts : Acts (Changing (LinkUp number port)) w draws done w') where
+  abbrev now : WorldState
+  now = record w { last_change = w.time }
+
+  abbrev k : AtLink (port_id number port) w.net (λ place channel. ComesUpIf channel.up place channel now draws w')
+  k = acts.1
+
+  -- what stood comes still
+  on : (at : LinkPlace) → LinkStandsAt at w → IsComing p by next at w'
+  on at stands =
+      coming_goes_through p by next at (Changing (LinkUp number port)) w w' draws done is.sound measured tt acts
+      (coming at stands)
+
+  -- but for the links it is the world as it was
+  stood_before : (at : LinkPlace) (v : WorldState) (channel : Channel) → (s : LinkStandsAt at v)
+      → v.stations ≡ w.stations → slice_get w.net.channels at.link ≡ Some s.channel → LinkStandsAt at w
+  stood_before at v channel s same here = record {
+    channel = s.channel;
+    here = here;
+    up = s.up;
+    lossless = s.lossless;
+    asking = record {
+      station = s.asking.station;
+      here = ap (λ xs. slice_get xs at.asking) (sym same) ∙ s.asking.here;
+      live = s.asking.live;
+      named = s.asking.named;
+    };
+    answering = record {
+      station = s.answering.station;
+      here = ap (λ xs. slice_get xs at.answering) (sym same) ∙ s.answering.here;
+      live = s.answering.live;
+      named = s.answering.named;
+    };
+    apart = s.apart;
+    good = s.good;
+  }
+
+  module _ (up : k.channel.up ≡ true) where
+    same : w' ≡ now
+    same =
+        let nothing : Nothing now draws w' =
+        subst (λ b. ComesUpIf b k.place k.channel now draws w') up k.so in
+        nothing.1
+
+    up_coming : AreComing p by next w'
+    up_coming at stands =
+        on at (stood_before at w' stands.channel stands (ap (λ (v : WorldState). v.stations) same)
+        (ap (λ (v : WorldState). slice_get v.net.channels at.link) (sym same) ∙ stands.here))
+
+  module _ (down : k.channel.up ≡ false) where
+    abbrev raised : Channel
+    raised = record k.channel { up = true }
+
+    abbrev brought : WorldState
+    brought = record now { net = brought_up k.place k.channel w.net }
+
+    told : TellsEnds PortUp k.channel brought draws w'
+    told = subst (λ b. ComesUpIf b k.place k.channel now draws w') down k.so
+
+    keeps : KeepsNetwork brought w'
+    keeps = tells_keep k.channel brought draws w' told
+
+    before : (at : LinkPlace) → LinkStandsAt at w' → LinkStandsAt at brought
+    before =
+        stood_among p brought w' is.sound.wired.clocks (known_params p w is.known.set) is'.sound.wired.clocks
+        (known_params p w' is'.known.set) keeps
+
+    module _ (at : LinkPlace) (place_is : at.link ≡ k.place) (old : LinkStandsAt at brought) where
+      channel_is : old.channel ≡ raised
+      channel_is =
+          same_Some old.channel raised
+          (sym old.here ∙ ap (slice_get brought.net.channels) place_is
+          ∙ get-set_same w.net.channels k.place k.channel raised k.is.here)
+
+      stood_down : StandsDown at w
+      stood_down =
+          let asking = (is.known.set at.asking old.asking.station old.asking.here).starts.params in
+          let answering = (is.known.set at.answering old.answering.station old.answering.here).starts.params in
+          record {
+            channel = k.channel;
+            here = ap (slice_get w.net.channels) place_is ∙ k.is.here;
+            down = down;
+            lossless = sym (ap (λ (c : Channel). c.bounds.loss) channel_is) ∙ old.lossless;
+            asking = record {
+              station = old.asking.station;
+              here = old.asking.here;
+              live = old.asking.live;
+              named = old.asking.named
+                  ∙ ap (λ (c : Channel). (sender at.direction c).clock) channel_is
+                  ∙ ap (λ (q : PortId). q.clock) (sender_up at.direction k.channel);
+            };
+            answering = record {
+              station = old.answering.station;
+              here = old.answering.here;
+              live = old.answering.live;
+              named = old.answering.named
+                  ∙ ap (λ (c : Channel). (receiver at.direction c).clock) channel_is
+                  ∙ ap (λ (q : PortId). q.clock) (receiver_up at.direction k.channel);
+            };
+            apart = old.apart;
+            good = rw (sym (ap (λ (c : Channel). c.bounds) channel_is)) old.good;
+            short = rw (asking, answering) pace.params.answered;
+          }
+
+      first : IsFirstAt w.time at w'
+      unfolding stood_down
+      first =
+          link_up_first p at number port w w' draws done is.sound measured is.known stood_down
+          (record { here = stood_down.here; joined = k.is.joined }) acts
+
+      comes_up : IsComing p by next at w'
+      comes_up =
+          let l = first.link in
+          let asks = (is'.known.set at.asking l.asking.station l.asking.here).starts.params in
+          let answers = (is'.known.set at.answering l.answering.station l.answering.here).starts.params in
+          let period : (link_setting at w' l).period ≡ interval_of p.params.pdelay =
+          ap (λ (x : Params). interval_of x.pdelay) asks in
+          let turnaround : (link_setting at w' l).turnaround ≡ p.params.turnaround =
+          ap (λ (x : Params). x.turnaround) answers in
+          let most : (link_setting at w' l).most ≤ delay_in w' =
+          delay_of_used (live_stations w'.stations) w'.net.channels at.link l.channel l.here (link_used at w' l) in
+          inl (inl (w.time, (first, omega (arith, period, turnaround, most, soon))))
+
+    down_coming : AreComing p by next w'
+    down_coming at stands = elim (same_place at.link k.place) [
+      | inl place_is ↦ comes_up at place_is (before at stands)
+      | inr apart ↦
+          let old = before at stands in
+          on at (stood_before at brought old.channel old refl
+          (sym (get-set_other w.net.channels k.place at.link raised apart) ∙ old.here))
+    ]
+
+  links_coming : AreComing p by next w'
+  links_coming = go k.channel.up refl
+    where
+      go : (b : Bool) → k.channel.up ≡ b → AreComing p by next w'
+      go true is_up = up_coming is_up
+      go false is_down = down_coming is_down
+
+  module _ (silent : AreSilentBy p next w)
+      (apart : (at : LinkPlace) → StandsUnanswered at w' → IsOtherLink at (port_id number port) w) where
+    links_silent : AreSilentBy p next w'
+    unfolding told same
+    links_silent = go k.channel.up refl
+      where
+        go : (b : Bool) → k.channel.up ≡ b → AreSilentBy p next w'
+        go true is_up = subst (AreSilentBy p next) (sym (same is_up)) (changed_silent p next w silent)
+        go false is_down = λ at s.
+            up_silences p next at k.place k.channel w draws w' is.sound.wired.clocks is.sound.wired.setups
+            is.sound.wired.apart k.is.here (λ e. apart at s k.place k.channel k.is (sym e)) (told is_down) silent s
+
+    pub up_soon : IsSoundWorld w → w.time ≤ by → by < next → IsNewsSoon p next w'
+    up_soon sound early before_next =
+        let time = change_time (LinkUp number port) w draws done w' acts in
+        record {
+          by = by;
+          early = omega (arith, time, early);
+          soon = before_next;
+          pace = pace;
+          world = is';
+          measured = acts_measured (Changing (LinkUp number port)) w w' draws done is.sound measured tt acts;
+          silent = links_silent;
+          sound = sound_gains p (LinkUp number port) w draws done w' tt tt acts is is' sound;
+          coming = links_coming;
+        }
