@@ -1,14 +1,12 @@
--- The world of two systems has settled soon after their link came up again.
-use Rattle.std.proofs.Common.{false, ◌≡◌, ◌<◌, ◌≤◌, ◌+◌, ◌*◌, ℕ, zero, suc, pred, true, List, [], ◌∷◌, Option, Some, slice_get, refl, sym, subst, inl, le-leb, arith}
-use Rattle.std.specs.Prelude.{if◌then◌else◌, nat_le, Bool}
+-- Choice bounds of two systems whose link goes down, and comes up again.
+use Rattle.std.proofs.Common.{false, ◌≡◌, ◌<◌, ◌≤◌, ◌+◌, ◌*◌, ℕ, zero, suc, true, List, [], ◌∷◌, Some, slice_get, refl, sym, ap, subst, inl, inr, arith}
 use Rattle.std.proofs.lemmas.Option.{none-some, same_Some}
-use Rattle.gptp_links.specs.declared.bounds.Bounds.{Bounds}
 use Rattle.gptp_setup.specs.SettlingParams.{SettlingParams}
-use Rattle.gptp_scenario.specs.Calm.{IsLive, AllRest, IsCalm, last_change}
+use Rattle.gptp_scenario.specs.Calm.{AllRest, IsLive}
 use Rattle.gptp_scenario.specs.Change.{link_after}
 use Rattle.gptp_scenario.specs.SettlingAtOnce.{settling_span_at_once}
 use Rattle.gptp_model.specs.World.{port_id}
-use Rattle.gptp_scenario.specs.Network.{IsNetwork, wire}
+use Rattle.gptp_scenario.specs.Network.{IsNetwork, pace_of, wire}
 use Rattle.gptp_scenario.specs.SyncWait.{sync_paths}
 use Rattle.gptp_scenario.specs.InUse.{path_systems}
 use Rattle.gptp_scenario.specs.declared.change.Act.TheVariants.{Change as Changing}
@@ -16,13 +14,13 @@ use Rattle.gptp_scenario.specs.declared.change.Change.TheVariants.{LinkDown, Lin
 use Rattle.gptp_scenario.specs.declared.change.Timed.{Timed}
 use Rattle.gptp_scenario.specs.declared.network.LinkSpec.{LinkSpec}
 use Rattle.gptp_scenario.specs.declared.sync_wait.SyncPaths.{SyncPaths}
-use Rattle.gptp_network.specs.Snapshot.{events_by}
 use Rattle.gptp_invariants.specs.WorldEncodableLaws.{SetsAnOctet}
 use Rattle.gptp_theorem.specs.PlayedLaws.{IsPlayable}
 use Rattle.gptp_settling_time.specs.Gains.{IsDownAfter, JoinsLive, exchanged_from}
-use Rattle.gptp_settling_time.specs.InTurn.{ActsFindSettledInTurn, AnyPast, BringsUp, HasSettledAnyhow, Heard, LeadOn, SettlesAfter, SettlesByEvents, VariesLittleAfter}
+use Rattle.gptp_settling_time.specs.HowSoon.{IsChoiceBound, IsChoiceBoundAfter, NoneBetween, way_span}
+use Rattle.gptp_settling_time.specs.InTurn.{BringsUp, VariesLittleAfter}
 use Rattle.gptp_network_tests.specs.Pair.{end_station, first_member, pair_network, pair_pace, pair_paths, second_member}
-use Rattle.gptp_network_tests.specs.Soon.{LinksSettleSoon, back_document}
+use Rattle.gptp_network_tests.specs.Soon.{back_document}
 use Rattle.gptp_network_tests.proofs.PairLemmas.{pace_is}
 
 abbrev down : Timed
@@ -37,8 +35,8 @@ events = down ∷ up ∷ []
 abbrev link : LinkSpec
 link = wire 0 (port_id 1 1) (port_id 2 1) 500 500 0 true
 
-playable : IsNetwork pair_network → IsPlayable back_document
-playable network = record {
+pub back_playable : IsNetwork pair_network → IsPlayable back_document
+back_playable network = record {
   network = network;
   events = record {
     in_order = (omega arith, tt);
@@ -111,43 +109,41 @@ comes_up = record {
       (subst (λ (x : SyncPaths). exchanged_from pair_pace x 20000000000 ≤ 21000002001) (sym paths_up) (omega arith));
 }
 
-settled_down : HasSettledAnyhow pair_network (down ∷ []) 20000000000
-settled_down = record {
-  calm = record { links = rest_down; lapses = inl refl };
-  passed = subst (λ (p : SettlingParams). 2000000000 + settling_span_at_once p (sync_paths pair_network (down ∷ []))
-      ≤ 20000000000) (sym pace_is)
-      (subst (λ (x : SyncPaths). 2000000000 + settling_span_at_once pair_pace x ≤ 20000000000) (sym paths_down)
-      (omega arith));
-}
+-- no event lies between them
+between : NoneBetween events 2000000000 20000000000
+between event (inl is) behind = absurd (let at = ap (λ (t : Timed). t.at) is in omega (arith, at, behind))
+between event (inr (inl is)) behind = let at = ap (λ (t : Timed). t.at) is in omega (arith, at)
+between event (inr (inr none)) behind = absurd none
 
-settles : (until : ℕ) → events_by until events ≡ events → SettlesByEvents back_document until 21000002501
-settles until same = record {
-  calm = subst (IsCalm pair_network) (sym same) (record { links = rest_up; lapses = inl refl });
-  first = AnyPast;
-  begins = tt;
-  last = Heard 21000002001;
-  lead = subst (λ es. LeadOn pair_network [] AnyPast es (Heard 21000002001)) (sym same)
-      (AnyPast, tt, (Heard 21000002001, (settled_down, inl comes_up), refl));
-  settles = subst (λ es. SettlesAfter pair_network es (Heard 21000002001) 21000002501) (sym same) (
-    refl,
-    subst (λ (x : SyncPaths). 21000002001 + pred x.systems * x.delay ≤ 21000002501) (sym paths_up) (omega arith),
-  );
-}
+before : NoneBetween events 0 2000000000
+before event (inl is) behind = let at = ap (λ (t : Timed). t.at) is in omega (arith, at)
+before event (inr (inl is)) behind = let at = ap (λ (t : Timed). t.at) is in omega (arith, at)
+before event (inr (inr none)) behind = absurd none
 
--- by each later time both events have come
-come : (until : ℕ) → 21000002501 ≤ until → events_by until events ≡ events
-come until late =
-    by (nat_le 2000000000 until) (nat_le 20000000000 until) (le-leb 2000000000 until (omega (arith, late)))
-    (le-leb 20000000000 until (omega (arith, late)))
+span_down : 15000000000 ≡ settling_span_at_once (pace_of pair_network) (sync_paths pair_network (down ∷ []))
+span_down =
+    subst (λ (p : SettlingParams). 15000000000 ≡ settling_span_at_once p (sync_paths pair_network (down ∷ [])))
+    (sym pace_is)
+    (subst (λ (x : SyncPaths). 15000000000 ≡ settling_span_at_once pair_pace x) (sym paths_down) refl)
+
+down_bound : IsChoiceBoundAfter pair_network events (0 ∷ []) 2000000000 15000000000
+down_bound = (omega arith, before, (record { links = rest_down; lapses = inl refl }, inr (refl, inl span_down)))
+
+pub back_bound : IsChoiceBound back_document 20000000000 1000002500
+back_bound = (
+  2000000000 ∷ 0 ∷ [],
+  (
+    omega arith,
+    between,
+    (
+      record { links = rest_up; lapses = inl refl },
+      inr (refl, inr (15000000000, down_bound, omega arith, inr (1000002000, inl ((inl comes_up, tt), way_up)))),
+    ),
+  ),
+)
   where
-    by : (a b : Bool) → a ≡ true → b ≡ true
-        → (if a then down ∷ (if b then up ∷ [] else []) else (if b then up ∷ [] else [])) ≡ events
-    by a b one two = rw (one, two) refl
+    way_up : 1000002500 ≡ 1000002000 + way_span (sync_paths pair_network events)
+    way_up = subst (λ (x : SyncPaths). 1000002500 ≡ 1000002000 + way_span x) (sym paths_up) refl
 
-pub links_settle : {F : Type 0} (answers : Bounds → ℕ → F → Option ℕ → F → Type 0) → ActsFindSettledInTurn answers
-    → LinksSettleSoon answers
-links_settle answers theorem until fate start w ts t network unfolds member on =
-    let all = come t.told.timed.at on in
-    (theorem back_document until 21000002501 fate start w ts t (playable network) unfolds member
-    (settles t.told.timed.at all) on
-    (subst (λ es. last_change es < t.told.timed.at) (sym all) (omega (arith, on)))).settled
+pub lost_bound : IsChoiceBound back_document 2000000000 15000000000
+lost_bound = (0 ∷ [], down_bound)

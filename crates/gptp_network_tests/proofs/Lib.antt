@@ -3,5 +3,6 @@ mod ReadingLemmas
 mod HeardLemmas
 mod PairLemmas
 mod SoonLemmas
-pub mod BetterLemmas
-pub mod BackLemmas
+mod BetterLemmas
+mod BackLemmas
+mod RingLemmas

@@ -1,5 +1,5 @@
 -- The world of two systems has settled soon after they began.
-use Rattle.std.proofs.Common.{◌≡◌, ◌<◌, ◌≤◌, ◌+◌, ◌*◌, ℕ, pred, List, [], Option, Some, None, refl, sym, ap, subst, ◌∙◌, inl, inr, arith}
+use Rattle.std.proofs.Common.{◌≡◌, ◌<◌, ◌≤◌, ◌+◌, ◌*◌, ℕ, List, [], Option, Some, None, refl, sym, ap, subst, ◌∙◌, inl, inr, arith}
 use Rattle.std.specs.Prelude.{IfNone, IfSome}
 use Rattle.gptp_model.specs.Acts.{AtSystem}
 use Rattle.gptp_model.specs.Advancing.{Advanced, Told}
@@ -17,21 +17,23 @@ use Rattle.gptp_lists.proofs.MappedLemmas.{alike}
 use Rattle.gptp_lists.proofs.SystemSpecLemmas.{In-slice_get, slice_get-In}
 use Rattle.gptp_scenario.specs.Change.{link_after}
 use Rattle.gptp_scenario.specs.declared.network.LinkSpec.{LinkSpec}
-use Rattle.gptp_scenario.specs.Network.{pace_of}
+use Rattle.gptp_network.specs.Document.{DocumentState}
+use Rattle.gptp_scenario.specs.Network.{IsNetwork, pace_of}
 use Rattle.gptp_scenario.specs.SyncWait.{sync_paths}
 use Rattle.gptp_scenario.specs.declared.sync_wait.SyncPaths.{SyncPaths}
 use Rattle.gptp_theorem.specs.Headline.{WorldIsCalm}
+use Rattle.gptp_theorem.specs.PlayedLaws.{IsPlayable}
 use Rattle.gptp_theorem.specs.Reached.{channel_wire}
 use Rattle.gptp_theorem.proofs.CalmLemmas.{pace_stands, quiet_stands}
 use Rattle.gptp_theorem.proofs.SyncPathLemmas.{paths_stand}
 use Rattle.gptp_bmca_machine.specs.Settled.{IsSlaveOf}
 use Rattle.gptp_setup.specs.SettlingParams.{SettlingParams}
-use Rattle.gptp_settling_time.specs.Starts.{DelaysVaryLittle, DocumentsStartAtOnce, LinksVaryLittle, StartsBy, StartsSettleAtOnce}
-use Rattle.gptp_settling_time.specs.Gains.{exchanged_from}
+use Rattle.gptp_settling_time.specs.ChoiceBounds.{ChoiceBoundsHold}
+use Rattle.gptp_settling_time.specs.HowSoon.{IsChoiceBound, two_exchanges, way_span}
+use Rattle.gptp_settling_time.specs.Starts.{DelaysVaryLittle, LinksVaryLittle, StartsSettleAtOnce}
 use Rattle.gptp_system.specs.State.{clock}
 use Rattle.gptp_network_tests.specs.Pair.{HasBegun, IsPairAt, first_member, pair_document, pair_network, pair_pace, pair_snapshot}
-use Rattle.gptp_network_tests.specs.Soon.{IsPairSoon, RunsOfTwoSettleSoon}
-use Rattle.gptp_network_tests.proofs.ExactLemmas.{playable}
+use Rattle.gptp_network_tests.specs.Soon.{IsPairSoon, SettlesWithin}
 use Rattle.gptp_network_tests.proofs.PairLemmas.{bounded, calm as is_calm, comes_to, lives, near, pace_is, paths_are, root_is, slave_is, steps_are}
 
 -- the frames of their link take 500 ns
@@ -111,23 +113,25 @@ followed_soon w number (Some (root, steps, port)) named k some none =
     (subst (λ g. IsSlaveOf g (clock some.station.system) some.station.system.slave) k.at.snapshot is.slave)) in
     rw (root_same, steps_same, port_same) refl
 
--- ---- a run of their document
+-- ---- runs of documents
 
--- it settles by then at each time
-settles : (until : ℕ) → StartsBy pair_document until 1000002501
-settles until = record {
-  none = refl;
-  calm = is_calm;
-  nothing = refl;
-  little = few;
-  settles = subst (λ (p : SettlingParams). exchanged_from p (sync_paths pair_network []) 0
-      + pred (sync_paths pair_network []).systems * (sync_paths pair_network []).delay ≤ 1000002501) (sym pace_is)
-      (subst (λ (paths : SyncPaths). exchanged_from pair_pace paths 0 + pred paths.systems * paths.delay ≤ 1000002501)
-      (sym paths_are) (omega arith));
-}
+-- by two exchanges and the delay of the link after they began
+pub pair_bound : IsChoiceBound pair_document 0 1000002500
+pair_bound = ([], (refl, (is_calm, inr (refl, inr (refl, inl (few, is))))))
+  where
+    is : 1000002500
+        ≡ two_exchanges (pace_of pair_network) (sync_paths pair_network []) + way_span (sync_paths pair_network [])
+    is =
+        subst (λ (p : SettlingParams). 1000002500
+        ≡ two_exchanges p (sync_paths pair_network []) + way_span (sync_paths pair_network [])) (sym pace_is)
+        (subst (λ (x : SyncPaths). 1000002500 ≡ two_exchanges pair_pace x + way_span x) (sym paths_are) refl)
 
-pub runs_settle_soon : {F : Type 0} (answers : Bounds → ℕ → F → Option ℕ → F → Type 0) → DocumentsStartAtOnce answers
-    → RunsOfTwoSettleSoon answers
-runs_settle_soon answers theorem until fate start w ts t network unfolds member on =
-    (theorem pair_document until 1000002501 fate start w ts t (playable network) unfolds (settles until) member
-    on).settled
+-- a document that can be played settles within its choice bound
+pub settles_within : {F : Type 0} (answers : Bounds → ℕ → F → Option ℕ → F → Type 0) → ChoiceBoundsHold answers
+    → (d : DocumentState) → (IsNetwork d.network → IsPlayable d) → (time choice : ℕ) → IsChoiceBound d time choice
+    → SettlesWithin answers d time choice
+settles_within answers theorem d playable time choice bound next until fate start w ts t network unfolds member none
+    late early =
+    let both =
+    theorem d time choice next until fate start w ts t (playable network) unfolds member bound none late early in
+    both.0.settled

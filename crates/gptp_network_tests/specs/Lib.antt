@@ -1,3 +1,4 @@
 pub mod Pair
+pub mod Ring
 pub mod Readings
 pub mod Soon

@@ -1,5 +1,5 @@
--- The world of two systems soon after they began.
-use Rattle.std.specs.Prelude.{◌≤◌, ℕ, List, [], ◌∷◌, Option}
+-- How soon worlds of two systems, and of a ring of four, have settled.
+use Rattle.std.specs.Prelude.{◌<◌, ◌≤◌, ◌+◌, ℕ, List, [], ◌∷◌, Option}
 use Rattle.gptp_model.specs.World.{WorldState}
 use Rattle.gptp_invariants.specs.ChoiceSettled.{Settled}
 use Rattle.gptp_links.specs.declared.bounds.Bounds.{Bounds}
@@ -10,7 +10,8 @@ use Rattle.gptp_scenario.specs.declared.change.Change.TheVariants.{LinkDown, Lin
 use Rattle.gptp_network.specs.Document.{DocumentState}
 use Rattle.gptp_theorem.specs.Headline.{IsSettled}
 use Rattle.gptp_report.specs.Transitions.{ActTrace, Unfolds}
-use Rattle.gptp_network_tests.specs.Pair.{IsPairAt, pair_document, pair_network}
+use Rattle.gptp_settling_time.specs.HowSoon.{NoneBetween}
+use Rattle.gptp_network_tests.specs.Pair.{IsPairAt, pair_network}
 
 -- It has settled by this time: one interval between requests of 1 s, one exchange of 2 us and 1 ns, and the 500 ns of
 -- the link after they began.
@@ -18,11 +19,13 @@ pub record IsPairSoon (w : WorldState) : Type 0 where
   pub at : IsPairAt 1000002501 w
   pub settled : Settled w
 
--- each act of a run of their document leaves a settled world, from 1,000,002,501 ns on
-abbrev pub RunsOfTwoSettleSoon : {F : Type 0} → (Bounds → ℕ → F → Option ℕ → F → Type 0) → Type 0
-RunsOfTwoSettleSoon {F} answers = (until : ℕ) (fate : F) (start w : WorldState) (ts : List ActTrace) (t : ActTrace)
-    → IsNetwork pair_network → Unfolds answers pair_document until fate start ts w → In t ts
-    → 1000002501 ≤ t.told.timed.at
+-- Each act of a run of a document leaves a settled world that is later than a time by more than this, and before the
+-- next event.
+abbrev pub SettlesWithin : {F : Type 0} → (Bounds → ℕ → F → Option ℕ → F → Type 0) → DocumentState → ℕ → ℕ → Type 0
+SettlesWithin {F} answers d time span = (next until : ℕ) (fate : F) (start w : WorldState) (ts : List ActTrace)
+    (t : ActTrace)
+    → IsNetwork d.network → Unfolds answers d until fate start ts w → In t ts → NoneBetween d.events time next
+    → time + span < t.told.timed.at → t.told.timed.at < next
     → IsSettled t.after
 
 -- their document in which the second gets a better priority1 at 2 s, and with it the better identity
@@ -47,10 +50,3 @@ back_document = record {
       ∷ record { at = 20000000000; act = Changing (LinkUp 1 1) }
       ∷ [];
 }
-
--- each act of a run of it leaves a settled world, from 1,000,002,501 ns after that on, as after a start
-abbrev pub LinksSettleSoon : {F : Type 0} → (Bounds → ℕ → F → Option ℕ → F → Type 0) → Type 0
-LinksSettleSoon {F} answers = (until : ℕ) (fate : F) (start w : WorldState) (ts : List ActTrace) (t : ActTrace)
-    → IsNetwork pair_network → Unfolds answers back_document until fate start ts w → In t ts
-    → 21000002501 ≤ t.told.timed.at
-    → IsSettled t.after

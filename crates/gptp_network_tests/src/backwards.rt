@@ -3,7 +3,8 @@
 ghost use Rattle.std.specs.Prelude.{◌≤◌};
 
 use crate::ring::{
-    FAILS, FOLLOWED_BEFORE, SETTLED, begun, clock, document, fail, follow, is_settled,
+    FAILS, FOLLOWED_BEFORE, ROLES_BEFORE, SETTLED, begun, clock, document, fail, follow,
+    is_settled, play,
 };
 use crate::same::same;
 use gptp_links::{Direction, PcgFate};
@@ -16,6 +17,30 @@ const MOMENTS: u32 = 100_000;
 
 const ROUNDS: u32 = 100;
 
+/// By when the choice and the roles stand after the start: two exchanges, the greatest delay for each system of a path
+/// but one, and 1 ns. No announce interval has to pass, since delays don't vary.
+const CHOSEN_BEFORE: u64 = 1_000_003_501;
+
+/// By when they stand after the failure, by the span from any past.
+const CHOSEN: u64 = 55_000_001_001;
+
+/// Whether the choice and the roles stand at a time, where they should.
+fn stands(world: &World<PcgFate>, at: u64) -> bool {
+    if at < FAILS {
+        return at < CHOSEN_BEFORE
+            || (follow(world, &FOLLOWED_BEFORE) && play(world, &ROLES_BEFORE));
+    }
+    at < CHOSEN || is_settled(world)
+}
+
+/// What a round of acts came to.
+struct Round {
+    /// Whether an act was done.
+    any: bool,
+    /// Whether the choice and the roles stood after each, where they should.
+    stood: bool,
+}
+
 /// Whether an act that was tried was done; it may not be due, or not be there.
 fn was_done(answer: Result<Done, Refused>) -> Result<bool, Refused> {
     match answer {
@@ -26,55 +51,74 @@ fn was_done(answer: Result<Done, Refused>) -> Result<bool, Refused> {
     }
 }
 
+/// What came of an act that was tried at a time is noted.
+fn note(
+    world: &World<PcgFate>,
+    round: &mut Round,
+    at: u64,
+    answer: Result<Done, Refused>,
+) -> Result<(), Refused> {
+    if was_done(answer)? {
+        round.any = true;
+        round.stood = round.stood && stands(world, at);
+    }
+    Ok(())
+}
+
 /// The oldest frame of a link and direction arrives, if it is due.
 fn deliver(
     world: &mut World<PcgFate>,
+    round: &mut Round,
     at: u64,
     link: usize,
     direction: Direction,
-) -> Result<bool, Refused>
+) -> Result<(), Refused>
     requires moment { at ≤ 1000000000000000 }
 {
-    was_done(world.act(Timed {
+    let answer = world.act(Timed {
         at,
         act: Act::Deliver { link, direction },
-    }))
+    });
+    note(world, round, at, answer)
 }
 
 /// A timer of a system expires, if it is due.
-fn expire(world: &mut World<PcgFate>, at: u64, number: u8, timer: Timer) -> Result<bool, Refused>
+fn expire(
+    world: &mut World<PcgFate>,
+    round: &mut Round,
+    at: u64,
+    number: u8,
+    timer: Timer,
+) -> Result<(), Refused>
     requires moment { at ≤ 1000000000000000 }
 {
-    was_done(world.act(Timed {
+    let answer = world.act(Timed {
         at,
         act: Act::Expire {
             clock: clock(number),
             timer,
         },
-    }))
+    });
+    note(world, round, at, answer)
 }
 
-/// Of each link, the last first, a frame arrives each way, where one is due. Answers whether one was.
-fn deliveries(world: &mut World<PcgFate>, at: u64) -> Result<bool, Refused>
+/// Of each link, the last first, a frame arrives each way, where one is due.
+fn deliveries(world: &mut World<PcgFate>, round: &mut Round, at: u64) -> Result<(), Refused>
     requires moment { at ≤ 1000000000000000 }
 {
-    let mut any = false;
     for link in [3, 2, 1, 0] {
         for direction in [Direction::FromB, Direction::FromA] {
-            if deliver(world, at, link, direction)? {
-                any = true;
-            }
+            deliver(world, round, at, link, direction)?;
         }
     }
-    Ok(any)
+    Ok(())
 }
 
 /// Of each system, the highest clock first, the timers expire that are due: those of the last port first, and then its
-/// own. Answers whether one was.
-fn expiries(world: &mut World<PcgFate>, at: u64) -> Result<bool, Refused>
+/// own.
+fn expiries(world: &mut World<PcgFate>, round: &mut Round, at: u64) -> Result<(), Refused>
     requires moment { at ≤ 1000000000000000 }
 {
-    let mut any = false;
     for number in [4, 3, 2, 1] {
         for port in [3, 2, 1] {
             for timer in [
@@ -83,35 +127,39 @@ fn expiries(world: &mut World<PcgFate>, at: u64) -> Result<bool, Refused>
                 Timer::Age(port),
                 Timer::Announce(port),
             ] {
-                if expire(world, at, number, timer)? {
-                    any = true;
-                }
+                expire(world, round, at, number, timer)?;
             }
         }
         for timer in [Timer::Lapse, Timer::Relay, Timer::Sync] {
-            if expire(world, at, number, timer)? {
-                any = true;
-            }
+            expire(world, round, at, number, timer)?;
         }
     }
-    Ok(any)
+    Ok(())
 }
 
-/// All that is due at a moment is done, over and over. Answers whether nothing is left.
+/// All that is due at a moment is done, over and over. Answers whether nothing is left, and all stood that should.
 fn moment(world: &mut World<PcgFate>, at: u64) -> Result<bool, Refused>
     requires moment { at ≤ 1000000000000000 }
 {
     for _ in 0..ROUNDS {
-        let delivered = deliveries(world, at)?;
-        let expired = expiries(world, at)?;
-        if !delivered && !expired {
+        let mut round = Round {
+            any: false,
+            stood: true,
+        };
+        deliveries(world, &mut round, at)?;
+        expiries(world, &mut round, at)?;
+        if !round.stood {
+            return Ok(false);
+        }
+        if !round.any {
             return Ok(true);
         }
     }
     Ok(false)
 }
 
-/// It goes on from moment to moment, before a time. Answers whether nothing is left that is due before it.
+/// It goes on from moment to moment, before a time. Answers whether nothing is left that is due before it, and all stood
+/// that should.
 fn play_before(world: &mut World<PcgFate>, end: u64) -> Result<bool, Refused>
     requires moment { end ≤ 1000000000000000 }
 {

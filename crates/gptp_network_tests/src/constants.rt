@@ -37,7 +37,10 @@ struct Times {
     /// clock from one interval after ports are capable, and one more with each turn of k + 1 intervals, k being 3.
     /// Where fewer systems live, the trace is clean as a whole.
     clean: [(usize, u64); 5],
-    /// Everything has settled: after (k + 3) n + L + 5 intervals, where n systems live.
+    /// The choice and the roles stand. At the start that is two exchanges, an interval since delays vary, and the
+    /// greatest delay for each system of a path but one; after the failure the span from any past. And 1 ns more.
+    chosen: u64,
+    /// Everything has settled, whatever lapses: after (k + 3) n + L + 5 intervals, where n systems live.
     settled: u64,
     /// The stretch ends.
     end: u64,
@@ -53,6 +56,7 @@ const ALIKE_BEFORE: Times = Times {
         (2, 19 * SECOND),
         (1, 15 * SECOND),
     ],
+    chosen: 2_000_003_501,
     settled: 38 * SECOND,
     end: FAILS - 1,
 };
@@ -67,6 +71,7 @@ const ALIKE_AFTER: Times = Times {
         (2, 59 * SECOND),
         (1, 55 * SECOND),
     ],
+    chosen: 55_000_001_001,
     settled: 72 * SECOND,
     end: 80 * SECOND,
 };
@@ -82,6 +87,7 @@ const MIXED_BEFORE: Times = Times {
         (2, 38 * SECOND),
         (1, 30 * SECOND),
     ],
+    chosen: 3_000_003_501,
     settled: 76 * SECOND,
     end: FAILS - 1,
 };
@@ -96,6 +102,7 @@ const MIXED_AFTER: Times = Times {
         (2, 78 * SECOND),
         (1, 70 * SECOND),
     ],
+    chosen: 70_000_001_001,
     settled: 104 * SECOND,
     end: 120 * SECOND,
 };
@@ -372,7 +379,7 @@ fn holds(world: &World<PcgFate>, live: &Live<'_>, times: &Times, at: u64, done: 
     (at < times.capable || are_capable(world, live))
         && is_told_clean(live, times, at, done)
         && is_told_exact(world, live, times, at, done)
-        && (at < times.settled || is_settled(world, live))
+        && (at < times.chosen || is_settled(world, live))
 }
 
 /// The next act, where it comes by a time: when it came, and what it told.

@@ -1,13 +1,14 @@
-//! What two systems follow soon after they begin, as functions whose contracts follow from the law of a start. Times
-//! are in ns.
+//! How soon two systems, and a ring of four, have settled, as functions whose contracts follow from laws. Times are in
+//! ns.
 
 ghost use Rattle.std.specs.Prelude.{◌≡◌, IfOk, OnOk, Some};
-ghost use Rattle.gptp_network_tests.specs.Pair.{HasBegun, first_member};
-ghost use Rattle.gptp_network_tests.specs.Soon.{BetterClocksSettleSoon, IsPairSoon, LinksSettleSoon, RunsOfTwoSettleSoon};
+ghost use Rattle.gptp_network_tests.specs.Pair.{HasBegun, first_member, pair_document};
+ghost use Rattle.gptp_network_tests.specs.Ring.{ring_document};
+ghost use Rattle.gptp_network_tests.specs.Soon.{BetterClocksSettleSoon, IsPairSoon, SettlesWithin, back_document};
 
 use crate::drawn::begun;
 use gptp_links::Fate;
-use gptp_settling_time::{documents_settle_in_turn, starts_settle_at_once};
+use gptp_settling_time::{choice_bounds_hold, documents_settle_in_turn, starts_settle_at_once};
 use gptp_vector::{ClockId, Identity};
 use gptp_world::{NetworkFault, World};
 use std::alloc::Global;
@@ -52,11 +53,18 @@ pub fn follow_soon<F: Fate + Drop>(
     Ok(second_follows(&world))
 }
 
-/// From [`SOON`] on each act of a run of the document of both systems leaves them settled.
+/// Each act of a run of the document of both systems leaves them settled that is later than 1 ns before [`SOON`].
 pub fn runs_of_two_settle_soon<F: Fate>()
-    ensures { RunsOfTwoSettleSoon F.answers }
+    ensures { SettlesWithin F.answers pair_document 0 1000002500 }
 {
-    starts_settle_at_once::<F>();
+    choice_bounds_hold::<F>();
+}
+
+/// So it is 1.00000305 s after a ring of four bridges begins, whose link goes down at 30 s.
+pub fn rings_settle_soon<F: Fate>()
+    ensures { SettlesWithin F.answers ring_document 0 1000003050 }
+{
+    choice_bounds_hold::<F>();
 }
 
 /// Where the second gets a better priority1 at 2 s, each act of a run leaves both settled from 501 ns later on.
@@ -66,10 +74,11 @@ pub fn better_clocks_settle_soon<F: Fate>()
     documents_settle_in_turn::<F>();
 }
 
-/// Where the link goes down at 2 s and comes up at 20 s, each act of a run leaves both settled from as soon after that
-/// on as after a start.
+/// Where the link goes down at 2 s and comes up at 20 s, each act of a run leaves both settled from 15 s after the one
+/// on, as after any past, and from as soon after the other on as after a start.
 pub fn links_settle_soon<F: Fate>()
-    ensures { LinksSettleSoon F.answers }
+    ensures lost { SettlesWithin F.answers back_document 2000000000 15000000000 }
+    ensures back { SettlesWithin F.answers back_document 20000000000 1000002500 }
 {
-    documents_settle_in_turn::<F>();
+    choice_bounds_hold::<F>();
 }

@@ -1,0 +1,71 @@
+-- The ring of four bridges has settled soon after its start.
+use Rattle.std.proofs.Common.{◌≡◌, ◌<◌, ◌+◌, ◌*◌, ℕ, zero, suc, [], Some, slice_get, refl, sym, subst, inl, inr, arith}
+use Rattle.std.proofs.lemmas.Option.{none-some, same_Some}
+use Rattle.gptp_setup.specs.SettlingParams.{SettlingParams}
+use Rattle.gptp_scenario.specs.Calm.{AllRest}
+use Rattle.gptp_scenario.specs.Network.{IsNetwork, largest_of, pace_of}
+use Rattle.gptp_scenario.specs.InUse.{path_systems}
+use Rattle.gptp_scenario.specs.SyncWait.{sync_paths}
+use Rattle.gptp_scenario.specs.declared.change.Act.TheVariants.{Change as Changing}
+use Rattle.gptp_scenario.specs.declared.change.Change.TheVariants.{LinkDown}
+use Rattle.gptp_scenario.specs.declared.change.Timed.{Timed}
+use Rattle.gptp_scenario.specs.declared.network.LinkSpec.{LinkSpec}
+use Rattle.gptp_scenario.specs.declared.sync_wait.SyncPaths.{SyncPaths}
+use Rattle.gptp_invariants.specs.WorldEncodableLaws.{SetsAnOctet}
+use Rattle.gptp_theorem.specs.PlayedLaws.{IsPlayable}
+use Rattle.gptp_settling_time.specs.HowSoon.{IsChoiceBound, two_exchanges, way_span}
+use Rattle.gptp_network_tests.specs.Pair.{pair_pace}
+use Rattle.gptp_network_tests.specs.Ring.{ring_document, ring_network, ring_paths}
+use Rattle.gptp_settling_time.specs.Starts.{LinksVaryLittle}
+
+pace_is : pace_of ring_network ≡ pair_pace
+unfolding largest_of
+pace_is = refl
+
+paths_are : sync_paths ring_network [] ≡ ring_paths
+unfolding path_systems
+paths_are = refl
+
+links_rest : AllRest ring_network.params ring_network.systems ring_network.links []
+links_rest zero x early = λ used. record { lossless = refl; good = omega arith }
+links_rest (suc zero) x early = λ used. record { lossless = refl; good = omega arith }
+links_rest (suc (suc zero)) x early = λ used. record { lossless = refl; good = omega arith }
+links_rest (suc (suc (suc zero))) x early = λ used. record { lossless = refl; good = omega arith }
+links_rest (suc (suc (suc (suc i)))) x early = absurd (omega (arith, early))
+
+little : LinksVaryLittle ring_network []
+little v (inl same) = subst (λ (x : LinkSpec). x.bounds.max < 2 * x.bounds.min) (sym same) (omega arith)
+little v (inr (inl same)) = subst (λ (x : LinkSpec). x.bounds.max < 2 * x.bounds.min) (sym same) (omega arith)
+little v (inr (inr (inl same))) = subst (λ (x : LinkSpec). x.bounds.max < 2 * x.bounds.min) (sym same) (omega arith)
+little v (inr (inr (inr (inl same)))) =
+    subst (λ (x : LinkSpec). x.bounds.max < 2 * x.bounds.min) (sym same) (omega arith)
+little v (inr (inr (inr (inr none)))) = absurd none
+
+pub ring_bound : IsChoiceBound ring_document 0 1000003050
+ring_bound = (
+  [],
+  (refl, (record { links = links_rest; lapses = inl refl }, inr (refl, inr (refl, inl (little, is))))),
+)
+  where
+    is : 1000003050
+        ≡ two_exchanges (pace_of ring_network) (sync_paths ring_network []) + way_span (sync_paths ring_network [])
+    is =
+        subst (λ (p : SettlingParams). 1000003050
+        ≡ two_exchanges p (sync_paths ring_network []) + way_span (sync_paths ring_network [])) (sym pace_is)
+        (subst (λ (x : SyncPaths). 1000003050 ≡ two_exchanges pair_pace x + way_span x) (sym paths_are) refl)
+
+pub ring_playable : IsNetwork ring_network → IsPlayable ring_document
+ring_playable network = record {
+  network = network;
+  events = record {
+    in_order = tt;
+    each = (record { early = omega arith; change = LinkDown 0x80e1fffe00000a 1; act = refl; fits = refl }, tt);
+  };
+  octets = octets;
+}
+  where
+    octets : (place : ℕ) (timed : Timed) → slice_get ring_document.events place ≡ Some timed → SetsAnOctet timed.act
+    octets zero timed there =
+        subst (λ (t : Timed). SetsAnOctet t.act)
+        (same_Some (record { at = 30000000000; act = Changing (LinkDown 0x80e1fffe00000a 1) }) timed there) tt
+    octets (suc place) timed there = absurd (none-some timed there)
