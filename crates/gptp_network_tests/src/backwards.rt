@@ -34,6 +34,7 @@ fn stands(world: &World<PcgFate>, at: u64) -> bool {
 }
 
 /// What a round of acts came to.
+#[derive(Drop)]
 struct Round {
     /// Whether an act was done.
     any: bool,
