@@ -1,19 +1,13 @@
 -- In a world since news that has settled claims are made of all links always.
-use Rattle.std.proofs.Common.{◌≡◌, ◌<◌, ◌≤◌, ◌+◌, ◌*◌, ℕ, suc, pred, refl, inl, inr, arith}
+use Rattle.std.proofs.Common.{◌≡◌, ◌≤◌, ◌+◌, ◌*◌, ℕ, suc, pred, refl, inl, inr, arith}
 use native.Mathlib.Nat.{mul-zero}
 use Rattle.gptp_graph.specs.PathBound.{BoundsPaths, path_bound}
-use Rattle.gptp_graph.specs.Snapshot.{System}
 use Rattle.gptp_setup.specs.SettlingParams.{SettlingParams, largest_interval}
 use Rattle.gptp_scenario.specs.Calm.{NothingLapses}
 use Rattle.gptp_model.specs.World.{WorldState}
 use Rattle.gptp_bmca_machine.specs.Calm.{Calm}
-use Rattle.gptp_bmca_machine.specs.Levels.{Invariant, LeadsFarther}
-use Rattle.gptp_bmca_machine.specs.Link.{LinkSettles}
-use Rattle.gptp_bmca_machine.specs.Network.{IsSettlingNetwork, Network, wiring}
-use Rattle.gptp_bmca_machine.specs.RestLaws.{SameWiring}
-use Rattle.gptp_bmca_machine.proofs.RestingLemmas.{links_stay, stays_so}
-use Rattle.gptp_bmca_machine.proofs.SoundEverywhereLemmas.{on_links}
-use Rattle.gptp_bmca_machine.proofs.SoundLemmas.{received_fits}
+use Rattle.gptp_bmca_machine.specs.Levels.{Invariant}
+use Rattle.gptp_bmca_machine.specs.Network.{IsSettlingNetwork, Network}
 use Rattle.gptp_bmca_machine.proofs.TimesLemmas.{times_fit}
 use Rattle.gptp_invariants.specs.ChoiceCalm.{HaveQuietLinks, delay_in}
 use Rattle.gptp_invariants.specs.ChoiceSettlesAsMachine.{IsWorld}
@@ -27,10 +21,10 @@ use Rattle.gptp_invariants.proofs.ChoiceSettlesAsMachineLemmas.{paths_bound}
 use Rattle.gptp_invariants.proofs.WorldNewsActLemmas.{ready_later}
 use Rattle.gptp_invariants.proofs.WorldNewsLemmas.{news_begin}
 use Rattle.gptp_invariants.proofs.WorldStandsLemmas.{stands_well}
-use Rattle.gptp_settling_time.proofs.AlwaysClaimedLemmas.{AreHeard, IsClaimedAlways, seen_calm, start_net, start_network}
+use Rattle.gptp_settling_time.proofs.AlwaysClaimedLemmas.{AreHeard, IsClaimedAlways, seen_calm}
 use Rattle.gptp_settling_time.proofs.HeardLemmas.{StaysCapableAt, stays_on}
 use Rattle.gptp_settling_time.proofs.RestClaimedLemmas.{AreOn}
-use Rattle.gptp_settling_time.proofs.SettledSeenLemmas.{HasSettledSeen}
+use Rattle.gptp_settling_time.proofs.SettledSeenLemmas.{HasSettledSeen, IsSettledSeen, always_seen}
 
 module _ (p : SettlingParams) (before : ℕ) (w : WorldState) (is : IsNews p before w)
     (late : before + largest_interval p + pred (path_bound (snapshot_of w)) * delay_in w ≤ w.time) where
@@ -98,48 +92,30 @@ module _ (p : SettlingParams) (before : ℕ) (w : WorldState) (is : IsNews p bef
     invariant : Invariant says_announce old (view w)
     invariant = is.settling m bounded quiet off
 
-    module _ (other : ℕ) (bounds : BoundsPaths (snapshot_of w) other) where
-      abbrev n : Network
-      n = start_network p other start w
-
-      same : SameWiring old n
+    seen : IsSettledSeen p w
+    seen = record {
+      n = old;
+      net = net;
+      calm = calm;
+      invariant = invariant;
+      late = omega (arith, late);
+      graph = refl;
       same = record {
         place = λ v. refl;
         lane = λ q. refl;
         log = λ q. refl;
         interval = λ q. refl;
         most = omega arith;
-      }
-
-      level : (d : ℕ) (best : System) (v pp u q : ℕ) → d < 255 → LeadsFarther n.graph d best v pp u q
-          → LinkSettles says_announce (wiring n d best v pp u q) (view w)
-      level d best v pp u q near leads from pv pu l stand ready =
-          inr (inr (stays_so says_announce old n same d best best v pp u q refl pv.announce pu.held l.frames
-          (links_stay says_announce old net (view w) calm invariant (omega (arith, late)) d best v pp u q near leads pv
-          pu l (record {
-            v = stand.v;
-            u = stand.u;
-            teller = stand.teller;
-            teller_port = stand.teller_port;
-            hearer = stand.hearer;
-            hearer_port = stand.hearer_port;
-            lane = stand.lane;
-          }))))
-
-      now_invariant : Invariant says_announce n (view w)
-      now_invariant = record {
-        sound = λ now.
-            received_fits says_announce (snapshot_of w) (view w) (start_net p other start w world bounds).graph
-            (on_links says_announce (snapshot_of w) (view w) is.sound);
-        levels = λ d best v pp u q near leads. level d best v pp u q near leads;
-      }
+      };
+      most = refl;
+    }
 
   pub news_claimed : IsClaimedAlways p start w
   unfolding heard
   news_claimed = record {
     news = news;
     heard = heard;
-    settling = λ other bounds quiet off. now_invariant quiet off other bounds;
+    settling = λ other bounds quiet off. always_seen p other start w world is.sound (seen quiet off) bounds;
   }
 
   -- its ports are capable
@@ -149,19 +125,4 @@ module _ (p : SettlingParams) (before : ℕ) (w : WorldState) (is : IsNews p bef
 
   -- it has settled
   pub news_settled : HasSettledSeen p w
-  news_settled quiet off = record {
-    n = news_network p m before w;
-    net = net quiet off;
-    calm = calm quiet off;
-    invariant = invariant quiet off;
-    late = omega (arith, late);
-    graph = refl;
-    same = record {
-      place = λ v. refl;
-      lane = λ q. refl;
-      log = λ q. refl;
-      interval = λ q. refl;
-      most = omega arith;
-    };
-    most = refl;
-  }
+  news_settled quiet off = seen quiet off

@@ -1,7 +1,6 @@
 -- In a world that has rested claims are made of all links always.
-use Rattle.std.proofs.Common.{◌<◌, ◌≤◌, ◌+◌, ◌*◌, ℕ, suc, refl, inl, inr, arith}
+use Rattle.std.proofs.Common.{◌≤◌, ◌+◌, ◌*◌, ℕ, suc, refl, inl, inr, arith}
 use Rattle.gptp_graph.specs.PathBound.{BoundsPaths, path_bound}
-use Rattle.gptp_graph.specs.Snapshot.{System}
 use Rattle.gptp_setup.specs.Intervals.{interval_of}
 use Rattle.gptp_setup.specs.SettlingParams.{SettlingParams, largest_interval}
 use Rattle.gptp_setup.proofs.IntervalLemmas.{interval_positive}
@@ -10,15 +9,8 @@ use Rattle.gptp_scenario.specs.SettlingAtOnce.{settling_span_at_once}
 use Rattle.gptp_scenario.specs.SettlingTime.{capability_span}
 use Rattle.gptp_model.specs.World.{WorldState}
 use Rattle.gptp_bmca_machine.specs.Calm.{Calm}
-use Rattle.gptp_bmca_machine.specs.Frame.{Lane}
-use Rattle.gptp_bmca_machine.specs.Station.{Port}
-use Rattle.gptp_bmca_machine.specs.Levels.{Invariant, LeadsFarther}
-use Rattle.gptp_bmca_machine.specs.Link.{LinkSettles, Stand}
-use Rattle.gptp_bmca_machine.specs.Network.{IsSettlingNetwork, Network, wiring}
-use Rattle.gptp_bmca_machine.specs.RestLaws.{SameWiring}
-use Rattle.gptp_bmca_machine.proofs.RestingLemmas.{links_stay, stays_so}
-use Rattle.gptp_bmca_machine.proofs.SoundEverywhereLemmas.{on_links}
-use Rattle.gptp_bmca_machine.proofs.SoundLemmas.{received_fits}
+use Rattle.gptp_bmca_machine.specs.Levels.{Invariant}
+use Rattle.gptp_bmca_machine.specs.Network.{IsSettlingNetwork, Network}
 use Rattle.gptp_invariants.specs.ChoiceCalm.{HaveQuietLinks, sync_paths_of}
 use Rattle.gptp_invariants.specs.ChoiceSettlesAsMachine.{quick_network}
 use Rattle.gptp_invariants.specs.ChoiceView.{says_announce, view}
@@ -32,8 +24,8 @@ use Rattle.gptp_invariants.proofs.ChoiceSettlesAsMachineLemmas.{is_quick_calm, i
 use Rattle.gptp_invariants.proofs.WorldClaimLemmas.{claim_capable}
 use Rattle.gptp_invariants.proofs.WorldNewsActLemmas.{unanswered_silent, watched_ready}
 use Rattle.gptp_invariants.proofs.WorldNewsLemmas.{news_begin}
-use Rattle.gptp_settling_time.proofs.AlwaysClaimedLemmas.{AreHeard, IsClaimedAlways, start_net, start_network}
-use Rattle.gptp_settling_time.proofs.SettledSeenLemmas.{HasSettledSeen}
+use Rattle.gptp_settling_time.proofs.AlwaysClaimedLemmas.{AreHeard, IsClaimedAlways}
+use Rattle.gptp_settling_time.proofs.SettledSeenLemmas.{HasSettledSeen, IsSettledSeen, always_seen}
 use Rattle.gptp_settling_time.proofs.HeardLemmas.{IsOn, heard_link, stays_on}
 
 -- the ports that ask at links are all capable
@@ -96,54 +88,30 @@ module _ (p : SettlingParams) (w : WorldState) (claim : KeepsAll p w) (sound : I
     invariant : Invariant says_announce quick (view w)
     invariant = (claim.settling m bounded (record { links = quiet; lapses = inl off })).at_once off
 
-    module _ (other : ℕ) (bounds : BoundsPaths (snapshot_of w) other) where
-      abbrev n : Network
-      n = start_network p other start w
-
-      same : SameWiring quick n
+    seen : IsSettledSeen p w
+    seen = record {
+      n = quick;
+      net = net;
+      calm = calm;
+      invariant = invariant;
+      late = omega (arith, late);
+      graph = refl;
       same = record {
         place = λ v. refl;
         lane = λ q. refl;
         log = λ q. refl;
         interval = λ q. refl;
         most = omega arith;
-      }
-
-      level : (d : ℕ) (best : System) (v pp u q : ℕ) → d < 255 → LeadsFarther n.graph d best v pp u q
-          → LinkSettles says_announce (wiring n d best v pp u q) (view w)
-      level d best v pp u q near leads from pv pu l stand ready =
-          inr (inr (stays_so says_announce quick n same d best best v pp u q refl pv.announce pu.held l.frames
-          (links_stay says_announce quick net (view w) calm invariant (omega (arith, late)) d best v pp u q near
-          leads pv
-          pu l (before d best v pp u q pv pu l stand))))
-        where
-          before : (d : ℕ) (best : System) (v pp u q : ℕ) (pv pu : Port) (l : Lane) → Stand
-              (wiring n d best v pp u q) (view w) pv pu l
-              → Stand (wiring quick d best v pp u q) (view w) pv pu l
-          before d best v pp u q pv pu l stand = record {
-            v = stand.v;
-            u = stand.u;
-            teller = stand.teller;
-            teller_port = stand.teller_port;
-            hearer = stand.hearer;
-            hearer_port = stand.hearer_port;
-            lane = stand.lane;
-          }
-
-      rest_invariant : Invariant says_announce n (view w)
-      rest_invariant = record {
-        sound = λ now.
-            received_fits says_announce (snapshot_of w) (view w) (start_net p other start w claim.world bounds).graph
-            (on_links says_announce (snapshot_of w) (view w) sound);
-        levels = λ d best v pp u q near leads. level d best v pp u q near leads;
-      }
+      };
+      most = refl;
+    }
 
   pub rest_claimed : IsClaimedAlways p start w
   unfolding heard
   rest_claimed = record {
     news = news;
     heard = heard;
-    settling = λ other bounds quiet off. rest_invariant quiet off other bounds;
+    settling = λ other bounds quiet off. always_seen p other start w claim.world sound (seen quiet off) bounds;
   }
 
   -- its ports are capable
@@ -159,19 +127,4 @@ module _ (p : SettlingParams) (w : WorldState) (claim : KeepsAll p w) (sound : I
 
   -- it has settled
   pub rest_settled : HasSettledSeen p w
-  rest_settled quiet off = record {
-    n = quick_network p m w;
-    net = net quiet off;
-    calm = calm quiet off;
-    invariant = invariant quiet off;
-    late = omega (arith, late);
-    graph = refl;
-    same = record {
-      place = λ v. refl;
-      lane = λ q. refl;
-      log = λ q. refl;
-      interval = λ q. refl;
-      most = omega arith;
-    };
-    most = refl;
-  }
+  rest_settled quiet off = seen quiet off

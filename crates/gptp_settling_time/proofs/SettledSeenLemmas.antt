@@ -1,15 +1,24 @@
 -- A network in which a world has settled, as the machine sees it.
-use Rattle.std.proofs.Common.{◌≡◌, ◌≤◌, ◌+◌, ◌*◌, ℕ, pred, refl, arith}
-use Rattle.gptp_graph.specs.PathBound.{path_bound}
+use Rattle.std.proofs.Common.{◌≡◌, ◌<◌, ◌≤◌, ◌+◌, ◌*◌, ℕ, pred, Some, slice_get, refl, sym, subst, inr, arith}
+use Rattle.gptp_graph.specs.PathBound.{BoundsPaths, path_bound}
+use Rattle.gptp_graph.specs.Snapshot.{System}
 use Rattle.gptp_setup.specs.SettlingParams.{SettlingParams}
 use Rattle.gptp_scenario.specs.Calm.{NothingLapses}
 use Rattle.gptp_model.specs.World.{WorldState}
 use Rattle.gptp_bmca_machine.specs.Calm.{Calm}
-use Rattle.gptp_bmca_machine.specs.Levels.{Invariant}
-use Rattle.gptp_bmca_machine.specs.Network.{IsSettlingNetwork, Network, settled_from}
+use Rattle.gptp_bmca_machine.specs.Levels.{Invariant, LeadsFarther}
+use Rattle.gptp_bmca_machine.specs.Link.{LinkSettles, Stand}
+use Rattle.gptp_bmca_machine.specs.Network.{IsSettlingNetwork, Network, settled_from, wiring}
 use Rattle.gptp_bmca_machine.specs.RestLaws.{SameWiring}
+use Rattle.gptp_bmca_machine.specs.Sound.{ReceivedFits}
+use Rattle.gptp_bmca_machine.proofs.RestingLemmas.{links_stay, stays_so}
+use Rattle.gptp_bmca_machine.proofs.SoundEverywhereLemmas.{on_links}
+use Rattle.gptp_bmca_machine.proofs.SoundLemmas.{received_fits}
 use Rattle.gptp_invariants.specs.ChoiceCalm.{HaveQuietLinks, delay_in}
+use Rattle.gptp_invariants.specs.ChoiceSettlesAsMachine.{IsWorld}
 use Rattle.gptp_invariants.specs.ChoiceView.{says_announce, view}
+use Rattle.gptp_invariants.specs.WorldNews.{news_network}
+use Rattle.gptp_invariants.specs.WorldSound.{IsSoundWorld}
 use Rattle.gptp_invariants.specs.WorldStanding.{snapshot_of}
 use Rattle.gptp_invariants.proofs.ChoiceSettlesAsMachineLemmas.{paths_bound}
 use Rattle.gptp_settling_time.proofs.AlwaysClaimedLemmas.{IsClaimedAlways, start_calm, start_net, start_network}
@@ -49,3 +58,63 @@ always_settled p start w is late quiet off =
       };
       most = refl;
     }
+
+-- each link is at its last stage, in every network of the world
+module _ (p : SettlingParams) (w : WorldState) (seen : IsSettledSeen p w) (n : Network) (graph : seen.n.graph ≡ n.graph)
+    (same : SameWiring seen.n n) where
+  stage_settled : (d : ℕ) (best : System) (v pp u q : ℕ) → d < 255 → LeadsFarther n.graph d best v pp u q
+      → LinkSettles says_announce (wiring n d best v pp u q) (view w)
+  stage_settled d best v pp u q near leads from pv pu l stand ready =
+      inr (inr (stays_so says_announce seen.n n same d best best v pp u q refl pv.announce pu.held l.frames
+      (links_stay says_announce seen.n seen.net (view w) seen.calm seen.invariant seen.late d best v pp u q near
+      (subst (λ g. LeadsFarther g d best v pp u q) (sym graph) leads) pv pu l before)))
+    where
+      before : Stand (wiring seen.n d best v pp u q) (view w) pv pu l
+      before = record {
+        v = stand.v;
+        u = stand.u;
+        teller = subst (λ i. slice_get (view w).stations i ≡ Some stand.v) (same.place v) stand.teller;
+        teller_port = stand.teller_port;
+        hearer = subst (λ i. slice_get (view w).stations i ≡ Some stand.u) (same.place u) stand.hearer;
+        hearer_port = stand.hearer_port;
+        lane = subst (λ i. slice_get (view w).lanes i ≡ Some l) (same.lane _) stand.lane;
+      }
+
+-- so it is in those of which claims are made of a world since news, and of one of which they are made always
+module _ (p : SettlingParams) (m start : ℕ) (w : WorldState) (world : IsWorld p w) (sound : IsSoundWorld w)
+    (seen : IsSettledSeen p w) (bounded : BoundsPaths (snapshot_of w) m) where
+  fits : ReceivedFits (snapshot_of w) (view w)
+  fits =
+      received_fits says_announce (snapshot_of w) (view w) (start_net p m start w world bounded).graph
+      (on_links says_announce (snapshot_of w) (view w) sound)
+
+  wired : SameWiring seen.n (start_network p m start w)
+  wired =
+      let most = seen.most in
+      record {
+        place = seen.same.place;
+        lane = seen.same.lane;
+        log = seen.same.log;
+        interval = seen.same.interval;
+        most = omega (arith, most);
+      }
+
+  pub always_seen : Invariant says_announce (start_network p m start w) (view w)
+  always_seen = record {
+    sound = λ now. fits;
+    levels = λ d best v pp u q near leads.
+        stage_settled p w seen (start_network p m start w) seen.graph wired d best v pp u q near leads;
+  }
+
+  pub news_seen : Invariant says_announce (news_network p m start w) (view w)
+  news_seen = record {
+    sound = λ now. fits;
+    levels = λ d best v pp u q near leads.
+        stage_settled p w seen (news_network p m start w) seen.graph (record {
+          place = wired.place;
+          lane = wired.lane;
+          log = wired.log;
+          interval = wired.interval;
+          most = wired.most;
+        }) d best v pp u q near leads;
+  }
