@@ -1,6 +1,5 @@
 -- A change that changes nothing leaves what is claimed of a world since news.
 use Rattle.std.proofs.Common.{◌≡◌, ◌≤◌, ◌+◌, ◌*◌, ◌^◌, ◌%◌, ℕ, true, List, [], map, Option, refl, sym, ap, subst, ◌∙◌, inl, inr, arith}
-use Rattle.std.specs.Prelude.{⊤}
 use Rattle.gptp_lists.proofs.MappedLemmas.{same_there}
 use Rattle.gptp_lists.proofs.PlaceLemmas.{get-set_same, map-set_same}
 use Rattle.gptp_links.specs.declared.bounds.Bounds.{Bounds}
@@ -105,46 +104,31 @@ module _ (w : WorldState) (sound : IsSound w) (number value place : ℕ) (statio
 
 -- ---- nothing is done
 
--- it sets no priority1
-abbrev pub LeavesWorld : Change → Type 0
-LeavesWorld (Priority1 number value) = ⊥
-LeavesWorld change = ⊤
-
 module _ (w : WorldState) (sound : IsSound w) (draws : List Draw) (w' : WorldState) where
   abbrev now : WorldState
   now = record w { last_change = w.time }
 
-  -- all stays as it is where no priority1 is set
-  pub idle_same : (change : Change) → LeavesWorld change → IsIdle change w → Changes change now draws w' → w' ≡ now
-  idle_same (LinkDown number port) other idle k =
-      (subst (λ up. GoesDownIf up k.place k.channel now draws w') (idle k.place k.channel k.is) k.so).1
-  idle_same (LinkUp number port) other idle k =
-      (subst (λ up. ComesUpIf up k.place k.channel now draws w') (idle k.place k.channel k.is) k.so).1
-  idle_same (LinkSet number port min max loss) other idle k = absurd idle
-  idle_same (Fail number) other idle k =
-      let live = idle k.place k.station (record { here = k.is.here; named = k.is.named }) in
-      (subst (λ live. FailsIf live k.place k.station now draws w') live k.so).1
-  idle_same (Recover number) other idle k =
-      let live = idle k.place k.station (record { here = k.is.here; named = k.is.named }) in
-      (subst (λ live. RecoversIf live k.place now draws w') live k.so).1
-  idle_same (Priority1 number value) other idle k = absurd other
-  idle_same (Inject number port octets) other idle k =
-      (subst (λ up. InjectsIf up (port_id number port) octets now draws w') (idle k.place k.channel k.is) k.so).1
-
   leaves : w' ≡ now → StandsStill w w'
   leaves same = subst (StandsStill w) (sym same) (record { time = refl; stations = refl; channels = refl })
 
-  -- nothing that is claimed of changes
+  -- so nothing that is claimed of changes
   pub idle_still : (change : Change) → IsIdle change w → Changes change now draws w' → StandsStill w w'
-  idle_still (LinkDown number port) idle k = leaves (idle_same (LinkDown number port) tt idle k)
-  idle_still (LinkUp number port) idle k = leaves (idle_same (LinkUp number port) tt idle k)
+  idle_still (LinkDown number port) idle k =
+      leaves (subst (λ up. GoesDownIf up k.place k.channel now draws w') (idle k.place k.channel k.is) k.so).1
+  idle_still (LinkUp number port) idle k =
+      leaves (subst (λ up. ComesUpIf up k.place k.channel now draws w') (idle k.place k.channel k.is) k.so).1
   idle_still (LinkSet number port min max loss) idle k = absurd idle
-  idle_still (Fail number) idle k = leaves (idle_same (Fail number) tt idle k)
-  idle_still (Recover number) idle k = leaves (idle_same (Recover number) tt idle k)
+  idle_still (Fail number) idle k =
+      let live = idle k.place k.station (record { here = k.is.here; named = k.is.named }) in
+      leaves (subst (λ live. FailsIf live k.place k.station now draws w') live k.so).1
+  idle_still (Recover number) idle k =
+      let live = idle k.place k.station (record { here = k.is.here; named = k.is.named }) in
+      leaves (subst (λ live. RecoversIf live k.place now draws w') live k.so).1
   idle_still (Priority1 number value) idle k =
       prioritized_still w sound number value k.place k.station (record { here = k.is.here; named = k.is.named }) idle
       draws w' k.so
-  idle_still (Inject number port octets) idle k = leaves (idle_same (Inject number port octets) tt idle k)
+  idle_still (Inject number port octets) idle k =
+      leaves (subst (λ up. InjectsIf up (port_id number port) octets now draws w') (idle k.place k.channel k.is) k.so).1
 
 -- it sets no bounds
 idle_fit : (change : Change) (w : WorldState) → IsIdle change w → IsFitAct (Changing change)

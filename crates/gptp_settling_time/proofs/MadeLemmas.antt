@@ -45,18 +45,18 @@ use Rattle.gptp_theorem.proofs.ChangeLemmas.{changes_stand}
 use Rattle.gptp_theorem.proofs.SettlingInvariantLemmas.{IsFitEvent, least_of}
 use Rattle.gptp_theorem.proofs.KeptLemmas.{time_stands}
 use Rattle.gptp_theorem.proofs.SyncPathLemmas.{paths_stand}
-use Rattle.gptp_settling_time.specs.Gains.{AreCapableAnyway, AreCapableNext, AreCapableStill, AreSparedBy, ChangesNothing, IsGainAfter, IsIdleAfter, IsSparedBy, JoinsLive, LeadsToLive, LeavesAll, LeavesCapable, SparesFailed, TakesNothing}
+use Rattle.gptp_settling_time.specs.Gains.{AreCapableAnyway, AreCapableNext, AreCapableStill, AreSparedBy, ChangesNothing, IsGainAfter, IsIdleAfter, IsSparedBy, JoinsLive, LeadsToLive, LeavesCapable, SparesFailed, TakesNothing}
 use Rattle.gptp_settling_time.specs.Idle.{Lives}
 use Rattle.gptp_settling_time.proofs.GainLemmas.{all_live, better_lives, failed_so, gain_so, idle_so, lives_so}
-use Rattle.gptp_settling_time.proofs.IdleLemmas.{LeavesWorld, idle_same, idle_still}
-use Rattle.gptp_settling_time.proofs.AskedElsewhereLemmas.{still_in_time, up_gone_still, up_in_time_still}
+use Rattle.gptp_settling_time.proofs.IdleLemmas.{idle_still}
+use Rattle.gptp_settling_time.proofs.AskedElsewhereLemmas.{up_gone_still, up_in_time_still}
 use Rattle.gptp_settling_time.proofs.AskedInTimeLemmas.{AreAskedInTime, are_asked_begin, are_asked_later}
-use Rattle.gptp_settling_time.proofs.BetweenFailedLemmas.{AreGoneBetween, gone_begins, gone_later, gone_still}
+use Rattle.gptp_settling_time.proofs.BetweenFailedLemmas.{AreGoneBetween, gone_begins, gone_later}
 use Rattle.gptp_settling_time.proofs.KeptToLemmas.{IsNewsTo, KeepsTo, WereAskedInTime, keeps_later}
 use Rattle.gptp_settling_time.proofs.NewsSoonLemmas.{AreComing, HowComing, IsNewsFrom, IsNewsSoon, coming_later, from_coming, from_later, from_sound}
 use Rattle.gptp_settling_time.proofs.PriorityNewsLemmas.{priority_soon, priority_stays_news}
 use Rattle.gptp_settling_time.proofs.RecoverLemmas.{recover_in_time, recover_soon}
-use Rattle.gptp_settling_time.proofs.StandsStillLemmas.{from_stands}
+use Rattle.gptp_settling_time.proofs.StandsStillLemmas.{StandsStill, asked_still, between_still, from_stands}
 use Rattle.gptp_settling_time.proofs.UpSoonLemmas.{up_soon}
 
 -- what is so at both ends of a link is so where it leads to
@@ -220,25 +220,11 @@ module _ {F : Type 0} (answers : Bounds → ℕ → F → Option ℕ → F → T
     acts_as : (change : Change) → is.change ≡ change → Acts (Changing change) then k.draws done w'
     acts_as change same = subst (λ c. Acts (Changing c) then k.draws done w') same acts
 
-    -- an event that changes nothing at all leaves the world as it is
-    still_now : LeavesAll n made event.act → w' ≡ record then { last_change = then.time }
-    still_now leaves = by is.change refl (subst (LeavesAll n made) is.act leaves)
-      where
-        same_so : (change : Change) → is.change ≡ change → IsIdleAfter n made change → LeavesWorld change
-            → w' ≡ record then { last_change = then.time }
-        same_so change same idle_after other =
-            idle_same then claim_now.world.sound k.draws w' change other
-            (idle_so n made then stands_now claim_now.world.sound change idle_after) (acts_as change same).1
-
-        by : (change : Change) → is.change ≡ change → LeavesAll n made (Changing change)
-            → w' ≡ record then { last_change = then.time }
-        by (LinkDown number port) same idle = same_so (LinkDown number port) same idle tt
-        by (LinkUp number port) same idle = same_so (LinkUp number port) same idle tt
-        by (LinkSet number port min max loss) same idle = absurd idle
-        by (Fail number) same idle = same_so (Fail number) same idle tt
-        by (Recover number) same idle = same_so (Recover number) same idle tt
-        by (Priority1 number value) same none = absurd none
-        by (Inject number port octets) same idle = same_so (Inject number port octets) same idle tt
+    -- an event that changes nothing leaves all that is claimed of
+    still_now : IsIdleAfter n made is.change → StandsStill then w'
+    still_now idle_after =
+        let idle = idle_so n made then stands_now claim_now.world.sound is.change idle_after in
+        idle_still then claim_now.world.sound k.draws w' is.change idle acts.1
 
     -- what is in flight beside failed systems and between them is in time
     spared : (gone : ℕ) → AreAskedInTime gone then → AreGoneBetween gone then → (change : Change)
@@ -277,11 +263,11 @@ module _ {F : Type 0} (answers : Bounds → ℕ → F → Option ℕ → F → T
                 gone_begins p w' claim_after.world.known made_last,
               )
           | inr (inl nothing) ↦
-              let same = still_now nothing in (
+              let still = still_now (subst (ChangesNothing n made) is.act nothing) in (
                 gone,
                 past,
-                subst (AreAskedInTime gone) (sym same) (still_in_time gone then (asked_now gone asked)),
-                subst (AreGoneBetween gone) (sym same) (gone_still gone then (gone_later gone event.at w all)),
+                asked_still then w' still gone (asked_now gone asked),
+                between_still then w' still gone (gone_later gone event.at w all),
               )
           | inr (inr spares) ↦
               let both = spared gone (asked_now gone asked) (gone_later gone event.at w all) is.change refl
@@ -483,9 +469,7 @@ module _ {F : Type 0} (answers : Bounds → ℕ → F → Option ℕ → F → T
     -- or where the event changes nothing
     by_idle : (start : ℕ) → IsNewsFrom p start then → IsIdleAfter n made is.change → IsNewsFrom p start w'
     by_idle start news idle_after =
-        let idle = idle_so n made then stands_then claim_then.world.sound is.change idle_after in
-        from_stands p start then w' (idle_still then claim_then.world.sound k.draws w' is.change idle acts.1)
-        after.claim.world after.claim.measured news
+        from_stands p start then w' (still_now keeps idle_after) after.claim.world after.claim.measured news
 
     made_still : (start next : ℕ) → IsNewsFrom p start then → AreCapableStill n made start event next
         → IsNewsFrom p next w'

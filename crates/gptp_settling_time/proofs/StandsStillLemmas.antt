@@ -1,6 +1,6 @@
 -- What is claimed of a world stays so in one that differs from it in nothing but what failed systems and those that
 -- recover start with, what is pending, and when the last change was.
-use Rattle.std.proofs.Common.{◌≡◌, ◌<◌, ◌+◌, ◌*◌, ℕ, ℤ, pos, zero, suc, List, [], ◌∷◌, map, Some, slice_get, refl, sym, ap, subst, ◌∙◌, inl, inr}
+use Rattle.std.proofs.Common.{◌≡◌, ◌<◌, ◌+◌, ◌*◌, ℕ, ℤ, pos, zero, suc, List, [], ◌∷◌, map, Some, slice_get, refl, sym, ap, subst, ◌∙◌, inl, inr, arith}
 use Rattle.std.specs.Option.{option_map_or}
 use Rattle.std.specs.Prelude.{◌==◌, if◌then◌else◌}
 use Rattle.gptp_lists.proofs.MappedLemmas.{alike}
@@ -34,6 +34,8 @@ use Rattle.gptp_invariants.specs.FailedUnanswered.{IsFailedAmong, IsSilent, IsUn
 use Rattle.gptp_invariants.specs.WorldNews.{AreSilentBy, IsNews, turn_network}
 use Rattle.gptp_invariants.specs.WorldSound.{IsSoundWorld}
 use Rattle.gptp_invariants.specs.WorldStanding.{channel_is_used, live_stations, snapshot_of, standing_system, used_channels}
+use Rattle.gptp_settling_time.proofs.AskedInTimeLemmas.{AreAskedInTime}
+use Rattle.gptp_settling_time.proofs.BetweenFailedLemmas.{AreGoneBetween}
 use Rattle.gptp_settling_time.proofs.AlwaysClaimedLemmas.{IsClaimedAlways}
 use Rattle.gptp_settling_time.proofs.SameLinkLemmas.{StaysSameLink}
 use Rattle.gptp_settling_time.proofs.NewsSoonLemmas.{IsNewsFrom, from_silent, from_sound}
@@ -339,6 +341,47 @@ module _ (w w' : WorldState) (still : StandsStill w w') where
         inv = subst (λ (k : Setting). InvUnanswered k gone (silent_view at w' after)) (sym settled)
             (subst (λ (u : Unanswered). InvUnanswered (silent_setting at w l) gone u) (sym seen) is.inv);
       }
+
+  -- what is in flight beside failed systems and between them is in time still
+  pub asked_still : (gone : ℕ) → AreAskedInTime gone w → AreAskedInTime gone w'
+  asked_still gone asked at s =
+      let is = asked at (unanswered_before at s) in
+      let l = is.link in
+      let a = end_still at.asking (sender at.direction l.channel) l.asking in
+      let b = station_still at.answering l.answering.station l.answering.here in
+      let time = still.time in
+      let after : IsUnansweredAt at w' = record {
+        channel = l.channel;
+        here = ap (λ cs. slice_get cs at.link) still.channels ∙ l.here;
+        up = l.up;
+        asking = a.end;
+        answering = record {
+          station = b.new;
+          here = b.here;
+          failed = ap (λ (s : Station). s.live) b.same ∙ l.answering.failed;
+          named = ap (λ (s : Station). clock s.system) b.same ∙ l.answering.named;
+        };
+      } in
+      let seen : (silent_view at w' after).asker.asked ≡ (silent_view at w l).asker.asked =
+      λ i. (asker_view (interval_of (a.same i).setup.params.pdelay) (measure_at (a.state i))).asked in
+      record {
+        link = after;
+        asked = (let before = is.asked in omega (arith, before, seen, time));
+        frames = λ lossless f member. (let due = is.frames lossless f member in omega (arith, due, time));
+        requests = λ lossless f r member says.
+            (let due = is.requests lossless f r member says in omega (arith, due, seen));
+        old = is.old;
+      }
+
+  pub between_still : (gone : ℕ) → AreGoneBetween gone w → AreGoneBetween gone w'
+  between_still gone all at s =
+      all at (record {
+        channel = s.channel;
+        here = ap (λ cs. slice_get cs at.link) (sym still.channels) ∙ s.here;
+        up = s.up;
+        asking = failed_before at.asking (sender at.direction s.channel).clock s.asking;
+        answering = failed_before at.answering (receiver at.direction s.channel).clock s.answering;
+      })
 
   pub stands_like : StandsLike w w'
   stands_like =

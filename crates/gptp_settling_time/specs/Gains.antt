@@ -153,16 +153,11 @@ SparesFailed n before event (Changing (LinkUp number port)) =
 SparesFailed n before event (Changing (Recover number)) = ⊤
 SparesFailed n before event act = ⊥
 
--- an event that changes nothing, not even what a failed system will start with
-abbrev pub LeavesAll : NetworkState → List Timed → Act → Type 0
-LeavesAll n before (Changing (Priority1 number value)) = ⊥
-LeavesAll n before act = ChangesNothing n before act
-
--- So does one that changes nothing at all. After any other the largest announce interval is over by this time.
+-- So does one that changes nothing. After any other the largest announce interval is over by this time.
 abbrev pub IsSparedBy : NetworkState → List Timed → Timed → ℕ → Type 0
 IsSparedBy n before event time =
     (event.at + largest_interval (pace_of n) < time)
-    ⊎ (LeavesAll n before event.act ⊎ SparesFailed n before event event.act)
+    ⊎ (ChangesNothing n before event.act ⊎ SparesFailed n before event event.act)
 
 -- by this time what failed systems sent is gone, after each of these events
 abbrev pub AreSparedBy : NetworkState → List Timed → List Timed → ℕ → Type 0
@@ -172,8 +167,9 @@ AreSparedBy n before (event ∷ events) time =
 
 -- These changes leave other ports as capable as they are: a link between live systems that comes up, whose own two
 -- ports ask then; a failed system that recovers, whose own ports ask then, and those beside it within a peer delay
--- interval; and a priority1 that gets no worse. What a system that recovers sent before it failed is gone by then. Beside another that has failed its port doesn't become capable, which is known only once L + 5
--- announce intervals are over since the network began.
+-- interval; and a priority1 that gets no worse. What a system that recovers sent before it failed is gone by then.
+-- Beside another that has failed its port doesn't become capable, which is known only once L + 5 announce intervals are
+-- over since the network began.
 abbrev pub LeavesCapable : NetworkState → List Timed → Timed → ℕ → Act → Type 0
 LeavesCapable n before event next (Changing (LinkUp number port)) =
     JoinsLive n (before ++ event ∷ []) (port_id number port)
