@@ -8,9 +8,9 @@
 -- has to pass where what the first gain tells is heard at once, and after it links alone come up whose delay varies
 -- little. Nor has one at a start without events where all delays vary little.
 --
--- These gains are followed: a link that comes up between live systems, a system that recovers, and a priority1 of a live
--- system that gets better. The first is heard at once where its delay varies little, the last where no path has more
--- than 255 systems. Not followed yet are events at time 0, and bounds that are set. There the span stands.
+-- These gains are followed: a link that comes up between live systems, a system that recovers, and a priority1 of a
+-- live system that gets better. The first is heard at once where its delay varies little, the last where no path has
+-- more than 255 systems. Not followed yet are events at time 0, and bounds that are set. There the span stands.
 use Rattle.std.specs.Prelude.{◌≡◌, ◌<◌, ◌≤◌, ◌⊎◌, ◌+◌, ◌*◌, ◌==◌, ℕ, ⊤, pred, suc, List, [], ◌∷◌, ◌++◌, filter}
 use Rattle.gptp_lists.specs.Members.{In}
 use Rattle.gptp_setup.specs.Intervals.{interval_of}
@@ -88,8 +88,8 @@ BoundsStart n choice =
     ⊎ (choice
     ≡ two_exchanges (pace_of n) (sync_paths n []) + largest_interval (pace_of n) + way_span (sync_paths n []))
 
--- At a time with gains. Ports are capable so much later as `ready` says: at once after a priority1, by two exchanges after
--- a link, and a peer delay interval later after a system that recovers.
+-- At a time with gains. Ports are capable so much later as `ready` says: at once after a priority1, by two exchanges
+-- after a link, and a peer delay interval later after a system that recovers.
 abbrev pub BoundsGains : NetworkState → List Timed → List Timed → ℕ → ℕ → ℕ → Type 0
 BoundsGains n made now time ready choice =
     (AreHeardEvents n (suc (time + ready)) made now

@@ -60,9 +60,9 @@ is_used answer = false
 abbrev pub timed_if : Bool → TimersChanged
 timed_if used = if used then touches.Time else touches.Nothing
 
--- A Pdelay_Req that is heard touches the Respond timer of the port, and a Follow_Up that is used the Relay and the Lapse
--- timer. An Announce that takes the place of what was held touches those that selection can change, and so does a
--- Pdelay_Resp_Follow_Up by which the port becomes asCapable or stops being so.
+-- A Pdelay_Req that is heard touches the Respond timer of the port, and a Follow_Up that is used the Relay and the
+-- Lapse timer. An Announce that takes the place of what was held touches those that selection can change, and so does
+-- a Pdelay_Resp_Follow_Up by which the port becomes asCapable or stops being so.
 abbrev pub message_touches : SystemState → ℕ → Message → Answer → TimersChanged
 message_touches s p (messages.PdelayReq head) answer = touches.One (timers.Respond p)
 message_touches s p (messages.FollowUp m) answer = timed_if (is_used answer)
