@@ -11,8 +11,8 @@ use crate::table::Table;
 use std::alloc::{AllocError, Global};
 use std::marker::Model;
 
-/// Entries in a heap and in runs. It is seen as the list of these parts, the least of all entries, and how many more can
-/// be put.
+/// Entries in a heap and in runs. It is seen as the list of these parts, the least of all entries, and how many more
+/// can be put.
 #[derive(Drop)]
 pub(crate) struct Far {
     heap: Heap,

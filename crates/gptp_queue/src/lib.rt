@@ -1,7 +1,7 @@
 //! A queue of what is due, at most one thing at each place, in order of time.
 //!
-//! It is seen as a plain list of its entries in order of putting, each with its time, its number and its place. The next
-//! is the first of least time: no entry has an earlier time, and none of the same time a lower number.
+//! It is seen as a plain list of its entries in order of putting, each with its time, its number and its place. The
+//! next is the first of least time: no entry has an earlier time, and none of the same time a lower number.
 #![tactic(auto)]
 
 mod before;

@@ -13,8 +13,8 @@ use crate::table::Table;
 use std::alloc::{AllocError, Global};
 use std::marker::Model;
 
-/// What is due, each entry at a place and a time, in ns. A place has one entry at most. An entry gets a number when it is
-/// put, rising from 0. The least entry is the first of least time.
+/// What is due, each entry at a place and a time, in ns. A place has one entry at most. An entry gets a number when it
+/// is put, rising from 0. The least entry is the first of least time.
 ///
 /// It is seen as the number of the next entry, how many places there are, the list of the entries in order of putting,
 /// and how many more can be put without being refused.
@@ -149,8 +149,8 @@ impl Queue {
         self.order.first().get()
     }
 
-    /// Nothing is due at a place any more, as what was due there has happened. Does what [`cancel`](Self::cancel) does, and
-    /// where the least entry is at that place, the 2,048 ns in which entries are quick begin at its time.
+    /// Nothing is due at a place any more, as what was due there has happened. Does what [`cancel`](Self::cancel) does.
+    /// Where the least entry is at that place, the 2,048 ns in which entries are quick begin at its time.
     pub fn take(&mut self, place: usize)
         requires { place < self.old.places }
         ensures { self.new ≡ record self.old { entries = without_place place self.old.entries } }

@@ -15,7 +15,8 @@ use std::marker::Model;
 /// How many slots there are.
 pub(crate) const SLOTS: usize = 2048;
 
-/// The entries of each of 2,048 slots, in order of putting. It is seen as the list of them, and how many more can be put.
+/// The entries of each of 2,048 slots, in order of putting. It is seen as the list of them, and how many more can be
+/// put.
 #[derive(Drop)]
 pub(crate) struct Slots {
     // Bit `slot % 64` of the word `slot / 64` says whether a slot has an entry.
