@@ -48,7 +48,8 @@ current_is_contained [] d is = absurd (grind (arith, is))
 current_is_contained (x ∷ es) d is =
     by (λ rest. current_is_contained es d rest) ((x.number == d.number) && (x.place == d.place)) refl where
       by : (is_current es d ≡ true → (e : Entry) × Contains es e × (e.number ≡ d.number)) → (t : Bool)
-          → ((x.number == d.number) && (x.place == d.place)) ≡ t → (e : Entry) × Contains (x ∷ es) e × (e.number ≡ d.number)
+          → ((x.number == d.number) && (x.place == d.place)) ≡ t
+          → (e : Entry) × Contains (x ∷ es) e × (e.number ≡ d.number)
       by ih true h = (x, (0, omega arith, refl), grind (arith, nat_tests))
       by ih false h =
           let rest : is_current es d ≡ true = rw h at is in let found = ih rest in

@@ -1,5 +1,5 @@
 -- What is pending in a world, by place.
-use Rattle.std.proofs.Common.{◌≡◌, ◌≢◌, if◌then◌else◌, ℕ, ◌+◌, ◌*◌, ◌<◌, ◌≤◌, ◌==◌, ◌&&◌, Bool, true, false, not, List, [], ◌∷◌, ◌++◌, map, length, filter, Option, Some, None, length-set, max, refl, sym, ap, ◌∙◌, arith, subst, inl, inr}
+use Rattle.std.proofs.Common.{◌≡◌, ◌≢◌, if◌then◌else◌, ℕ, ◌+◌, ◌*◌, ◌<◌, ◌≤◌, ◌==◌, ◌&&◌, Bool, true, false, List, [], ◌∷◌, ◌++◌, map, length, Option, Some, None, length-set, max, refl, sym, ap, ◌∙◌, arith, subst, inl, inr}
 use Rattle.std.specs.Prelude.{slice_index_or}
 use Rattle.std.specs.List.{AllByRecursion}
 use Rattle.std.proofs.lemmas.Bool.Decides.{nat_tests}
@@ -692,17 +692,6 @@ module _ (queue after : WaitingState) (table : List Item) (x : Item) (free : Lis
           (λ place less is. omega (arith, less, is, enough)) are.within;
     });
   }
-
-pub makes-nothing : (queue : WaitingState) (table : List Item) (free : List ℕ) → queue.places ≤ length table
-    → MakesFree queue queue table table free free
-makes-nothing queue table free enough = record {
-  queue = refl;
-  places = omega arith;
-  each_place = enough;
-  kept = refl;
-  len = omega arith;
-  are_free = λ timers below are. are;
-}
 
 pub makes-both : (queue after last : WaitingState) (table more most : List Item) (free longer longest : List ℕ)
     → MakesFree queue after table more free longer → MakesFree after last more most longer longest

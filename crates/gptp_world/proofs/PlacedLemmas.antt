@@ -1,14 +1,14 @@
 -- The entries of a queue, each with the item at its place.
-use Rattle.std.proofs.Common.{◌≡◌, ◌≢◌, ℕ, zero, suc, ◌+◌, ◌<◌, ◌≤◌, ◌==◌, Bool, true, false, not, List, [], ◌∷◌, ◌++◌, map, length, filter, refl, sym, ap, ap₂, ◌∙◌, arith}
+use Rattle.std.proofs.Common.{◌≡◌, ◌≢◌, ℕ, zero, suc, ◌+◌, ◌<◌, ◌≤◌, ◌==◌, Bool, true, false, List, [], ◌∷◌, ◌++◌, map, length, refl, ap, ap₂, ◌∙◌, arith}
 use Rattle.std.specs.Prelude.{⊤, slice_index_or, slice_set}
 use Rattle.std.specs.List.{All, AllByRecursion, Contains}
 use Rattle.std.proofs.lemmas.Bool.Decides.{nat_tests}
 use Rattle.std.proofs.lemmas.List.{get_or_append_left, get_or_default, get_or-set_same, get_or-set_other}
 use Rattle.std.proofs.lemmas.List.Elements.{All-cons, All-head, All-tail}
 use Rattle.gptp_queue.specs.Entry.{Entry as QueueEntry}
-use Rattle.gptp_queue.specs.Waiting.{entry, is_at, without_place, IsFirst, IsNoLater, PlacesDiffer, RiseFrom}
+use Rattle.gptp_queue.specs.Waiting.{entry, without_place, IsFirst, IsNoLater, PlacesDiffer, RiseFrom}
 use Rattle.gptp_model.specs.declared.item.Item.{Item}
-use Rattle.gptp_model.specs.Pending.{Entry, pending_entry, IsKnownItem, IsNext}
+use Rattle.gptp_model.specs.Pending.{Entry, pending_entry, IsNext}
 use Rattle.gptp_world.specs.PendingIndex.{PlacedItem, placed, no_item, item_at, placed_items, plain_items, without_placed, IsVacant}
 
 pub map-push : {X Y : Type 0} (f : X → Y) (xs : List X) (x : X) → map f (xs ++ x ∷ []) ≡ map f xs ++ f x ∷ []

@@ -86,9 +86,8 @@ pub record AreFree (timers places : ℕ) (ps : List PlacedItem) (free : List ℕ
 
 -- ---- what is pending
 
--- What is pending is of systems and links that there are, at its places, and the places of the arrivals of each
--- direction
--- of a link are listed in order of putting.
+-- What is pending is of systems and links that there are, each item at its place. The places of the arrivals of each
+-- direction of a link are listed in order of putting.
 pub record PendingIsIndexed (systems links : ℕ) (pending_index : PendingIndexState) (places : ℕ) (free : List ℕ)
     (ps : List PlacedItem) : Type 0 where
   pub few_systems : systems ≤ 512

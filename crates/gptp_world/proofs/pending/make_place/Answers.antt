@@ -1,4 +1,4 @@
-use Rattle.std.proofs.Common.{◌≡◌, ◌+◌, length, arith}
+use Rattle.std.proofs.Common.{◌≡◌, length, arith}
 use Rattle.gptp_world.specs.PendingIndex.{no_item}
 use Rattle.gptp_world.proofs.PendingIndexLemmas.{makes-item, makes-free}
 use Rattle.gptp_world.proofs.pending.make_place.Goals as goal

@@ -1,4 +1,4 @@
-use Rattle.std.proofs.Common.{◌≡◌, ap, ◌∙◌, arith}
+use Rattle.std.proofs.Common.{ap, arith}
 use Rattle.gptp_queue.specs.Waiting.{WaitingState}
 use Rattle.gptp_world.proofs.PendingIndexLemmas.{index-grown}
 use Rattle.gptp_world.proofs.pending.Pending.make_room.Goals as goal

@@ -1,4 +1,4 @@
-use Rattle.std.proofs.Common.{ap, ◌≡◌, sym}
+use Rattle.std.proofs.Common.{ap}
 use Rattle.gptp_queue.specs.Entry.{Entry}
 use Rattle.gptp_model.specs.Pending.{IsKnownItem}
 use Rattle.gptp_world.proofs.PlacedLemmas.{next_is, item_holds, looked_up}

@@ -2,7 +2,7 @@ use Rattle.std.proofs.Common.{◌≡◌, ◌-◌, ◌*◌, ◌++◌, ◌∷◌, 
 use Rattle.std.proofs.lemmas.List.{length-append}
 use Rattle.gptp_world.specs.PendingIndex.{placed_items, AreFree}
 use Rattle.gptp_world.proofs.PendingLemmas.{same_state}
-use Rattle.gptp_world.proofs.PendingIndexLemmas.{arrival_within, IsLastFree, last_free, index-arrival, plain-arrival}
+use Rattle.gptp_world.proofs.PendingIndexLemmas.{arrival_within, last_free, index-arrival, plain-arrival}
 use Rattle.gptp_world.proofs.pending.Pending.put_arrival.Goals as goal
 
 pub put_item-requires-clause-place : goal.put_item-requires-clause-place
