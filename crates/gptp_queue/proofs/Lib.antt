@@ -1,0 +1,10 @@
+pub mod EntryLemmas
+pub mod TableLemmas
+pub mod OrderLemmas
+pub mod OptionLemmas
+pub mod PartLemmas
+pub mod QueueLemmas
+pub mod BothLemmas
+pub mod ChainLemmas
+pub mod SlotLemmas
+pub mod RingLemmas
