@@ -240,7 +240,8 @@ module _ (p : SettlingParams) (start : ℕ) (w : WorldState) (news : IsNews p st
           record {
             held = steady.held;
             rest = steady.rest;
-            off = by (sender way channel).port refl (is.sound.wired.ports place at way channel station here stands named);
+            off = by (sender way channel).port refl
+                (is.sound.wired.ports place at way channel station here stands named);
           }
         where
           by : (n : ℕ) → (sender way channel).port ≡ n → HasPortNumber station.system n → IsOffAt station n
@@ -340,8 +341,8 @@ module _ (p : SettlingParams) (start : ℕ) (w : WorldState) (news : IsNews p st
         (clock_has w.stations at.asking l.asking.station _ l.asking.here l.asking.live l.asking.named)
         (clock_has w.stations at.answering l.answering.station _ l.answering.here l.answering.live l.answering.named) in
         let apart = used_apart at.link l.channel l.here used in
-        let whole = tells_parts PortDown of_down p w is place channel (lost channel) (taken_down place channel w.net) here
-        refl refl refl draws w' k at apart l in
+        let whole = tells_parts PortDown of_down p w is place channel (lost channel) (taken_down place channel w.net)
+        here refl refl refl draws w' k at apart l in
         let one : whole.after.channel ≡ l.channel =
         same_there w'.net.channels at.link whole.after.channel l.channel whole.after.here
         (stands_so at.link l.channel l.here apart) in
@@ -476,14 +477,16 @@ module _ (p : SettlingParams) (start : ℕ) (w : WorldState) (news : IsNews p st
           (sym (begins_same w.net.channels at.link at.direction l.channel was) ∙ same))
 
       stays : Stays taken k.between
-      stays = calls_if_live_stay k.place_a (PortDown channel.a.port) taken k.first k.between is.sound.wired.setups k.at_a
+      stays = calls_if_live_stay k.place_a (PortDown channel.a.port) taken k.first k.between
+          is.sound.wired.setups k.at_a
 
       silent_at : (gone : ℕ) → IsSilent gone at w → IsSilent gone at w'
       silent_at gone one =
           told_silent gone at k.place_b channel.b k.between k.second w'
           (λ station there.
-          ap (λ (x : Station). clock x.system) (same_there k.between.stations k.place_b station k.station_b there still_b)
-          ∙ k.is_b.named) (stays_clocks taken k.between stays is.sound.wired.clocks) first
+          ap (λ (x : Station). clock x.system)
+          (same_there k.between.stations k.place_b station k.station_b there still_b) ∙ k.is_b.named)
+          (stays_clocks taken k.between stays is.sound.wired.clocks) first
           (no_end k.between (join_on w.net.channels taken.net.channels k.between.net.channels joins stays.links)
           first.link FromB) k.at_b
         where
@@ -504,8 +507,9 @@ module _ (p : SettlingParams) (start : ℕ) (w : WorldState) (news : IsNews p st
           first =
               told_silent gone at k.place_a channel.a taken k.first k.between
               (λ station there.
-              ap (λ (x : Station). clock x.system) (same_there w.stations k.place_a station k.station_a there k.is_a.here)
-              ∙ k.is_a.named) is.sound.wired.clocks begun (no_end taken joins begun.link FromA) k.at_a
+              ap (λ (x : Station). clock x.system)
+              (same_there w.stations k.place_a station k.station_a there k.is_a.here) ∙ k.is_a.named)
+              is.sound.wired.clocks begun (no_end taken joins begun.link FromA) k.at_a
 
     pub down_silent : AreSilentBy p start w'
     down_silent at s =
@@ -571,8 +575,8 @@ module _ (p : SettlingParams) (start owner port : ℕ) (w : WorldState) (draws :
       (record { time = refl; stations = refl; channels = refl })
 
   module _ (up : k.channel.up ≡ true) where
-    told_down : TellsEnds PortDown k.channel (record w { net = taken_down k.place k.channel w.net; last_change = w.time })
-        draws w'
+    told_down : TellsEnds PortDown k.channel
+        (record w { net = taken_down k.place k.channel w.net; last_change = w.time }) draws w'
     told_down = subst (λ b. GoesDownIf b k.place k.channel changed draws w') up k.so
 
     unused : channel_is_used (live_stations w.stations) k.channel ≡ false
@@ -593,8 +597,8 @@ module _ (p : SettlingParams) (start owner port : ℕ) (w : WorldState) (draws :
       by false is_off = news_stands p start w w' (was_down is_off) claim'.world claim'.measured news
       by true up =
           news_like p start w w'
-          (down_like p start w news late k.place k.channel k.is.here up (unused up) draws w' claim'.world (told_down up))
-          claim'.world claim'.measured
+          (down_like p start w news late k.place k.channel k.is.here up (unused up) draws w' claim'.world
+          (told_down up)) claim'.world claim'.measured
           (down_silent p start w news late k.place k.channel k.is.here up (unused up) draws w' claim'.world
           (told_down up))
           (down_sound p start w news late k.place k.channel k.is.here up (unused up) draws w' claim'.world
@@ -610,8 +614,8 @@ module _ (p : SettlingParams) (start owner port : ℕ) (w : WorldState) (draws :
       by false is_off = claims_stand p start w w' (was_down is_off) claim'.world claim'.measured claim
       by true up =
           claims_like p start w w'
-          (down_like p start w news late k.place k.channel k.is.here up (unused up) draws w' claim'.world (told_down up))
-          claim'.world claim'.measured
+          (down_like p start w news late k.place k.channel k.is.here up (unused up) draws w' claim'.world
+          (told_down up)) claim'.world claim'.measured
           (down_silent p start w news late k.place k.channel k.is.here up (unused up) draws w' claim'.world
           (told_down up))
           (down_sound p start w news late k.place k.channel k.is.here up (unused up) draws w' claim'.world

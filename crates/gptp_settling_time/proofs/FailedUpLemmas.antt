@@ -433,8 +433,8 @@ module _ (p : SettlingParams) (start owner port : ℕ) (w : WorldState) (draws :
     silent_then : AreSilentBy p start w → AreSilentBy p start w'
     silent_then =
         up_silent p w is k.place k.channel k.is.here down
-        (dead k.place k.channel (record { here = k.is.here; joined = k.is.joined })) draws w' claim'.world told start late
-        claim'.silent
+        (dead k.place k.channel (record { here = k.is.here; joined = k.is.joined })) draws w' claim'.world told start
+        late claim'.silent
 
   sound_then : IsSoundWorld w → IsSoundWorld w'
   sound_then = sound_gains p (LinkUp owner port) w draws done w' tt tt acts is claim'.world

@@ -258,8 +258,9 @@ module _ (n : NetworkState) (network : IsNetwork n) where
                   (omega (arith, here)) gain,
               gains_lead next (made ++ event ∷ []) now each,
             );
-            settles = subst (λ es. next + largest_interval (pace_of n) + way_span (sync_paths n es) ≤ suc (time + choice))
-                (sym are) (omega (arith, is));
+            settles = subst
+                (λ es. next + largest_interval (pace_of n) + way_span (sync_paths n es) ≤ suc (time + choice)) (sym are)
+                (omega (arith, is));
           }
 
 -- ---- a document

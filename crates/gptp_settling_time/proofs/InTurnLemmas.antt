@@ -500,7 +500,8 @@ passed_in_turn answers d until settled fate first w ts playable k is =
     in_turn answers d playable (events_by until d.events) is.last until
     (IsAfter d (events_by until d.events) is.last) (λ v so now. so) (after_later d (events_by until d.events) is.last)
     (λ t one drawn v next was so. after_act d (events_by until d.events) answers is.last t one drawn v next was so) []
-    is.first (events_by until d.events) ts k.started k.drawn first w refl (events_made d until playable.network playable.events) (events_fit d until playable) is.lead
+    is.first (events_by until d.events) ts k.started k.drawn first w refl
+    (events_made d until playable.network playable.events) (events_fit d until playable) is.lead
     k.courses (begins_after answers d playable fate until first w ts k is.first is.begins)
     (begun_last answers d playable fate k.started first k.begun)
 

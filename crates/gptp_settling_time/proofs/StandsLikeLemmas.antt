@@ -117,7 +117,8 @@ module _ (w w' : WorldState) (like : StandsLike w w') where
         }) news_like_network
 
     -- what is claimed of a network of the world is claimed of it whenever old frames are gone
-    over : (n n' : Network) → n.graph ≡ snapshot_of w → ((port : PortIdentity) → n.lane port ≡ lane_of w.net.channels port)
+    over : (n n' : Network) → n.graph ≡ snapshot_of w
+        → ((port : PortIdentity) → n.lane port ≡ lane_of w.net.channels port)
         → n' ≡ record n { gone = gone' } → Invariant says_announce n (view w) → Invariant says_announce n' (view w')
     over n n' graph lane same is =
         subst (λ x. Invariant says_announce x (view w')) (sym same) (record {
