@@ -118,13 +118,15 @@ module _ (Q : SystemState → Type 0)
   goes_down_keeps : (up : Bool) (place : ℕ) (channel : Channel) (w : WorldState) (draws : List Draw) (w' : WorldState)
       → GoesDownIf up place channel w draws w' → Each Q w → Each Q w'
   goes_down_keeps true place channel w draws w' k each =
-      ends_keep PortDown channel (record w { net = taken_down place channel w.net }) draws w' (λ port. tt) (λ port is. cc) k each
+      ends_keep PortDown channel (record w { net = taken_down place channel w.net }) draws w' (λ port. tt)
+      (λ port is. cc) k each
   goes_down_keeps false place channel w draws w' (none, same) each = same_world w w' same each
 
   comes_up_keeps : (up : Bool) (place : ℕ) (channel : Channel) (w : WorldState) (draws : List Draw) (w' : WorldState)
       → ComesUpIf up place channel w draws w' → Each Q w → Each Q w'
   comes_up_keeps false place channel w draws w' k each =
-      ends_keep PortUp channel (record w { net = brought_up place channel w.net }) draws w' (λ port. tt) (λ port is. cc) k each
+      ends_keep PortUp channel (record w { net = brought_up place channel w.net }) draws w' (λ port. tt)
+      (λ port is. cc) k each
   comes_up_keeps true place channel w draws w' (none, same) each = same_world w w' same each
 
   fails_keep : (live : Bool) (place : ℕ) (station : Station) (w : WorldState) (draws : List Draw) (w' : WorldState)
@@ -144,8 +146,8 @@ module _ (Q : SystemState → Type 0)
   injects_keep true from octets w draws w' k each = subst (Each Q) (sym k.is) each
   injects_keep false from octets w draws w' (none, same) each = same_world w w' same each
 
-  pub changes_keep : (change : Change) (w : WorldState) (draws : List Draw) (w' : WorldState) → Changes change w draws w'
-      → Each Q w → Each Q w'
+  pub changes_keep : (change : Change) (w : WorldState) (draws : List Draw) (w' : WorldState)
+      → Changes change w draws w' → Each Q w → Each Q w'
   changes_keep (LinkDown number port) w draws w' k each =
       goes_down_keeps k.channel.up k.place k.channel w draws w' k.so each
   changes_keep (LinkUp number port) w draws w' k each =
@@ -200,8 +202,8 @@ acts_lapse (Deliver link direction) w draws done w' sound k each = by k.answer k
         (record w { net = k.delivers.net }) draws o w' → EachLapses w'
     by (Some told) c =
         calls_keep HasLapse lapse_keeps lapse_starts k.delivers.place
-        (FrameHeard (receiver direction k.delivers.channel).port k.octets) (record w { net = k.delivers.net }) draws told
-        w' c
+        (FrameHeard (receiver direction k.delivers.channel).port k.octets) (record w { net = k.delivers.net }) draws
+        told w' c
         (lapse_kept (FrameHeard (receiver direction k.delivers.channel).port k.octets) w.time c.station.system c.after
         c.sends told c.steps (λ is. absurd cc)) each
     by None (failed, none, same) = subst EachLapses (sym same) each

@@ -255,7 +255,8 @@ pub record MomentSo (Q : List ActTrace → WorldState → Type 0) (first : Carri
 
 module _ {F : Type 0} (answers : Bounds → ℕ → F → Option ℕ → F → Type 0) (d : DocumentState) (until : ℕ)
     (options : TimelineOptions) (fate : F) (lines : List (List ℕ)) (exceeded : Bool)
-    (t : TimelineOf answers d until options fate lines exceeded) (playable : IsPlayable d) (moment_ends : until ≤ 10 ^ 18)
+    (t : TimelineOf answers d until options fate lines exceeded) (playable : IsPlayable d)
+    (moment_ends : until ≤ 10 ^ 18)
     (Q : List ActTrace → WorldState → Type 0)
     (act_keeps : (ts : List ActTrace) (timed : Timed) (done : Done) (w w' : WorldState)
     → IsKeptAct answers timed done w w' → Q ts w → Q (ts ++ transition timed done w w' ∷ []) w')
