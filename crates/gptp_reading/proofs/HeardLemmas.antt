@@ -20,6 +20,8 @@ use Rattle.gptp_messages.specs.declared.follow_up.FollowUp.{FollowUp}
 use Rattle.gptp_messages.specs.declared.message.Message.TheVariants as messages
 use Rattle.gptp_messages.specs.Grammar.{Reads}
 use Rattle.gptp_links.specs.declared.bounds.Bounds.{Bounds}
+use Rattle.gptp_links.specs.declared.link.Direction.{Direction}
+use Rattle.gptp_links.specs.Fate.{Draw}
 use Rattle.gptp_setup.specs.declared.setup.Params.{Params}
 use Rattle.gptp_setup.specs.SettlingParams.{SettlingParams, lapse_span}
 use Rattle.gptp_setup.proofs.IntervalLemmas.{interval_positive}
@@ -67,7 +69,7 @@ use Rattle.gptp_theorem.specs.Headline.{HasPassed, WorldIsCalm, UsesFollowUp}
 use Rattle.gptp_theorem.proofs.HeadlineLemmas.{quiet_as}
 use Rattle.gptp_reading.specs.Age.{HeardWithin, RunsHearInTime}
 use Rattle.gptp_reading.proofs.AgeLemmas.{lapse_lately}
-use Rattle.gptp_reading.proofs.EachLemmas.{Each, acts_each, all_start, none_lives}
+use Rattle.gptp_reading.proofs.EachLemmas.{EachLapses, acts_lapse, lapses_start, none_lapses}
 use Rattle.gptp_reading.proofs.LapseLemmas.{LapseStep, UsesOne, lapse_steps}
 use Rattle.gptp_reading.proofs.RunLemmas.{IsKeptAct, runs_keep}
 
@@ -93,24 +95,24 @@ same_roots g s s' wf clocks choice choice' =
 -- ---- who was heard
 
 -- by one of these acts a system used a Follow_Up, and its Lapse timer is due a span later
-record HeardAt (acts : List ActTrace) (number due span : ℕ) : Type 0 where
-  act : ActTrace
-  member : In act acts
-  uses : UsesFollowUp number act.told.done
-  moment : due ≡ act.told.timed.at + span
+pub record HeardAt (acts : List ActTrace) (number due span : ℕ) : Type 0 where
+  pub act : ActTrace
+  pub member : In act acts
+  pub uses : UsesFollowUp number act.told.done
+  pub moment : due ≡ act.told.timed.at + span
 
 -- A Lapse timer of a near live system was started by the time from which the network is settled, or by a Follow_Up.
-abbrev IsStarted : List ActTrace → ℕ → ℕ → ℕ → ℕ → Type 0
+abbrev pub IsStarted : List ActTrace → ℕ → ℕ → ℕ → ℕ → Type 0
 IsStarted acts settled span number due = (due ≤ settled + span) ⊎ HeardAt acts number due span
 
-abbrev IsTimedBy : Snapshot → List ActTrace → ℕ → ℕ → Station → Type 0
+abbrev pub IsTimedBy : Snapshot → List ActTrace → ℕ → ℕ → Station → Type 0
 IsTimedBy g acts settled span station = station.live ≡ true → IsNear g (clock station.system) → (due : ℕ)
     → station.system.lapse ≡ Some due → IsStarted acts settled span (clock station.system) due
 
-record AreTimed (p : SettlingParams) (acts : List ActTrace) (w : WorldState) : Type 0 where
-  claimed : KeepsAll p w
-  each : Each w
-  timed : (m settled : ℕ) → IsCalmBy p m settled w → settled ≤ w.time → (place : ℕ) (station : Station)
+pub record AreTimed (p : SettlingParams) (acts : List ActTrace) (w : WorldState) : Type 0 where
+  pub claimed : KeepsAll p w
+  pub each : EachLapses w
+  pub timed : (m settled : ℕ) → IsCalmBy p m settled w → settled ≤ w.time → (place : ℕ) (station : Station)
       → slice_get w.stations place ≡ Some station
       → IsTimedBy (snapshot_of w) acts settled (lapse_span p.params) station
 
@@ -124,7 +126,7 @@ calm_earlier p m settled w time calm = record {
   passed = calm.passed;
 }
 
-timed_later : (p : SettlingParams) (acts : List ActTrace) (w : WorldState) (time : ℕ) → w.time ≤ time
+pub timed_later : (p : SettlingParams) (acts : List ActTrace) (w : WorldState) (time : ℕ) → w.time ≤ time
     → NothingBefore time w.net.pending → AreTimed p acts w → AreTimed p acts (at time w)
 timed_later p acts w time later first are = record {
   claimed = claim_later p w time later first are.claimed;
@@ -179,6 +181,26 @@ uses_it number reached answer octets m (Heard name port said frame) told named u
 same_octets : (n p : ℕ) (x y : List ℕ) → FrameHeard n x ≡ FrameHeard p y → x ≡ y
 same_octets n p x y e = cc
 
+-- so it is of what the system that a frame reaches uses
+pub delivery_uses : (link : ℕ) (direction : Direction) (w : WorldState) (draws : List Draw) (done : Done)
+    (w' : WorldState) (d : Acts (Deliver link direction) w draws done w') (answer : Answer)
+    → TellsHearing (receiver direction d.channel) (Some answer) d.octets done
+    → (c : Calls d.delivers.place (FrameHeard (receiver direction d.delivers.channel).port d.octets)
+    (record w { net = d.delivers.net }) draws answer w') → (port : ℕ) (octets : List ℕ) (m : FollowUp)
+    → FrameHeard (receiver direction d.delivers.channel).port d.octets ≡ FrameHeard port octets
+    → Reads octets (messages.FollowUp m) → answer ≡ answers.Used → UsesFollowUp (clock c.station.system) done
+delivery_uses link direction w draws done w' d answer told c port octets m heard reads used =
+    uses_it (clock c.station.system) (receiver direction d.channel) answer d.octets m done told named used
+    (subst (λ o. Reads o (messages.FollowUp m))
+    (sym (same_octets (receiver direction d.delivers.channel).port port d.octets octets heard)) reads)
+  where
+    named : (receiver direction d.channel).clock ≡ clock c.station.system
+    named =
+        let channels = same_there w.net.channels link d.channel d.delivers.channel d.here d.delivers.takes.here in
+        let stations = same_there w.stations d.delivers.place d.delivers.station c.station d.delivers.there c.here in
+        ap (λ x. (receiver direction x).clock) channels ∙ sym d.delivers.is_end
+        ∙ ap (λ (x : Station). clock x.system) stations
+
 -- the network has settled
 settled_choice : (p : SettlingParams) (m settled : ℕ) (w : WorldState) → KeepsAll p w → IsCalmBy p m settled w
     → settled ≤ w.time → Settled w
@@ -226,10 +248,10 @@ module _ {F : Type 0} (answers' : Bounds → ℕ → F → Option ℕ → F → 
   abbrev then : WorldState
   then = at timed.at w
 
-  abbrev one : ActTrace
+  abbrev pub one : ActTrace
   one = transition timed done w w'
 
-  abbrev more : List ActTrace
+  abbrev pub more : List ActTrace
   more = acts ++ one ∷ []
 
   abbrev span : ℕ
@@ -344,25 +366,10 @@ module _ {F : Type 0} (answers' : Bounds → ℕ → F → Option ℕ → F → 
                 (λ due u moment. record {
                   act = one;
                   member = In-right one acts (one ∷ []) (inl refl);
-                  uses = uses_it (clock c.station.system) (receiver direction d.channel) answer d.octets u.message done
-                      told (named c) u.used
-                      (subst (λ o. Reads o (messages.FollowUp u.message))
-                      (sym (same_octets (receiver direction d.delivers.channel).port u.port d.octets u.octets u.heard))
-                      u.reads);
+                  uses = delivery_uses link direction then k.was.draws done w' d answer told c u.port u.octets u.message
+                      u.heard u.reads u.used;
                   moment = moment;
                 }) place station there
-              where
-                named : (c : Calls d.delivers.place
-                    (FrameHeard (receiver direction d.delivers.channel).port d.octets)
-                    (record then { net = d.delivers.net }) k.was.draws answer w')
-                    → (receiver direction d.channel).clock ≡ clock c.station.system
-                named c =
-                    let channels = same_there then.net.channels link d.channel d.delivers.channel d.here
-                    d.delivers.takes.here in
-                    let stations = same_there then.stations d.delivers.place d.delivers.station c.station
-                    d.delivers.there c.here in
-                    ap (λ x. (receiver direction x).clock) channels ∙ sym d.delivers.is_end
-                    ∙ ap (λ (x : Station). clock x.system) stations
         by (Expire number timer) (told, e) none place station there =
             calls_timed e.place (TimerExpires timer) (stopped e.place timer then) e.so.answer refl e.so.calls
             (λ due u moment. let is = u.heard in absurd cc) place station there
@@ -386,10 +393,10 @@ module _ {F : Type 0} (answers' : Bounds → ℕ → F → Option ℕ → F → 
           absurd (at_once p w' claimed' (change_is_last change then k.was.draws done w'
           (subst (λ act. Acts act then k.was.draws done w') is k.was.acts)) m settled calm late)
 
-  timed_act : AreTimed p more w'
+  pub timed_act : AreTimed p more w'
   timed_act = record {
     claimed = claimed';
-    each = acts_each timed.act then k.was.draws done w' claimed'.world.sound k.was.acts before.each;
+    each = acts_lapse timed.act then k.was.draws done w' claimed'.world.sound k.was.acts before.each;
     timed = timed_after;
   }
 
@@ -401,14 +408,14 @@ due_of None some = absurd cc
 due_of (Some due) some = (due, refl)
 
 -- as a network begins it is at its last change
-timed_begins : {F : Type 0} (answers' : Bounds → ℕ → F → Option ℕ → F → Type 0) (n : NetworkState)
+pub timed_begins : {F : Type 0} (answers' : Bounds → ℕ → F → Option ℕ → F → Type 0) (n : NetworkState)
     (fate fate_after : F) (w : WorldState) → IsNetwork n → Begun answers' n fate fate_after w
     → AreTimed (pace_of n) [] w
 timed_begins answers' n fate fate_after w network k =
     let claimed = claim_begins answers' n fate fate_after w network (initial_sound n network) k in
     record {
       claimed = claimed;
-      each = all_start (range_with_len 0 (length n.systems)) (initial n) k.draws w k.starts (none_lives n);
+      each = lapses_start (range_with_len 0 (length n.systems)) (initial n) k.draws w k.starts (none_lapses n);
       timed = λ m settled calm late place station here.
           absurd (at_once (pace_of n) w claimed
           (starts_are_last (range_with_len 0 (length n.systems)) (initial n) k.draws w refl k.starts) m settled calm
@@ -456,7 +463,7 @@ module _ (p : SettlingParams) (acts : List ActTrace) (w : WorldState) (are : Are
       (subst (λ (q : Params). 0 < q.sync_timeout)
       (sym (are.claimed.world.known.set shows.place shows.station shows.is.here).params) above)
 
-  heard_lately : HeardWithin acts number (sync_wait p.params (sync_paths_of w)) w.time
+  pub heard_lately : HeardWithin acts number (sync_wait p.params (sync_paths_of w)) w.time
   heard_lately = from_due (due_of x.lapse runs)
     where
       by : (due : ℕ) → w.time + lapse_span p.params ≤ due + sync_wait p.params (sync_paths_of w)

@@ -158,9 +158,10 @@ wider : (error more : ℕ) (x y : ℤ) → error ≤ more → AreWithin error x 
 wider error more x y less within =
     record { low = omega (arith, ints, less, within.low); high = omega (arith, ints, less, within.high) }
 
-grows : (way : Way) (steps soon late : ℕ) → soon ≤ late
+-- an error of what is read grows with the time since a receipt
+pub error_grows : (way : Way) (steps soon late : ℕ) → soon ≤ late
     → reading_error_at way steps soon ≤ reading_error_at way steps late
-grows way steps soon late less =
+error_grows way steps soon late less =
     let product : (soon + jitter_at way steps) * rates_error_at way steps
     ≤ (late + jitter_at way steps) * rates_error_at way steps =
     mul-le-mul_right (rates_error_at way steps) (omega (arith, less)) in
@@ -274,7 +275,7 @@ runs_read_in_time answers d until fate start w acts act p m steps number earlier
     (best_before p v w keeps calm number w.time shown claimed_v claimed_w best)) in
     subst (λ e. AreWithin e read shown) (sym way.is)
     (wider (reading_error_at way.way steps age) (reading_error_at way.way steps later) read shown
-    (grows way.way steps age later (omega (arith, lately))) exact)
+    (error_grows way.way steps age later (omega (arith, lately))) exact)
 
 -- ---- that there is a reading
 

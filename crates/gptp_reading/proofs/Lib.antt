@@ -6,8 +6,10 @@ pub mod ExactLemmas
 pub mod RunLemmas
 pub mod AgeLemmas
 pub mod LapseLemmas
+pub mod OffsetLemmas
 pub mod EachLemmas
 pub mod HeardLemmas
+pub mod KnownLemmas
 pub mod LastingLemmas
 pub mod LatelyLemmas
 pub mod HeldLemmas

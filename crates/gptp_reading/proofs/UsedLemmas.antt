@@ -23,6 +23,7 @@ use Rattle.gptp_system.specs.declared.answer.Answer.TheVariants as answers
 use Rattle.gptp_system.specs.declared.sending.Sending.{Sending}
 use Rattle.gptp_system.specs.Input.{Frame as FrameHeard, Steps}
 use Rattle.gptp_system.specs.State.{SystemState, is_capable_at, lapse_of, local_time}
+use Rattle.gptp_system.specs.Reading.{read_at, reading_by}
 use Rattle.gptp_system.specs.Syncing.{HearsFollowUpIf, IsOffset, OffsetFits, KnowsBy, KnowsIf, delay_at, is_slave_at, offset_of, root_rate_at, said_on, slave_delay, slave_rate}
 use Rattle.gptp_error_laws.specs.TimeError.{jitter_at, rates_error_at, reading_error_at, time_error_at}
 use Rattle.gptp_model.specs.declared.station.Station.{Station}
@@ -175,20 +176,14 @@ module _ (p : ℕ) (m : FollowUpFields) (octets : List ℕ) (now : ℕ) (s s' : 
 timeout_off : (q : Params) → q.sync_timeout ≡ 0 → has_sync_timeout q ≡ false
 timeout_off q off = rw off refl
 
--- What is read where the own clock shows this. The root's time as the Sync came is its ingress less the offset, and the
--- rate is the sum of the one received and the neighbour's, held at the limits of Integer32.
-abbrev read_from : SyncInfo → ℤ → ℤ → ℤ → ℤ
-read_from known offset neighbour shown =
-    (known.ingress -ℤ offset) +ℤ scaled_by (nearest_rate (known.rate +ℤ neighbour)) (shown -ℤ known.ingress)
-
 -- with an offset there is a reading
 reads_by : (info : SyncInfo) (s : SystemState) → s.known ≡ Some info → (moment : ℕ)
     → (offset : ℤ) × (s.offset ≡ Some offset) → IsSome (reading s moment)
 reads_by info s known moment (offset, is_offset) =
-    let r : reading s moment ≡ Some (read_from info offset (slave_rate s) (local_time s moment)) =
+    let r : reading s moment ≡ Some (read_at (reading_by s info offset) (local_time s moment)) =
     ap (option_and_then (λ (it : SyncInfo). option_map
-    (λ o. read_from it o (slave_rate s) (local_time s moment)) s.offset)) known
-    ∙ ap (option_map (λ o. read_from info o (slave_rate s) (local_time s moment))) is_offset
+    (λ o. read_at (reading_by s it o) (local_time s moment)) s.offset)) known
+    ∙ ap (option_map (λ o. read_at (reading_by s info o) (local_time s moment))) is_offset
     in
     subst IsSome (sym r) refl
 
@@ -321,7 +316,7 @@ module _ (p : SettlingParams) (settled longest : ℕ) (w : WorldState) (is : IsS
 
   -- by the state that is left
   read_is : (offset : ℤ) (t : ℕ) → s'.offset ≡ Some offset
-      → read_then t ≡ read_from said offset (slave_rate s') (local_time s' t)
+      → read_then t ≡ read_at (reading_by s' said offset) (local_time s' t)
   read_is offset t is_offset =
       let received_is : sync_received (held_sum said (root_rate_at x n)) (delay_at x n)
       (root_rate_at x n) ≡ sync.ingress -ℤ offset =
@@ -347,14 +342,14 @@ module _ (p : SettlingParams) (settled longest : ℕ) (w : WorldState) (is : IsS
   by_offset : (later : ℕ) (root : Station) → IsRootOf w (follower_clock place w f) root → (offset : ℤ)
       → s'.offset ≡ Some offset
       → AreWithin (reading_error_at h.way steps later)
-      (read_from said offset (slave_rate s') (local_time s' (w.time + later)))
+      (read_at (reading_by s' said offset) (local_time s' (w.time + later)))
       (local_time root.system (w.time + later))
   by_offset later root r offset is_offset =
       let t = w.time + later in
       let whole = in_units (time_error_at h.way (suc steps)) (rates_error_at h.way steps)
       (later + jitter_at h.way steps) (read_then t) (root_clock k t) (exact later) in
       subst (AreWithin (reading_error_at h.way steps later)
-      (read_from said offset (slave_rate s') (local_time s' t))) (root_is t root r)
+      (read_at (reading_by s' said offset) (local_time s' t))) (root_is t root r)
       (subst (λ y. AreWithin (reading_error_at h.way steps later) y (root_clock k t)) (read_is offset t is_offset)
       whole)
 
@@ -364,14 +359,14 @@ module _ (p : SettlingParams) (settled longest : ℕ) (w : WorldState) (is : IsS
   used_exactly later root r read reads_it =
       by s'.offset refl
       (sym (ap (option_and_then (λ (known : SyncInfo). option_map
-      (λ offset. read_from known offset (slave_rate s') (local_time s' (w.time + later))) s'.offset)) used.left.known)
+      (λ offset. read_at (reading_by s' known offset) (local_time s' (w.time + later))) s'.offset)) used.left.known)
       ∙ reads_it)
     where
       by : (o : Option ℤ) → s'.offset ≡ o
-          → option_map (λ offset. read_from said offset (slave_rate s') (local_time s' (w.time + later))) o ≡ Some read
+          → option_map (λ offset. read_at (reading_by s' said offset) (local_time s' (w.time + later))) o ≡ Some read
           → AreWithin (reading_error_at h.way steps later) read (local_time root.system (w.time + later))
       by None is_none none = absurd (none-some read none)
       by (Some offset) is_offset some =
           subst (λ y. AreWithin (reading_error_at h.way steps later) y (local_time root.system (w.time + later)))
-          (same_Some (read_from said offset (slave_rate s') (local_time s' (w.time + later))) read some)
+          (same_Some (read_at (reading_by s' said offset) (local_time s' (w.time + later))) read some)
           (by_offset later root r offset is_offset)

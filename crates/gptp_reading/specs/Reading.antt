@@ -1,6 +1,6 @@
 -- What a system reads of the time of its root between two Follow_Ups, and how far that may be off. Times of clocks are
 -- in units of 2^-16 ns, rates in units of 2^-41, and all other times in ns.
-use Rattle.std.specs.Prelude.{◌≡◌, ℕ, suc, ℤ, ◌+ℤ◌, ◌-ℤ◌, Option}
+use Rattle.std.specs.Prelude.{◌≡◌, ℕ, suc, ℤ, ◌+ℤ◌, Option}
 use Rattle.std.specs.Option.{option_and_then, option_map}
 use Rattle.gptp_graph.specs.Best.{IsBest}
 use Rattle.gptp_graph.specs.Snapshot.{System}

@@ -24,6 +24,7 @@ use Rattle.gptp_report.specs.Transitions.{Courses, Passes}
 use Rattle.gptp_scenario.specs.Calm.{last_change}
 use Rattle.gptp_scenario.specs.declared.change.Timed.{Timed}
 use Rattle.gptp_theorem.specs.PlayedLaws.{IsPlayable}
+use Rattle.gptp_reading.proofs.LastingLemmas.{error_grows}
 use Rattle.gptp_timeline.specs.ExactReads.{counts_new, ended_reads, greater_of, later_of, reads_among, reads_by, reads_ended, reads_next, reads_over, reads_with, unread}
 use Rattle.gptp_timeline.specs.Laws.{SayBound}
 use Rattle.gptp_timeline.specs.Looks.{error_before}
@@ -40,7 +41,7 @@ use Rattle.gptp_timeline.proofs.PastLemmas.{all_past, PastBy}
 use Rattle.gptp_timeline.proofs.SettlingLemmas.{act_time, ends_by, events_then, IsFitEvent, Keeps, keeps_act, no_change}
 use Rattle.gptp_timeline.proofs.WithinLemmas.{has_bound, HasBound, holds_later, past_behind}
 use Rattle.gptp_timeline_laws.specs.Exact.{TimelinesReadExactly}
-use Rattle.gptp_timeline_laws.proofs.HeldLemmas.{error_by_then, error_grows, IsBounded, no_takeover, receipt_bounds}
+use Rattle.gptp_timeline_laws.proofs.HeldLemmas.{error_by_then, IsBounded, no_takeover, receipt_bounds}
 use Rattle.gptp_timeline_laws.proofs.BoundLemmas.{readings_both}
 use Rattle.gptp_timeline_laws.proofs.CourseLemmas.{parts}
 use Rattle.gptp_timeline_laws.proofs.MomentLemmas.{timeline_found}

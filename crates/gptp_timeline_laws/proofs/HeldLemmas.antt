@@ -1,11 +1,10 @@
 -- What a near system reads by a receipt, once the time errors of its network hold, is as exact as they say.
-use Rattle.std.proofs.Common.{◌≡◌, ◌==◌, ◌≤◌, ◌+◌, ◌-◌, ◌*◌, ◌^◌, ◌&&◌, ℕ, suc, ℤ, ◌-ℤ◌, Bool, true, false, List, Option, Some, None, option_map, option_and_then, unsigned_abs, refl, sym, ap, subst, ◌∙◌, arith, if◌then◌else◌}
+use Rattle.std.proofs.Common.{◌≡◌, ◌==◌, ◌≤◌, ◌+◌, ◌-◌, ◌^◌, ◌&&◌, ℕ, suc, ℤ, ◌-ℤ◌, Bool, true, false, List, Option, Some, None, option_map, option_and_then, unsigned_abs, refl, sym, ap, subst, ◌∙◌, arith, if◌then◌else◌}
 use Rattle.std.specs.Option.{option_map_or}
 use Rattle.std.specs.Prelude.{is_none, IsSome}
-use Rattle.std.proofs.Math.Nat.{mul-le-mul_right}
 use Rattle.std.proofs.lemmas.Bool.Decides.{nat_tests}
 use Rattle.std.proofs.lemmas.Option.{none-some, same_Some}
-use Rattle.gptp_error_laws.specs.TimeError.{jitter_at, rates_error_at, reading_error_at, time_error_at, Way}
+use Rattle.gptp_error_laws.specs.TimeError.{reading_error_at}
 use Rattle.gptp_graph.specs.Parent.{IsParent}
 use Rattle.gptp_graph.specs.PathBound.{path_bound}
 use Rattle.gptp_graph.specs.Snapshot.{Snapshot}
@@ -25,7 +24,6 @@ use Rattle.gptp_model.specs.World.{receiver as to}
 use Rattle.gptp_model.specs.declared.done.Done.{Done}
 use Rattle.gptp_model.specs.declared.done.Done.TheVariants.{Heard, Quiet}
 use Rattle.gptp_network.specs.Document.{DocumentState}
-use Rattle.gptp_pdelay.specs.GoodLink.{ceil_div}
 use Rattle.gptp_roles.specs.Selection.{clock_of}
 use Rattle.gptp_scenario.specs.declared.change.Act.{Act}
 use Rattle.gptp_scenario.specs.declared.change.Act.TheVariants.{Change as Changing, Deliver, Expire}
@@ -79,25 +77,9 @@ uses_follow_up name time (Expire number timer) w draws done w' (quiet, more) tol
 uses_follow_up name time (Changing change) w draws done w' (quiet, more) told =
     absurd (none-some name (sym (ap received_by quiet) ∙ told))
 
--- ---- the error grows with the time since a receipt
-
-adds : (a x y : ℕ) → x ≤ y → a + x ≤ a + y
-adds a x y less = omega (arith, less)
-
-ceil_more : (x y : ℕ) → x ≤ y → ceil_div x 33550000 ≤ ceil_div y 33550000
-ceil_more x y less = omega (arith, less)
-
-pub error_grows : (way : Way) (steps soon late : ℕ) → soon ≤ late
-    → reading_error_at way steps soon ≤ reading_error_at way steps late
-error_grows way steps soon late less =
-    let product : (soon + jitter_at way steps) * rates_error_at way steps
-    ≤ (late + jitter_at way steps) * rates_error_at way steps =
-    mul-le-mul_right (rates_error_at way steps) (omega (arith, less)) in
-    adds (time_error_at way (suc steps)) _ _ (ceil_more _ _ product)
-
 -- what a receipt leaves is read
 
-held_some : (s : SystemState) → IsSome (reading s 0) → (r : Reading) × (held_reading s ≡ Some r)
+pub held_some : (s : SystemState) → IsSome (reading s 0) → (r : Reading) × (held_reading s ≡ Some r)
 held_some s some = by s.known s.offset some
   where
     by : (known : Option SyncInfo) (offset : Option ℤ)
@@ -107,7 +89,7 @@ held_some s some = by s.known s.offset some
     by (Some k) None some = absurd cc
     by (Some k) (Some o) some = (reading_by s k o, refl)
 
-read_by_receipt : (act : Act) (w : WorldState) (draws : List Draw) (done : Done) (w' : WorldState)
+pub read_by_receipt : (act : Act) (w : WorldState) (draws : List Draw) (done : Done) (w' : WorldState)
     (rs : List SystemReading) (name : ℕ) (s : SystemState) (r : Reading) → Acts act w draws done w'
     → received_by done ≡ Some name → live_system name w' ≡ Some s → held_reading s ≡ Some r
     → (u : NewReading) × (new_reading act done w' rs ≡ Some u) × (u.clock ≡ name)
@@ -126,7 +108,7 @@ read_by_receipt (Changing change) w draws done w' rs name s r (quiet, more) told
 
 -- ---- an act once the errors hold
 
-and_first : (a b : Bool) → a && b ≡ true → a ≡ true
+pub and_first : (a b : Bool) → a && b ≡ true → a ≡ true
 and_first true b is = refl
 and_first false b is = absurd cc
 

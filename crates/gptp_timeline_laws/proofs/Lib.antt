@@ -14,3 +14,8 @@ pub mod ReadsLemmas
 pub mod ExactLemmas
 pub mod ReceiptLemmas
 pub mod SourceLemmas
+pub mod SoFarLemmas
+pub mod PartLemmas
+pub mod RootLemmas
+pub mod AgeLemmas
+pub mod BestLemmas

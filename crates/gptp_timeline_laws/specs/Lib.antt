@@ -2,4 +2,5 @@ pub mod Looks
 pub mod Moments
 pub mod Exact
 pub mod Sources
+pub mod Age
 pub mod Right

@@ -6,9 +6,10 @@ use Rattle.gptp_network.specs.Document.{DocumentState}
 use Rattle.gptp_theorem.specs.PlayedLaws.{IsPlayable}
 use Rattle.gptp_timeline.specs.Timeline.{Carried, none_carried, TimelineOf, tracks}
 use Rattle.gptp_timeline.specs.declared.timeline.TimelineOptions.{TimelineOptions}
+use Rattle.gptp_timeline_laws.specs.Age.{ReceiptsAreRecent}
 use Rattle.gptp_timeline_laws.specs.Exact.{ReadsAreWithin, ReceiptsBoundMoments}
 use Rattle.gptp_timeline_laws.specs.Moments.{BoundAll}
-use Rattle.gptp_timeline_laws.specs.Sources.{SourcesStand}
+use Rattle.gptp_timeline_laws.specs.Sources.{BestsAreSources, RootsAreSources, SourcesStand}
 
 -- what is carried over to the first stretch of a timeline
 abbrev pub first_carried : {F : Type 0} → (answers : Bounds → ℕ → F → Option ℕ → F → Type 0) → (d : DocumentState)
@@ -17,14 +18,18 @@ abbrev pub first_carried : {F : Type 0} → (answers : Bounds → ℕ → F → 
 first_carried answers d until options fate lines exceeded t = none_carried (tracks options) (rising_clocks t.start)
 
 -- What a timeline says of the time that systems read is right: its `times` lines bound what is read at every moment,
--- and say when sources stand. Its `accuracy` lines bound it from the receipts of each system on; and what these lines
--- say was read off is within their bounds.
+-- and say when sources stand, which are the roots that systems follow. Its `accuracy` lines bound it from the receipts
+-- of each system on; and what these lines say was read off is within their bounds. Receipts are no older than the wait
+-- for Sync.
 pub record TimelineReadsRight {F : Type 0} (answers : Bounds → ℕ → F → Option ℕ → F → Type 0) (d : DocumentState)
     (until : ℕ)
     (options : TimelineOptions) (fate : F) (lines : List (List ℕ)) (exceeded : Bool)
     (t : TimelineOf answers d until options fate lines exceeded) : Type 0 where
   pub moments : BoundAll t.start (first_carried answers d until options fate lines exceeded t) t.passages
   pub sources : SourcesStand t.start (first_carried answers d until options fate lines exceeded t) t.passages
+  pub roots : RootsAreSources t.start (first_carried answers d until options fate lines exceeded t) t.passages
+  pub bests : BestsAreSources d t.start (first_carried answers d until options fate lines exceeded t) t.passages
+  pub ages : ReceiptsAreRecent d t.start (first_carried answers d until options fate lines exceeded t) t.passages
   pub receipts : ReceiptsBoundMoments t.start (first_carried answers d until options fate lines exceeded t) t.passages
   pub accuracy : ReadsAreWithin (rising_clocks t.start) t.start
       (first_carried answers d until options fate lines exceeded t) t.passages

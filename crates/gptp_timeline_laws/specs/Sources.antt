@@ -1,12 +1,19 @@
 -- From which sources systems read, once none changes its source any more.
-use Rattle.std.specs.Prelude.{◌≡◌, ◌<◌, ◌↔◌, ⊤, ℕ, Bool, List, Option, Some, None}
+use Rattle.std.specs.Prelude.{◌≡◌, ◌<◌, ◌≤◌, ◌+◌, ◌↔◌, ◌^◌, ⊤, ℕ, Bool, List, Option, Some, None, IsSome}
 use Rattle.std.specs.List.{AllByRecursion}
+use Rattle.gptp_graph.specs.Distance.{IsNear}
+use Rattle.gptp_graph.specs.SettledChoice.{IsBestIdentity}
+use Rattle.gptp_graph.specs.Snapshot.{Snapshot}
 use Rattle.gptp_links.specs.declared.bounds.Bounds.{Bounds}
 use Rattle.gptp_model.specs.Views.{rising_clocks}
 use Rattle.gptp_model.specs.World.{WorldState}
 use Rattle.gptp_network.specs.Document.{DocumentState}
+use Rattle.gptp_network.specs.Snapshot.{IsSnapshot}
+use Rattle.gptp_roles.specs.Selection.{clock_of}
+use Rattle.gptp_system.specs.State.{SystemState}
 use Rattle.gptp_theorem.specs.PlayedLaws.{IsPlayable}
 use Rattle.gptp_timeline.specs.Readings.{reading_among, readings_after}
+use Rattle.gptp_timeline.specs.Shown.{live_system}
 use Rattle.gptp_timeline.specs.Stretch.{at_of}
 use Rattle.gptp_timeline.specs.Timeline.{Carried, none_carried, stretch_of, StretchTrace, TimelineOf, tracks}
 use Rattle.gptp_timeline.specs.declared.looks.TimeMeasures.{TimeMeasures}
@@ -14,7 +21,7 @@ use Rattle.gptp_timeline.specs.declared.measures.Greatest.{Greatest}
 use Rattle.gptp_timeline.specs.declared.readings.KeptReading.{KeptReading}
 use Rattle.gptp_timeline.specs.declared.readings.SystemReading.{SystemReading}
 use Rattle.gptp_timeline.specs.declared.timeline.TimelineOptions.{TimelineOptions}
-use Rattle.gptp_timeline_laws.specs.Moments.{BeginsWith, Moment}
+use Rattle.gptp_timeline_laws.specs.Moments.{BeginsWith, Moment, world_after}
 use Rattle.gptp_world.specs.Transitions.{ActTrace}
 
 -- a system has time, from this source
@@ -42,3 +49,36 @@ abbrev pub TimelinesKeepSources : {F : Type 0} → (Bounds → ℕ → F → Opt
 TimelinesKeepSources {F} answers = (d : DocumentState) (until : ℕ) (options : TimelineOptions) (fate : F)
     (lines : List (List ℕ)) (exceeded : Bool) (t : TimelineOf answers d until options fate lines exceeded)
     → IsPlayable d → SourcesStand t.start (none_carried (tracks options) (rising_clocks t.start)) t.passages
+
+-- ---- the root
+
+-- At each moment of a stretch after its events each live system that has a Slave port, and whose offset is known, reads
+-- from the clock of the root that it follows.
+abbrev pub RootsAreSources : WorldState → Carried → List StretchTrace → Type 0
+RootsAreSources start first passages = (p : StretchTrace) (w : WorldState) (c : Carried) (rs : List SystemReading)
+    (time : ℕ) (moment : Moment p time) (name : ℕ) (s : SystemState)
+    → BeginsWith passages start first p w c → c.readings ≡ Some rs
+    → live_system name (world_after moment.done w) ≡ Some s → IsSome s.slave → IsSome s.offset
+    → ReadsFrom (readings_after moment.done rs) name (clock_of s.root)
+
+-- Where the stretch has a bound, and that is over, this is the best of the component of each near system.
+abbrev pub BestsAreSources : DocumentState → WorldState → Carried → List StretchTrace → Type 0
+BestsAreSources d start first passages = (p : StretchTrace) (w : WorldState) (c : Carried) (rs : List SystemReading)
+    (g : Snapshot) (time bound name root : ℕ) (moment : Moment p time) (s : SystemState)
+    → BeginsWith passages start first p w c → c.readings ≡ Some rs → p.bound ≡ Some bound → p.from + bound ≤ time
+    → IsSnapshot d p.from g → IsNear g name → IsBestIdentity g name root
+    → live_system name (world_after moment.done w) ≡ Some s → IsSome s.slave → IsSome s.offset
+    → ReadsFrom (readings_after moment.done rs) name (clock_of root)
+
+-- as long as clocks can show the time
+abbrev pub TimelinesReadFromRoots : {F : Type 0} → (Bounds → ℕ → F → Option ℕ → F → Type 0) → Type 0
+TimelinesReadFromRoots {F} answers = (d : DocumentState) (until : ℕ) (options : TimelineOptions) (fate : F)
+    (lines : List (List ℕ)) (exceeded : Bool) (t : TimelineOf answers d until options fate lines exceeded)
+    → IsPlayable d → until ≤ 10 ^ 18
+    → RootsAreSources t.start (none_carried (tracks options) (rising_clocks t.start)) t.passages
+
+abbrev pub TimelinesReadFromBests : {F : Type 0} → (Bounds → ℕ → F → Option ℕ → F → Type 0) → Type 0
+TimelinesReadFromBests {F} answers = (d : DocumentState) (until : ℕ) (options : TimelineOptions) (fate : F)
+    (lines : List (List ℕ)) (exceeded : Bool) (t : TimelineOf answers d until options fate lines exceeded)
+    → IsPlayable d → until ≤ 10 ^ 18
+    → BestsAreSources d t.start (none_carried (tracks options) (rising_clocks t.start)) t.passages

@@ -3,20 +3,22 @@
 //! A timeline looks at what systems read where a stretch begins and ends, and where a system gets another reading. The
 //! laws of this crate say what follows of all moments between. `specs/Looks.antt` says why such looks suffice.
 //! `specs/Moments.antt` is what the `times` line of a stretch says of each of its moments, and `specs/Exact.antt` what
-//! `accuracy` lines say of what is read from a receipt on. `specs/Sources.antt` says from when on sources stand.
-//! `specs/Right.antt` has all of it at once.
+//! `accuracy` lines say of what is read from a receipt on. `specs/Sources.antt` says from when on sources stand, and
+//! that they are roots. `specs/Age.antt` says how old what is read may be. `specs/Right.antt` has all of it at once.
 //!
 //! Each function of this crate is a law: it does nothing, and its contract is a theorem about the definitions.
 #![tactic(auto)]
 
+mod age;
 mod exact;
 mod looks;
 mod moments;
 mod right;
 mod sources;
 
+pub use age::timelines_hear_in_time;
 pub use exact::{timelines_bound_receipts, timelines_read_exactly};
 pub use looks::looks_suffice;
 pub use moments::times_bound_moments;
 pub use right::timelines_read_right;
-pub use sources::timelines_keep_sources;
+pub use sources::{timelines_keep_sources, timelines_read_from_bests, timelines_read_from_roots};

@@ -1,6 +1,6 @@
 //! From which sources systems read.
 
-ghost use Rattle.gptp_timeline_laws.specs.Sources.{TimelinesKeepSources};
+ghost use Rattle.gptp_timeline_laws.specs.Sources.{TimelinesKeepSources, TimelinesReadFromBests, TimelinesReadFromRoots};
 
 use gptp_links::Fate;
 
@@ -9,4 +9,15 @@ use gptp_links::Fate;
 /// after another.
 pub fn timelines_keep_sources<F: Fate>()
     ensures { TimelinesKeepSources F.answers }
+{}
+
+/// At every moment each live system that has a Slave port, and whose offset is known, reads from the clock of the root
+/// that it follows: what it read by before a change of its root or of its Slave port is no offset of it any more.
+pub fn timelines_read_from_roots<F: Fate>()
+    ensures { TimelinesReadFromRoots F.answers }
+{}
+
+/// Where a stretch has a bound, and that is over, that is the clock of the best of the component of each near system.
+pub fn timelines_read_from_bests<F: Fate>()
+    ensures { TimelinesReadFromBests F.answers }
 {}
