@@ -159,8 +159,8 @@ fn moment(world: &mut World<PcgFate>, at: u64) -> Result<bool, Refused>
     Ok(false)
 }
 
-/// It goes on from moment to moment, before a time. Answers whether nothing is left that is due before it, and all stood
-/// that should.
+/// It goes on from moment to moment, before a time. Answers whether nothing is left that is due before it, and all
+/// stood that should.
 fn play_before(world: &mut World<PcgFate>, end: u64) -> Result<bool, Refused>
     requires moment { end ≤ 1000000000000000 }
 {
