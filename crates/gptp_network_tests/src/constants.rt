@@ -372,6 +372,12 @@ fn is_told_exact(
     }
 }
 
+/// Whether the choice and the roles are asked about after an act at a time: for two seconds after they stand, and once
+/// everything has settled.
+fn is_asked(times: &Times, at: u64) -> bool {
+    times.settled <= at || times.chosen <= at && at - times.chosen < 2_000_000_000
+}
+
 /// Whether all holds that should after an act at a time.
 fn holds(world: &World<PcgFate>, live: &Live<'_>, times: &Times, at: u64, done: &Done) -> bool
     requires moment { times.now.end ≤ 1000000000000000 }
@@ -379,7 +385,7 @@ fn holds(world: &World<PcgFate>, live: &Live<'_>, times: &Times, at: u64, done: 
     (at < times.capable || are_capable(world, live))
         && is_told_clean(live, times, at, done)
         && is_told_exact(world, live, times, at, done)
-        && (at < times.chosen || is_settled(world, live))
+        && (!is_asked(times, at) || is_settled(world, live))
 }
 
 /// The next act, where it comes by a time: when it came, and what it told.
