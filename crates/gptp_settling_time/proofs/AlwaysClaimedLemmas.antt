@@ -74,6 +74,7 @@ use Rattle.gptp_model.proofs.BareLemmas.{bare}
 use Rattle.gptp_setup.specs.SettlingParams.{largest_interval}
 use Rattle.gptp_settling_time.proofs.ExactlyLemmas.{later_keeps}
 use Rattle.gptp_settling_time.proofs.HeardLemmas.{IsHeardAt, heard_acts, heard_due, heard_later, heard_link, heard_now, heard_on}
+use Rattle.gptp_settling_time.proofs.LinkStoodLemmas.{stood_in}
 use Rattle.gptp_settling_time.proofs.OrderedLemmas.{link_seen, receiver_opposite, tells}
 use Rattle.gptp_invariants.proofs.DelayCapableKeptLemmas.{stood}
 use Rattle.gptp_settling_time.proofs.NewsMeasuredLemmas.{LivesSomewhere, receiver_lives}
@@ -587,7 +588,8 @@ pub since_later : (p : SettlingParams) (start time : ℕ) (w : WorldState) → w
 since_later p start time w later first is =
     let news' = news_go_on p start time w later first is.news in
     let heard' : AreHeard p start (at_time time w) =
-    λ at stands. heard_later p start at time w is.news.world later first (is.heard at (stands_before stands)) in
+    λ at stands. heard_later p start at time w is.news.world later first
+    (is.heard at (stood_in at (at_time time w) w stands refl stands.here)) in
     let keeps = later_keeps time w in
     record {
       news = news';
@@ -597,28 +599,6 @@ since_later p start time w later first is =
           (inl (record { time = time; later = later; is = refl }))
           (λ quiet_then. early_later p start m time w is.news is.heard quiet_then) bounded
           quiet off;
-    }
-  where
-    stands_before : {at : LinkPlace} → LinkStandsAt at (at_time time w) → LinkStandsAt at w
-    stands_before stands = record {
-      channel = stands.channel;
-      here = stands.here;
-      up = stands.up;
-      lossless = stands.lossless;
-      asking = record {
-        station = stands.asking.station;
-        here = stands.asking.here;
-        live = stands.asking.live;
-        named = stands.asking.named;
-      };
-      answering = record {
-        station = stands.answering.station;
-        here = stands.answering.here;
-        live = stands.answering.live;
-        named = stands.answering.named;
-      };
-      apart = stands.apart;
-      good = stands.good;
     }
 
 pub since_acts : (p : SettlingParams) (start : ℕ) (act : Act) (w : WorldState) (draws : List Draw) (done : Done)

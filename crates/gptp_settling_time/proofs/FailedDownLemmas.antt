@@ -1,5 +1,5 @@
 -- A link of which an end has failed goes down, whose port takes no part: what is claimed of the world stays.
-use Rattle.std.proofs.Common.{◌≡◌, ◌≢◌, ◌<◌, ◌≤◌, ◌+◌, ℕ, zero, suc, Bool, true, false, List, [], ◌∷◌, map, Some, slice_get, slice_set, refl, sym, ap, subst, ◌∙◌, inl, inr, arith}
+use Rattle.std.proofs.Common.{◌≡◌, ◌≢◌, ◌≤◌, ◌+◌, ℕ, zero, suc, Bool, true, false, List, [], ◌∷◌, map, Some, slice_get, slice_set, refl, sym, ap, subst, ◌∙◌, inl, inr, arith}
 use Rattle.std.proofs.lemmas.Option.{same_Some}
 use Rattle.gptp_lists.specs.Members.{In}
 use Rattle.gptp_lists.proofs.MappedLemmas.{mapped, mapped_there, same_there}
@@ -13,12 +13,11 @@ use Rattle.gptp_receipt.specs.declared.held.Held.TheVariants as helds
 use Rattle.gptp_roles.specs.Choice.{IsChosen}
 use Rattle.gptp_roles.specs.Role.{each_port, held_after_selection}
 use Rattle.gptp_scenario.specs.Calm.{NothingLapses}
-use Rattle.gptp_scenario.specs.SyncWait.{sync_wait}
 use Rattle.gptp_scenario.specs.declared.change.Act.TheVariants.{Change as Changing}
 use Rattle.gptp_scenario.specs.declared.change.Change.TheVariants.{LinkDown}
 use Rattle.gptp_setup.specs.declared.setup.Params.{Params}
 use Rattle.gptp_setup.specs.Intervals.{interval_of}
-use Rattle.gptp_setup.specs.SettlingParams.{SettlingParams, lapse_span, largest_interval}
+use Rattle.gptp_setup.specs.SettlingParams.{SettlingParams, largest_interval}
 use Rattle.gptp_system.specs.declared.answer.Answer.{Answer}
 use Rattle.gptp_system.specs.declared.sending.Sending.{Sending}
 use Rattle.gptp_system.specs.Facts.{AreHeld, IsAtRest}
@@ -43,31 +42,30 @@ use Rattle.gptp_bmca_machine.specs.Frame.{AnnounceFrame, Lane}
 use Rattle.gptp_bmca_machine.specs.Network.{Network}
 use Rattle.gptp_bmca_machine.specs.SoundEverywhere.{IsSoundEverywhere, LaneIsSound}
 use Rattle.gptp_bmca_machine.specs.Station.{Station as SeenStation}
-use Rattle.gptp_bmca_machine.specs.Syncs.{SyncsAreExpected}
-use Rattle.gptp_invariants.specs.ChoiceCalm.{HaveQuietLinks, lane_of, paths_with}
+use Rattle.gptp_invariants.specs.ChoiceCalm.{HaveQuietLinks, lane_of}
 use Rattle.gptp_invariants.specs.ChoiceSettlesAsMachine.{IsWorld}
-use Rattle.gptp_invariants.specs.ChoiceView.{lane_view, says_announce, says_sync, span_at, station_view, system_view, view}
+use Rattle.gptp_invariants.specs.ChoiceView.{lane_view, says_announce, span_at, station_view, system_view, view}
 use Rattle.gptp_invariants.specs.DelayLinkView.{IsLinkOf, LinkPlace, asker_view, link_lane_view, other_direction, waits_view}
 use Rattle.gptp_invariants.specs.DelayMeasured.{LinkStandsAt, StationIsLiveAt}
 use Rattle.gptp_invariants.specs.FailedUnanswered.{IsFailedAmong, IsSilent, IsUnansweredAt, StandsUnanswered, silent_setting, silent_view}
-use Rattle.gptp_invariants.specs.WorldNews.{AreSilentBy, IsNews, turn_network}
+use Rattle.gptp_invariants.specs.WorldNews.{AreSilentBy, IsNews}
 use Rattle.gptp_invariants.specs.WorldSettlingInvariant.{KeepsAll}
 use Rattle.gptp_invariants.specs.WorldSound.{IsSoundWorld}
 use Rattle.gptp_invariants.specs.WorldStanding.{channel_is_used, live_stations, snapshot_of}
 use Rattle.gptp_invariants.proofs.ChoiceCalmKeptLemmas.{KeepsNetwork, calls_keep, delay_kept, keeps_on, net_keeps, same_snapshot}
 use Rattle.gptp_invariants.proofs.ChoiceSeenLaneLemmas.{lane_from, lane_there}
-use Rattle.gptp_invariants.proofs.DelayCapableKeptLemmas.{known_params, stood_among}
 use Rattle.gptp_invariants.proofs.DelayClaimedCapableLemmas.{clock_has, used_if}
 use Rattle.gptp_invariants.proofs.FailedUnansweredCallLemmas.{CallStep, call_seen, view_stays}
 use Rattle.gptp_invariants.proofs.WorldWayLemmas.{way_of}
 use Rattle.gptp_settling_time.proofs.AlwaysClaimedLemmas.{IsClaimedAlways, lane_at, same_start, silent_off}
 use Rattle.gptp_settling_time.proofs.FailedUpLemmas.{delay_set, used_set}
+use Rattle.gptp_settling_time.proofs.LinkStoodLemmas.{second_still, stood_in, stood_untold, used_elsewhere}
 use Rattle.gptp_settling_time.proofs.LinkUpLemmas.{lane_set}
 use Rattle.gptp_settling_time.proofs.QuietUpLemmas.{unseen_at}
 use Rattle.gptp_settling_time.proofs.SameLinkLemmas.{IsSameLink}
 use Rattle.gptp_settling_time.proofs.SamePartsLemmas.{of_down, tells_parts}
-use Rattle.gptp_settling_time.proofs.StandsLikeLemmas.{StandsLike, claims_like, news_like}
-use Rattle.gptp_settling_time.proofs.StandsStillLemmas.{StandsStill, claims_stand, news_stands}
+use Rattle.gptp_settling_time.proofs.StandsLikeLemmas.{StandsLike, claims_like, expects_none, news_like}
+use Rattle.gptp_settling_time.proofs.StandsStillLemmas.{StandsStill, changed_still, claims_stand, news_stands}
 
 -- ---- a port that takes no part goes down
 
@@ -266,25 +264,8 @@ module _ (p : SettlingParams) (start : ℕ) (w : WorldState) (news : IsNews p st
               }) q (ap (number station.system.ports) is_n ∙ there) in
               (i, refl, holds ∙ ap (λ x. Some x) ((shown.each i h q holds there).off off))
 
-    places_apart : k.place_a ≢ k.place_b
-    places_apart same =
-        let one : k.station_a ≡ k.station_b =
-        same_there w.stations k.place_b k.station_a k.station_b
-        (ap (slice_get w.stations) (sym same) ∙ k.is_a.here) k.is_b.here in
-        (is.between place channel here).apart
-        (sym k.is_a.named ∙ ap (λ (x : Station). clock x.system) one ∙ k.is_b.named)
-
     still_b : slice_get k.between.stations k.place_b ≡ Some k.station_b
-    still_b = by k.at_a
-      where
-        by : CallsIfLive k.place_a (PortDown channel.a.port) taken k.first k.between
-            → slice_get k.between.stations k.place_b ≡ Some k.station_b
-        by (inl (answer, c)) =
-            ap (λ (x : WorldState). slice_get x.stations k.place_b) c.is
-            ∙ get-set_other w.stations k.place_a k.place_b (in_state c.after c.station)
-            (λ same. places_apart (sym same))
-            ∙ k.is_b.here
-        by (inr (failed, none, same)) = ap (λ (x : WorldState). slice_get x.stations k.place_b) same ∙ k.is_b.here
+    still_b = second_still PortDown channel taken draws w' k (is.between place channel here).apart
 
     told : IsUnseen taken w'
     told =
@@ -305,11 +286,7 @@ module _ (p : SettlingParams) (start : ℕ) (w : WorldState) (news : IsNews p st
     -- a link in use is another, and stands as it did
     used_apart : (link : ℕ) (other : Channel) → slice_get w.net.channels link ≡ Some other
         → channel_is_used systems other ≡ true → link ≢ place
-    used_apart link other there used same =
-        let one : other ≡ channel =
-        same_Some other channel (sym there ∙ ap (slice_get w.net.channels) same ∙ here) in
-        let both : true ≡ false = sym used ∙ ap (channel_is_used systems) one ∙ dead in
-        cc
+    used_apart = used_elsewhere systems w.net.channels place channel here dead
 
     stands_so : (link : ℕ) (other : Channel) → slice_get w.net.channels link ≡ Some other → link ≢ place
         → slice_get w'.net.channels link ≡ Some other
@@ -380,30 +357,10 @@ module _ (p : SettlingParams) (start : ℕ) (w : WorldState) (news : IsNews p st
 
     stood : (at : LinkPlace) → LinkStandsAt at w' → LinkStandsAt at w
     stood at s =
-        let old = stood_among p taken w' is.sound.wired.clocks (known_params p w is.known.set) is'.sound.wired.clocks
-        (known_params p w' is'.known.set) told.keeps at s in
+        let old = stood_untold p w (taken_down place channel w.net) w' is is' told.keeps at s in
         let apart = up_apart at.link old.channel
         (ap (λ cs. slice_get cs at.link) channels_now ∙ old.here) old.up in
-        record {
-          channel = old.channel;
-          here = sym (get-set_other w.net.channels place at.link (lost channel) apart) ∙ old.here;
-          up = old.up;
-          lossless = old.lossless;
-          asking = record {
-            station = old.asking.station;
-            here = old.asking.here;
-            live = old.asking.live;
-            named = old.asking.named;
-          };
-          answering = record {
-            station = old.answering.station;
-            here = old.answering.here;
-            live = old.answering.live;
-            named = old.answering.named;
-          };
-          apart = old.apart;
-          good = old.good;
-        }
+        stood_in at taken w old refl (sym (get-set_other w.net.channels place at.link (lost channel) apart) ∙ old.here)
 
     pub down_like : StandsLike w w'
     down_like = record {
@@ -571,8 +528,7 @@ module _ (p : SettlingParams) (start owner port : ℕ) (w : WorldState) (draws :
   -- it was down already
   was_down : k.channel.up ≡ false → StandsStill w w'
   was_down is_off =
-      subst (StandsStill w) (sym (subst (λ b. GoesDownIf b k.place k.channel changed draws w') is_off k.so).1)
-      (record { time = refl; stations = refl; channels = refl })
+      changed_still w w' (subst (λ b. GoesDownIf b k.place k.channel changed draws w') is_off k.so).1
 
   module _ (up : k.channel.up ≡ true) where
     told_down : TellsEnds PortDown k.channel
@@ -583,12 +539,6 @@ module _ (p : SettlingParams) (start owner port : ℕ) (w : WorldState) (draws :
     unused =
         subst (λ b. channel_is_used (live_stations w.stations) (record k.channel { up = b }) ≡ false) (sym up)
         (dead k.place k.channel (record { here = k.is.here; joined = k.is.joined }))
-
-  expects : (m : ℕ) → SyncsAreExpected says_sync (turn_network p m start w) (view w)
-      → sync_wait p.params (paths_with m w') < lapse_span p.params
-      → SyncsAreExpected says_sync (turn_network p m start w') (view w')
-  expects m expected short =
-      let none : lapse_span p.params ≡ 0 = rw nothing (omega arith) in absurd (omega (arith, none, short))
 
   pub lowered_news : IsNews p start w → IsNews p start w'
   lowered_news news = by k.channel.up refl
@@ -602,7 +552,7 @@ module _ (p : SettlingParams) (start owner port : ℕ) (w : WorldState) (draws :
           (down_silent p start w news late k.place k.channel k.is.here up (unused up) draws w' claim'.world
           (told_down up))
           (down_sound p start w news late k.place k.channel k.is.here up (unused up) draws w' claim'.world
-          (told_down up)) expects news
+          (told_down up)) (expects_none p start w w' nothing) news
 
   pub lowered_claimed : IsClaimedAlways p start w → IsClaimedAlways p start w'
   lowered_claimed claim = by k.channel.up refl
@@ -619,4 +569,4 @@ module _ (p : SettlingParams) (start owner port : ℕ) (w : WorldState) (draws :
           (down_silent p start w news late k.place k.channel k.is.here up (unused up) draws w' claim'.world
           (told_down up))
           (down_sound p start w news late k.place k.channel k.is.here up (unused up) draws w' claim'.world
-          (told_down up)) expects claim
+          (told_down up)) (expects_none p start w w' nothing) claim

@@ -1,5 +1,5 @@
 -- A link of which an end has failed comes up: what is claimed of the world stays.
-use Rattle.std.proofs.Common.{◌≡◌, ◌≢◌, ◌<◌, ◌≤◌, ◌+◌, ℕ, zero, suc, Bool, true, false, List, [], ◌∷◌, Some, slice_get, slice_set, refl, sym, ap, subst, ◌∙◌, inl, inr, arith}
+use Rattle.std.proofs.Common.{◌≡◌, ◌≢◌, ◌≤◌, ◌+◌, ℕ, zero, suc, Bool, true, false, List, [], ◌∷◌, Some, slice_get, slice_set, refl, sym, ap, subst, ◌∙◌, inl, inr, arith}
 use Rattle.std.specs.Prelude.{if◌then◌else◌, max}
 use Rattle.std.proofs.lemmas.Option.{none-some, same_Some}
 use Rattle.gptp_lists.specs.Members.{In}
@@ -14,14 +14,12 @@ use Rattle.gptp_links.specs.Queue.{Frame}
 use Rattle.gptp_pdelay.specs.Peer.{is_capable}
 use Rattle.gptp_scenario.specs.Calm.{NothingLapses}
 use Rattle.gptp_scenario.specs.SettlingTime.{capability_span}
-use Rattle.gptp_scenario.specs.SyncWait.{sync_wait}
 use Rattle.gptp_scenario.specs.declared.change.Act.TheVariants.{Change as Changing}
 use Rattle.gptp_scenario.specs.declared.change.Change.TheVariants.{LinkUp}
 use Rattle.gptp_setup.specs.declared.setup.Params.{Params}
-use Rattle.gptp_setup.specs.SettlingParams.{SettlingParams, lapse_span, largest_interval}
+use Rattle.gptp_setup.specs.SettlingParams.{SettlingParams, largest_interval}
 use Rattle.gptp_system.specs.Input.{PortUp}
 use Rattle.gptp_system.specs.State.{clock, number}
-use Rattle.gptp_model.specs.Act.{in_state}
 use Rattle.gptp_model.specs.Acts.{Acts, AtLink}
 use Rattle.gptp_model.specs.Changing.{CallsIfLive, ComesUpIf, IsChannel, TellsEnds, brought_up}
 use Rattle.gptp_model.specs.declared.done.Done.{Done}
@@ -32,21 +30,19 @@ use Rattle.gptp_model.proofs.StayLemmas.{sender_same}
 use Rattle.gptp_bmca_machine.specs.Frame.{Lane}
 use Rattle.gptp_bmca_machine.specs.Network.{Network}
 use Rattle.gptp_bmca_machine.specs.Station.{Station as SeenStation}
-use Rattle.gptp_bmca_machine.specs.Syncs.{SyncsAreExpected}
-use Rattle.gptp_invariants.specs.ChoiceCalm.{HaveQuietLinks, delay_in, greatest_channel_delay, lane_of, log_of, paths_with}
+use Rattle.gptp_invariants.specs.ChoiceCalm.{HaveQuietLinks, delay_in, greatest_channel_delay, lane_of, log_of}
 use Rattle.gptp_invariants.specs.ChoiceSettlesAsMachine.{IsWorld}
-use Rattle.gptp_invariants.specs.ChoiceView.{lane_view, port_identity_number, says_sync, station_view, view}
+use Rattle.gptp_invariants.specs.ChoiceView.{lane_view, port_identity_number, station_view, view}
 use Rattle.gptp_invariants.specs.DelayLinkView.{IsEndOf, LinkPlace, other_direction}
 use Rattle.gptp_invariants.specs.DelayMeasured.{LinkStandsAt}
 use Rattle.gptp_invariants.specs.FailedUnanswered.{FailedNeighboursAreSilent, IsSilent, StandsUnanswered}
-use Rattle.gptp_invariants.specs.WorldNews.{AreSilentBy, turn_network}
+use Rattle.gptp_invariants.specs.WorldNews.{AreSilentBy}
 use Rattle.gptp_invariants.specs.WorldSettlingInvariant.{KeepsAll}
 use Rattle.gptp_invariants.specs.WorldSound.{IsSoundWorld}
 use Rattle.gptp_invariants.specs.WorldStanding.{channel_is_used, live_stations, snapshot_of, standing_link, used_channels}
 use Rattle.gptp_invariants.proofs.ChoiceCalmKeptLemmas.{KeepsNetwork, delay_kept, links_quiet, same_snapshot}
 use Rattle.gptp_invariants.proofs.ChoiceSeenLaneLemmas.{lane_there}
 use Rattle.gptp_invariants.proofs.ChoiceSettlesAsMachineLemmas.{kept_back}
-use Rattle.gptp_invariants.proofs.DelayCapableKeptLemmas.{known_params, stood_among}
 use Rattle.gptp_invariants.proofs.DelayClaimedCapableLemmas.{clock_has, used_if}
 use Rattle.gptp_invariants.proofs.DelayFirstUpLemmas.{sender_up}
 use Rattle.gptp_invariants.proofs.DelayLinkLemmas.{sender_opposite}
@@ -57,11 +53,12 @@ use Rattle.gptp_invariants.proofs.WorldSoundLemmas.{sound_gains}
 use Rattle.gptp_invariants.proofs.WorldWayLemmas.{one_way, way_of}
 use Rattle.gptp_settling_time.proofs.AlwaysClaimedLemmas.{IsClaimedAlways, lane_at, same_start}
 use Rattle.gptp_settling_time.proofs.BesideUpLemmas.{beside_same}
+use Rattle.gptp_settling_time.proofs.LinkStoodLemmas.{raised_ends, second_still, stood_in, stood_untold, used_elsewhere}
 use Rattle.gptp_settling_time.proofs.LinkUpLemmas.{lane_set}
 use Rattle.gptp_settling_time.proofs.RaisedLemmas.{IsRaised, raised, unmeasured_then}
 use Rattle.gptp_settling_time.proofs.NewsSoonLemmas.{IsNewsFrom, from_silent, from_sound}
-use Rattle.gptp_settling_time.proofs.StandsLikeLemmas.{StandsLike, claims_like, from_like}
-use Rattle.gptp_settling_time.proofs.StandsStillLemmas.{StandsStill, claims_stand, from_stands}
+use Rattle.gptp_settling_time.proofs.StandsLikeLemmas.{StandsLike, claims_like, expects_none, from_like}
+use Rattle.gptp_settling_time.proofs.StandsStillLemmas.{StandsStill, changed_still, claims_stand, from_stands}
 use Rattle.gptp_settling_time.proofs.UntoldLemmas.{unmeasured_off}
 
 -- ---- a link that isn't in use becomes another that isn't
@@ -153,11 +150,7 @@ module _ (p : SettlingParams) (w : WorldState) (is : IsWorld p w) (place : ℕ) 
     -- a link in use is another
     used_apart : (link : ℕ) (other : Channel) → slice_get w.net.channels link ≡ Some other
         → channel_is_used systems other ≡ true → link ≢ place
-    used_apart link other there used same =
-        let one : other ≡ channel =
-        same_Some other channel (sym there ∙ ap (slice_get w.net.channels) same ∙ here) in
-        let both : true ≡ false = sym used ∙ ap (channel_is_used systems) one ∙ off in
-        cc
+    used_apart = used_elsewhere systems w.net.channels place channel here off
 
     lanes : (from to : PortIdentity) → Joins (snapshot_of w) from to → (l : Lane)
         → slice_get (view w').lanes (lane_of w.net.channels from) ≡ Some l
@@ -188,9 +181,7 @@ module _ (p : SettlingParams) (w : WorldState) (is : IsWorld p w) (place : ℕ) 
         (get-set_other w.net.channels place link new (used_apart link other there used) ∙ there) used
 
     before : (at : LinkPlace) → LinkStandsAt at w' → LinkStandsAt at brought
-    before =
-        stood_among p brought w' is.sound.wired.clocks (known_params p w is.known.set) is'.sound.wired.clocks
-        (known_params p w' is'.known.set) keeps
+    before = stood_untold p w (brought_up place channel w.net) w' is is' keeps
 
     -- it joins no two live systems
     other_link : (at : LinkPlace) → LinkStandsAt at brought → at.link ≢ place
@@ -207,26 +198,8 @@ module _ (p : SettlingParams) (w : WorldState) (is : IsWorld p w) (place : ℕ) 
         cc
 
     beside : (at : LinkPlace) → at.link ≢ place → LinkStandsAt at brought → LinkStandsAt at w
-    beside at apart old = record {
-      channel = old.channel;
-      here = sym (get-set_other w.net.channels place at.link new apart) ∙ old.here;
-      up = old.up;
-      lossless = old.lossless;
-      asking = record {
-        station = old.asking.station;
-        here = old.asking.here;
-        live = old.asking.live;
-        named = old.asking.named;
-      };
-      answering = record {
-        station = old.answering.station;
-        here = old.answering.here;
-        live = old.answering.live;
-        named = old.answering.named;
-      };
-      apart = old.apart;
-      good = old.good;
-    }
+    beside at apart old =
+        stood_in at brought w old refl (sym (get-set_other w.net.channels place at.link new apart) ∙ old.here)
 
     pub up_like : StandsLike w w'
     up_like = record {
@@ -251,17 +224,7 @@ module _ (p : SettlingParams) (w : WorldState) (is : IsWorld p w) (place : ℕ) 
         (one : IsSilent gone at w') where
       -- its ends are those that it had
       ends_now : (direction : Direction) → sender direction one.link.channel ≡ sender direction channel
-      ends_now direction =
-          let (c, stands, same) = alike bare bare brought.net.channels w'.net.channels (sym keeps.links) at.link
-          one.link.channel one.link.here in
-          let raised_is : c ≡ new =
-          same_Some c new
-          (sym stands ∙ ap (slice_get brought.net.channels) place_is
-          ∙ get-set_same w.net.channels place channel new here) in
-          sender_same direction c one.link.channel (ap (λ (x : Channel). x.a) (sym same))
-          (ap (λ (x : Channel). x.b) (sym same))
-          ∙ ap (sender direction) raised_is
-          ∙ sender_up direction channel
+      ends_now = raised_ends w place channel w' here keeps at.link place_is one.link.channel one.link.here
 
       incapable : is_capable one.link.asking.state.peer ≡ false
       incapable = by (sender at.direction one.link.channel).port refl e.there
@@ -344,29 +307,10 @@ module _ (p : SettlingParams) (w : WorldState) (is : IsWorld p w) (place : ℕ) 
           same_way : (sender way channel).clock ≡ (sender back channel).clock → way ≡ back
           same_way = ways_apart way back channel (is.between place channel here).apart
 
-      places_apart : k.place_a ≢ k.place_b
-      places_apart same =
-          let one_is : k.station_a ≡ k.station_b =
-          same_there w.stations k.place_b k.station_a k.station_b
-          (ap (slice_get w.stations) (sym same) ∙ k.is_a.here) k.is_b.here in
-          (is.between place channel here).apart
-          (sym k.is_a.named ∙ ap (λ (x : Station). clock x.system) one_is ∙ k.is_b.named)
-
-      still_b : slice_get k.between.stations k.place_b ≡ Some k.station_b
-      still_b = by k.at_a
-        where
-          by : CallsIfLive k.place_a (PortUp channel.a.port) brought k.first k.between
-              → slice_get k.between.stations k.place_b ≡ Some k.station_b
-          by (inl (answer, c)) =
-              ap (λ (x : WorldState). slice_get x.stations k.place_b) c.is
-              ∙ get-set_other w.stations k.place_a k.place_b (in_state c.after c.station)
-              (λ same. places_apart (sym same))
-              ∙ k.is_b.here
-          by (inr (failed, none, same)) = ap (λ (x : WorldState). slice_get x.stations k.place_b) same ∙ k.is_b.here
-
       mute_then : IsMute w'
       mute_then =
-          called FromB k.place_b k.between k.second w' k.station_b still_b k.is_b.named
+          called FromB k.place_b k.between k.second w' k.station_b
+          (second_still PortUp channel brought draws w' k (is.between place channel here).apart) k.is_b.named
           (λ ways. failed_there k.place_b k.station_b k.is_b.here
           (k.is_b.named ∙ ap (λ d. (sender d channel).clock) ways))
           (called FromA k.place_a brought k.first k.between k.station_a k.is_a.here k.is_a.named
@@ -416,9 +360,7 @@ module _ (p : SettlingParams) (start owner port : ℕ) (w : WorldState) (draws :
 
   -- it was up already
   was_up : k.channel.up ≡ true → StandsStill w w'
-  was_up up =
-      subst (StandsStill w) (sym (subst (λ b. ComesUpIf b k.place k.channel changed draws w') up k.so).1)
-      (record { time = refl; stations = refl; channels = refl })
+  was_up up = changed_still w w' (subst (λ b. ComesUpIf b k.place k.channel changed draws w') up k.so).1
 
   module _ (down : k.channel.up ≡ false) where
     told : TellsEnds PortUp k.channel (brought p w is k.place k.channel k.is.here down (dead k.place k.channel
@@ -439,12 +381,6 @@ module _ (p : SettlingParams) (start owner port : ℕ) (w : WorldState) (draws :
   sound_then : IsSoundWorld w → IsSoundWorld w'
   sound_then = sound_gains p (LinkUp owner port) w draws done w' tt tt acts is claim'.world
 
-  expects : (m : ℕ) → SyncsAreExpected says_sync (turn_network p m start w) (view w)
-      → sync_wait p.params (paths_with m w') < lapse_span p.params
-      → SyncsAreExpected says_sync (turn_network p m start w') (view w')
-  expects m expected short =
-      let none : lapse_span p.params ≡ 0 = rw nothing (omega arith) in absurd (omega (arith, none, short))
-
   pub raised_from : IsNewsFrom p start w → IsNewsFrom p start w'
   raised_from news = by k.channel.up refl
     where
@@ -452,7 +388,8 @@ module _ (p : SettlingParams) (start owner port : ℕ) (w : WorldState) (draws :
       by true up = from_stands p start w w' (was_up up) claim'.world claim'.measured news
       by false down =
           from_like p start w w' (like down) claim'.world claim'.measured
-          (silent_then down (from_silent p start w news)) (sound_then (from_sound p start w news)) expects news
+          (silent_then down (from_silent p start w news)) (sound_then (from_sound p start w news))
+          (expects_none p start w w' nothing) news
 
   pub raised_claimed : IsClaimedAlways p start w → IsClaimedAlways p start w'
   raised_claimed claim = by k.channel.up refl
@@ -461,4 +398,4 @@ module _ (p : SettlingParams) (start owner port : ℕ) (w : WorldState) (draws :
       by true up = claims_stand p start w w' (was_up up) claim'.world claim'.measured claim
       by false down =
           claims_like p start w w' (like down) claim'.world claim'.measured (silent_then down claim.news.silent)
-          (sound_then claim.news.sound) expects claim
+          (sound_then claim.news.sound) (expects_none p start w w' nothing) claim

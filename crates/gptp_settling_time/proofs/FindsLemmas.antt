@@ -1,15 +1,14 @@
 -- From when a document has settled each act of its run finds it so.
-use Rattle.std.proofs.Common.{◌≡◌, inl, inr, ◌<◌, ◌≤◌, ℕ, List, [], ◌∷◌, ◌++◌, Option, sym, ap, subst, ◌∙◌, append_assoc, append-nil, arith}
+use Rattle.std.proofs.Common.{◌≡◌, ◌<◌, ◌≤◌, ℕ, List, [], ◌∷◌, ◌++◌, Option, sym, ap, subst, ◌∙◌, append_assoc, append-nil, arith}
 use Rattle.std.specs.List.{AllByRecursion}
 use Rattle.gptp_lists.specs.Members.{In}
-use Rattle.gptp_lists.proofs.SystemSpecLemmas.{In-parts}
 use Rattle.gptp_links.specs.declared.bounds.Bounds.{Bounds}
 use Rattle.gptp_setup.proofs.IntervalLemmas.{interval_positive}
 use Rattle.gptp_scenario.specs.Calm.{last_change}
 use Rattle.gptp_scenario.specs.Network.{NetworkState, pace_of}
 use Rattle.gptp_scenario.specs.declared.change.Timed.{Timed}
 use Rattle.gptp_model.specs.World.{WorldState}
-use Rattle.gptp_world.specs.Transitions.{PassesTo, ActTrace, transition}
+use Rattle.gptp_world.specs.Transitions.{PassesTo, ActTrace}
 use Rattle.gptp_network.specs.Document.{DocumentState}
 use Rattle.gptp_report.specs.Transitions.{Courses, Makes}
 use Rattle.gptp_theorem.specs.PlayedLaws.{IsMade, IsPlayable}
@@ -17,6 +16,7 @@ use Rattle.gptp_theorem.proofs.SettlingInvariantLemmas.{IsFitEvent, least_of}
 use Rattle.gptp_settling_time.specs.Gains.{AllTakeNothing, AreCapableAnyway, AreCapableFrom, AreCapableNext, HasRested}
 use Rattle.gptp_settling_time.proofs.BegunLemmas.{rested_sound}
 use Rattle.gptp_settling_time.proofs.KeptToLemmas.{IsLastTo, IsNewsTo, KeepsTo, keeps_act, keeps_later, last_act_to, last_later_to, news_act_to, news_later_to}
+use Rattle.gptp_settling_time.proofs.LaterLemmas.{acts_behind}
 use Rattle.gptp_settling_time.proofs.MadeLemmas.{made_keeps, made_last, made_time, news_news, rest_news}
 use Rattle.gptp_settling_time.proofs.PassLemmas.{IsStep, passes_to}
 use Rattle.gptp_settling_time.proofs.TimedNewsLemmas.{timed_begins}
@@ -70,6 +70,7 @@ module _ {F : Type 0} (answers : Bounds → ℕ → F → Option ℕ → F → T
   finds_more event first rest ts fate drawn w between w' k soon time are on =
       let ahead = k.passes.ahead in
       let early = on.early in
+      let behind = acts_behind answers all event first rest ts fate drawn w between k soon time early are in
       record {
         early = omega (arith, ahead, time, early);
         each = λ t member late. on.each t (behind t member late) late;
@@ -77,28 +78,6 @@ module _ {F : Type 0} (answers : Bounds → ℕ → F → Option ℕ → F → T
         end = on.end;
         now = on.now;
       }
-    where
-      now : event.at ≤ event.at
-      now = omega arith
-
-      sooner : (t : ActTrace) → In t first → t.told.timed.at ≤ event.at
-      sooner t member = elim (In-parts t k.first (transition event k.done k.between between ∷ [])
-          (subst (In t) k.are member)) [
-            | inl passed ↦ soon t passed
-            | inr made ↦ elim made [
-              | inl same ↦ subst (λ (v : ActTrace). v.told.timed.at ≤ event.at) (sym same) now
-              | inr none ↦ absurd none
-            ]
-          ]
-
-      behind : (t : ActTrace) → In t ts → last_change all < t.told.timed.at → In t rest
-      behind t member late = elim (In-parts t first rest (subst (In t) are member)) [
-        | inl here ↦
-            let passed = sooner t here in
-            let early = on.early in
-            absurd (omega (arith, passed, early, time, late))
-        | inr after ↦ after
-      ]
 
   -- where each event takes nothing away
   pub finds_gains : (made : List Timed) (from : ℕ) (events : List Timed) (ts : List ActTrace) (fate fate_after : F)

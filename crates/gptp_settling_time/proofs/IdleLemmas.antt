@@ -1,5 +1,5 @@
 -- A change that changes nothing leaves what is claimed of a world since news.
-use Rattle.std.proofs.Common.{◌≡◌, ◌≤◌, ◌+◌, ◌*◌, ◌^◌, ◌%◌, ℕ, true, List, [], map, Option, refl, sym, ap, subst, ◌∙◌, inl, inr, arith}
+use Rattle.std.proofs.Common.{◌≡◌, ◌≤◌, ◌+◌, ◌*◌, ◌^◌, ◌%◌, ℕ, true, List, [], map, Option, sym, ap, subst, ◌∙◌, inl, inr, arith}
 use Rattle.gptp_lists.proofs.MappedLemmas.{same_there}
 use Rattle.gptp_lists.proofs.PlaceLemmas.{get-set_same, map-set_same}
 use Rattle.gptp_links.specs.declared.bounds.Bounds.{Bounds}
@@ -35,7 +35,7 @@ use Rattle.gptp_invariants.proofs.WorldNewsLemmas.{news_go_on}
 use Rattle.gptp_theorem.proofs.SettlingInvariantLemmas.{advanced_claimed}
 use Rattle.gptp_theorem.proofs.HeadlineLemmas.{is_settled, quiet_as}
 use Rattle.gptp_settling_time.specs.Idle.{IdlesStayNews, IdlesStaySettled, IsIdle, KeepsPriority}
-use Rattle.gptp_settling_time.proofs.StandsStillLemmas.{StandsStill, news_stands, plain, set_still}
+use Rattle.gptp_settling_time.proofs.StandsStillLemmas.{StandsStill, changed_still, news_stands, plain, set_still}
 use Rattle.gptp_settling_time.proofs.TimedNewsLemmas.{CanSettle, has_settled}
 
 -- ---- a system gets the priority1 that it has
@@ -108,27 +108,27 @@ module _ (w : WorldState) (sound : IsSound w) (draws : List Draw) (w' : WorldSta
   abbrev now : WorldState
   now = record w { last_change = w.time }
 
-  leaves : w' ≡ now → StandsStill w w'
-  leaves same = subst (StandsStill w) (sym same) (record { time = refl; stations = refl; channels = refl })
-
   -- so nothing that is claimed of changes
   pub idle_still : (change : Change) → IsIdle change w → Changes change now draws w' → StandsStill w w'
   idle_still (LinkDown number port) idle k =
-      leaves (subst (λ up. GoesDownIf up k.place k.channel now draws w') (idle k.place k.channel k.is) k.so).1
+      changed_still w w'
+      (subst (λ up. GoesDownIf up k.place k.channel now draws w') (idle k.place k.channel k.is) k.so).1
   idle_still (LinkUp number port) idle k =
-      leaves (subst (λ up. ComesUpIf up k.place k.channel now draws w') (idle k.place k.channel k.is) k.so).1
+      changed_still w w'
+      (subst (λ up. ComesUpIf up k.place k.channel now draws w') (idle k.place k.channel k.is) k.so).1
   idle_still (LinkSet number port min max loss) idle k = absurd idle
   idle_still (Fail number) idle k =
       let live = idle k.place k.station (record { here = k.is.here; named = k.is.named }) in
-      leaves (subst (λ live. FailsIf live k.place k.station now draws w') live k.so).1
+      changed_still w w' (subst (λ live. FailsIf live k.place k.station now draws w') live k.so).1
   idle_still (Recover number) idle k =
       let live = idle k.place k.station (record { here = k.is.here; named = k.is.named }) in
-      leaves (subst (λ live. RecoversIf live k.place now draws w') live k.so).1
+      changed_still w w' (subst (λ live. RecoversIf live k.place now draws w') live k.so).1
   idle_still (Priority1 number value) idle k =
       prioritized_still w sound number value k.place k.station (record { here = k.is.here; named = k.is.named }) idle
       draws w' k.so
   idle_still (Inject number port octets) idle k =
-      leaves (subst (λ up. InjectsIf up (port_id number port) octets now draws w') (idle k.place k.channel k.is) k.so).1
+      changed_still w w'
+      (subst (λ up. InjectsIf up (port_id number port) octets now draws w') (idle k.place k.channel k.is) k.so).1
 
 -- it sets no bounds
 idle_fit : (change : Change) (w : WorldState) → IsIdle change w → IsFitAct (Changing change)

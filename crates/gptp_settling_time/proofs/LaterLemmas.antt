@@ -16,6 +16,33 @@ pub record AreSteps {F : Type 0} (answers : Bounds → ℕ → F → Option ℕ 
   pub early : w.time ≤ last_change all
   pub each : (t : ActTrace) → In t ts → last_change all < t.told.timed.at → IsStep answers So t
 
+-- an act later than all events is none of those up to an event
+pub acts_behind : {F : Type 0} (answers : Bounds → ℕ → F → Option ℕ → F → Type 0) (all : List Timed) (event : Timed)
+    (first rest ts : List ActTrace) (fate drawn : F) (w between : WorldState)
+    → (k : Makes answers event first fate drawn w between)
+    → ((t : ActTrace) → In t k.first → t.told.timed.at ≤ event.at) → between.time ≡ event.at
+    → between.time ≤ last_change all → ts ≡ first ++ rest → (t : ActTrace) → In t ts
+    → last_change all < t.told.timed.at → In t rest
+acts_behind answers all event first rest ts fate drawn w between k soon time early are t member late =
+    elim (In-parts t first rest (subst (In t) are member)) [
+      | inl here ↦
+          let passed = sooner here in
+          absurd (omega (arith, passed, early, time, late))
+      | inr after ↦ after
+    ]
+  where
+    now : event.at ≤ event.at
+    now = omega arith
+
+    sooner : In t first → t.told.timed.at ≤ event.at
+    sooner here = elim (In-parts t k.first (transition event k.done k.between between ∷ []) (subst (In t) k.are here)) [
+      | inl passed ↦ soon t passed
+      | inr made ↦ elim made [
+        | inl same ↦ subst (λ (v : ActTrace). v.told.timed.at ≤ event.at) (sym same) now
+        | inr none ↦ absurd none
+      ]
+    ]
+
 -- an event comes before all that
 pub steps_more : {F : Type 0} (answers : Bounds → ℕ → F → Option ℕ → F → Type 0) (So : WorldState → Type 0)
     (all : List Timed) (event : Timed) (first rest ts : List ActTrace) (fate drawn : F) (w between : WorldState)
@@ -27,27 +54,7 @@ steps_more answers So all event first rest ts fate drawn w between k soon time a
     let early = on.early in
     record {
       early = omega (arith, ahead, time, early);
-      each = λ t member late. on.each t (behind t member late) late;
+      each = λ t member late.
+          on.each t
+          (acts_behind answers all event first rest ts fate drawn w between k soon time early are t member late) late;
     }
-  where
-    now : event.at ≤ event.at
-    now = omega arith
-
-    sooner : (t : ActTrace) → In t first → t.told.timed.at ≤ event.at
-    sooner t member = elim (In-parts t k.first (transition event k.done k.between between ∷ [])
-        (subst (In t) k.are member)) [
-          | inl passed ↦ soon t passed
-          | inr made ↦ elim made [
-            | inl same ↦ subst (λ (v : ActTrace). v.told.timed.at ≤ event.at) (sym same) now
-            | inr none ↦ absurd none
-          ]
-        ]
-
-    behind : (t : ActTrace) → In t ts → last_change all < t.told.timed.at → In t rest
-    behind t member late = elim (In-parts t first rest (subst (In t) are member)) [
-      | inl here ↦
-          let passed = sooner t here in
-          let early = on.early in
-          absurd (omega (arith, passed, early, time, late))
-      | inr after ↦ after
-    ]

@@ -38,6 +38,7 @@ pub mod RaisedLemmas
 pub mod HeardLemmas
 pub mod SamePartsLemmas
 pub mod BesideUpLemmas
+pub mod LinkStoodLemmas
 pub mod LinkUpLemmas
 pub mod FailedUpLemmas
 pub mod FailedDownLemmas

@@ -3,7 +3,6 @@ use Rattle.std.proofs.Common.{◌≡◌, ◌≢◌, ◌<◌, ◌≤◌, ◌+◌,
 use Rattle.std.proofs.Math.Nat.{mul-le-mul_left}
 use Rattle.std.proofs.lemmas.Option.{none-some, same_Some}
 use Rattle.gptp_lists.specs.Members.{In}
-use Rattle.gptp_lists.proofs.MappedLemmas.{alike}
 use Rattle.gptp_lists.proofs.PlaceLemmas.{get-set_other, get-set_same, same_place}
 use Rattle.gptp_lists.proofs.SystemSpecLemmas.{In-map, from_map}
 use Rattle.gptp_graph.specs.PathBound.{BoundsPaths}
@@ -12,7 +11,6 @@ use Rattle.gptp_vector.specs.declared.port.PortId.{PortId}
 use Rattle.gptp_links.specs.declared.link.Direction.{Direction}
 use Rattle.gptp_links.specs.declared.bounds.Bounds.{Bounds}
 use Rattle.gptp_links.specs.Fate.{Draw}
-use Rattle.gptp_setup.specs.declared.setup.Params.{Params}
 use Rattle.gptp_setup.specs.Intervals.{interval_of}
 use Rattle.gptp_setup.specs.SettlingParams.{SettlingParams}
 use Rattle.gptp_scenario.specs.Calm.{NothingLapses}
@@ -23,28 +21,26 @@ use Rattle.gptp_system.specs.Input.{PortUp}
 use Rattle.gptp_model.specs.Acts.{Acts, AtLink}
 use Rattle.gptp_model.specs.Changing.{ComesUpIf, TellsEnds, brought_up}
 use Rattle.gptp_model.specs.declared.done.Done.{Done}
-use Rattle.gptp_model.specs.World.{Channel, WorldState, port_id, receiver, sender, world_queue}
-use Rattle.gptp_model.proofs.BareLemmas.{bare}
+use Rattle.gptp_model.specs.World.{Channel, WorldState, port_id, sender, world_queue}
 use Rattle.gptp_pdelay_machine.specs.Lanes.{LaneFrame}
 use Rattle.gptp_pdelay_machine.specs.Order.{Untold}
 use Rattle.gptp_invariants.specs.ChoiceCalm.{HaveQuietLinks, delay_in}
 use Rattle.gptp_invariants.specs.ChoiceSettlesAsMachine.{IsWorld}
 use Rattle.gptp_invariants.specs.ChoiceView.{frame_view, lane_place, lane_view, port_identity_number, says_announce, view}
-use Rattle.gptp_invariants.specs.DelayFirstAt.{IsFirstAt, StandsDown}
-use Rattle.gptp_invariants.specs.DelayLinkView.{LinkPlace, link_frame_view, link_setting, other_direction}
+use Rattle.gptp_invariants.specs.DelayFirstAt.{IsFirstAt}
+use Rattle.gptp_invariants.specs.DelayLinkView.{LinkPlace, link_frame_view, other_direction}
 use Rattle.gptp_invariants.specs.DelayMeasured.{LinkStandsAt}
 use Rattle.gptp_invariants.specs.WorldNews.{IsNews}
 use Rattle.gptp_invariants.specs.WorldStanding.{live_stations, snapshot_of}
 use Rattle.gptp_invariants.proofs.ChoiceCalmKeptLemmas.{KeepsNetwork}
 use Rattle.gptp_invariants.proofs.ChoiceSeenLaneLemmas.{lane_there}
-use Rattle.gptp_invariants.proofs.DelayCapableKeptLemmas.{known_params, stood_among}
-use Rattle.gptp_invariants.proofs.DelayFirstUpLemmas.{link_up_first, receiver_up, sender_up}
+use Rattle.gptp_invariants.proofs.DelayFirstUpLemmas.{sender_up}
 use Rattle.gptp_invariants.proofs.WorldGreatestDelayLemmas.{delay_of_used}
-use Rattle.gptp_invariants.proofs.WorldNewsLemmas.{link_used}
 use Rattle.gptp_invariants.proofs.WorldSoundCallLemmas.{tells_keep}
 use Rattle.gptp_settling_time.proofs.AlwaysClaimedLemmas.{AreHeard, IsClaimedAlways}
 use Rattle.gptp_settling_time.proofs.BesideUpLemmas.{beside_same}
 use Rattle.gptp_settling_time.proofs.HeardLemmas.{IsHeardAt, IsToldAt, heard_elsewhere, stays_on}
+use Rattle.gptp_settling_time.proofs.LinkStoodLemmas.{exchange_over, raised_bare, raised_ends, stood_in, stood_untold, up_first, used_elsewhere}
 use Rattle.gptp_settling_time.proofs.OrderedLemmas.{IsOrderedAt, IsTimelyAt, VariesLittle, opposite, turned}
 use Rattle.gptp_settling_time.proofs.RaisedLemmas.{IsRaised, raised, unmeasured_then}
 use Rattle.gptp_settling_time.proofs.UntoldLemmas.{IsUnmeasured, unmeasured_off}
@@ -52,7 +48,6 @@ use Rattle.gptp_settling_time.proofs.StartLemmas.{not_answered}
 use Rattle.std.proofs.Common.{if◌then◌else◌}
 use Rattle.gptp_graph.specs.Snapshot.{clocks}
 use Rattle.gptp_graph.proofs.LinkLemmas.{Joins-clock}
-use Rattle.gptp_model.proofs.StayLemmas.{sender_same}
 use Rattle.gptp_links.specs.declared.link.Direction.TheVariants.{FromA, FromB}
 use Rattle.gptp_bmca_machine.specs.Calm.{Calm}
 use Rattle.gptp_bmca_machine.specs.Frame.{Lane}
@@ -73,7 +68,6 @@ use Rattle.gptp_invariants.proofs.ChoiceCalmKeptLemmas.{links_quiet}
 use Rattle.gptp_invariants.proofs.ChoicePlaceLemmas.{port_from, station_from}
 use Rattle.gptp_invariants.proofs.ChoiceSettlesAsMachineLemmas.{kept_back}
 use Rattle.gptp_invariants.proofs.WorldSoundCallLemmas.{links_more, same_systems, set_there}
-use Rattle.gptp_invariants.proofs.WorldStandsLemmas.{used_up}
 use Rattle.gptp_invariants.proofs.WorldWayLemmas.{IsWay, one_way, used_joins, way_of}
 use Rattle.gptp_settling_time.proofs.AlwaysClaimedLemmas.{same_start, start_calm, start_net, start_network}
 use Rattle.gptp_settling_time.proofs.GainStageLemmas.{ClaimsAlways, stage_kept}
@@ -127,90 +121,23 @@ module _ (p : SettlingParams) (start next owner port : ℕ) (w : WorldState) (dr
     -- ---- links
 
     before : (at : LinkPlace) → LinkStandsAt at w' → LinkStandsAt at brought
-    before =
-        stood_among p brought w' world.sound.wired.clocks (known_params p w world.known.set) world'.sound.wired.clocks
-        (known_params p w' world'.known.set) keeps
+    before = stood_untold p w (brought_up k.place k.channel w.net) w' world world' keeps
 
     -- another link stood
     beside : (at : LinkPlace) → at.link ≢ k.place → LinkStandsAt at brought → LinkStandsAt at w
-    beside at apart old = record {
-      channel = old.channel;
-      here = sym (get-set_other w.net.channels k.place at.link new apart) ∙ old.here;
-      up = old.up;
-      lossless = old.lossless;
-      asking = record {
-        station = old.asking.station;
-        here = old.asking.here;
-        live = old.asking.live;
-        named = old.asking.named;
-      };
-      answering = record {
-        station = old.answering.station;
-        here = old.answering.here;
-        live = old.answering.live;
-        named = old.answering.named;
-      };
-      apart = old.apart;
-      good = old.good;
-    }
+    beside at apart old =
+        stood_in at brought w old refl (sym (get-set_other w.net.channels k.place at.link new apart) ∙ old.here)
 
     -- the link itself as it was before
     module _ (at : LinkPlace) (place_is : at.link ≡ k.place) (old : LinkStandsAt at brought) where
-      channel_is : old.channel ≡ new
-      channel_is =
-          same_Some old.channel new
-          (sym old.here ∙ ap (slice_get brought.net.channels) place_is
-          ∙ get-set_same w.net.channels k.place k.channel new k.is.here)
-
-      stood_down : StandsDown at w
-      stood_down =
-          let asking = (world.known.set at.asking old.asking.station old.asking.here).starts.params in
-          let answering = (world.known.set at.answering old.answering.station old.answering.here).starts.params in
-          record {
-            channel = k.channel;
-            here = ap (slice_get w.net.channels) place_is ∙ k.is.here;
-            down = down;
-            lossless = sym (ap (λ (c : Channel). c.bounds.loss) channel_is) ∙ old.lossless;
-            asking = record {
-              station = old.asking.station;
-              here = old.asking.here;
-              live = old.asking.live;
-              named = old.asking.named
-                  ∙ ap (λ (c : Channel). (sender at.direction c).clock) channel_is
-                  ∙ ap (λ (q : PortId). q.clock) (sender_up at.direction k.channel);
-            };
-            answering = record {
-              station = old.answering.station;
-              here = old.answering.here;
-              live = old.answering.live;
-              named = old.answering.named
-                  ∙ ap (λ (c : Channel). (receiver at.direction c).clock) channel_is
-                  ∙ ap (λ (q : PortId). q.clock) (receiver_up at.direction k.channel);
-            };
-            apart = old.apart;
-            good = rw (sym (ap (λ (c : Channel). c.bounds) channel_is)) old.good;
-            short = rw (asking, answering) is.news.pace.params.answered;
-          }
-
       first : IsFirstAt w.time at w'
-      unfolding stood_down
       first =
-          link_up_first p at owner port w w' draws done world.sound is.news.measured world.known stood_down
-          (record { here = stood_down.here; joined = k.is.joined }) acts
+          up_first p owner port w draws done w' is.news.pace world is.news.measured acts down at place_is old
 
       -- its channel now has the ends that it had
       ends_now : (direction : Direction) → sender direction first.link.channel ≡ sender direction k.channel
-      ends_now direction =
-          let (c, stands, same) = alike bare bare brought.net.channels w'.net.channels (sym keeps.links) at.link
-          first.link.channel first.link.here in
-          let raised_is : c ≡ new =
-          same_Some c new
-          (sym stands ∙ ap (slice_get brought.net.channels) place_is
-          ∙ get-set_same w.net.channels k.place k.channel new k.is.here) in
-          sender_same direction c first.link.channel (ap (λ (x : Channel). x.a) (sym same))
-          (ap (λ (x : Channel). x.b) (sym same))
-          ∙ ap (sender direction) raised_is
-          ∙ sender_up direction k.channel
+      ends_now =
+          raised_ends w k.place k.channel w' k.is.here keeps at.link place_is first.link.channel first.link.here
 
       -- its port that asks has measured nothing
       unmeasured : IsUnmeasured first.link.asking.state.peer
@@ -266,30 +193,18 @@ module _ (p : SettlingParams) (start next owner port : ℕ) (w : WorldState) (dr
     -- so do the delays of the link vary now
     by_ends : (now : Channel) → slice_get w'.net.channels k.place ≡ Some now → VariesLittle now
     by_ends now here =
-        let (c, stands, same) = alike bare bare brought.net.channels w'.net.channels (sym keeps.links) k.place now
-        here in
-        let raised_is : c ≡ new =
-        same_Some c new (sym stands ∙ get-set_same w.net.channels k.place k.channel new k.is.here) in
         subst (λ (b : Bounds). b.max < 2 * b.min)
-        (ap (λ (x : Channel). x.bounds) (sym raised_is) ∙ ap (λ (x : Channel). x.bounds) same) few
+        (ap (λ (x : Channel). x.bounds) (raised_bare w k.place k.channel w' k.is.here keeps k.place refl now here)) few
 
     comes_told : (at : LinkPlace) → at.link ≡ k.place → LinkStandsAt at w' → IsToldAt w.time next at w'
     comes_told at place_is stands =
         let one = new_ordered at place_is (before at stands) in
         let l = one.timely.link in
-        let asks = (world'.known.set at.asking l.asking.station l.asking.here).starts.params in
-        let answers = (world'.known.set at.answering l.answering.station l.answering.here).starts.params in
-        let period : (link_setting at w' l).period ≡ interval_of p.params.pdelay =
-        ap (λ (x : Params). interval_of x.pdelay) asks in
-        let turnaround : (link_setting at w' l).turnaround ≡ p.params.turnaround =
-        ap (λ (x : Params). x.turnaround) answers in
-        let most : l.channel.bounds.max ≤ delay_in w' =
-        delay_of_used (live_stations w'.stations) w'.net.channels at.link l.channel l.here (link_used at w' l) in
         record {
           one = one;
           few = by_ends l.channel (ap (slice_get w'.net.channels) (sym place_is) ∙ l.here);
           other = new_timely (opposite at) place_is (before (opposite at) (turned p w' world' at stands));
-          by = omega (arith, period, turnaround, most, soon);
+          by = exchange_over p w.time next at w' world' l soon;
         }
 
     -- what is heard over another link is heard still
@@ -322,12 +237,9 @@ module _ (p : SettlingParams) (start next owner port : ℕ) (w : WorldState) (dr
     -- a link in use is another than this, and stands so still
     used_apart : (link : ℕ) (channel : Channel) → slice_get w.net.channels link ≡ Some channel
         → channel_is_used (live_stations w.stations) channel ≡ true → link ≢ k.place
-    used_apart link channel here used same =
-        let one : channel ≡ k.channel =
-        same_Some channel k.channel (sym here ∙ ap (slice_get w.net.channels) same ∙ k.is.here) in
-        let up : channel.up ≡ true = used_up (live_stations w.stations) channel used in
-        let off : channel.up ≡ false = ap (λ (c : Channel). c.up) one ∙ down in
-        cc
+    used_apart =
+        used_elsewhere (live_stations w.stations) w.net.channels k.place k.channel k.is.here
+        (ap (λ up. channel_is_used (live_stations w.stations) (record k.channel { up = up })) down)
 
     stands_so : (link : ℕ) (channel : Channel) → slice_get w.net.channels link ≡ Some channel
         → link ≢ k.place → slice_get brought.net.channels link ≡ Some channel

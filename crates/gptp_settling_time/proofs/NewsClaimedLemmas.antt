@@ -24,7 +24,7 @@ use Rattle.gptp_invariants.proofs.WorldStandsLemmas.{stands_well}
 use Rattle.gptp_settling_time.proofs.AlwaysClaimedLemmas.{AreHeard, IsClaimedAlways, seen_calm}
 use Rattle.gptp_settling_time.proofs.HeardLemmas.{StaysCapableAt, stays_on}
 use Rattle.gptp_settling_time.proofs.RestClaimedLemmas.{AreOn}
-use Rattle.gptp_settling_time.proofs.SettledSeenLemmas.{HasSettledSeen, IsSettledSeen, always_seen}
+use Rattle.gptp_settling_time.proofs.SettledSeenLemmas.{HasSettledSeen, IsSettledSeen, always_seen, settled_in}
 
 module _ (p : SettlingParams) (before : ℕ) (w : WorldState) (is : IsNews p before w)
     (late : before + largest_interval p + pred (path_bound (snapshot_of w)) * delay_in w ≤ w.time) where
@@ -93,22 +93,7 @@ module _ (p : SettlingParams) (before : ℕ) (w : WorldState) (is : IsNews p bef
     invariant = is.settling m bounded quiet off
 
     seen : IsSettledSeen p w
-    seen = record {
-      n = old;
-      net = net;
-      calm = calm;
-      invariant = invariant;
-      late = omega (arith, late);
-      graph = refl;
-      same = record {
-        place = λ v. refl;
-        lane = λ q. refl;
-        log = λ q. refl;
-        interval = λ q. refl;
-        most = omega arith;
-      };
-      most = refl;
-    }
+    seen = settled_in p w old refl net calm invariant (omega (arith, late))
 
   pub news_claimed : IsClaimedAlways p start w
   unfolding heard

@@ -19,7 +19,7 @@ use Rattle.gptp_invariants.specs.ChoiceSeenLaws.{IsNoChange}
 use Rattle.gptp_invariants.specs.ChoiceSettlesAsMachine.{IsWorld}
 use Rattle.gptp_invariants.specs.DelayElsewhereLaws.{LeavesAlone}
 use Rattle.gptp_invariants.specs.DelayLinkView.{LinkPlace}
-use Rattle.gptp_invariants.specs.DelayMeasured.{LinkIsMeasured, LinkStandsAt, StationIsLiveAt}
+use Rattle.gptp_invariants.specs.DelayMeasured.{LinkIsMeasured, LinkStandsAt}
 use Rattle.gptp_invariants.specs.WorldEncodableLaws.{SetsAnOctet}
 use Rattle.gptp_invariants.specs.WorldNews.{AreReadyBy, AreSilentBy, IsNews, IsReadyBy}
 use Rattle.gptp_invariants.specs.WorldSound.{IsSoundWorld}
@@ -34,6 +34,7 @@ use Rattle.gptp_invariants.proofs.WorldBeforeLemmas.{none_anew, stood_earlier}
 use Rattle.gptp_invariants.proofs.WorldNewsLemmas.{news_are_kept, news_begin, news_go_on, ready_goes_through}
 use Rattle.gptp_invariants.proofs.WorldSettledLemmas.{still_acts_stay, time_stays}
 use Rattle.gptp_invariants.proofs.WorldSoundLemmas.{sound_acts, sound_later}
+use Rattle.gptp_settling_time.proofs.LinkStoodLemmas.{stood_in}
 use Rattle.gptp_settling_time.proofs.WillAskLemmas.{WillAsk, asked_by, will_goes_on, will_goes_through, will_later}
 
 -- ---- a link
@@ -139,23 +140,6 @@ module _ (p : SettlingParams) (start : ℕ) (w : WorldState) where
 
 -- ---- it goes on
 
-before_then : (time place number : ℕ) (w : WorldState) → StationIsLiveAt place number (at_time time w)
-    → StationIsLiveAt place number w
-before_then time place number w x = record { station = x.station; here = x.here; live = x.live; named = x.named }
-
-stood_then : (time : ℕ) (at : LinkPlace) (w : WorldState) → LinkStandsAt at (at_time time w) → LinkStandsAt at w
-unfolding before_then
-stood_then time at w stands = record {
-  channel = stands.channel;
-  here = stands.here;
-  up = stands.up;
-  lossless = stands.lossless;
-  asking = before_then time at.asking _ w stands.asking;
-  answering = before_then time at.answering _ w stands.answering;
-  apart = stands.apart;
-  good = stands.good;
-}
-
 module _ (p : SettlingParams) (start : ℕ) where
   pub soon_later : (time : ℕ) (w : WorldState) → w.time ≤ time → NothingBefore time w.net.pending
       → IsNewsSoon p start w → IsNewsFrom p start (at_time time w)
@@ -180,7 +164,7 @@ module _ (p : SettlingParams) (start : ℕ) where
       sound = sound_later w time is.sound;
       coming = λ at stands.
           coming_goes_on p is.by start at time w is.world.sound later first
-          (is.coming at (stood_then time at w stands));
+          (is.coming at (stood_in at (at_time time w) w stands refl stands.here));
     })
   ]
 

@@ -200,6 +200,33 @@ module _ (p : SettlingParams) (by next number : ℕ) (w : WorldState) (draws : L
     here_new : slice_get begun.stations k.place ≡ Some new
     here_new = get-set_same w.stations k.place starts.station new starts.here
 
+    -- a system of then that stands at its place is it, which had failed, and one at another place is as it was
+    is_new : (place : ℕ) (x : Station) → place ≡ k.place → slice_get begun.stations place ≡ Some x → x ≡ new
+    is_new place x at there =
+        same_there begun.stations k.place x new (ap (slice_get begun.stations) (sym at) ∙ there) here_new
+
+    had_failed : (place clock_is : ℕ) → place ≡ k.place → StationIsLiveAt place clock_is begun
+        → IsFailedAmong place clock_is w.stations
+    had_failed place clock_is at x =
+        let near = stays.stations place x.station x.here in
+        let one : near.old ≡ k.station =
+        same_there w.stations k.place near.old k.station (ap (slice_get w.stations) (sym at) ∙ near.here) k.is.here in
+        record {
+          station = near.old;
+          here = near.here;
+          failed = ap (λ (y : Station). y.live) one ∙ dead;
+          named = sym near.same.named ∙ x.named;
+        }
+
+    abbrev lived : (place clock_is : ℕ) → place ≢ k.place → StationIsLiveAt place clock_is begun
+        → StationIsLiveAt place clock_is w
+    lived place clock_is apart x = record {
+      station = x.station;
+      here = sym (get-set_other w.stations k.place place new apart) ∙ x.here;
+      live = x.live;
+      named = x.named;
+    }
+
     has : HasAll k.place ports begun
     has q member station there =
         subst (λ (x : Station). HasPortNumber x.system q) (same_Some new station (sym here_new ∙ there))
@@ -279,9 +306,7 @@ module _ (p : SettlingParams) (by next number : ℕ) (w : WorldState) (draws : L
       -- its own port asks at once
       asks : AreDueSoon → at.asking ≡ k.place → HasAskedNow at w.time port w'
       asks due_soon here =
-          let station : s.asking.station ≡ new =
-          same_there begun.stations k.place s.asking.station new
-          (ap (slice_get begun.stations) (sym here) ∙ s.asking.here) here_new in
+          let station : s.asking.station ≡ new = is_new at.asking s.asking.station here s.asking.here in
           asks_all at w.time port k.place ports begun draws w'
           (brings_port new w.net at.link at.direction s.channel s.here s.up
           (ap (λ (x : Station). clock x.system) (sym station) ∙ s.asking.named)
@@ -297,33 +322,16 @@ module _ (p : SettlingParams) (by next number : ℕ) (w : WorldState) (draws : L
         asking_was = sym (get-set_other w.stations k.place at.asking new other) ∙ s.asking.here
 
         answering_is : s.answering.station ≡ new
-        answering_is =
-            same_there begun.stations k.place s.answering.station new
-            (ap (slice_get begun.stations) (sym here) ∙ s.answering.here) here_new
+        answering_is = is_new at.answering s.answering.station here s.answering.here
 
         unanswered : StandsUnanswered at w
-        unanswered =
-            let near = stays.stations at.answering s.answering.station s.answering.here in
-            let one : near.old ≡ k.station =
-            same_there w.stations k.place near.old k.station (ap (slice_get w.stations) (sym here) ∙ near.here)
-            k.is.here in
-            record {
-              channel = s.channel;
-              here = s.here;
-              up = s.up;
-              asking = record {
-                station = s.asking.station;
-                here = asking_was;
-                live = s.asking.live;
-                named = s.asking.named;
-              };
-              answering = record {
-                station = near.old;
-                here = near.here;
-                failed = ap (λ (x : Station). x.live) one ∙ dead;
-                named = sym near.same.named ∙ s.answering.named;
-              };
-            }
+        unanswered = record {
+          channel = s.channel;
+          here = s.here;
+          up = s.up;
+          asking = lived at.asking (sender at.direction s.channel).clock other s.asking;
+          answering = had_failed at.answering (receiver at.direction s.channel).clock here s.answering;
+        }
 
         one : IsAskedInTime gone at w
         one = asked at unanswered
@@ -449,18 +457,8 @@ module _ (p : SettlingParams) (by next number : ℕ) (w : WorldState) (draws : L
         here = s.here;
         up = s.up;
         lossless = s.lossless;
-        asking = record {
-          station = s.asking.station;
-          here = sym (get-set_other w.stations k.place at.asking new asking) ∙ s.asking.here;
-          live = s.asking.live;
-          named = s.asking.named;
-        };
-        answering = record {
-          station = s.answering.station;
-          here = sym (get-set_other w.stations k.place at.answering new answering) ∙ s.answering.here;
-          live = s.answering.live;
-          named = s.answering.named;
-        };
+        asking = lived at.asking (sender at.direction s.channel).clock asking s.asking;
+        answering = lived at.answering (receiver at.direction s.channel).clock answering s.answering;
         apart = s.apart;
         good = s.good;
       }
@@ -497,13 +495,17 @@ module _ (p : SettlingParams) (by next number : ℕ) (w : WorldState) (draws : L
       answering_apart : at.answering ≢ k.place
       answering_apart same =
           let one : stood_begun.answering.station ≡ new =
-          same_there begun.stations k.place stood_begun.answering.station new
-          (ap (slice_get begun.stations) (sym same) ∙ stood_begun.answering.here) here_new in
+          is_new at.answering stood_begun.answering.station same stood_begun.answering.here in
           let off : false ≡ new.live = sym stood_begun.answering.failed ∙ ap (λ (x : Station). x.live) one in
           absurd cc
 
-      failed_was : slice_get w.stations at.answering ≡ Some stood_begun.answering.station
-      failed_was = sym (get-set_other w.stations k.place at.answering new answering_apart) ∙ stood_begun.answering.here
+      failed_was : IsFailedAmong at.answering (receiver at.direction stood_begun.channel).clock w.stations
+      failed_was = record {
+        station = stood_begun.answering.station;
+        here = sym (get-set_other w.stations k.place at.answering new answering_apart) ∙ stood_begun.answering.here;
+        failed = stood_begun.answering.failed;
+        named = stood_begun.answering.named;
+      }
 
       -- ---- a port of another system
 
@@ -513,18 +515,8 @@ module _ (p : SettlingParams) (by next number : ℕ) (w : WorldState) (draws : L
           channel = stood_begun.channel;
           here = stood_begun.here;
           up = stood_begun.up;
-          asking = record {
-            station = stood_begun.asking.station;
-            here = sym (get-set_other w.stations k.place at.asking new asking_apart) ∙ stood_begun.asking.here;
-            live = stood_begun.asking.live;
-            named = stood_begun.asking.named;
-          };
-          answering = record {
-            station = stood_begun.answering.station;
-            here = failed_was;
-            failed = stood_begun.answering.failed;
-            named = stood_begun.answering.named;
-          };
+          asking = lived at.asking (sender at.direction stood_begun.channel).clock asking_apart stood_begun.asking;
+          answering = failed_was;
         }
 
         abbrev unanswered_begun : IsUnansweredAt at w → IsUnansweredAt at begun
@@ -580,33 +572,16 @@ module _ (p : SettlingParams) (by next number : ℕ) (w : WorldState) (draws : L
 
       module _ (here : at.asking ≡ k.place) (gone : ℕ) (all : AreGoneBetween gone w) where
         asking_new : stood_begun.asking.station ≡ new
-        asking_new =
-            same_there begun.stations k.place stood_begun.asking.station new
-            (ap (slice_get begun.stations) (sym here) ∙ stood_begun.asking.here) here_new
+        asking_new = is_new at.asking stood_begun.asking.station here stood_begun.asking.here
 
         between : StandsFailed at w
-        between =
-            let near = stays.stations at.asking stood_begun.asking.station stood_begun.asking.here in
-            let one : near.old ≡ k.station =
-            same_there w.stations k.place near.old k.station (ap (slice_get w.stations) (sym here) ∙ near.here)
-            k.is.here in
-            record {
-              channel = stood_begun.channel;
-              here = stood_begun.here;
-              up = stood_begun.up;
-              asking = record {
-                station = near.old;
-                here = near.here;
-                failed = ap (λ (x : Station). x.live) one ∙ dead;
-                named = sym near.same.named ∙ stood_begun.asking.named;
-              };
-              answering = record {
-                station = stood_begun.answering.station;
-                here = failed_was;
-                failed = stood_begun.answering.failed;
-                named = stood_begun.answering.named;
-              };
-            }
+        between = record {
+          channel = stood_begun.channel;
+          here = stood_begun.here;
+          up = stood_begun.up;
+          asking = had_failed at.asking (sender at.direction stood_begun.channel).clock here stood_begun.asking;
+          answering = failed_was;
+        }
 
         abbrev end : IsEndOf at.asking (sender at.direction stood_begun.channel) begun
         end = end_is at.asking (sender at.direction stood_begun.channel) begun measured_begun stood_begun.asking

@@ -25,7 +25,7 @@ use Rattle.gptp_invariants.proofs.WorldClaimLemmas.{claim_capable}
 use Rattle.gptp_invariants.proofs.WorldNewsActLemmas.{unanswered_silent, watched_ready}
 use Rattle.gptp_invariants.proofs.WorldNewsLemmas.{news_begin}
 use Rattle.gptp_settling_time.proofs.AlwaysClaimedLemmas.{AreHeard, IsClaimedAlways}
-use Rattle.gptp_settling_time.proofs.SettledSeenLemmas.{HasSettledSeen, IsSettledSeen, always_seen}
+use Rattle.gptp_settling_time.proofs.SettledSeenLemmas.{HasSettledSeen, IsSettledSeen, always_seen, settled_in}
 use Rattle.gptp_settling_time.proofs.HeardLemmas.{IsOn, heard_link, stays_on}
 
 -- the ports that ask at links are all capable
@@ -89,22 +89,7 @@ module _ (p : SettlingParams) (w : WorldState) (claim : KeepsAll p w) (sound : I
     invariant = (claim.settling m bounded (record { links = quiet; lapses = inl off })).at_once off
 
     seen : IsSettledSeen p w
-    seen = record {
-      n = quick;
-      net = net;
-      calm = calm;
-      invariant = invariant;
-      late = omega (arith, late);
-      graph = refl;
-      same = record {
-        place = λ v. refl;
-        lane = λ q. refl;
-        log = λ q. refl;
-        interval = λ q. refl;
-        most = omega arith;
-      };
-      most = refl;
-    }
+    seen = settled_in p w quick refl net calm invariant (omega (arith, late))
 
   pub rest_claimed : IsClaimedAlways p start w
   unfolding heard

@@ -1,5 +1,5 @@
 -- A network in which a world has settled, as the machine sees it.
-use Rattle.std.proofs.Common.{◌≡◌, ◌<◌, ◌≤◌, ◌+◌, ◌*◌, ℕ, pred, Some, slice_get, refl, sym, subst, inr, arith}
+use Rattle.std.proofs.Common.{◌≡◌, ◌<◌, ◌≤◌, ◌+◌, ◌*◌, ℕ, pred, Some, slice_get, refl, sym, ap, subst, inr, arith}
 use Rattle.gptp_graph.specs.PathBound.{BoundsPaths, path_bound}
 use Rattle.gptp_graph.specs.Snapshot.{System}
 use Rattle.gptp_setup.specs.SettlingParams.{SettlingParams}
@@ -36,28 +36,48 @@ pub record IsSettledSeen (p : SettlingParams) (w : WorldState) : Type 0 where
 abbrev pub HasSettledSeen : SettlingParams → WorldState → Type 0
 HasSettledSeen p w = HaveQuietLinks p.params w → NothingLapses p.params → IsSettledSeen p w
 
+-- the first network, with the wiring and the delays of the second
+abbrev pub wired_as : Network → Network → Network
+wired_as n other = record n {
+  graph = other.graph;
+  place = other.place;
+  lane = other.lane;
+  log_of = other.log_of;
+  interval_of = other.interval_of;
+  most = other.most;
+}
+
+-- so it is where the machine has settled in a network that is this world's but for its times
+pub settled_in : (p : SettlingParams) (w : WorldState) (n : Network) → n ≡ wired_as n (start_network p 0 0 w)
+    → IsSettlingNetwork n → Calm n (view w) → Invariant says_announce n (view w) → settled_from n ≤ w.time
+    → IsSettledSeen p w
+settled_in p w n is net calm invariant late =
+    let most = ap (λ (x : Network). x.most) is in
+    record {
+      n = n;
+      net = net;
+      calm = calm;
+      invariant = invariant;
+      late = late;
+      graph = ap (λ (x : Network). x.graph) is;
+      same = record {
+        place = λ v. ap (λ (x : Network). x.place v) (sym is);
+        lane = λ q. ap (λ (x : Network). x.lane q) (sym is);
+        log = λ q. ap (λ (x : Network). x.log_of q) (sym is);
+        interval = λ q. ap (λ (x : Network). x.interval_of q) (sym is);
+        most = omega (arith, most);
+      };
+      most = most;
+    }
+
 -- so it is where claims are made of all links always
 pub always_settled : (p : SettlingParams) (start : ℕ) (w : WorldState) → IsClaimedAlways p start w
     → start + pred (path_bound (snapshot_of w)) * delay_in w ≤ w.time → HasSettledSeen p w
 always_settled p start w is late quiet off =
     let m = path_bound (snapshot_of w) in
     let bounded = paths_bound p w is.news.world in
-    record {
-      n = start_network p m start w;
-      net = start_net p m start w is.news.world bounded;
-      calm = start_calm p start w is.news is.heard quiet m;
-      invariant = is.settling m bounded quiet off;
-      late = omega (arith, late);
-      graph = refl;
-      same = record {
-        place = λ v. refl;
-        lane = λ q. refl;
-        log = λ q. refl;
-        interval = λ q. refl;
-        most = omega arith;
-      };
-      most = refl;
-    }
+    settled_in p w (start_network p m start w) refl (start_net p m start w is.news.world bounded)
+    (start_calm p start w is.news is.heard quiet m) (is.settling m bounded quiet off) (omega (arith, late))
 
 -- each link is at its last stage, in every network of the world
 module _ (p : SettlingParams) (w : WorldState) (seen : IsSettledSeen p w) (n : Network) (graph : seen.n.graph ≡ n.graph)

@@ -7,7 +7,6 @@ use Rattle.gptp_lists.proofs.MappedLemmas.{alike}
 use Rattle.gptp_lists.proofs.PlaceLemmas.{map-set_same}
 use Rattle.gptp_graph.specs.Snapshot.{PortIdentity}
 use Rattle.gptp_vector.specs.declared.port.PortId.{PortId}
-use Rattle.gptp_pdelay.specs.Clock.{local_clock}
 use Rattle.gptp_scenario.specs.SyncWait.{sync_wait}
 use Rattle.gptp_setup.specs.declared.setup.Params.{Params}
 use Rattle.gptp_setup.specs.declared.setup.Setup.{Setup}
@@ -28,7 +27,7 @@ use Rattle.gptp_bmca_machine.specs.Syncs.{SyncsAreExpected, TellsBy}
 use Rattle.gptp_invariants.specs.ChoiceCalm.{HaveQuietLinks, clock_place, delay_in, greatest_channel_delay, lane_of, log_at, log_of, paths_with, setups_of}
 use Rattle.gptp_invariants.specs.ChoiceSettlesAsMachine.{IsWorld}
 use Rattle.gptp_invariants.specs.ChoiceView.{lanes_view, says_announce, says_sync, station_view, view}
-use Rattle.gptp_invariants.specs.DelayLinkView.{IsEndAmong, IsLinkOf, IsMeasuring, LinkPlace, asker_view, link_identity, pair_view}
+use Rattle.gptp_invariants.specs.DelayLinkView.{IsEndAmong, IsLinkOf, IsMeasuring, LinkPlace, asker_view, pair_view, setting_view}
 use Rattle.gptp_invariants.specs.DelayMeasured.{LinkIsMeasured, LinkStandsAt, StationIsLiveAt}
 use Rattle.gptp_invariants.specs.FailedUnanswered.{IsFailedAmong, IsSilent, IsUnansweredAt, StandsUnanswered, silent_setting, silent_view}
 use Rattle.gptp_invariants.specs.WorldNews.{AreSilentBy, IsNews, turn_network}
@@ -50,6 +49,10 @@ pub record StandsStill (w w' : WorldState) : Type 0 where
   pub time : w'.time ≡ w.time
   pub stations : map plain w'.stations ≡ map plain w.stations
   pub channels : w'.net.channels ≡ w.net.channels
+
+-- the time of the last change is another
+pub changed_still : (w w' : WorldState) → w' ≡ record w { last_change = w.time } → StandsStill w w'
+changed_still w w' same = subst (StandsStill w) (sym same) (record { time = refl; stations = refl; channels = refl })
 
 -- the identity that a system starts with is another, and the time of the last change
 pub set_still : (value place : ℕ) (station : Station) (w : WorldState) → slice_get w.stations place ≡ Some station
@@ -254,16 +257,7 @@ module _ (w w' : WorldState) (still : StandsStill w w') where
       } in
       record {
         after = after;
-        settled = λ i. record {
-          asking = link_identity (sender at.direction l.channel);
-          answering = link_identity (receiver at.direction l.channel);
-          most = l.channel.bounds.max;
-          turnaround = (b.same i).setup.params.turnaround;
-          period = interval_of (a.same i).setup.params.pdelay;
-          allowed = (a.same i).setup.params.lost;
-          asking_clock = local_clock (a.same i).setup.phase (a.same i).setup.drift;
-          answering_clock = local_clock (b.same i).setup.phase (b.same i).setup.drift;
-        };
+        settled = λ i. setting_view at.direction l.channel (a.same i).setup (b.same i).setup;
         seen = λ i. record {
           pair = pair_view (time i) (interval_of (a.same i).setup.params.pdelay) at.direction l.channel
               (measure_at (a.state i)) (measure_at (b.state i));
@@ -303,13 +297,11 @@ module _ (w w' : WorldState) (still : StandsStill w w') where
     answering = failed_before at.answering (receiver at.direction s.channel).clock s.answering;
   }
 
-  pub silent_still : (gone : ℕ) (at : LinkPlace) → IsSilent gone at w → IsSilent gone at w'
-  silent_still gone at is =
-      let l = is.link in
+  abbrev unanswered_still : (at : LinkPlace) → IsUnansweredAt at w → IsUnansweredAt at w'
+  unanswered_still at l =
       let a = end_still at.asking (sender at.direction l.channel) l.asking in
       let b = station_still at.answering l.answering.station l.answering.here in
-      let time = still.time in
-      let after : IsUnansweredAt at w' = record {
+      record {
         channel = l.channel;
         here = ap (λ cs. slice_get cs at.link) still.channels ∙ l.here;
         up = l.up;
@@ -320,17 +312,17 @@ module _ (w w' : WorldState) (still : StandsStill w w') where
           failed = ap (λ (s : Station). s.live) b.same ∙ l.answering.failed;
           named = ap (λ (s : Station). clock s.system) b.same ∙ l.answering.named;
         };
-      } in
-      let settled : silent_setting at w' after ≡ silent_setting at w l = λ i. record {
-        asking = link_identity (sender at.direction l.channel);
-        answering = link_identity (receiver at.direction l.channel);
-        most = l.channel.bounds.max;
-        turnaround = (b.same i).setup.params.turnaround;
-        period = interval_of (a.same i).setup.params.pdelay;
-        allowed = (a.same i).setup.params.lost;
-        asking_clock = local_clock (a.same i).setup.phase (a.same i).setup.drift;
-        answering_clock = local_clock (b.same i).setup.phase (b.same i).setup.drift;
-      } in
+      }
+
+  pub silent_still : (gone : ℕ) (at : LinkPlace) → IsSilent gone at w → IsSilent gone at w'
+  silent_still gone at is =
+      let l = is.link in
+      let a = end_still at.asking (sender at.direction l.channel) l.asking in
+      let b = station_still at.answering l.answering.station l.answering.here in
+      let time = still.time in
+      let after = unanswered_still at l in
+      let settled : silent_setting at w' after ≡ silent_setting at w l =
+      λ i. setting_view at.direction l.channel (a.same i).setup (b.same i).setup in
       let seen : silent_view at w' after ≡ silent_view at w l = λ i. record {
         time = time i;
         asker = asker_view (interval_of (a.same i).setup.params.pdelay) (measure_at (a.state i));
@@ -348,20 +340,8 @@ module _ (w w' : WorldState) (still : StandsStill w w') where
       let is = asked at (unanswered_before at s) in
       let l = is.link in
       let a = end_still at.asking (sender at.direction l.channel) l.asking in
-      let b = station_still at.answering l.answering.station l.answering.here in
       let time = still.time in
-      let after : IsUnansweredAt at w' = record {
-        channel = l.channel;
-        here = ap (λ cs. slice_get cs at.link) still.channels ∙ l.here;
-        up = l.up;
-        asking = a.end;
-        answering = record {
-          station = b.new;
-          here = b.here;
-          failed = ap (λ (s : Station). s.live) b.same ∙ l.answering.failed;
-          named = ap (λ (s : Station). clock s.system) b.same ∙ l.answering.named;
-        };
-      } in
+      let after = unanswered_still at l in
       let seen : (silent_view at w' after).asker.asked ≡ (silent_view at w l).asker.asked =
       λ i. (asker_view (interval_of (a.same i).setup.params.pdelay) (measure_at (a.state i))).asked in
       record {

@@ -6,10 +6,7 @@ use Rattle.gptp_graph.specs.PathBound.{BoundsPaths}
 use Rattle.gptp_links.specs.declared.bounds.Bounds.{Bounds}
 use Rattle.gptp_pdelay.specs.declared.progress.Progress.{Progress}
 use Rattle.gptp_pdelay.specs.declared.progress.Progress.TheVariants as progresses
-use Rattle.gptp_setup.specs.declared.setup.Params.{Params}
 use Rattle.gptp_setup.specs.Intervals.{interval_of}
-use Rattle.gptp_invariants.specs.WorldStanding.{live_stations}
-use Rattle.gptp_invariants.proofs.WorldGreatestDelayLemmas.{delay_of_used}
 use Rattle.gptp_invariants.proofs.WorldNewsLemmas.{link_used}
 use Rattle.gptp_setup.specs.SettlingParams.{SettlingParams}
 use Rattle.gptp_scenario.specs.Calm.{NothingLapses}
@@ -34,7 +31,7 @@ use Rattle.gptp_invariants.specs.ChoiceCalm.{HaveQuietLinks, delay_in}
 use Rattle.gptp_invariants.specs.ChoiceSettled.{Settled}
 use Rattle.gptp_invariants.specs.ChoiceSettlesAsMachine.{IsWorld}
 use Rattle.gptp_invariants.specs.ChoiceView.{frame_view, held_view, lane_place, lane_view, says_announce, span_at, station_view, view}
-use Rattle.gptp_invariants.specs.DelayLinkView.{link_setting, LinkPlace, link_frame_view, other_direction, pair, progress_view}
+use Rattle.gptp_invariants.specs.DelayLinkView.{LinkPlace, link_frame_view, other_direction, pair, progress_view}
 use Rattle.gptp_invariants.specs.DelayMeasured.{LinkStandsAt}
 use Rattle.gptp_invariants.specs.WorldBounded.{IsBoundedWorld}
 use Rattle.gptp_invariants.specs.WorldStanding.{snapshot_of}
@@ -62,6 +59,7 @@ use Rattle.gptp_invariants.specs.DelayLinkView.{IsLinkOf}
 use Rattle.gptp_invariants.specs.WorldNewsCourse.{capable_from}
 use Rattle.gptp_invariants.proofs.SyncFollowClaimLemmas.{acts_time}
 use Rattle.gptp_settling_time.specs.Starts.{DelaysVaryLittle, StartsSettleAtOnce}
+use Rattle.gptp_settling_time.proofs.LinkStoodLemmas.{exchange_over}
 use Rattle.gptp_settling_time.proofs.ExactlyLemmas.{later_keeps}
 use Rattle.gptp_settling_time.proofs.OrderedLemmas.{IsOrderedAt, opposite, turned}
 use Rattle.gptp_settling_time.proofs.SeenSettledLemmas.{seen_settles}
@@ -144,21 +142,13 @@ module _ {F : Type 0} (answers : Bounds → ℕ → F → Option ℕ → F → T
   begun_heard start over little at stands =
       let one = begun_timely at stands in
       let l = one.timely.link in
-      let asks = (world.known.set at.asking l.asking.station l.asking.here).starts.params in
-      let answers_params = (world.known.set at.answering l.answering.station l.answering.here).starts.params in
-      let period : (link_setting at w l).period ≡ interval_of p.params.pdelay =
-      ap (λ (y : Params). interval_of y.pdelay) asks in
-      let turnaround : (link_setting at w l).turnaround ≡ p.params.turnaround =
-      ap (λ (y : Params). y.turnaround) answers_params in
-      let most : l.channel.bounds.max ≤ delay_in w =
-      delay_of_used (live_stations w.stations) w.net.channels at.link l.channel l.here (link_used at w l) in
       inl (
         0,
         record {
           one = one;
           few = little at.link l.channel l.here (link_used at w l);
           other = (begun_timely (opposite at) (turned p w world at stands)).timely;
-          by = omega (arith, period, turnaround, most, over);
+          by = exchange_over p 0 start at w world l (omega (arith, over));
         },
       )
 

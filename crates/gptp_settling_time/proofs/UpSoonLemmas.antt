@@ -1,40 +1,32 @@
 -- A link that comes up between live systems, where some ports ask again soon.
-use Rattle.std.proofs.Common.{◌≡◌, ◌<◌, ◌≤◌, ◌+◌, ℕ, Bool, true, false, List, Some, slice_get, refl, sym, ap, subst, ◌∙◌, inl, inr, arith}
-use Rattle.std.proofs.lemmas.Option.{same_Some}
-use Rattle.gptp_lists.proofs.PlaceLemmas.{get-set_other, get-set_same, same_place}
-use Rattle.gptp_vector.specs.declared.port.PortId.{PortId}
+use Rattle.std.proofs.Common.{◌≡◌, ◌<◌, ◌≤◌, ◌+◌, ℕ, Bool, true, false, List, slice_get, refl, sym, ap, subst, ◌∙◌, inl, inr, arith}
+use Rattle.gptp_lists.proofs.PlaceLemmas.{get-set_other, same_place}
 use Rattle.gptp_links.specs.Fate.{Draw}
 use Rattle.gptp_scenario.specs.Params.{KeepPace}
 use Rattle.gptp_scenario.specs.declared.change.Act.TheVariants.{Change as Changing}
 use Rattle.gptp_scenario.specs.declared.change.Change.TheVariants.{LinkUp}
-use Rattle.gptp_setup.specs.declared.setup.Params.{Params}
 use Rattle.gptp_setup.specs.Intervals.{interval_of}
 use Rattle.gptp_setup.specs.SettlingParams.{SettlingParams}
 use Rattle.gptp_system.specs.Input.{PortUp}
 use Rattle.gptp_model.specs.declared.done.Done.{Done}
 use Rattle.gptp_model.specs.Acts.{Acts, AtLink}
 use Rattle.gptp_model.specs.Changing.{ComesUpIf, Nothing, TellsEnds, brought_up}
-use Rattle.gptp_model.specs.World.{Channel, WorldState, port_id, receiver, sender}
+use Rattle.gptp_model.specs.World.{Channel, WorldState, port_id}
 use Rattle.gptp_invariants.specs.ChoiceCalm.{delay_in}
 use Rattle.gptp_invariants.specs.ChoiceSettlesAsMachine.{IsWorld}
 use Rattle.gptp_invariants.specs.DelayElsewhere.{IsOtherLink}
-use Rattle.gptp_invariants.specs.DelayFirstAt.{IsFirstAt, StandsDown}
-use Rattle.gptp_invariants.specs.DelayLinkView.{LinkPlace, link_setting}
+use Rattle.gptp_invariants.specs.DelayLinkView.{LinkPlace}
 use Rattle.gptp_invariants.specs.DelayMeasured.{LinkIsMeasured, LinkStandsAt}
 use Rattle.gptp_invariants.specs.FailedUnanswered.{StandsUnanswered}
 use Rattle.gptp_invariants.specs.WorldNews.{AreSilentBy}
 use Rattle.gptp_invariants.specs.WorldSound.{IsSoundWorld}
-use Rattle.gptp_invariants.specs.WorldStanding.{live_stations}
 use Rattle.gptp_invariants.proofs.ChoiceCalmKeptLemmas.{KeepsNetwork}
-use Rattle.gptp_invariants.proofs.DelayCapableKeptLemmas.{known_params, stood_among}
 use Rattle.gptp_invariants.proofs.DelayChangeKeptLemmas.{acts_measured}
-use Rattle.gptp_invariants.proofs.DelayFirstUpLemmas.{link_up_first, receiver_up, sender_up}
 use Rattle.gptp_invariants.proofs.FailedSilentElsewhereLemmas.{changed_silent, up_silences}
-use Rattle.gptp_invariants.proofs.WorldGreatestDelayLemmas.{delay_of_used}
-use Rattle.gptp_invariants.proofs.WorldNewsLemmas.{link_used}
 use Rattle.gptp_invariants.proofs.WorldOutlineLemmas.{change_time}
 use Rattle.gptp_invariants.proofs.WorldSoundCallLemmas.{tells_keep}
 use Rattle.gptp_invariants.proofs.WorldSoundLemmas.{sound_gains}
+use Rattle.gptp_settling_time.proofs.LinkStoodLemmas.{exchange_over, stood_in, stood_untold, up_first}
 use Rattle.gptp_settling_time.proofs.NewsSoonLemmas.{AreComing, IsComing, IsNewsSoon, coming_goes_through}
 
 module _ (p : SettlingParams) (by next number port : ℕ) (w : WorldState) (draws : List Draw) (done : Done)
@@ -54,30 +46,6 @@ module _ (p : SettlingParams) (by next number port : ℕ) (w : WorldState) (draw
       coming_goes_through p by next at (Changing (LinkUp number port)) w w' draws done is.sound measured tt acts
       (coming at stands)
 
-  -- but for the links it is the world as it was
-  stood_before : (at : LinkPlace) (v : WorldState) (channel : Channel) → (s : LinkStandsAt at v)
-      → v.stations ≡ w.stations → slice_get w.net.channels at.link ≡ Some s.channel → LinkStandsAt at w
-  stood_before at v channel s same here = record {
-    channel = s.channel;
-    here = here;
-    up = s.up;
-    lossless = s.lossless;
-    asking = record {
-      station = s.asking.station;
-      here = ap (λ xs. slice_get xs at.asking) (sym same) ∙ s.asking.here;
-      live = s.asking.live;
-      named = s.asking.named;
-    };
-    answering = record {
-      station = s.answering.station;
-      here = ap (λ xs. slice_get xs at.answering) (sym same) ∙ s.answering.here;
-      live = s.answering.live;
-      named = s.answering.named;
-    };
-    apart = s.apart;
-    good = s.good;
-  }
-
   module _ (up : k.channel.up ≡ true) where
     same : w' ≡ now
     same =
@@ -87,7 +55,7 @@ module _ (p : SettlingParams) (by next number port : ℕ) (w : WorldState) (draw
 
     up_coming : AreComing p by next w'
     up_coming at stands =
-        on at (stood_before at w' stands.channel stands (ap (λ (v : WorldState). v.stations) same)
+        on at (stood_in at w' w stands (ap (λ (v : WorldState). v.stations) same)
         (ap (λ (v : WorldState). slice_get v.net.channels at.link) (sym same) ∙ stands.here))
 
   module _ (down : k.channel.up ≡ false) where
@@ -104,72 +72,19 @@ module _ (p : SettlingParams) (by next number port : ℕ) (w : WorldState) (draw
     keeps = tells_keep k.channel brought draws w' told
 
     before : (at : LinkPlace) → LinkStandsAt at w' → LinkStandsAt at brought
-    before =
-        stood_among p brought w' is.sound.wired.clocks (known_params p w is.known.set) is'.sound.wired.clocks
-        (known_params p w' is'.known.set) keeps
+    before = stood_untold p w (brought_up k.place k.channel w.net) w' is is' keeps
 
-    module _ (at : LinkPlace) (place_is : at.link ≡ k.place) (old : LinkStandsAt at brought) where
-      channel_is : old.channel ≡ raised
-      channel_is =
-          same_Some old.channel raised
-          (sym old.here ∙ ap (slice_get brought.net.channels) place_is
-          ∙ get-set_same w.net.channels k.place k.channel raised k.is.here)
-
-      stood_down : StandsDown at w
-      stood_down =
-          let asking = (is.known.set at.asking old.asking.station old.asking.here).starts.params in
-          let answering = (is.known.set at.answering old.answering.station old.answering.here).starts.params in
-          record {
-            channel = k.channel;
-            here = ap (slice_get w.net.channels) place_is ∙ k.is.here;
-            down = down;
-            lossless = sym (ap (λ (c : Channel). c.bounds.loss) channel_is) ∙ old.lossless;
-            asking = record {
-              station = old.asking.station;
-              here = old.asking.here;
-              live = old.asking.live;
-              named = old.asking.named
-                  ∙ ap (λ (c : Channel). (sender at.direction c).clock) channel_is
-                  ∙ ap (λ (q : PortId). q.clock) (sender_up at.direction k.channel);
-            };
-            answering = record {
-              station = old.answering.station;
-              here = old.answering.here;
-              live = old.answering.live;
-              named = old.answering.named
-                  ∙ ap (λ (c : Channel). (receiver at.direction c).clock) channel_is
-                  ∙ ap (λ (q : PortId). q.clock) (receiver_up at.direction k.channel);
-            };
-            apart = old.apart;
-            good = rw (sym (ap (λ (c : Channel). c.bounds) channel_is)) old.good;
-            short = rw (asking, answering) pace.params.answered;
-          }
-
-      first : IsFirstAt w.time at w'
-      unfolding stood_down
-      first =
-          link_up_first p at number port w w' draws done is.sound measured is.known stood_down
-          (record { here = stood_down.here; joined = k.is.joined }) acts
-
-      comes_up : IsComing p by next at w'
-      comes_up =
-          let l = first.link in
-          let asks = (is'.known.set at.asking l.asking.station l.asking.here).starts.params in
-          let answers = (is'.known.set at.answering l.answering.station l.answering.here).starts.params in
-          let period : (link_setting at w' l).period ≡ interval_of p.params.pdelay =
-          ap (λ (x : Params). interval_of x.pdelay) asks in
-          let turnaround : (link_setting at w' l).turnaround ≡ p.params.turnaround =
-          ap (λ (x : Params). x.turnaround) answers in
-          let most : (link_setting at w' l).most ≤ delay_in w' =
-          delay_of_used (live_stations w'.stations) w'.net.channels at.link l.channel l.here (link_used at w' l) in
-          inl (inl (w.time, (first, omega (arith, period, turnaround, most, soon))))
+    comes_up : (at : LinkPlace) → at.link ≡ k.place → LinkStandsAt at brought → IsComing p by next at w'
+    comes_up at place_is old =
+        let first = up_first p number port w draws done w' pace is measured acts down at place_is old in
+        inl (inl (w.time, (first, exchange_over p w.time next at w' is' first.link soon)))
 
     down_coming : AreComing p by next w'
     down_coming at stands = elim (same_place at.link k.place) [
       | inl place_is ↦ comes_up at place_is (before at stands)
       | inr apart ↦
           let old = before at stands in
-          on at (stood_before at brought old.channel old refl
+          on at (stood_in at brought w old refl
           (sym (get-set_other w.net.channels k.place at.link raised apart) ∙ old.here))
     ]
 
