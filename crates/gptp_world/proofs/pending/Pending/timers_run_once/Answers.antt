@@ -3,7 +3,6 @@ use Rattle.gptp_world.proofs.pending.Pending.timers_run_once.Goals as goal
 
 pub returns : goal.returns
 returns c =
-    let p = c.self.inside in let are = c.self.invariant.0 in
+    let p = c.self.inside in
     rw (← c.self.view_is)
-    (λ place timer known. times-once p.systems p.links place timer known p.items.items p.queue.entries
-    c.places_differ.ensures.differ are.known are.placed)
+    (times-once p.systems p.links p.pending_index p.agenda.entries c.self.invariant)
