@@ -188,7 +188,8 @@ ends_over e (x ∷ xs) = ends_over (ends_with e x) xs
 over_are : (P : SourceTime → Type 0) (e : Option Ends) (xs : List (Option SourceTime)) → AreEndsIf P e
     → AreEndsIf (λ s. P s ⊎ In (Some s) xs) (ends_over e xs)
 over_are P e [] are =
-    as_there P (λ s. P s ⊎ In (Some s) []) e (λ s p. inl p) (λ s there. elim there [ inl p ↦ p | inr never ↦ absurd never ])
+    as_there P (λ s. P s ⊎ In (Some s) []) e (λ s p. inl p)
+    (λ s there. elim there [ inl p ↦ p | inr never ↦ absurd never ])
     are
 over_are P e (x ∷ xs) are =
     as_there (λ s. (P s ⊎ (Some s ≡ x)) ⊎ In (Some s) xs) (λ s. P s ⊎ In (Some s) (x ∷ xs))
