@@ -10,7 +10,8 @@ use Rattle.gptp_scenario.specs.declared.change.Act.TheVariants.{Change as Changi
 use Rattle.gptp_system.specs.State.{SystemState}
 use Rattle.gptp_world.specs.Transitions.{ActTrace}
 use Rattle.gptp_timeline.specs.ExactReads.{counts_new, reads_by, reads_next, reads_over, reads_with, unread, without_reads}
-use Rattle.gptp_timeline.specs.Looks.{error_before, events_left, left_after, looked_all, looked_in, looked_over, measured_times, measured_with, nothing_looked, nothing_read}
+use Rattle.gptp_timeline.specs.Jumps.{error_before}
+use Rattle.gptp_timeline.specs.Looks.{events_left, left_after, looked_all, looked_in, looked_over, measured_times, measured_with, nothing_looked, nothing_read}
 use Rattle.gptp_timeline.specs.Passing.{times_before}
 use Rattle.gptp_timeline.specs.Readings.{new_in, reading_error, no_reading, read_after, readings_after}
 use Rattle.gptp_timeline.specs.Receipts.{is_follow_up, offset_error, received_by}

@@ -28,7 +28,11 @@ pub mod PassLemmas
 pub mod NameLemmas
 mod ClockLemmas
 mod LookedLemmas
+mod JumpLemmas
+mod NewReadingLemmas
 mod PutLemmas
+pub mod SourceLemmas
+mod SourceEndsLemmas
 mod AccountLemmas
 pub mod ObservedLemmas
 pub mod TimelineLemmas

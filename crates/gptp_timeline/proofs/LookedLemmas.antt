@@ -1,13 +1,13 @@
 -- What is measured of what is looked at, part by part.
-use Rattle.std.proofs.Common.{◌≡◌, ℕ, ℤ, List, [], ◌∷◌, ◌++◌, map, Option, Some, refl, sym, ap, ◌∙◌}
-use Rattle.gptp_model.specs.World.{WorldState}
+use Rattle.std.proofs.Common.{◌≡◌, ℕ, List, [], ◌∷◌, ◌++◌, map, Option, option_map, Some, refl, sym, ap, unsigned_abs, ◌∙◌}
 use Rattle.gptp_timeline.specs.Extremes.{extremes_from, ExtremesState, extremes_with, Look}
-use Rattle.gptp_timeline.specs.Looks.{change_if, error_before, listed, look_amount, look_if, looked_both, looked_difference, looked_error, looked_new, looked_step, LookedAt, measured_with}
-use Rattle.gptp_timeline.specs.Measures.{greatest_from}
-use Rattle.gptp_timeline.specs.Readings.{changes_source, reading_error, step_in}
+use Rattle.gptp_timeline.specs.Looks.{change_if, listed, look_amount, look_if, looked_both, looked_difference, looked_error, looked_jump, looked_step, LookedAt, measured_with}
+use Rattle.gptp_timeline.specs.Measures.{greatest_from, one_at}
+use Rattle.gptp_timeline.specs.Readings.{changes_source}
 use Rattle.gptp_timeline.specs.Sources.{DifferenceState, wider, widest_from}
 use Rattle.gptp_timeline.specs.declared.looks.TimeMeasures.{TimeMeasures}
 use Rattle.gptp_timeline.specs.declared.measures.Greatest.{Greatest}
+use Rattle.gptp_timeline.specs.declared.readings.Jump.{Jump}
 use Rattle.gptp_timeline.specs.declared.readings.NewReading.{NewReading}
 use Rattle.gptp_timeline.proofs.MeasureLemmas.{greatest_both}
 
@@ -45,16 +45,17 @@ measured_both a b m =
     }
 
 -- a system that gets a reading: the two errors, the two differences, the step and the change, one after another
-pub new_measured : (at : ℕ) (w : WorldState) (u : NewReading) (before after : Option DifferenceState)
-    (m first second third fourth last : TimeMeasures) (old new : Option ℤ) (step change : Option Greatest)
-    → old ≡ error_before at w u → new ≡ reading_error at w u.clock u.after → step ≡ step_in at w u
+pub new_measured : (at : ℕ) (u : NewReading) (j : Jump) (before after : Option DifferenceState)
+    (m first second third fourth last : TimeMeasures) (step change : Option Greatest)
+    → step ≡ option_map (λ z. one_at u.clock (unsigned_abs z)) j.step
     → listed change ≡ change_if (changes_source u) u.clock at
-    → first ≡ measured_with (looked_error u.clock old) m → second ≡ measured_with (looked_error u.clock new) first
+    → first ≡ measured_with (looked_error u.clock j.before) m
+    → second ≡ measured_with (looked_error u.clock j.after) first
     → third ≡ measured_with (looked_difference before) second → fourth ≡ measured_with (looked_difference after) third
     → last ≡ measured_with (looked_step step change) fourth
-    → last ≡ measured_with (looked_new at w u before after) m
-new_measured at w u before after m first second third fourth last old new step change old_is new_is step_is change_is
-    a b c d e =
+    → last ≡ measured_with (looked_jump at u j before after) m
+new_measured at u j before after m first second third fourth last step change step_is change_is a b c d e =
+    let old = j.before in let new = j.after in
     let chain : last ≡ measured_with (looked_step step change) (measured_with (looked_difference after)
     (measured_with (looked_difference before) (measured_with (looked_error u.clock new)
     (measured_with (looked_error u.clock old) m)))) =
@@ -82,8 +83,8 @@ new_measured at w u before after m first second third fourth last old new step c
       changed = greatest_from m.changed (listed change);
     } in
     chain ∙ joined ∙ (λ i. record {
-      time = greatest_from m.time (map look_amount (look_if u.clock (old_is i) ++ look_if u.clock (new_is i)));
-      errors = extremes_from m.errors (look_if u.clock (old_is i) ++ look_if u.clock (new_is i));
+      time = greatest_from m.time (map look_amount (look_if u.clock old ++ look_if u.clock new));
+      errors = extremes_from m.errors (look_if u.clock old ++ look_if u.clock new);
       sources = widest_from m.sources (listed before ++ listed after);
       step = greatest_from m.step (listed (step_is i));
       changed = greatest_from m.changed (change_is i);

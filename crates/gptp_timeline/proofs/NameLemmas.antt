@@ -1,5 +1,5 @@
 -- The clocks of a world by which systems are named: they rise, and no act takes one away.
-use Rattle.std.proofs.Common.{◌≡◌, ℕ, List, [], ◌∷◌, map, Some, slice_get, refl, sym, ap, subst, ◌∙◌}
+use Rattle.std.proofs.Common.{◌≡◌, ℕ, List, [], ◌∷◌, map, Some, true, slice_get, refl, sym, ap, subst, ◌∙◌}
 use Rattle.gptp_model.specs.declared.done.Done.{Done}
 use Rattle.gptp_model.specs.declared.station.Station.{Station}
 use Rattle.gptp_model.specs.Acts.{Acts, AtSystem}
@@ -16,7 +16,9 @@ use Rattle.gptp_system.specs.State.{clock}
 use Rattle.gptp_invariants.proofs.WorldNameLemmas.{clock_of_station, clocks_rise, In-rising}
 use Rattle.gptp_timeline.specs.ExactReads.{unread}
 use Rattle.gptp_timeline.specs.Readings.{no_reading}
-use Rattle.gptp_timeline.specs.TimeWatch.{AreRising}
+use Rattle.gptp_timeline.specs.TimeWatch.{ReadsRise}
+use Rattle.gptp_timeline.specs.ToldSources.{is_told, IsAccount}
+use Rattle.gptp_timeline.proofs.SourceLemmas.{no_sources}
 use Rattle.gptp_timeline.specs.Watch.{WatchedRise, unseen}
 use Rattle.gptp_timeline.specs.declared.watched.Watched.{Watched}
 use Rattle.gptp_timeline.specs.declared.exact_reads.SystemReads.{SystemReads}
@@ -40,11 +42,18 @@ unread_clocks : (names : List ℕ) → map (λ (x : SystemReads). x.clock) (map 
 unread_clocks [] = refl
 unread_clocks (n ∷ ns) = ap (λ rest. n ∷ rest) (unread_clocks ns)
 
-pub first_rise : (w : WorldState) → HaveOwnClocks w
-    → AreRising (map no_reading (rising_clocks w)) (map unread (rising_clocks w))
-first_rise w own = record {
+-- nobody reads from a source yet
+none_told : (source : ℕ) (ns : List ℕ) → is_told source (map no_reading ns) ≡ true → ⊥
+none_told source [] told = absurd cc
+none_told source (n ∷ ns) told = none_told source ns told
+
+pub first_reads_rise : (w : WorldState) → HaveOwnClocks w → ReadsRise (map unread (rising_clocks w))
+first_reads_rise w own = subst IsRising (sym (unread_clocks (rising_clocks w))) (clocks_rise w own)
+
+pub first_account : (w : WorldState) → HaveOwnClocks w → IsAccount (map no_reading (rising_clocks w)) []
+first_account w own = record {
   readings_rise = subst IsRising (sym (no_reading_clocks (rising_clocks w))) (clocks_rise w own);
-  reads_rise = subst IsRising (sym (unread_clocks (rising_clocks w))) (clocks_rise w own);
+  sources_are = no_sources (map no_reading (rising_clocks w)) (λ source. none_told source (rising_clocks w));
 }
 
 -- ---- the names of systems

@@ -35,7 +35,7 @@ use Rattle.gptp_timeline.specs.Readings.{by_expiry, by_receipt, new_reading, rea
 use Rattle.gptp_timeline.specs.Receipts.{received_by}
 use Rattle.gptp_timeline.specs.TimeWatch.{reading_lines, times_after, times_with, TimeState}
 use Rattle.gptp_timeline.specs.Timeline.{StretchTrace, accuracy_at, act_lines, acts_lines, asks_lines, Carried, carry, end_lines, ended_of, exact_time, is_begun, kept_accuracy, kept_accuracy_at, line_of_times, none_carried, none_waits, reads_if, reads_kept, start_lines, stretch_of, stretch_reading_lines, timeline_accuracy_lines, times_ended, tracks}
-use Rattle.gptp_timeline.specs.Watch.{WatchState, watch_begun, event_look, is_sync, is_sync_expiry, lines_all, see_act, see_all, see_times, seen_lines, tells_changes, TellsSeen, times_lines_if, unless, unseen, without_error}
+use Rattle.gptp_timeline.specs.Watch.{GetsNone, WatchState, watch_begun, event_look, lines_all, see_act, see_all, see_times, seen_lines, tells_changes, TellsSeen, times_lines_if, unless, unseen, without_error}
 use Rattle.gptp_timeline.specs.declared.counts.Counts.{Counts}
 use Rattle.gptp_timeline.specs.declared.looks.TimeMeasures.{TimeMeasures}
 use Rattle.gptp_timeline.specs.declared.measures.Greatest.{Greatest}
@@ -92,22 +92,6 @@ pub record IsOfPlan (plan : Plan) (p : StretchTrace) : Type 0 where
   pub bound_is : plan.bound ≡ p.bound
   pub errors_are : plan.errors ≡ p.errors
 
--- a system that didn't receive time, and whose Sync timer didn't expire, gets no reading
-nothing_new : (act : Act) (done : Done) (w : WorldState) (rs : List SystemReading) → is_change act ≡ false
-    → received_by done ≡ None → is_sync_expiry act ≡ false → new_reading act done w rs ≡ None
-nothing_new (Deliver link direction) done w rs other nobody quiet = ap (by_receipt w rs) nobody
-nothing_new (Expire name timer) done w rs other nobody quiet = by timer quiet
-  where
-    by : (timer : Timer) → is_sync timer ≡ false → by_expiry w rs name timer ≡ None
-    by (Announce port) quiet = refl
-    by (Age port) quiet = refl
-    by (Pdelay port) quiet = refl
-    by (Respond port) quiet = refl
-    by Sync quiet = absurd cc
-    by Relay quiet = refl
-    by Lapse quiet = refl
-nothing_new (Changing change) done w rs other nobody quiet = absurd cc
-
 -- an account keeps what it has by an act that is no event, and by which no system gets a reading
 none_with : (at : ℕ) (w : WorldState) (act : Act) (o : TimeState) → is_change act ≡ false
     → times_with at w act None o ≡ o
@@ -117,22 +101,16 @@ none_with at w (Changing change) o other = absurd cc
 
 -- by an act that is passed over an observer has nothing to see of what systems read
 none_timed : (at : ℕ) (act : Act) (done : Done) (w : WorldState) (times : Option TimeState) → is_change act ≡ false
-    → received_by done ≡ None → (times ≡ None) ⊎ (is_sync_expiry act ≡ false)
-    → option_map (times_after at act done w) times ≡ times
-none_timed at act done w None other nobody why = refl
-none_timed at act done w (Some o) other nobody (inl none) = absurd cc
-none_timed at act done w (Some o) other nobody (inr quiet) =
-    ap (λ new. Some (times_with at w act new o)) (nothing_new act done w o.systems other nobody quiet)
-    ∙ ap Some (none_with at w act o other)
+    → GetsNone act done w times → option_map (times_after at act done w) times ≡ times
+none_timed at act done w None other none = refl
+none_timed at act done w (Some o) other none =
+    ap (λ new. Some (times_with at w act new o)) none ∙ ap Some (none_with at w act o other)
 
 -- and nothing to tell
-none_told : (at : ℕ) (act : Act) (done : Done) (w : WorldState) (times : Option TimeState) → is_change act ≡ false
-    → received_by done ≡ None → (times ≡ None) ⊎ (is_sync_expiry act ≡ false)
-    → times_lines_if at act done w times ≡ []
-none_told at act done w None other nobody why = refl
-none_told at act done w (Some o) other nobody (inl none) = absurd cc
-none_told at act done w (Some o) other nobody (inr quiet) =
-    ap (reading_lines o.told at w) (nothing_new act done w o.systems other nobody quiet)
+none_told : (at : ℕ) (act : Act) (done : Done) (w : WorldState) (times : Option TimeState)
+    → GetsNone act done w times → times_lines_if at act done w times ≡ []
+none_told at act done w None none = refl
+none_told at act done w (Some o) none = ap (reading_lines o.told at w) none
 
 -- ---- systems start
 
@@ -340,11 +318,10 @@ module _ (options : TimelineOptions) (names : List ℕ) (carried : Carried) wher
         passes.leaves.is_other stays.nobody in (
           is
               ∙ sym (ap (λ times. record o { times = times })
-              (none_timed (at_of t) act t.told.done t.after o.times passes.leaves.is_other stays.nobody passes.untimed))
+              (none_timed (at_of t) act t.told.done t.after o.times passes.leaves.is_other passes.gets_none))
               ∙ sym (ap (see_times (at_of t) act t.told.done t.after) kept),
           none
-              ∙ sym (none_told (at_of t) act t.told.done t.after o.times passes.leaves.is_other stays.nobody
-              passes.untimed)
+              ∙ sym (none_told (at_of t) act t.told.done t.after o.times passes.gets_none)
               ∙ sym (ap (λ ls. ls ++ times_lines_if (at_of t) act t.told.done t.after o.times) told),
         )
 

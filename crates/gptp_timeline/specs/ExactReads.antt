@@ -3,11 +3,12 @@ use Rattle.std.specs.Prelude.{ℕ, ◌-◌, ◌==◌, ◌&&◌, nat_le, nat_lt, 
 use Rattle.std.specs.Option.{option_and_then, option_map, option_map_or}
 use Rattle.gptp_model.specs.World.{WorldState}
 use Rattle.gptp_world.specs.Transitions.{ActTrace}
-use Rattle.gptp_timeline.specs.Looks.{error_before}
+use Rattle.gptp_timeline.specs.Jumps.{jump_of}
 use Rattle.gptp_timeline.specs.Readings.{new_in, read_after, reading_among, reading_error}
 use Rattle.gptp_timeline.specs.Stretch.{at_of}
 use Rattle.gptp_timeline.specs.declared.exact_reads.ExactReads.{ExactReads}
 use Rattle.gptp_timeline.specs.declared.exact_reads.SystemReads.{SystemReads}
+use Rattle.gptp_timeline.specs.declared.readings.Jump.{Jump}
 use Rattle.gptp_timeline.specs.declared.readings.NewReading.{NewReading}
 use Rattle.gptp_timeline.specs.declared.readings.SystemReading.{SystemReading}
 
@@ -37,11 +38,14 @@ reads_next false at before after (Some r) =
 abbrev pub counts_new : Option ℕ → ℕ → NewReading → Bool
 counts_new from at u = u.received && option_map_or (λ time. nat_le time at) from false
 
-abbrev pub reads_with : Option ℕ → ℕ → WorldState → NewReading → SystemReads → SystemReads
-reads_with from at w u x = if x.clock == u.clock then record x {
-  reads = reads_next (counts_new from at u) at (option_map unsigned_abs (error_before at w u))
-      (option_map unsigned_abs (reading_error at w u.clock u.after)) x.reads;
+abbrev pub reads_jump : Option ℕ → ℕ → NewReading → Jump → SystemReads → SystemReads
+reads_jump from at u j x = if x.clock == u.clock then record x {
+  reads = reads_next (counts_new from at u) at (option_map unsigned_abs j.before) (option_map unsigned_abs j.after)
+      x.reads;
 } else x
+
+abbrev pub reads_with : Option ℕ → ℕ → WorldState → NewReading → SystemReads → SystemReads
+reads_with from at w u = reads_jump from at u (jump_of at w u)
 
 abbrev pub reads_by : Option ℕ → ℕ → WorldState → Option NewReading → List SystemReads → List SystemReads
 reads_by from at w None xs = xs

@@ -8,10 +8,12 @@ pub mod Amounts
 pub mod Receipts
 pub mod Readings
 pub mod Sources
+pub mod ToldSources
 pub mod Extremes
 pub mod Measures
 pub mod Stretch
 pub mod Roots
+pub mod Jumps
 pub mod Looks
 pub mod ExactReads
 pub mod StretchText

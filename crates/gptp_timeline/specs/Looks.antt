@@ -6,12 +6,14 @@ use Rattle.gptp_model.specs.World.{WorldState}
 use Rattle.gptp_scenario.specs.declared.change.Act.{Act}
 use Rattle.gptp_world.specs.Transitions.{ActTrace}
 use Rattle.gptp_timeline.specs.Extremes.{extremes_from, ExtremesState, Look}
+use Rattle.gptp_timeline.specs.Jumps.{jump_of}
 use Rattle.gptp_timeline.specs.Measures.{greatest_from, one_at}
-use Rattle.gptp_timeline.specs.Readings.{changes_source, new_in, read_after, reading_error, readings_after, step_in}
+use Rattle.gptp_timeline.specs.Readings.{changes_source, new_in, read_after, reading_error, readings_after}
 use Rattle.gptp_timeline.specs.Sources.{DifferenceState, told_difference, widest_from}
 use Rattle.gptp_timeline.specs.Stretch.{at_of, is_change}
 use Rattle.gptp_timeline.specs.declared.looks.TimeMeasures.{TimeMeasures}
 use Rattle.gptp_timeline.specs.declared.measures.Greatest.{Greatest}
+use Rattle.gptp_timeline.specs.declared.readings.Jump.{Jump}
 use Rattle.gptp_timeline.specs.declared.readings.NewReading.{NewReading}
 use Rattle.gptp_timeline.specs.declared.readings.SystemReading.{SystemReading}
 
@@ -76,9 +78,6 @@ looked_all at w rs = record {
   changes = [];
 }
 
-abbrev pub error_before : ℕ → WorldState → NewReading → Option ℤ
-error_before at w u = option_and_then (reading_error at w u.clock) u.before
-
 -- the told sources, where a source changes
 abbrev pub told_if : Bool → ℕ → WorldState → List SystemReading → Option DifferenceState
 told_if changes at w rs = if changes then told_difference at w rs else None
@@ -88,13 +87,16 @@ change_if changes name at = if changes then one_at name at ∷ [] else []
 
 -- A system that gets a reading, first by the one before, then by the new one; and the told sources before the act and
 -- after it, where it changes its source.
-abbrev pub looked_new : ℕ → WorldState → NewReading → Option DifferenceState → Option DifferenceState → LookedAt
-looked_new at w u before after = record {
-  errors = look_if u.clock (error_before at w u) ++ look_if u.clock (reading_error at w u.clock u.after);
+abbrev pub looked_jump : ℕ → NewReading → Jump → Option DifferenceState → Option DifferenceState → LookedAt
+looked_jump at u j before after = record {
+  errors = look_if u.clock j.before ++ look_if u.clock j.after;
   differences = listed before ++ listed after;
-  steps = listed (step_in at w u);
+  steps = listed (option_map (λ z. one_at u.clock (unsigned_abs z)) j.step);
   changes = change_if (changes_source u) u.clock at;
 }
+
+abbrev pub looked_new : ℕ → WorldState → NewReading → Option DifferenceState → Option DifferenceState → LookedAt
+looked_new at w u = looked_jump at u (jump_of at w u)
 
 -- how many events of the stretch are still to come
 abbrev pub left_after : Act → ℕ → ℕ

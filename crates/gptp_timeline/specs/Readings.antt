@@ -1,5 +1,5 @@
 -- What systems read of time, and by what (profile). Times of clocks are in units of 2^-16 ns.
-use Rattle.std.specs.Prelude.{ℕ, ◌==◌, ◌||◌, ◌&&◌, Bool, true, false, not, if◌then◌else◌, List, [], ◌∷◌, map, Option, Some, None, is_none, ℤ, ◌-ℤ◌, unsigned_abs}
+use Rattle.std.specs.Prelude.{ℕ, ◌==◌, ◌||◌, ◌&&◌, Bool, true, false, not, if◌then◌else◌, List, [], ◌∷◌, map, Option, Some, None, is_none, ℤ, ◌-ℤ◌}
 use Rattle.std.specs.List.{list_any}
 use Rattle.std.specs.Option.{option_and_then, option_map, option_map_or}
 use Rattle.gptp_accuracy.specs.TimeErrors.{root_is_capable}
@@ -19,11 +19,9 @@ use Rattle.gptp_system.specs.Reading.{held_reading, read_at}
 use Rattle.gptp_system.specs.State.{SystemState, clock, local_time}
 use Rattle.gptp_system.specs.declared.reading.Reading.{Reading}
 use Rattle.gptp_world.specs.Transitions.{ActTrace}
-use Rattle.gptp_timeline.specs.Measures.{one_at}
 use Rattle.gptp_timeline.specs.Ports.{shown_ports}
 use Rattle.gptp_timeline.specs.Receipts.{received_by}
 use Rattle.gptp_timeline.specs.Shown.{live_system}
-use Rattle.gptp_timeline.specs.declared.measures.Greatest.{Greatest}
 use Rattle.gptp_timeline.specs.declared.ports.ShownPort.{ShownPort}
 use Rattle.gptp_timeline.specs.declared.readings.KeptReading.{KeptReading}
 use Rattle.gptp_timeline.specs.declared.readings.NewReading.{NewReading}
@@ -164,6 +162,3 @@ changes_source u = option_map_or (λ (k : KeptReading). not (k.source == u.after
 abbrev pub step_of : ℕ → WorldState → NewReading → Option ℤ
 step_of at w u = option_and_then (λ old.
     option_map (λ shown. read_by u.after shown -ℤ read_by old shown) (clock_time u.clock at w)) u.before
-
-abbrev pub step_in : ℕ → WorldState → NewReading → Option Greatest
-step_in at w u = option_map (λ step. one_at u.clock (unsigned_abs step)) (step_of at w u)

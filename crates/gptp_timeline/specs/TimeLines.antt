@@ -6,7 +6,8 @@ use Rattle.gptp_accuracy.specs.declared.errors.SystemError.{SystemError}
 use Rattle.gptp_model.specs.World.{WorldState}
 use Rattle.gptp_words.specs.Digits.{clock_text, or_none}
 use Rattle.gptp_timeline.specs.Amounts.{near_text, signed_text}
-use Rattle.gptp_timeline.specs.Looks.{apart, error_before}
+use Rattle.gptp_timeline.specs.Jumps.{error_before}
+use Rattle.gptp_timeline.specs.Looks.{apart}
 use Rattle.gptp_timeline.specs.Readings.{reading_error, step_of}
 use Rattle.gptp_timeline.specs.Sources.{DifferenceState}
 use Rattle.gptp_timeline.specs.StretchText.{worst_text}

@@ -51,12 +51,5 @@ abbrev pub times_lines : ℕ → Act → Done → WorldState → TimeState → L
 times_lines at act done w o = reading_lines o.told at w (new_reading act done w o.systems)
 
 -- clocks rise
-abbrev pub ReadingsRise : List SystemReading → Type 0
-ReadingsRise rs = IsRising (map (λ (x : SystemReading). x.clock) rs)
-
 abbrev pub ReadsRise : List SystemReads → Type 0
 ReadsRise xs = IsRising (map (λ (x : SystemReads). x.clock) xs)
-
-pub record AreRising (rs : List SystemReading) (xs : List SystemReads) : Type 0 where
-  pub readings_rise : ReadingsRise rs
-  pub reads_rise : ReadsRise xs

@@ -1,6 +1,6 @@
 -- What the code keeps of a stretch that passes: what an observer keeps and tells of an act, by what it kept before and
 -- the world after the act. Contracts of private functions alone cite this, but for `WatchState` and `unless`.
-use Rattle.std.specs.Prelude.{◌≡◌, ◌⊎◌, ℕ, ◌+◌, ◌==◌, nat_le, nat_lt, not, Bool, true, false, if◌then◌else◌, List, [], ◌∷◌, ◌++◌, length, map, Option, Some, None, is_some, slice_get, slice_set, ℤ, unsigned_abs}
+use Rattle.std.specs.Prelude.{◌≡◌, ◌⊎◌, ⊤, ℕ, ◌+◌, ◌==◌, nat_le, nat_lt, not, Bool, true, false, if◌then◌else◌, List, [], ◌∷◌, ◌++◌, length, map, Option, Some, None, is_some, slice_get, slice_set, ℤ, unsigned_abs}
 use Rattle.std.specs.List.{range_with_len}
 use Rattle.std.specs.Option.{option_map, option_map_or}
 use Rattle.gptp_model.specs.Advancing.{Told}
@@ -10,13 +10,12 @@ use Rattle.gptp_model.specs.declared.done.Done.TheVariants.{Heard, Quiet}
 use Rattle.gptp_graph.specs.Order.{IsRising}
 use Rattle.gptp_scenario.specs.declared.change.Act.{Act}
 use Rattle.gptp_scenario.specs.declared.change.Act.TheVariants.{Change as Changing, Deliver, Expire}
-use Rattle.gptp_setup.specs.declared.timer.Timer.{Timer}
-use Rattle.gptp_setup.specs.declared.timer.Timer.TheVariants.{Sync}
 use Rattle.gptp_system.specs.State.{SystemState}
 use Rattle.gptp_timeline.specs.Changes.{change_lines}
 use Rattle.gptp_timeline.specs.EventLine.{event_line}
 use Rattle.gptp_timeline.specs.Leaving.{LeavesAll, left_by}
 use Rattle.gptp_timeline.specs.Measures.{better_if, ended_by, last_if, one_at, since_after}
+use Rattle.gptp_timeline.specs.Readings.{new_reading}
 use Rattle.gptp_timeline.specs.Receipts.{is_follow_up, offset_error, offset_line, received_by}
 use Rattle.gptp_timeline.specs.Shown.{is_expecting, live_system, same_choice, same_roles}
 use Rattle.gptp_timeline.specs.Stretch.{same_known}
@@ -244,16 +243,6 @@ abbrev pub times_lines_if : ℕ → Act → Done → WorldState → Option TimeS
 times_lines_if at act done w None = []
 times_lines_if at act done w (Some times) = times_lines at act done w times
 
--- a Sync timer expires
-abbrev pub is_sync : Timer → Bool
-is_sync Sync = true
-is_sync timer = false
-
-abbrev pub is_sync_expiry : Act → Bool
-is_sync_expiry (Deliver link direction) = false
-is_sync_expiry (Expire clock timer) = is_sync timer
-is_sync_expiry (Changing change) = false
-
 -- it is looked at what an act left
 abbrev pub TellsSeen : Told → WorldState → WatchState → WatchState → List (List ℕ) → Type 0
 TellsSeen told w o o_after lines =
@@ -262,18 +251,22 @@ TellsSeen told w o o_after lines =
     × (lines ≡ seen_lines told.timed.at told.timed.act told.done w o
     ++ times_lines_if told.timed.at told.timed.act told.done w o.times)
 
--- it isn't, where the act leaves all that is shown as it was, and a system can take over by none such but an expiry of
--- its Sync timer
-pub record PassesOver (act : Act) (done : Done) (o : WatchState) : Type 0 where
-  pub leaves : LeavesAll act done
-  pub untimed : (o.times ≡ None) ⊎ (is_sync_expiry act ≡ false)
+-- no system gets a reading by an act, as far as it is kept what systems read
+abbrev pub GetsNone : Act → Done → WorldState → Option TimeState → Type 0
+GetsNone act done w None = ⊤
+GetsNone act done w (Some times) = new_reading act done w times.systems ≡ None
 
-abbrev pub TellsNone : Told → WatchState → WatchState → List (List ℕ) → Type 0
-TellsNone told o o_after lines = PassesOver told.timed.act told.done o × (o_after ≡ o) × (lines ≡ [])
+-- An act is passed over: it leaves all that is shown as it was, and no system gets a reading by it.
+pub record PassesOver (act : Act) (done : Done) (w : WorldState) (o : WatchState) : Type 0 where
+  pub leaves : LeavesAll act done
+  pub gets_none : GetsNone act done w o.times
+
+abbrev pub TellsNone : Told → WorldState → WatchState → WatchState → List (List ℕ) → Type 0
+TellsNone told w o o_after lines = PassesOver told.timed.act told.done w o × (o_after ≡ o) × (lines ≡ [])
 
 -- what the observer keeps and tells of an act
 abbrev pub tells_changes : Told → WorldState → WatchState → WatchState → List (List ℕ) → Type 0
-tells_changes told w o o_after lines = TellsSeen told w o o_after lines ⊎ TellsNone told o o_after lines
+tells_changes told w o o_after lines = TellsSeen told w o o_after lines ⊎ TellsNone told w o o_after lines
 
 -- clocks rise
 abbrev pub WatchedRise : List Watched → Type 0

@@ -1,16 +1,11 @@
 //! What systems read from their first receipts on that count by themselves.
 
-ghost use Rattle.std.specs.Prelude.{◌≡◌, ◌≤◌, map, option_map, unsigned_abs};
-ghost use Rattle.gptp_timeline.specs.ExactReads.{counts_new, greater_of, later_of, reads_among, reads_ended, reads_next, reads_with, without_reads};
-ghost use Rattle.gptp_timeline.specs.Looks.{error_before};
-ghost use Rattle.gptp_timeline.specs.Readings.{reading_error};
+ghost use Rattle.std.specs.Prelude.{◌≡◌, map, option_map, unsigned_abs};
+ghost use Rattle.gptp_timeline.specs.ExactReads.{counts_new, greater_of, later_of, reads_among, reads_ended, reads_jump, reads_next, without_reads};
 ghost use Rattle.gptp_timeline.specs.TimeWatch.{ReadsRise};
 
-use crate::looks::error_before;
-use crate::readings::{NewReading, reading_error};
-use gptp_links::Fate;
+use crate::readings::{Jump, NewReading};
 use gptp_vector::ClockId;
-use gptp_world::World;
 
 /// What is kept of what a system reads from its first receipt on that counts by itself.
 #[derive(Clone, Copy, Debug)]
@@ -108,45 +103,42 @@ fn counts_new(from: Option<u64>, at: u64, new: &NewReading) -> bool
     }
 }
 
-/// What is kept of a system after a reading that it got.
-fn reads_after<F: Fate + Drop>(
-    world: &World<F>,
+/// What is kept of a system after a reading that it got, by its jump.
+fn reads_after(
     from: Option<u64>,
     at: u64,
     new: &NewReading,
+    jump: &Jump,
     reads: Option<ExactReads>,
 ) -> Option<ExactReads>
-    requires { at ≤ 1000000000000000 }
-    ensures { result ≡ reads_next (counts_new from at new.now) at
-        (option_map unsigned_abs (error_before at world.now.world_core new.now))
-        (option_map unsigned_abs (reading_error at world.now.world_core new.now.clock new.now.after)) reads }
+    ensures { result ≡ reads_next (counts_new from at new.now) at (option_map unsigned_abs jump.now.before)
+        (option_map unsigned_abs jump.now.after) reads }
 {
     reads_next(
         counts_new(from, at, new),
         at,
-        amount_of(error_before(world, at, new)),
-        amount_of(reading_error(world, at, new.clock, &new.after)),
+        amount_of(jump.before),
+        amount_of(jump.after),
         reads,
     )
 }
 
-/// Takes up a reading that a system got.
-pub(crate) fn take_reads<F: Fate + Drop>(
+/// Takes up a reading that a system got, by its jump.
+pub(crate) fn take_reads(
     systems: &mut Vec<SystemReads>,
-    world: &World<F>,
     from: Option<u64>,
     at: u64,
     new: &NewReading,
+    jump: &Jump,
 )
-    requires moment { at ≤ 1000000000000000 }
-    requires rise { ReadsRise systems.old.items }
-    ensures { systems.new.items ≡ map (reads_with from at world.now.world_core new.now) systems.old.items }
+    requires { ReadsRise systems.old.items }
+    ensures { systems.new.items ≡ map (reads_jump from at new.now jump.now) systems.old.items }
 {
     let clock = new.clock;
     match systems.binary_search_by_key(&clock, |system| system.clock) {
         Ok(place) => {
             let reads = systems[place].reads;
-            systems[place].reads = reads_after(world, from, at, new, reads);
+            systems[place].reads = reads_after(from, at, new, jump, reads);
         }
         Err(_) => {}
     }

@@ -8,6 +8,7 @@
 //! how the last two stretches ended, by `specs/LastTwo.antt`, and writes nothing.
 #![tactic(auto)]
 
+mod all_readings;
 mod amounts;
 mod changes;
 mod counts;

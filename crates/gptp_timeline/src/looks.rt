@@ -1,12 +1,16 @@
 //! What is looked at of what systems read, and what is measured of it.
 
-ghost use Rattle.std.specs.Prelude.{◌≡◌, ◌≤◌, ◌<◌, ◌^◌, IfSome, unsigned_abs};
-ghost use Rattle.gptp_timeline.specs.Looks.{apart, apart_errors, apart_sources, change_if, changed_after, error_before, error_in, listed, looked_all, looked_difference, looked_each, looked_error, looked_new, looked_step, measured_with, told_if};
+ghost use Rattle.std.specs.Prelude.{◌≡◌, ◌≤◌, ◌<◌, ◌^◌, IfSome, List, option_map, unsigned_abs};
+ghost use Rattle.gptp_timeline.specs.Jumps.{IsSmallJump};
+ghost use Rattle.gptp_timeline.specs.Looks.{apart, apart_errors, apart_sources, change_if, changed_after, error_in, listed, looked_all, looked_difference, looked_each, looked_error, looked_jump, looked_step, measured_with, told_if};
+ghost use Rattle.gptp_timeline.specs.Measures.{one_at};
 ghost use Rattle.gptp_timeline.specs.Readings.{changes_source};
+ghost use Rattle.gptp_timeline.specs.ToldSources.{AreSources};
+ghost use Rattle.gptp_timeline.specs.declared.readings.SystemReading.{SystemReading};
 
 use crate::extremes::{Extremes, extremes_with};
 use crate::measures::{Greatest, better, better_if};
-use crate::readings::{NewReading, SystemReading, changes_source, reading_error, step_in};
+use crate::readings::{Jump, NewReading, SystemReading, changes_source, reading_error};
 use crate::sources::{Difference, told_difference, wider_if};
 use gptp_links::Fate;
 use gptp_vector::ClockId;
@@ -155,12 +159,14 @@ pub(crate) fn look_at_all<F: Fate + Drop>(
     world: &World<F>,
     at: u64,
     systems: &[SystemReading],
+    sources: &[ClockId],
 ) -> TimeMeasures
-    requires { at ≤ 1000000000000000 }
+    requires moment { at ≤ 1000000000000000 }
+    requires sources { AreSources sources.now systems.now }
     ensures { result ≡ measured_with (looked_all at world.now.world_core systems.now) measures }
 {
     let errors = look_at_each(measures, world, at, systems);
-    with_difference(errors, told_difference(world, at, systems))
+    with_difference(errors, told_difference(world, at, sources))
 }
 
 /// How far the sources differ that are told at a time, where a source changes.
@@ -168,30 +174,15 @@ pub(crate) fn told_if<F: Fate + Drop>(
     changes: bool,
     world: &World<F>,
     at: u64,
-    systems: &[SystemReading],
+    sources: &[ClockId],
 ) -> Option<Difference>
     requires { at ≤ 1000000000000000 }
-    ensures { result ≡ told_if changes at world.now.world_core systems.now }
+    ensures { (rs : List SystemReading) → AreSources sources.now rs
+        → result ≡ told_if changes at world.now.world_core rs }
 {
     match changes {
-        true => told_difference(world, at, systems),
+        true => told_difference(world, at, sources),
         false => None,
-    }
-}
-
-/// How far off a system is by what it read before, if it had time.
-pub(crate) fn error_before<F: Fate + Drop>(
-    world: &World<F>,
-    at: u64,
-    new: &NewReading,
-) -> Option<i128>
-    requires { at ≤ 1000000000000000 }
-    ensures is { result ≡ error_before at world.now.world_core new.now }
-    ensures small { IfSome result (λ e. unsigned_abs e < 2 ^ 100) }
-{
-    match &new.before {
-        Some(kept) => reading_error(world, at, new.clock, kept),
-        None => None,
     }
 }
 
@@ -225,25 +216,35 @@ fn with_step(
     }
 }
 
-/// A system that gets a reading is looked at; these are the differences of told sources before that and after it.
-pub(crate) fn look_at_new<F: Fate + Drop>(
+/// A step without its sign, with its system.
+fn step_in(clock: ClockId, step: Option<i128>) -> Option<Greatest>
+    ensures { result ≡ option_map (λ z. one_at clock (unsigned_abs z)) step }
+{
+    match step {
+        Some(step) => Some(Greatest {
+            amount: step.unsigned_abs(),
+            clock,
+        }),
+        None => None,
+    }
+}
+
+/// A system that gets a reading is looked at, by its jump; these are the differences of told sources before that and
+/// after it.
+pub(crate) fn look_at_new(
     measures: TimeMeasures,
-    world: &World<F>,
     at: u64,
     new: &NewReading,
+    jump: &Jump,
     before: Option<Difference>,
     after: Option<Difference>,
 ) -> TimeMeasures
-    requires { at ≤ 1000000000000000 }
-    ensures { result ≡ measured_with (looked_new at world.now.world_core new.now before after) measures }
+    requires { IsSmallJump jump.now }
+    ensures { result ≡ measured_with (looked_jump at new.now jump.now before after) measures }
 {
-    let first = with_look(measures, new.clock, error_before(world, at, new));
-    let second = with_look(
-        first,
-        new.clock,
-        reading_error(world, at, new.clock, &new.after),
-    );
+    let first = with_look(measures, new.clock, jump.before);
+    let second = with_look(first, new.clock, jump.after);
     let third = with_difference(second, before);
     let fourth = with_difference(third, after);
-    with_step(fourth, step_in(world, at, new), change_of(new, at))
+    with_step(fourth, step_in(new.clock, jump.step), change_of(new, at))
 }

@@ -2,13 +2,13 @@
 
 ghost use Rattle.std.specs.Prelude.{◌≡◌, ◌≤◌, ◌<◌, ◌^◌, ◌-ℤ◌, IfSome, Some, false, length, unsigned_abs};
 ghost use Rattle.std.specs.List.{list_any};
-ghost use Rattle.std.specs.Option.{option_and_then, option_map_or};
+ghost use Rattle.std.specs.Option.{option_and_then, option_map, option_map_or};
 ghost use Rattle.gptp_system.specs.Reading.{read_at};
-ghost use Rattle.gptp_timeline.specs.Readings.{by_expiry, by_receipt, by_takeover, changes_source, clock_time, failed_by, is_master, is_sending, new_reading, own_reading, read_by, reading_among, reading_error, put_reading, reads_own, received_reading, step_in, step_of};
+ghost use Rattle.gptp_timeline.specs.Readings.{by_expiry, by_receipt, by_takeover, changes_source, clock_time, failed_by, is_master, is_sending, new_reading, own_reading, read_by, reading_among, reading_error, put_reading, reads_own, received_reading};
+ghost use Rattle.gptp_timeline.specs.Jumps.{IsSmallJump, jump_of};
 ghost use Rattle.gptp_timeline.specs.Shown.{live_system};
-ghost use Rattle.gptp_timeline.specs.TimeWatch.{ReadingsRise};
+ghost use Rattle.gptp_timeline.specs.ToldSources.{ReadingsRise};
 
-use crate::measures::Greatest;
 use crate::ports::{ShownPort, ports_of};
 use crate::receipts::received_by;
 use gptp_links::Fate;
@@ -48,6 +48,17 @@ pub struct NewReading {
     pub after: KeptReading,
     /// Whether it received time; otherwise it took over.
     pub received: bool,
+}
+
+/// What a system reads by the reading that it gets, and by the one before, in units of 2^-16 ns.
+#[derive(Clone, Copy, Debug)]
+pub struct Jump {
+    /// How far it is off by the one before; none where it had no time, or the source of that shows nothing.
+    pub before: Option<i128>,
+    /// How far it is off by the new one; none where the source of that shows nothing.
+    pub after: Option<i128>,
+    /// By how much more it reads by the new one; none where it had no time.
+    pub step: Option<i128>,
 }
 
 /// What the clock of a system, live or failed, shows at a time.
@@ -246,8 +257,11 @@ fn by_takeover<F: Fate + Drop>(
     requires { ReadingsRise systems.now }
     ensures { result ≡ by_takeover world.now.world_core systems.now clock }
 {
+    if !sends(world, clock) {
+        return None;
+    }
     let before = reading_among(systems, clock);
-    if reads_own(&before) || !sends(world, clock) {
+    if reads_own(&before) {
         return None;
     }
     Some(NewReading {
@@ -332,42 +346,100 @@ pub(crate) fn changes_source(new: &NewReading) -> bool
     }
 }
 
-/// By how much more is read by a reading than by another, where the own clock shows this, in units of 2^-16 ns.
-fn step_between(before: &KeptReading, after: &KeptReading, shown: ScaledNs) -> i128
-    ensures { result ≡ read_by after.now shown -ℤ read_by before.now shown }
-{
-    read_by(after, shown) - read_by(before, shown)
-}
-
-/// By how much more a system reads by the new reading than by the one before, in units of 2^-16 ns; none where it had
-/// no time.
-pub(crate) fn step_of<F: Fate + Drop>(world: &World<F>, at: u64, new: &NewReading) -> Option<i128>
+/// What the clock of a system, live or failed, shows at a time, in units of 2^-16 ns.
+fn time_of<F: Fate + Drop>(world: &World<F>, clock: ClockId, at: u64) -> Option<i128>
     requires { at ≤ 1000000000000000 }
-    ensures { result ≡ step_of at world.now.world_core new.now }
+    ensures is { result ≡ clock_time clock at world.now.world_core }
+    ensures small { IfSome result (λ z. unsigned_abs z < 2 ^ 99) }
 {
-    match &new.before {
-        Some(before) => match clock_time(world, new.clock, at) {
-            Some(shown) => Some(step_between(before, &new.after, shown)),
-            None => None,
-        },
+    match clock_time(world, clock, at) {
+        Some(time) => Some(time.value()),
         None => None,
     }
 }
 
-/// That without its sign, with the system.
-pub(crate) fn step_in<F: Fate + Drop>(
+/// That of the source of one reading, where the source of another shows this.
+fn source_time<F: Fate + Drop>(
     world: &World<F>,
     at: u64,
-    new: &NewReading,
-) -> Option<Greatest>
-    requires { at ≤ 1000000000000000 }
-    ensures { result ≡ step_in at world.now.world_core new.now }
+    kept: &KeptReading,
+    other: &KeptReading,
+    shown: Option<i128>,
+) -> Option<i128>
+    requires moment { at ≤ 1000000000000000 }
+    requires other { shown ≡ clock_time other.now.source at world.now.world_core }
+    requires size { IfSome shown (λ z. unsigned_abs z < 2 ^ 99) }
+    ensures is { result ≡ clock_time kept.now.source at world.now.world_core }
+    ensures small { IfSome result (λ z. unsigned_abs z < 2 ^ 99) }
 {
-    match step_of(world, at, new) {
-        Some(step) => Some(Greatest {
-            amount: step.unsigned_abs(),
-            clock: new.clock,
-        }),
+    if kept.source == other.source {
+        shown
+    } else {
+        time_of(world, kept.source, at)
+    }
+}
+
+/// How far what is read is off what a source shows, in units of 2^-16 ns; none where that shows nothing.
+fn off(read: i128, shown: Option<i128>) -> Option<i128>
+    requires read { unsigned_abs read < 2 ^ 99 }
+    requires shown { IfSome shown (λ z. unsigned_abs z < 2 ^ 99) }
+    ensures is { result ≡ option_map (λ time. read -ℤ time) shown }
+    ensures small { IfSome result (λ e. unsigned_abs e < 2 ^ 100) }
+{
+    match shown {
+        Some(shown) => Some(read - shown),
         None => None,
+    }
+}
+
+/// By how much more is read than another time, in units of 2^-16 ns.
+fn more_by(read: i128, old: i128) -> i128
+    requires read { unsigned_abs read < 2 ^ 99 }
+    requires old { unsigned_abs old < 2 ^ 99 }
+    ensures { result ≡ read -ℤ old }
+{
+    read - old
+}
+
+/// The jump of a system whose clock shows this.
+fn jump_at<F: Fate + Drop>(world: &World<F>, at: u64, new: &NewReading, shown: ScaledNs) -> Jump
+    requires moment { at ≤ 1000000000000000 }
+    requires shows { clock_time new.now.clock at world.now.world_core ≡ Some shown }
+    ensures is { result ≡ jump_of at world.now.world_core new.now }
+    ensures small { IsSmallJump result }
+{
+    let read = read_by(&new.after, shown);
+    let time = time_of(world, new.after.source, at);
+    let after = off(read, time);
+    match &new.before {
+        Some(kept) => {
+            let old = read_by(kept, shown);
+            Jump {
+                before: off(old, source_time(world, at, kept, &new.after, time)),
+                after,
+                step: Some(more_by(read, old)),
+            }
+        }
+        None => Jump {
+            before: None,
+            after,
+            step: None,
+        },
+    }
+}
+
+/// The jump of a system that gets a reading.
+pub(crate) fn jump_of<F: Fate + Drop>(world: &World<F>, at: u64, new: &NewReading) -> Jump
+    requires { at ≤ 1000000000000000 }
+    ensures is { result ≡ jump_of at world.now.world_core new.now }
+    ensures small { IsSmallJump result }
+{
+    match clock_time(world, new.clock, at) {
+        Some(shown) => jump_at(world, at, new, shown),
+        None => Jump {
+            before: None,
+            after: None,
+            step: None,
+        },
     }
 }

@@ -1,14 +1,17 @@
 //! Sources of what systems read, and how far their times differ.
 
-ghost use Rattle.std.specs.Prelude.{◌≡◌, ◌≤◌, ◌<◌, ◌^◌, ◌-ℤ◌, None, Some, int_lt, unsigned_abs};
+ghost use Rattle.std.specs.Prelude.{◌≡◌, ◌≤◌, ◌<◌, ◌^◌, ◌-ℤ◌, List, None, Some, OnErr, OnOk, int_lt, unsigned_abs};
 ghost use Rattle.gptp_timeline.specs.Looks.{listed};
-ghost use Rattle.gptp_timeline.specs.Sources.{difference_of, ends_from, ends_with, further_ahead, further_behind, source_at, told_difference, told_time, wider, widest_from};
+ghost use Rattle.gptp_timeline.specs.Sources.{difference_of, ends_with, further_ahead, further_behind, told_difference, wider, widest_from};
+ghost use Rattle.gptp_timeline.specs.ToldSources.{AreSources, ends_among, is_told, reads_from, source_of, with_source, without_untold};
+ghost use Rattle.gptp_timeline.specs.declared.readings.SystemReading.{SystemReading};
 
-use crate::readings::{KeptReading, SystemReading, clock_time};
+use crate::readings::{SystemReading, clock_time};
 use gptp_links::Fate;
 use gptp_scaled::ScaledNs;
 use gptp_vector::ClockId;
 use gptp_world::World;
+use std::alloc::AllocError;
 use std::marker::Model;
 
 /// A source that is told.
@@ -132,43 +135,28 @@ fn ends_with(ends: Option<Ends>, one: Option<SourceTime>) -> Option<Ends>
     }
 }
 
-/// The source of a reading, with its time.
-fn source_at<F: Fate + Drop>(world: &World<F>, at: u64, kept: &KeptReading) -> Option<SourceTime>
+/// A source with its time, if it has one.
+fn source_of<F: Fate + Drop>(world: &World<F>, at: u64, source: ClockId) -> Option<SourceTime>
     requires { at ≤ 1000000000000000 }
-    ensures { result ≡ source_at at world.now.world_core kept.now }
+    ensures { result ≡ source_of at world.now.world_core source }
 {
-    match clock_time(world, kept.source, at) {
+    match clock_time(world, source, at) {
         Some(time) => Some(SourceTime {
-            clock: kept.source,
+            clock: source,
             time,
         }),
         None => None,
     }
 }
 
-/// The source of a system, with its time, if the system has time.
-fn told_time<F: Fate + Drop>(
-    world: &World<F>,
-    at: u64,
-    system: &SystemReading,
-) -> Option<SourceTime>
+/// The ends of several sources.
+fn ends_of<F: Fate + Drop>(world: &World<F>, at: u64, sources: &[ClockId]) -> Option<Ends>
     requires { at ≤ 1000000000000000 }
-    ensures { result ≡ told_time at world.now.world_core system.now }
-{
-    match &system.reading {
-        Some(kept) => source_at(world, at, kept),
-        None => None,
-    }
-}
-
-/// The ends of the sources of several systems.
-fn ends_of<F: Fate + Drop>(world: &World<F>, at: u64, systems: &[SystemReading]) -> Option<Ends>
-    requires { at ≤ 1000000000000000 }
-    ensures { result ≡ ends_from at world.now.world_core None systems.now }
+    ensures { result ≡ ends_among at world.now.world_core None sources.now }
 {
     let mut ends = None;
-    for system in systems {
-        ends = ends_with(ends, told_time(world, at, system));
+    for source in sources {
+        ends = ends_with(ends, source_of(world, at, *source));
     }
     ends
 }
@@ -206,16 +194,61 @@ fn difference_of(ends: Option<Ends>) -> Option<Difference>
     }
 }
 
-/// The greatest difference of the times of two sources that are told at a time.
+/// The greatest difference of the times of two of these sources, which are told at a time.
 pub(crate) fn told_difference<F: Fate + Drop>(
     world: &World<F>,
     at: u64,
-    systems: &[SystemReading],
+    sources: &[ClockId],
 ) -> Option<Difference>
     requires { at ≤ 1000000000000000 }
-    ensures { result ≡ told_difference at world.now.world_core systems.now }
+    ensures { (rs : List SystemReading) → AreSources sources.now rs
+        → result ≡ told_difference at world.now.world_core rs }
 {
-    difference_of(ends_of(world, at, systems))
+    difference_of(ends_of(world, at, sources))
+}
+
+/// Whether a system reads from a source.
+fn reads_from(system: &SystemReading, source: ClockId) -> bool
+    ensures { result ≡ reads_from source system.now }
+{
+    match &system.reading {
+        Some(kept) => kept.source == source,
+        None => false,
+    }
+}
+
+/// Whether a source is told: whether some system reads from it.
+fn is_told(systems: &[SystemReading], source: ClockId) -> bool
+    ensures { result ≡ is_told source systems.now }
+{
+    for system in systems {
+        if reads_from(system, source) {
+            return true;
+        }
+    }
+    false
+}
+
+/// A source is one of several from then on.
+pub(crate) fn add_source(sources: &mut Vec<ClockId>, source: ClockId) -> Result<(), AllocError>
+    ensures added { OnOk result (sources.new.items ≡ with_source source sources.old.items) }
+    ensures same { OnErr result (sources.new.items ≡ sources.old.items) }
+{
+    if sources.contains(&source) {
+        return Ok(());
+    }
+    sources.push(source)?;
+    Ok(())
+}
+
+/// A source is one of several no more, unless it is told.
+pub(crate) fn drop_untold(sources: &mut Vec<ClockId>, systems: &[SystemReading], source: ClockId)
+    ensures { sources.new.items ≡ without_untold source systems.now sources.old.items }
+{
+    if is_told(systems, source) {
+        return;
+    }
+    sources.retain(|other| *other != source);
 }
 
 /// A difference, where it is greater than the greatest so far.

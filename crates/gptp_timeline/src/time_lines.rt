@@ -5,9 +5,9 @@ ghost use Rattle.gptp_timeline.specs.TimeLines.{errors_words, jump_words, new_wo
 
 use crate::amounts::{Near, NearOrNone, SignedOrNone, UpOrNone};
 use crate::exact_reads::ExactReads;
-use crate::looks::{TimeMeasures, error_before};
+use crate::looks::TimeMeasures;
 use crate::measures::Greatest;
-use crate::readings::{NewReading, reading_error, step_of};
+use crate::readings::{NewReading, jump_of};
 use crate::sources::Difference;
 use crate::stretch::Worst;
 use gptp_accuracy::SystemError;
@@ -152,12 +152,8 @@ fn write_errors_of<F: Fate + Drop>(
     ensures { OnOk result (string_bytes text.new
         ≡ string_bytes text.old ++ (errors_words at world.now.world_core new.now ++ 10 ∷ [])) }
 {
-    write_jump(
-        text,
-        error_before(world, at, new),
-        reading_error(world, at, new.clock, &new.after),
-        step_of(world, at, new),
-    )
+    let jump = jump_of(world, at, new);
+    write_jump(text, jump.before, jump.after, jump.step)
 }
 
 /// Appends the line of a reading that a system got.

@@ -6,13 +6,13 @@ ghost use Rattle.gptp_timeline.specs.ExactReads.{unread};
 ghost use Rattle.gptp_timeline.specs.Readings.{no_reading};
 ghost use Rattle.gptp_timeline.specs.Stretch.{is_change};
 
+use crate::all_readings::AllReadings;
 use crate::exact_reads::{
     ExactReads, SystemReads, amount_of, clear_reads, reads_among, reads_ended, take_reads,
 };
 use crate::looks::{NOTHING_READ, TimeMeasures, look_at_all, look_at_new, told_if};
 use crate::readings::{
-    NewReading, SystemReading, changes_source, failed_by, new_reading, put_reading, reading_among,
-    reading_error,
+    Jump, NewReading, SystemReading, changes_source, failed_by, jump_of, new_reading, reading_error,
 };
 use crate::time_lines::write_reading;
 use gptp_links::Fate;
@@ -33,7 +33,7 @@ pub(crate) struct TimeWatch {
     // How many events of this stretch are still to come.
     events_left: usize,
     // What each system reads by, by rising clock.
-    systems: Vec<SystemReading>,
+    systems: AllReadings,
     // What each read from its first receipt on that counts by itself, by rising clock.
     reads: Vec<SystemReads>,
     // What is measured in this stretch so far.
@@ -41,7 +41,7 @@ pub(crate) struct TimeWatch {
 }
 
 impl Model for TimeWatch {
-    ghost use Rattle.gptp_timeline.specs.TimeWatch.{AreRising, TimeState};
+    ghost use Rattle.gptp_timeline.specs.TimeWatch.{ReadsRise, TimeState};
 
     ghost Value = { TimeState };
 
@@ -50,12 +50,12 @@ impl Model for TimeWatch {
       told = w.told;
       exact_from = w.exact_from;
       events_left = w.events_left;
-      systems = w.systems.items;
+      systems = w.systems;
       reads = w.reads.items;
       measures = w.measures;
     } };
 
-    ghost invariant = { λ w. AreRising w.systems.items w.reads.items };
+    ghost invariant = { λ w. ReadsRise w.reads.items };
 }
 
 /// Puts the system at a place by rising clock after others: it has no time.
@@ -120,12 +120,13 @@ fn all_unread<F: Fate + Drop>(
 }
 
 impl TimeWatch {
-    ghost use Rattle.std.specs.Prelude.{◌≡◌, ◌≤◌, ◌++◌, None, Some, IfOk, OnOk, map, option_and_then, string_bytes};
+    ghost use Rattle.std.specs.Prelude.{◌≡◌, ◌≤◌, ◌++◌, None, Some, IfOk, OnOk, true, map, option_and_then, string_bytes};
     ghost use Rattle.gptp_model.specs.Views.{rising_clocks};
     ghost use Rattle.gptp_words.specs.Lines.{text_of};
     ghost use Rattle.gptp_timeline.specs.ExactReads.{ended_reads, unread};
     ghost use Rattle.gptp_timeline.specs.Looks.{left_after, looked_all, measured_with, nothing_read};
-    ghost use Rattle.gptp_timeline.specs.Readings.{no_reading, reading_among, reading_error, without_failed};
+    ghost use Rattle.gptp_timeline.specs.Jumps.{IsSmallJump, jump_of};
+    ghost use Rattle.gptp_timeline.specs.Readings.{new_reading, no_reading, reading_among, reading_error, without_failed};
     ghost use Rattle.gptp_timeline.specs.TimeWatch.{reading_lines, times_after, times_begun, times_lines, times_with};
 
     /// An account of a world whose systems start, whose lines are asked for, and whose readings are told, or aren't.
@@ -153,7 +154,7 @@ impl TimeWatch {
             told,
             exact_from: None,
             events_left: 0,
-            systems,
+            systems: AllReadings::new(alloc, systems),
             reads,
             measures: NOTHING_READ,
         })
@@ -176,18 +177,29 @@ impl TimeWatch {
         clear_reads(&mut self.reads);
     }
 
-    /// A system gets a reading at a time.
-    fn take_new<F: Fate + Drop>(&mut self, world: &World<F>, at: u64, act: &Act, new: &NewReading)
-        requires { at ≤ 1000000000000000 }
-        ensures { self.new ≡ times_with at world.now.world_core act.now (Some new.now) self.old }
+    /// A system gets a reading at a time, with this jump.
+    fn take_new<F: Fate + Drop>(
+        &mut self,
+        world: &World<F>,
+        at: u64,
+        act: &Act,
+        new: &NewReading,
+        jump: &Jump,
+    ) -> Result<(), AllocError>
+        requires moment { at ≤ 1000000000000000 }
+        requires before { new.now.before ≡ reading_among self.old.systems new.now.clock }
+        requires jump { jump.now ≡ jump_of at world.now.world_core new.now }
+        requires small { IsSmallJump jump.now }
+        ensures { OnOk result (self.new ≡ times_with at world.now.world_core act.now (Some new.now) self.old) }
     {
         let changes = changes_source(new);
-        let before = told_if(changes, world, at, &self.systems);
-        put_reading(&mut self.systems, new.clock, Some(new.after));
-        let after = told_if(changes, world, at, &self.systems);
-        self.measures = look_at_new(self.measures, world, at, new, before, after);
-        take_reads(&mut self.reads, world, self.exact_from, at, new);
+        let before = told_if(changes, world, at, self.systems.sources());
+        self.systems.put(new.clock, &new.before, new.after)?;
+        let after = told_if(changes, world, at, self.systems.sources());
+        self.measures = look_at_new(self.measures, at, new, jump, before, after);
+        take_reads(&mut self.reads, self.exact_from, at, new, jump);
         self.count_event(act);
+        Ok(())
     }
 
     /// The system with a clock has failed, if one has.
@@ -195,7 +207,7 @@ impl TimeWatch {
         ensures { self.new ≡ record self.old { systems = without_failed failed self.old.systems } }
     {
         if let Some(clock) = failed {
-            put_reading(&mut self.systems, clock, None);
+            self.systems.lose(clock);
         }
     }
 
@@ -215,7 +227,13 @@ impl TimeWatch {
     {
         self.take_failed(failed_by(act));
         if is_last_event(act, self.events_left) {
-            self.measures = look_at_all(self.measures, world, at, &self.systems);
+            self.measures = look_at_all(
+                self.measures,
+                world,
+                at,
+                self.systems.systems(),
+                self.systems.sources(),
+            );
         }
         self.count_event(act);
     }
@@ -238,6 +256,13 @@ impl TimeWatch {
         }
     }
 
+    /// Whether no system gets a reading by an act that was done.
+    pub(crate) fn gets_none<F: Fate + Drop>(&self, world: &World<F>, act: &Act, done: &Done) -> bool
+        ensures { result ≡ true → new_reading act.now done.now world.now.world_core self.now.systems ≡ None }
+    {
+        new_reading(world, self.systems.systems(), act, done).is_none()
+    }
+
     /// Sees an act that was done.
     pub(crate) fn see<F: Fate + Drop>(
         &mut self,
@@ -251,10 +276,11 @@ impl TimeWatch {
         ensures tells { OnOk result (string_bytes text.new
             ≡ string_bytes text.old ++ text_of (times_lines timed.now.at timed.now.act done.now world.now.world_core self.old)) }
     {
-        match new_reading(world, &self.systems, &timed.act, done) {
+        match new_reading(world, self.systems.systems(), &timed.act, done) {
             Some(new) => {
                 self.write_new(text, world, timed.at, &new)?;
-                self.take_new(world, timed.at, &timed.act, &new);
+                let jump = jump_of(world, timed.at, &new);
+                self.take_new(world, timed.at, &timed.act, &new, &jump)?;
             }
             None => self.take_none(world, timed.at, &timed.act),
         }
@@ -266,7 +292,13 @@ impl TimeWatch {
         requires { to ≤ 1000000000000000 }
         ensures { result ≡ measured_with (looked_all to world.now.world_core self.now.systems) self.now.measures }
     {
-        look_at_all(self.measures, world, to, &self.systems)
+        look_at_all(
+            self.measures,
+            world,
+            to,
+            self.systems.systems(),
+            self.systems.sources(),
+        )
     }
 
     /// How far off the system with a clock is at a time by what it reads, if it has time.
@@ -274,7 +306,7 @@ impl TimeWatch {
         requires { to ≤ 1000000000000000 }
         ensures { result ≡ option_and_then (reading_error to world.now.world_core clock) (reading_among self.now.systems clock) }
     {
-        match reading_among(&self.systems, clock) {
+        match self.systems.of(clock) {
             Some(kept) => reading_error(world, to, clock, &kept),
             None => None,
         }

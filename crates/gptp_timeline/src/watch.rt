@@ -5,7 +5,7 @@ ghost use Rattle.gptp_model.specs.Views.{rising_clocks};
 ghost use Rattle.gptp_words.specs.Lines.{text_of};
 ghost use Rattle.gptp_timeline.specs.Measures.{one_at};
 ghost use Rattle.gptp_timeline.specs.TimeWatch.{times_after, times_begun};
-ghost use Rattle.gptp_timeline.specs.Watch.{counts_from, is_sync_expiry, times_lines_if, unseen, without_error};
+ghost use Rattle.gptp_timeline.specs.Watch.{GetsNone, counts_from, times_lines_if, unseen, without_error};
 
 use crate::changes::write_changes;
 use crate::event_line::write_event;
@@ -20,7 +20,6 @@ use gptp_report::sink::Sink;
 use gptp_report::{Cut, Observer, write_whole};
 use gptp_scaled::ScaledNs;
 use gptp_scenario::Change;
-use gptp_setup::Timer;
 use gptp_system::System;
 use gptp_vector::ClockId;
 use gptp_world::{Act, Done, Timed, World};
@@ -145,16 +144,18 @@ fn clear_errors(systems: &mut Vec<Watched>)
     }
 }
 
-/// Whether a Sync timer expires by an act.
-fn is_sync_expiry(act: &Act) -> bool
-    ensures { result ≡ is_sync_expiry act.now }
+/// Whether no system gets a reading by an act, as far as there is an account.
+fn gets_none<F: Fate + Drop>(
+    times: &Option<TimeWatch>,
+    world: &World<F>,
+    act: &Act,
+    done: &Done,
+) -> bool
+    ensures { result ≡ true → GetsNone act.now done.now world.now.world_core times.now }
 {
-    match act {
-        Act::Expire { clock: _, timer } => match timer {
-            Timer::Sync => true,
-            _ => false,
-        },
-        _ => false,
+    match times {
+        Some(times) => times.gets_none(world, act, done),
+        None => true,
     }
 }
 
@@ -262,13 +263,10 @@ impl Watch {
     }
 
     /// Whether an act is passed over: it leaves all that is shown as it was, and no system gets a reading by it.
-    fn passes_over(&self, act: &Act, done: &Done) -> bool
-        ensures { result ≡ true → PassesOver act.now done.now self.now }
+    fn passes_over<F: Fate + Drop>(&self, world: &World<F>, act: &Act, done: &Done) -> bool
+        ensures { result ≡ true → PassesOver act.now done.now world.now.world_core self.now }
     {
-        if self.times.is_some() && is_sync_expiry(act) {
-            return false;
-        }
-        leaves_all(act, done)
+        leaves_all(act, done) && gets_none(&self.times, world, act, done)
     }
 
     /// Sees what an act does to what systems read.
@@ -702,7 +700,7 @@ impl Observer for Watch {
         done: &Done,
         sink: &mut K,
     ) -> Result<(), Cut> {
-        if self.passes_over(&timed.act, done) {
+        if self.passes_over(world, &timed.act, done) {
             return Ok(());
         }
         let mut text = String::new(alloc);

@@ -27,7 +27,7 @@ use Rattle.gptp_theorem.specs.PlayedLaws.{IsPlayable}
 use Rattle.gptp_reading.proofs.LastingLemmas.{error_grows}
 use Rattle.gptp_timeline.specs.ExactReads.{counts_new, ended_reads, greater_of, later_of, reads_among, reads_by, reads_ended, reads_next, reads_over, reads_with, unread}
 use Rattle.gptp_timeline.specs.Laws.{SayBound}
-use Rattle.gptp_timeline.specs.Looks.{error_before}
+use Rattle.gptp_timeline.specs.Jumps.{error_before}
 use Rattle.gptp_timeline.specs.Readings.{clock_time, new_in, put_reading, read_after, read_by, reading_among, reading_error, readings_after, readings_by}
 use Rattle.gptp_timeline.specs.Stretch.{at_of}
 use Rattle.gptp_timeline.specs.Timeline.{AreErrorsBy, exact_time, now_of}

@@ -53,19 +53,6 @@ put_own n put (x ∷ xs) kept is = by (x.clock == n) refl (put_own n put xs kept
     by true own rest is = rw (own, own) at is
     by false own rest is = rest (rw (own, own) at is)
 
--- where the system had one
-pub put_there : (n : ℕ) (put old : KeptReading) (rs : List SystemReading) → reading_among rs n ≡ Some old
-    → reading_among (put_reading n (Some put) rs) n ≡ Some put
-put_there n put old [] is = absurd (none-some old is)
-put_there n put old (x ∷ xs) is = by (x.clock == n) refl (put_there n put old xs) is
-  where
-    by : (own : Bool) → x.clock == n ≡ own
-        → (reading_among xs n ≡ Some old → reading_among (put_reading n (Some put) xs) n ≡ Some put)
-        → reading_among (x ∷ xs) n ≡ Some old
-        → reading_among (put_reading n (Some put) (x ∷ xs)) n ≡ Some put
-    by true own rest is = rw (own, own) refl
-    by false own rest is = rw (own, own) (rest (rw own at is))
-
 -- no system has time at first
 pub none_at_first : (names : List ℕ) (name : ℕ) → reading_among (map no_reading names) name ≡ None
 none_at_first [] name = refl

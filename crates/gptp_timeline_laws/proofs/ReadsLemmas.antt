@@ -5,7 +5,7 @@ use Rattle.std.proofs.lemmas.Bool.Decides.{nat_tests}
 use Rattle.std.proofs.lemmas.Option.{none-some}
 use Rattle.gptp_model.specs.World.{WorldState}
 use Rattle.gptp_timeline.specs.ExactReads.{counts_new, greater_of, later_of, reads_among, reads_by, reads_next, reads_over, reads_with, unread}
-use Rattle.gptp_timeline.specs.Looks.{error_before}
+use Rattle.gptp_timeline.specs.Jumps.{error_before}
 use Rattle.gptp_timeline.specs.Readings.{new_in, read_after, reading_error, readings_after}
 use Rattle.gptp_timeline.specs.Stretch.{at_of}
 use Rattle.gptp_timeline.specs.declared.exact_reads.ExactReads.{ExactReads}

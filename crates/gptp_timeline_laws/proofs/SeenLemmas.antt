@@ -14,7 +14,8 @@ use Rattle.gptp_system.specs.Reading.{read_at}
 use Rattle.gptp_system.specs.State.{clock, local_time, SystemState}
 use Rattle.gptp_system.specs.declared.reading.Reading.{Reading}
 use Rattle.gptp_timeline.specs.Extremes.{Look}
-use Rattle.gptp_timeline.specs.Looks.{error_before, error_in, errors_all, events_left, look, look_if, looked_all, looked_both, looked_by, looked_in, looked_over, LookedAt}
+use Rattle.gptp_timeline.specs.Jumps.{error_before}
+use Rattle.gptp_timeline.specs.Looks.{error_in, errors_all, events_left, look, look_if, looked_all, looked_both, looked_by, looked_in, looked_over, LookedAt}
 use Rattle.gptp_timeline.specs.Readings.{clock_among, new_in, put_reading, read_after, read_by, reading_among, reading_error, readings_after, readings_by}
 use Rattle.gptp_timeline.specs.Sources.{DifferenceState}
 use Rattle.gptp_timeline.specs.Stretch.{at_of}

@@ -18,10 +18,11 @@ use Rattle.gptp_timeline.specs.declared.readings.NewReading.{NewReading}
 use Rattle.gptp_timeline.specs.declared.readings.SystemReading.{SystemReading}
 use Rattle.gptp_timeline.specs.declared.sources.Ends.{Ends}
 use Rattle.gptp_timeline.specs.declared.sources.SourceTime.{SourceTime}
+use Rattle.gptp_timeline.proofs.SourceLemmas.{put_there}
 use Rattle.gptp_timeline_laws.specs.Moments.{last_time, next_time}
 use Rattle.gptp_timeline_laws.specs.Sources.{ReadsFrom}
 use Rattle.gptp_timeline_laws.proofs.LookLemmas.{clock_within}
-use Rattle.gptp_timeline_laws.proofs.ReadLemmas.{is_new, put_other, put_own, put_there, quiet_reads}
+use Rattle.gptp_timeline_laws.proofs.ReadLemmas.{is_new, put_other, put_own, quiet_reads}
 use Rattle.gptp_timeline_laws.proofs.SeenLemmas.{clock_of_system, good_first, good_second, GoodLooks, system_among}
 use Rattle.gptp_timeline_laws.proofs.StepLemmas.{IsStep, next_late, SameClocks, Steps}
 use Rattle.gptp_world.specs.Transitions.{ActTrace}

@@ -8,4 +8,5 @@ returns g c =
     let m = c.args.measures in
     c.with_difference.ensures
     ∙ ap (measured_with (looked_difference c.told_difference.result)) c.look_at_each-errors.ensures
-    ∙ ap (λ d. measured_with (looked_difference d) (measured_with (looked_each at w rs) m)) c.told_difference.ensures
+    ∙ ap (λ d. measured_with (looked_difference d) (measured_with (looked_each at w rs) m))
+    (c.told_difference.ensures rs c.requires.sources)

@@ -6,9 +6,6 @@ use Rattle.gptp_timeline.proofs.PutLemmas.{same_rising}
 use Rattle.gptp_timeline.proofs.time_watch.TimeWatch.begin.Goals as goal
 
 pub invariant_of-self : goal.invariant_of-self
-invariant_of-self c = record {
-  readings_rise = c.self.invariant.readings_rise;
-  reads_rise = subst ReadsRise (sym c.clear_reads.ensures)
-      (same_rising (λ (x : SystemReads). x.clock) without_reads c.self.inside.reads.items (λ x. refl)
-      c.self.invariant.reads_rise);
-}
+invariant_of-self c =
+    subst ReadsRise (sym c.clear_reads.ensures)
+    (same_rising (λ (x : SystemReads). x.clock) without_reads c.self.inside.reads.items (λ x. refl) c.self.invariant)

@@ -1,10 +1,15 @@
-use Rattle.std.proofs.Common.{sym, subst}
-use Rattle.gptp_timeline.specs.TimeWatch.{AreRising}
-use Rattle.gptp_timeline.proofs.NameLemmas.{first_rise}
+use Rattle.std.proofs.Common.{[], sym, subst}
+use Rattle.gptp_timeline.specs.TimeWatch.{ReadsRise}
+use Rattle.gptp_timeline.specs.ToldSources.{IsAccount}
+use Rattle.gptp_timeline.proofs.NameLemmas.{first_account, first_reads_rise}
 use Rattle.gptp_timeline.proofs.time_watch.TimeWatch.new.Goals as goal
 
 pub invariant_of-result : goal.invariant_of-result
 invariant_of-result g c =
-    let w = c.args.world.now.world_core in
-    subst (λ rs. AreRising rs c.in_ok-reads.reads.items) (sym c.in_ok-systems.ensures)
-    (subst (AreRising _) (sym c.in_ok-reads.ensures) (first_rise w c.well_formed-2.ensures.sound.wired.clocks))
+    subst ReadsRise (sym c.in_ok-reads.ensures)
+    (first_reads_rise c.args.world.now.world_core c.well_formed-2.ensures.sound.wired.clocks)
+
+pub new-requires : goal.new-requires
+new-requires g c =
+    subst (λ rs. IsAccount rs []) (sym c.in_ok-systems.ensures)
+    (first_account c.args.world.now.world_core c.well_formed-2.ensures.sound.wired.clocks)
