@@ -17,9 +17,9 @@ pub mod ExpiringLemmas
 pub mod DeliveringLemmas
 pub mod PerformingLemmas
 pub mod ComingUpLemmas
+pub mod PlacedLemmas
 pub mod PendingIndexLemmas
 pub mod FollowLemmas
-pub mod SlotLemmas
 pub mod QueueLemmas
 pub mod PendingLemmas
 pub mod ChainLemmas
@@ -31,5 +31,4 @@ pub mod LaneLemmas
 pub mod WorldCoreLemmas
 pub mod LaterLemmas
 pub mod ViewLemmas
-pub mod TakenLemmas
 pub mod UsedLemmas

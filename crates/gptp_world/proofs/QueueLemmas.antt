@@ -1,16 +1,12 @@
--- The queues of the table in which what is pending is filed.
+-- The numbers that are listed for each direction of a link.
 use Rattle.std.proofs.Common.{◌≡◌, ℕ, zero, suc, ◌-◌, ◌<◌, replicate, List, [], ◌∷◌, map, length, Option, Some, None, slice_index_or, slice_set, refl, sym, ap, ap₂, ◌∙◌, arith}
 use Rattle.std.specs.Prelude.{Result, Ok, Err, OnOk}
 use Rattle.std.proofs.lemmas.List.{get_or-set_same, get_or-set_other, length-map}
 use Rattle.std.proofs.lemmas.Option.{slice_get-get_or}
 use Rattle.gptp_lists.proofs.PlaceLemmas.{read}
-use Rattle.gptp_scheduler.specs.Pending.{AgendaEntry as Numbered}
-use Rattle.gptp_model.specs.declared.item.Item.{Item}
-use Rattle.gptp_model.specs.Pending.{plain}
 use Rattle.slab.specs.Slab.{Slab, get, slab_len}
 use Rattle.gptp_world.specs.declared.chain.Chain.{Chain}
 use Rattle.gptp_world.specs.declared.chain.Node.{Node}
-use Rattle.gptp_world.specs.declared.pending_index.ArmedTimer.{ArmedTimer}
 use Rattle.gptp_world.specs.Chain.{chain_at, chain_head, no_chain, chain_numbers, AreChained, ChangesOne}
 use Rattle.gptp_world.specs.PendingIndex.{PendingIndexState, queue_at, filed_with_queue}
 use Rattle.gptp_world.proofs.ChainLemmas.{numbers-changed, numbers_there}
@@ -39,33 +35,28 @@ pub on_ok : {X E : Type 0} (r : Result X E) (P Q : Type 0) → (P → Q) → OnO
 on_ok (Ok x) P Q f p = f p
 on_ok (Err e) P Q f p = p
 
-pub length-plain : (es : List (Numbered Item)) → length (plain es) ≡ length es
-length-plain [] = refl
-length-plain (e ∷ es) = let ih = length-plain es in omega arith
-
 -- ---- the table as it is kept
 
-abbrev table : List (Option ArmedTimer) → Slab Node → List Chain → PendingIndexState
-table timers nodes chains = record {
-  timers = timers;
+abbrev table : Slab Node → List Chain → PendingIndexState
+table nodes chains = record {
   queues = map (chain_numbers (get nodes)) chains;
   room = nodes.capacity - slab_len nodes;
 }
 
-abbrev made : List (Option ArmedTimer) → List (List ℕ) → ℕ → PendingIndexState
-made timers queues room = record { timers = timers; queues = queues; room = room }
+abbrev made : List (List ℕ) → ℕ → PendingIndexState
+made queues room = record { queues = queues; room = room }
 
 -- the chain at a place changed, so the queue there did
-pub queue_changed : (timers : List (Option ArmedTimer)) (s t : Slab Node) (chains : List Chain) (place : ℕ)
+pub queue_changed : (s t : Slab Node) (chains : List Chain) (place : ℕ)
     (after : Chain) (change : List ℕ → List ℕ) (room : ℕ) → AreChained s chains → place < length chains
     → ChangesOne (get s) (get t) (chain_at place chains) after
     → chain_numbers (get t) after ≡ change (chain_numbers (get s) (chain_at place chains))
     → t.capacity - slab_len t ≡ room
-    → table timers t (slice_set chains place after)
-    ≡ filed_with_queue place (change (queue_at place (table timers s chains))) room (table timers s chains)
-queue_changed timers s t chains place after change room are within changes numbers left =
+    → table t (slice_set chains place after)
+    ≡ filed_with_queue place (change (queue_at place (table s chains))) room (table s chains)
+queue_changed s t chains place after change room are within changes numbers left =
     let queue = numbers ∙ ap change (sym (numbers_there (get s) chains place)) in
-    ap₂ (made timers)
+    ap₂ made
     (numbers-changed s t chains place after are within changes
     ∙ ap (slice_set (map (chain_numbers (get s)) chains) place) queue)
     left

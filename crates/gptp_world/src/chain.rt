@@ -10,7 +10,7 @@ use slab::Slab;
 /// A number, and where the one that was put next in its chain stands.
 #[derive(Clone, Copy)]
 pub(crate) struct Node {
-    pub(crate) number: u64,
+    pub(crate) number: usize,
     // It leads anywhere where nothing was put after this.
     pub(crate) next: usize,
 }
@@ -55,7 +55,7 @@ impl Chain {
     }
 
     /// Puts a number after all others.
-    pub(crate) fn push(&mut self, nodes: &mut Slab<Node>, number: u64)
+    pub(crate) fn push(&mut self, nodes: &mut Slab<Node>, number: usize)
         requires chained { IsChained (get nodes.old) self.old }
         requires few { self.old.count ≤ slab_len nodes.old }
         requires room { HasRoomFor nodes.old 1 }
@@ -94,7 +94,7 @@ impl Chain {
     }
 
     /// Takes the first number out.
-    pub(crate) fn pop(&mut self, nodes: &mut Slab<Node>) -> Option<u64>
+    pub(crate) fn pop(&mut self, nodes: &mut Slab<Node>) -> Option<usize>
         requires chained { IsChained (get nodes.old) self.old }
         ensures number { result ≡ chain_head (chain_numbers (get nodes.old) self.old) }
         ensures rest { chain_numbers (get nodes.new) self.new ≡ rest_of (chain_numbers (get nodes.old) self.old) }
@@ -110,7 +110,7 @@ impl Chain {
     }
 
     /// Takes the first number out, of those that there are.
-    fn take(&mut self, nodes: &mut Slab<Node>) -> u64
+    fn take(&mut self, nodes: &mut Slab<Node>) -> usize
         requires chained { IsChained (get nodes.old) self.old }
         requires some { 0 < self.old.count }
         ensures taken { chain_numbers (get nodes.old) self.old ≡ result ∷ chain_numbers (get nodes.new) self.new }

@@ -1,35 +1,99 @@
 //! What is pending in a world.
 
-ghost use Rattle.std.specs.Prelude.{◌≡◌, ℕ, ◌+◌, ◌<◌, ◌≤◌, [], length, not, true, false, Option, IsOk, IfOk, OnOk, IfSome, IfNone, IsTrue};
+ghost use Rattle.std.specs.Prelude.{◌≡◌, ℕ, ◌+◌, ◌<◌, ◌≤◌, [], ◌∷◌, ◌++◌, length, not, true, false, Option, IsOk, IfOk, OnOk, IfSome, IfNone, IsTrue};
 ghost use Rattle.std.specs.List.{AllByRecursion};
 ghost use Rattle.gptp_model.specs.Item.{timer_port};
 ghost use Rattle.gptp_model.specs.Pending.{timer_time, put, set_due, times_of_item, without, without_first_entry, IsKnownItem, IsNext};
 ghost use Rattle.gptp_model.specs.declared.item.Item.TheVariants.{Expiry, Arrival};
 ghost use Rattle.gptp_links.specs.declared.link.Direction.TheVariants.{FromA, FromB};
-ghost use Rattle.gptp_scheduler.specs.Pending.{without_number};
+ghost use Rattle.gptp_queue.specs.Waiting.{RiseFrom};
+ghost use Rattle.gptp_world.specs.PendingIndex.{placed, placed_items, without_placed, MakesFree, PutsBack};
 
-use crate::pending_index::{ArmedTimer, PendingIndex, arrival_place, timer_place};
+use crate::pending_index::{PendingIndex, arrival_place, timer_kind, timer_place};
 use gptp_links::Direction;
 use gptp_model::Item;
-use gptp_scheduler::Agenda;
+use gptp_queue::Queue;
 use gptp_system::Timer;
 use std::alloc::{AllocError, Global};
 use std::marker::Model;
 
-/// Takes the entry of a number out of an agenda; the least of all by its time, so that the agenda goes on from there.
-fn take_out(agenda: &mut Agenda<Item>, number: u64)
-    ensures taken { agenda.new.entries ≡ without_number number agenda.old.entries }
-    ensures next { agenda.new.next ≡ agenda.old.next }
-    ensures room { agenda.old.room ≤ agenda.new.room }
+/// How many kinds of timers there are. Each has a run in the queue, and arrivals have none.
+const TIMER_KINDS: usize = 7;
+
+/// Room is made for so many entries at least.
+const AT_ONCE: usize = 256;
+
+/// The item at a place where nothing is due.
+const NO_ITEM: Item = Item::Arrival {
+    link: 0,
+    direction: Direction::FromA,
+};
+
+/// An item of a kind is due at a place at this time, in ns, in place of what was due there.
+fn put_item(
+    queue: &mut Queue,
+    items: &mut Vec<Item>,
+    kind: usize,
+    place: usize,
+    time: u64,
+    item: Item,
+)
+    requires place { place < queue.old.places }
+    requires items { queue.old.places ≤ length items.old.items }
+    requires room { 0 < queue.old.room }
+    ensures put { placed_items items.new.items queue.new.entries ≡ without_placed place (placed_items items.old.items queue.old.entries) ++ placed time place item ∷ [] }
+    ensures places { queue.new.places ≡ queue.old.places }
+    ensures items { length items.new.items ≡ length items.old.items }
+    ensures room { queue.old.room ≤ queue.new.room + 1 }
 {
-    match agenda.next() {
-        Some((time, least)) if least == number => {
-            agenda.take_due(time);
-        }
-        _ => {
-            agenda.cancel(number);
-        }
+    items[place] = item;
+    let _ = queue.put(kind, place, time).unwrap();
+}
+
+/// Makes one more place for arrivals, at which nothing is due, behind those of so many timers. There is room to keep all
+/// places of arrivals then.
+fn make_place(
+    queue: &mut Queue,
+    items: &mut Vec<Item>,
+    free: &mut Vec<usize>,
+    timers: usize,
+) -> Result<(), AllocError>
+    requires { queue.old.places ≤ length items.old.items }
+    ensures made { MakesFree queue.old queue.new items.old.items items.new.items free.old.items free.new.items }
+    ensures ok { OnOk result (length free.new.items ≡ length free.old.items + 1) }
+{
+    queue.places_differ();
+    let place = items.len();
+    items.push(NO_ITEM)?;
+    queue.make_places(items.len())?;
+    free.reserve(items.len().saturating_sub(timers))?;
+    free.push(place)?;
+    Ok(())
+}
+
+/// Makes places for arrivals until nothing is due at so many.
+fn make_places(
+    queue: &mut Queue,
+    items: &mut Vec<Item>,
+    free: &mut Vec<usize>,
+    timers: usize,
+    count: usize,
+) -> Result<(), AllocError>
+    requires { queue.old.places ≤ length items.old.items }
+    ensures made { MakesFree queue.old queue.new items.old.items items.new.items free.old.items free.new.items }
+    ensures ok { OnOk result (count ≤ length free.new.items) }
+{
+    while free.len() < count {
+        make_place(queue, items, free, timers)?;
     }
+    Ok(())
+}
+
+/// Nothing is due at a place for arrivals any more; where there is no memory to keep it, it is never used again.
+fn put_back(free: &mut Vec<usize>, place: usize)
+    ensures { PutsBack free.old.items free.new.items place }
+{
+    let _ = free.push(place);
 }
 
 /// What is pending in a world: timers of its systems, each at most once, and arrivals over its links. Systems and links
@@ -41,8 +105,16 @@ fn take_out(agenda: &mut Agenda<Item>, number: u64)
 pub struct Pending {
     systems: usize,
     links: usize,
-    agenda: Agenda<Item>,
+    // First the places of timers, and then those of arrivals.
+    queue: Queue,
+    // The item that is due at each place, where one is.
+    items: Vec<Item>,
+    // The places of the arrivals, by link and direction.
     pending_index: PendingIndex,
+    // The places for arrivals at which nothing is due.
+    free: Vec<usize>,
+    // There is room for so many more, or for more than that.
+    spare: usize,
 }
 
 impl Model for Pending {
@@ -50,18 +122,18 @@ impl Model for Pending {
 
     ghost Value = { PendingView };
 
-    ghost use Rattle.std.specs.Prelude.{min};
-    ghost use Rattle.gptp_model.specs.Pending.{plain};
-    ghost use Rattle.gptp_world.specs.PendingIndex.{PendingIsIndexed};
+    ghost use Rattle.gptp_world.specs.PendingIndex.{placed_items, plain_items, HasSpare, PendingIsIndexed};
 
     ghost view = { λ p. record {
       systems = p.systems;
       links = p.links;
-      entries = plain p.agenda.entries;
-      room = min p.agenda.room p.pending_index.room;
+      entries = plain_items (placed_items p.items.items p.queue.entries);
+      room = p.spare;
     } };
 
-    ghost invariant = { λ p. PendingIsIndexed p.systems p.links p.pending_index p.agenda.entries };
+    ghost invariant = { λ p.
+        PendingIsIndexed p.systems p.links p.pending_index p.queue.places p.free.items (placed_items p.items.items p.queue.entries)
+        × HasSpare p.spare p.queue p.pending_index p.items.items p.free.items };
 }
 
 impl Pending {
@@ -74,12 +146,17 @@ impl Pending {
         ensures links { IfOk result (λ pending. pending.links ≡ links) }
         ensures entries { IfOk result (λ pending. pending.entries ≡ []) }
     {
-        let pending_index = PendingIndex::new(alloc, systems * 119, links * 2)?;
+        let queue = Queue::new(alloc, systems * 119, TIMER_KINDS)?;
+        let items = vec![in alloc; NO_ITEM; systems * 119]?;
+        let pending_index = PendingIndex::new(alloc, links * 2)?;
         Ok(Pending {
             systems,
             links,
-            agenda: Agenda::new(alloc),
+            queue,
+            items,
             pending_index,
+            free: Vec::new(alloc),
+            spare: 0,
         })
     }
 
@@ -91,8 +168,32 @@ impl Pending {
         ensures ok { OnOk result (additional ≤ self.new.room) }
         ensures succeeds { additional ≤ self.old.room → IsOk result }
     {
-        self.agenda.reserve(additional)?;
-        self.pending_index.reserve(additional)
+        if self.spare < additional {
+            return self.make_room(additional.max(AT_ONCE));
+        }
+        Ok(())
+    }
+
+    /// Makes room for so many more entries, where there is less.
+    #[cold]
+    #[inline(never)]
+    fn make_room(&mut self, additional: usize) -> Result<(), AllocError>
+        requires { self.old.room ≤ additional }
+        ensures kept { self.new ≡ record self.old { room = self.new.room } }
+        ensures room { self.old.room ≤ self.new.room }
+        ensures ok { OnOk result (additional ≤ self.new.room) }
+    {
+        self.queue.reserve(additional)?;
+        self.pending_index.reserve(additional)?;
+        make_places(
+            &mut self.queue,
+            &mut self.items,
+            &mut self.free,
+            self.systems * 119,
+            additional,
+        )?;
+        self.spare = additional;
+        Ok(())
     }
 
     /// When a timer of a system is due, in ns, where it runs.
@@ -100,8 +201,8 @@ impl Pending {
         requires { IsKnownItem self.now.systems self.now.links (Expiry place timer) }
         ensures { times_of_item (Expiry place timer) self.now.entries ≡ timer_time result }
     {
-        let running = self.pending_index.timer(timer_place(place, timer))?;
-        Some(running.due)
+        self.queue.places_differ();
+        self.queue.time(timer_place(place, timer))
     }
 
     /// A timer of a system is to run out at this time, in ns, or doesn't run: where it is pending so, its entry stays;
@@ -115,35 +216,31 @@ impl Pending {
         if self.due(place, timer) == due {
             return;
         }
-        self.stop(place, timer);
         match due {
             Some(time) => self.start(place, timer, time),
-            None => {}
+            None => self.queue.cancel(timer_place(place, timer)),
         }
     }
 
-    /// Puts a timer that doesn't run.
+    /// A timer runs out at this time, and no longer when it was to run out before.
     fn start(&mut self, place: usize, timer: Timer, time: u64)
         requires known { IsKnownItem self.old.systems self.old.links (Expiry place timer) }
-        requires stopped { times_of_item (Expiry place timer) self.old.entries ≡ [] }
         requires room { 0 < self.old.room }
-        ensures kept { self.new ≡ record self.old { entries = put time (Expiry place timer) self.old.entries; room = self.new.room } }
+        ensures kept { self.new ≡ record self.old { entries = put time (Expiry place timer) (without (Expiry place timer) self.old.entries); room = self.new.room } }
         ensures room { self.old.room ≤ self.new.room + 1 }
     {
-        let number = self
-            .agenda
-            .put(
-                time,
-                Item::Expiry {
-                    place: place as u16,
-                    timer,
-                },
-            )
-            .unwrap();
-        self.pending_index.set_timer(
+        put_item(
+            &mut self.queue,
+            &mut self.items,
+            timer_kind(timer),
             timer_place(place, timer),
-            Some(ArmedTimer { due: time, number }),
+            time,
+            Item::Expiry {
+                place: place as u16,
+                timer,
+            },
         );
+        self.spare -= 1;
     }
 
     /// Cancels a timer, where it runs.
@@ -153,15 +250,8 @@ impl Pending {
         ensures room { self.old.room ≤ self.new.room }
         ensures once { length (times_of_item (Expiry place timer) self.old.entries) ≤ 1 }
     {
-        self.agenda.numbers_rise();
-        let pending_index = timer_place(place, timer);
-        match self.pending_index.timer(pending_index) {
-            Some(running) => {
-                take_out(&mut self.agenda, running.number);
-                self.pending_index.set_timer(pending_index, None);
-            }
-            None => {}
-        }
+        self.queue.places_differ();
+        self.queue.take(timer_place(place, timer));
     }
 
     /// Puts an arrival over a link in a direction, due at this time, in ns. Takes no memory.
@@ -171,18 +261,21 @@ impl Pending {
         ensures kept { self.new ≡ record self.old { entries = put due (Arrival link direction) self.old.entries; room = self.new.room } }
         ensures room { self.old.room ≤ self.new.room + 1 }
     {
-        let number = self
-            .agenda
-            .put(
-                due,
-                Item::Arrival {
-                    link: link as u16,
-                    direction,
-                },
-            )
-            .unwrap();
+        let place = self.free.pop().unwrap();
+        put_item(
+            &mut self.queue,
+            &mut self.items,
+            TIMER_KINDS,
+            place,
+            due,
+            Item::Arrival {
+                link: link as u16,
+                direction,
+            },
+        );
         self.pending_index
-            .push(arrival_place(link, direction), number);
+            .push(arrival_place(link, direction), place);
+        self.spare -= 1;
     }
 
     /// Takes the first arrival over a link in a direction out, and answers whether there was one.
@@ -193,10 +286,11 @@ impl Pending {
         ensures none { result ≡ false → times_of_item (Arrival link direction) self.old.entries ≡ [] }
         ensures one { result ≡ true → length self.new.entries < length self.old.entries }
     {
-        self.agenda.numbers_rise();
+        self.queue.places_differ();
         match self.pending_index.pop(arrival_place(link, direction)) {
-            Some(number) => {
-                take_out(&mut self.agenda, number);
+            Some(place) => {
+                self.queue.take(place);
+                put_back(&mut self.free, place);
                 true
             }
             None => false,
@@ -229,16 +323,17 @@ impl Pending {
         ensures known { IfSome result (λ due. IsKnownItem self.now.systems self.now.links due.1) }
         ensures empty { IfNone result (self.now.entries ≡ []) }
     {
-        self.agenda.numbers_rise();
-        let (time, _number, item) = self.agenda.least()?;
-        Some((time, *item))
+        self.queue.numbers_rise();
+        self.queue.places_differ();
+        let first = self.queue.next()?;
+        Some((first.time, self.items[first.place]))
     }
 
     /// Each timer is pending at most once.
     pub fn timers_run_once(&self)
         ensures { (place : ℕ) (timer : Timer) → IsKnownItem self.now.systems self.now.links (Expiry place timer) → length (times_of_item (Expiry place timer) self.now.entries) ≤ 1 }
     {
-        let _ = &self.pending_index;
+        self.queue.places_differ();
     }
 
     /// All that is pending is of the systems and links that there are.

@@ -1,6 +1,6 @@
-//! What is pending, filed by item.
+//! The places of arrivals, by link and direction.
 
-ghost use Rattle.std.specs.Prelude.{◌≡◌, ℕ, ◌+◌, ◌-◌, ◌*◌, ◌<◌, ◌≤◌, [], ◌∷◌, ◌++◌, length, IsOk, IfOk, OnOk, None, slice_index_or, slice_set};
+ghost use Rattle.std.specs.Prelude.{◌≡◌, ℕ, ◌+◌, ◌-◌, ◌*◌, ◌<◌, ◌≤◌, [], ◌∷◌, ◌++◌, length, IsOk, IfOk, OnOk, slice_index_or, slice_set};
 ghost use Rattle.gptp_model.specs.Item.{timer_kind, timer_port};
 ghost use Rattle.gptp_model.specs.Pending.{arrival_place};
 ghost use Rattle.gptp_world.specs.Chain.{chain_head, rest_of};
@@ -13,18 +13,9 @@ use slab::Slab;
 use std::alloc::{AllocError, Global};
 use std::marker::Model;
 
-/// A timer that runs: when it is due, in ns, and the number of its entry.
-#[derive(Clone, Copy, Debug, PartialEq, Eq)]
-pub(crate) struct ArmedTimer {
-    pub due: u64,
-    pub number: u64,
-}
-
-/// The timers that run, and the numbers of the arrivals, each at the place of its item. It is seen as the two lists,
-/// and how many more numbers can be put.
+/// A list of numbers for each direction of each link. It is seen as these lists, and how many more numbers can be put.
 #[derive(Drop)]
 pub(crate) struct PendingIndex {
-    timers: Vec<Option<ArmedTimer>>,
     // The numbers of all queues.
     nodes: Slab<Node>,
     queues: Vec<Chain>,
@@ -40,7 +31,6 @@ impl Model for PendingIndex {
     ghost use Rattle.gptp_world.specs.Chain.{chain_numbers, AreChained};
 
     ghost view = { λ f. record {
-      timers = f.timers.items;
       queues = map (chain_numbers (get f.nodes)) f.queues.items;
       room = f.nodes.capacity - slab_len f.nodes;
     } };
@@ -49,36 +39,16 @@ impl Model for PendingIndex {
 }
 
 impl PendingIndex {
-    /// Nothing filed, with places for so many timers and queues.
-    pub fn new(alloc: Global, timers: usize, queues: usize) -> Result<Self, AllocError>
-        ensures timers_len { IfOk result (λ pending_index. length pending_index.timers ≡ timers) }
+    /// So many lists, with no number. Refused where there is no memory for them.
+    pub fn new(alloc: Global, queues: usize) -> Result<Self, AllocError>
         ensures queues_len { IfOk result (λ pending_index. length pending_index.queues ≡ queues) }
-        ensures timers { IfOk result (λ pending_index. (place : ℕ) → slice_index_or pending_index.timers place None ≡ None) }
         ensures queues { IfOk result (λ pending_index. (place : ℕ) → queue_at place pending_index ≡ []) }
     {
-        let timers = vec![in alloc; None; timers]?;
         let queues = vec![in alloc; Chain::new(); queues]?;
         Ok(PendingIndex {
-            timers,
             nodes: Slab::new(alloc),
             queues,
         })
-    }
-
-    /// The timer at a place, where it runs.
-    pub fn timer(&self, place: usize) -> Option<ArmedTimer>
-        requires { place < length self.now.timers }
-        ensures { result ≡ slice_index_or self.now.timers place None }
-    {
-        self.timers[place]
-    }
-
-    /// The timer at a place becomes this.
-    pub fn set_timer(&mut self, place: usize, running: Option<ArmedTimer>)
-        requires { place < length self.old.timers }
-        ensures { self.new ≡ record self.old { timers = slice_set self.old.timers place running } }
-    {
-        self.timers[place] = running;
     }
 
     /// Makes room for so many more numbers, wherever they are put.
@@ -92,7 +62,7 @@ impl PendingIndex {
     }
 
     /// Puts a number after the others at a place.
-    pub fn push(&mut self, place: usize, number: u64)
+    pub fn push(&mut self, place: usize, number: usize)
         requires place { place < length self.old.queues }
         requires room { 0 < self.old.room }
         ensures { self.new ≡ filed_with_queue place (queue_at place self.old ++ number ∷ []) (self.old.room - 1) self.old }
@@ -101,7 +71,7 @@ impl PendingIndex {
     }
 
     /// Takes the first number at a place out.
-    pub fn pop(&mut self, place: usize) -> Option<u64>
+    pub fn pop(&mut self, place: usize) -> Option<usize>
         requires { place < length self.old.queues }
         ensures number { result ≡ chain_head (queue_at place self.old) }
         ensures rest { self.new ≡ filed_with_queue place (rest_of (queue_at place self.old)) self.new.room self.old }
@@ -121,7 +91,7 @@ pub(crate) fn timer_place(place: usize, timer: Timer) -> usize
 }
 
 /// The kind of a timer.
-fn timer_kind(timer: Timer) -> usize
+pub(crate) fn timer_kind(timer: Timer) -> usize
     ensures kind { result ≡ timer_kind timer }
     ensures few { result < 7 }
 {

@@ -1,52 +1,48 @@
-use Rattle.std.proofs.Common.{refl, sym, ◌∙◌}
+use Rattle.std.proofs.Common.{refl, ap, ◌∙◌, arith}
+use Rattle.gptp_model.specs.declared.item.Item.TheVariants.{Expiry}
+use Rattle.gptp_model.proofs.PendingLemmas.{without-once}
+use Rattle.gptp_world.specs.PendingIndex.{placed_items, plain_items, timer_place}
 use Rattle.gptp_world.proofs.PendingLemmas.{same_state}
-use Rattle.gptp_world.proofs.PendingIndexLemmas.{pending_index-stopped, plain-stopped, plain-not_filed, times-once}
+use Rattle.gptp_world.proofs.PlacedLemmas.{placed-without}
+use Rattle.gptp_world.proofs.PendingIndexLemmas.{timer_within, index-cancelled, plain-cancelled, spare-left, times-once}
 use Rattle.gptp_world.proofs.pending.Pending.stop.Goals as goal
+
+pub take-requires : goal.take-requires
+take-requires c =
+    let p = c.self.inside in let timers = c.self.invariant.0.timers in
+    let within = timer_within p.systems p.links c.args.place c.args.timer (rw (← c.self.view_is) at c.requires) in
+    rw c.timer_place.ensures (omega (arith, timers, within))
 
 pub invariant_of-self : goal.invariant_of-self
 invariant_of-self c =
-    let p = c.self.inside in
-    let known = rw (← c.self.view_is) at c.requires in
-    let runs = sym (rw c.timer_place-pending_index.ensures at c.timer.ensures) ∙ c.in-Some.is in
-    rw (c.set_timer.ensures, c.timer_place-pending_index.ensures, c.take_out.ensures.taken)
-    (pending_index-stopped p.systems p.links p.pending_index p.agenda.entries c.self.invariant c.args.place
-    c.args.timer known
-    c.in-Some.running
-    runs p.agenda.next c.numbers_rise.ensures)
+    let p = c.self.inside in let known = rw (← c.self.view_is) at c.requires in
+    rw (
+      c.take.ensures,
+      c.timer_place.ensures,
+      placed-without p.items.items (timer_place c.args.place c.args.timer)
+          p.queue.entries,
+    ) (
+      index-cancelled p.systems p.links p.pending_index p.queue.places p.free.items
+          (placed_items p.items.items p.queue.entries) c.self.invariant.0 c.args.place c.args.timer known,
+      spare-left p.spare p.queue _ p.pending_index p.pending_index p.items.items p.free.items p.free.items
+          c.self.invariant.1 (omega arith) refl (omega arith) (omega arith),
+    )
 
-pub returns-in-Some-clause-kept : goal.returns-in-Some-clause-kept
-returns-in-Some-clause-kept c =
-    let p = c.self.inside in
-    let known = rw (← c.self.view_is) at c.requires in
-    let runs = sym (rw c.timer_place-pending_index.ensures at c.timer.ensures) ∙ c.in-Some.is in
-    rw (← c.self.view_is, c.set_timer.ensures, c.take_out.ensures.taken)
+pub returns-clause-kept : goal.returns-clause-kept
+returns-clause-kept c =
+    let p = c.self.inside in let are = c.self.invariant.0 in let known = rw (← c.self.view_is) at c.requires in
+    let ps = placed_items p.items.items p.queue.entries in
+    rw (← c.self.view_is, c.take.ensures, c.timer_place.ensures)
     (same_state _ _ refl refl
-    (plain-stopped p.systems p.links p.pending_index p.agenda.entries c.self.invariant c.args.place c.args.timer known
-    c.in-Some.running
-    runs p.agenda.next c.numbers_rise.ensures) refl)
+    (ap plain_items (placed-without p.items.items (timer_place c.args.place c.args.timer) p.queue.entries)
+    ∙ plain-cancelled p.systems p.links c.args.place c.args.timer known ps are.known are.placed
+    ∙ without-once (Expiry c.args.place c.args.timer) (plain_items ps)
+    (times-once p.systems p.links c.args.place c.args.timer known p.items.items p.queue.entries
+    c.places_differ.ensures.differ are.known are.placed)) refl)
 
-pub returns-in-Some-clause-once : goal.returns-in-Some-clause-once
-returns-in-Some-clause-once c =
-    let p = c.self.inside in
-    let known = rw (← c.self.view_is) at c.requires in
+pub returns-clause-once : goal.returns-clause-once
+returns-clause-once c =
+    let p = c.self.inside in let are = c.self.invariant.0 in let known = rw (← c.self.view_is) at c.requires in
     rw (← c.self.view_is)
-    (times-once p.systems p.links p.pending_index p.agenda.entries c.self.invariant c.args.place c.args.timer known)
-
-pub returns-in-None-clause-kept : goal.returns-in-None-clause-kept
-returns-in-None-clause-kept c =
-    let p = c.self.inside in
-    let known = rw (← c.self.view_is) at c.requires in
-    let none = sym c.in-None.is ∙ rw c.timer_place-pending_index.ensures at c.timer.ensures in
-    rw (← c.self.view_is)
-    (same_state _ _ refl refl
-    (sym (plain-not_filed p.systems p.links p.pending_index p.agenda.entries c.self.invariant c.args.place
-    c.args.timer known
-    none))
-    refl)
-
-pub returns-in-None-clause-once : goal.returns-in-None-clause-once
-returns-in-None-clause-once c =
-    let p = c.self.inside in
-    let known = rw (← c.self.view_is) at c.requires in
-    rw (← c.self.view_is)
-    (times-once p.systems p.links p.pending_index p.agenda.entries c.self.invariant c.args.place c.args.timer known)
+    (times-once p.systems p.links c.args.place c.args.timer known p.items.items p.queue.entries
+    c.places_differ.ensures.differ are.known are.placed)

@@ -20,6 +20,6 @@ returns-clause-rest c =
     let within = in_queues (get f.nodes) f.queues.items c.args.place (rw (← c.self.view_is) at c.requires) in
     let is = chain_lent f.queues.items c.args.place c.index_mut.result.now within c.index_mut.ensures.value in
     rw (← c.self.view_is)
-    (queue_changed f.timers.items f.nodes c.pop.new.nodes f.queues.items c.args.place c.pop.new.self rest_of
+    (queue_changed f.nodes c.pop.new.nodes f.queues.items c.args.place c.pop.new.self rest_of
     (c.pop.new.nodes.capacity - slab_len c.pop.new.nodes) c.self.invariant within
     (rw is e.others) (rw is e.rest) refl)

@@ -22,6 +22,6 @@ returns c =
     let is = chain_lent f.queues.items c.args.place c.index_mut.result.now within c.index_mut.ensures.value in
     let len = e.len in let capacity = e.capacity in
     rw (← c.self.view_is)
-    (queue_changed f.timers.items f.nodes c.push.new.nodes f.queues.items c.args.place c.push.new.self
+    (queue_changed f.nodes c.push.new.nodes f.queues.items c.args.place c.push.new.self
     (λ numbers. numbers ++ c.args.number ∷ []) (f.nodes.capacity - slab_len f.nodes - 1) c.self.invariant within
     (rw is e.others) (rw is e.numbers) (omega (arith, len, capacity)))
