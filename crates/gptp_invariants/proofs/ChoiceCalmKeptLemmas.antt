@@ -74,14 +74,14 @@ used_bare systems [] = refl
 used_bare systems (first ∷ channels) =
     ap (λ rest. if channel_is_used systems first then standing_link first ∷ rest else rest) (used_bare systems channels)
 
-lane_bare : (port : PortIdentity) (channels : List Channel) → lane_of (map bare channels) port ≡ lane_of channels port
+pub lane_bare : (port : PortIdentity) (channels : List Channel) → lane_of (map bare channels) port ≡ lane_of channels port
 lane_bare port [] = refl
 lane_bare port (first ∷ channels) =
     ap (λ rest. if has_port_id first.a port then lane_place 0 FromA
     else (if has_port_id first.b port then lane_place 0 FromB else suc (suc rest)))
     (lane_bare port channels)
 
-delay_bare : (systems : List System) (channels : List Channel)
+pub delay_bare : (systems : List System) (channels : List Channel)
     → greatest_channel_delay systems (map bare channels) ≡ greatest_channel_delay systems channels
 delay_bare systems [] = refl
 delay_bare systems (first ∷ channels) =

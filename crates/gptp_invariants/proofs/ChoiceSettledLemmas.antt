@@ -45,11 +45,11 @@ use Rattle.gptp_invariants.proofs.SyncWaitLemmas.{spans_grow}
 abbrev is_slave : Option ℕ → ℕ → Bool
 is_slave slave n = option_map_or (λ m. m == n) slave false
 
-slave_is : (slave : Option ℕ) (n : ℕ) → slave ≡ Some n → is_slave slave n ≡ true
+pub slave_is : (slave : Option ℕ) (n : ℕ) → slave ≡ Some n → is_slave slave n ≡ true
 slave_is None n same = absurd (none-some n same)
 slave_is (Some m) n same = eq-eqb m n (same_Some m n same)
 
-slave_is_not : (slave : Option ℕ) (n : ℕ) → slave ≢ Some n → is_slave slave n ≡ false
+pub slave_is_not : (slave : Option ℕ) (n : ℕ) → slave ≢ Some n → is_slave slave n ≡ false
 slave_is_not None n other = refl
 slave_is_not (Some m) n other = by (m == n) refl
   where
@@ -58,7 +58,7 @@ slave_is_not (Some m) n other = by (m == n) refl
     by false differ = differ
 
 -- the role that a port is seen to play is its role
-plays_own : (slave : Option ℕ) (n : ℕ) (keep : ℤ → ℕ) (h : Held) (r : Role) → PlaysRole slave n (held_view keep h) r
+pub plays_own : (slave : Option ℕ) (n : ℕ) (keep : ℤ → ℕ) (h : Held) (r : Role) → PlaysRole slave n (held_view keep h) r
     → graph_role (role_by (is_slave slave n) h) ≡ r
 plays_own slave n keep helds.Disabled Disabled plays = refl
 plays_own slave n keep helds.Disabled Master (root, steps, same) = absurd cc

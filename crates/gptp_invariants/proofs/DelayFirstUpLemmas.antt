@@ -37,7 +37,7 @@ use Rattle.gptp_invariants.proofs.DelayFirstAtLemmas.{Came, IsReady, came_beside
 
 -- ---- a link comes up
 
-queue_up : (direction : Direction) (channel : Channel)
+pub queue_up : (direction : Direction) (channel : Channel)
     → world_queue direction (record channel { up = true }) ≡ world_queue direction channel
 queue_up FromA channel = refl
 queue_up FromB channel = refl

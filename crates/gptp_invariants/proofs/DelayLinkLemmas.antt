@@ -83,7 +83,7 @@ sender_opposite FromA channel = refl
 sender_opposite FromB channel = refl
 
 -- a link whose ends are one port sends where it receives
-one_end : (direction : Direction) (channel : Channel) → channel.a ≡ channel.b
+pub one_end : (direction : Direction) (channel : Channel) → channel.a ≡ channel.b
     → sender direction channel ≡ receiver direction channel
 one_end FromA channel e = e
 one_end FromB channel e = sym e

@@ -31,7 +31,7 @@ record LivesSomewhere (number : ℕ) (w : WorldState) : Type 0 where
   at : StationIsLiveAt place number w
 
 -- so it is where a used link leads to
-receiver_lives : (w : WorldState) (direction : Direction) (channel : Channel)
+pub receiver_lives : (w : WorldState) (direction : Direction) (channel : Channel)
     → channel_is_used (live_stations w.stations) channel ≡ true → LivesSomewhere (receiver direction channel).clock w
 receiver_lives w direction channel used =
     let has = subst (λ (q : PortId). stations_have_clock (live_stations w.stations) q.clock ≡ true)

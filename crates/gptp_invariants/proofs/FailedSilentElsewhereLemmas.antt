@@ -77,7 +77,7 @@ live_silent gone at place port w draws w' named clocks is apart (inl (answer, k)
 live_silent gone at place port w draws w' named clocks is apart (inr (failed, none, same)) =
     subst (IsSilent gone at) (sym same) is
 
-live_before : (place port : ℕ) (w : WorldState) (draws : List Draw) (w' : WorldState)
+pub live_before : (place port : ℕ) (w : WorldState) (draws : List Draw) (w' : WorldState)
     → CallsIfLive place (PortUp port) w draws w' → IsAsBefore w w'
 live_before place port w draws w' (inl (answer, k)) = calls_before place (PortUp port) w draws answer w' k
 live_before place port w draws w' (inr (failed, none, same)) =
@@ -90,7 +90,7 @@ changed_one : (gone : ℕ) (at : LinkPlace) (w : WorldState) → IsSilent gone a
     → IsSilent gone at (record w { last_change = w.time })
 changed_one gone at w is = record { link = is.link; old = is.old; inv = is.inv }
 
-changed_stood : (at : LinkPlace) (w : WorldState) → StandsUnanswered at (record w { last_change = w.time })
+pub changed_stood : (at : LinkPlace) (w : WorldState) → StandsUnanswered at (record w { last_change = w.time })
     → StandsUnanswered at w
 changed_stood at w s = record {
   channel = s.channel;

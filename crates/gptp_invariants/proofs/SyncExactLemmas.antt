@@ -98,13 +98,13 @@ all_alike w all p have place station here =
 -- ---- at another time
 
 -- a system has the same way at another time
-error_then : (p : Params) (w : WorldState) (time number steps error : ℕ) → IsWayError p w number steps error
+pub error_then : (p : Params) (w : WorldState) (time number steps error : ℕ) → IsWayError p w number steps error
     → IsWayError p (at time w) number steps error
 error_then p w time number steps error way =
     record { way = way.way; phase = way.phase; leads = way.leads; is = way.is }
 
 -- and the same state
-shows_then : (w : WorldState) (time number : ℕ) (s : SystemState) → ShowsLive number w s
+pub shows_then : (w : WorldState) (time number : ℕ) (s : SystemState) → ShowsLive number w s
     → ShowsLive number (at time w) s
 shows_then w time number s shows = record {
   place = shows.place;
@@ -114,7 +114,7 @@ shows_then w time number s shows = record {
   state = shows.state;
 }
 
-ahead_then : (w : WorldState) (number time : ℕ) (amount : ℤ) → IsAhead w number time amount
+pub ahead_then : (w : WorldState) (number time : ℕ) (amount : ℤ) → IsAhead w number time amount
     → IsAhead (at time w) number time amount
 ahead_then w number time amount is = record {
   own = is.own;
@@ -129,7 +129,7 @@ ahead_then w number time amount is = record {
 -- ---- a frame that a system uses
 
 -- where a system stands after a delivery it stood before
-stood : (link : ℕ) (direction : Direction) (w : WorldState) (draws : List Draw) (done : Done) (w' : WorldState)
+pub stood : (link : ℕ) (direction : Direction) (w : WorldState) (draws : List Draw) (done : Done) (w' : WorldState)
     → IsSound w → Acts (Deliver link direction) w draws done w' → (place place' : ℕ) (station station' : Station)
     → slice_get w.stations place ≡ Some station → slice_get w'.stations place' ≡ Some station'
     → clock station'.system ≡ clock station.system → place' ≡ place

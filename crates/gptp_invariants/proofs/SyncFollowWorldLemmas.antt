@@ -57,7 +57,7 @@ module _ {F : Type 0} (answers : Bounds → ℕ → F → Option ℕ → F → T
 -- ---- delays
 
 -- the greatest delay of links in use is no more than what none of them exceeds
-used_within : (systems : List System) (channels : List Channel) (bound : ℕ)
+pub used_within : (systems : List System) (channels : List Channel) (bound : ℕ)
     → ((link : ℕ) (channel : Channel) → slice_get channels link ≡ Some channel → channel_is_used systems channel ≡ true
     → channel.bounds.max ≤ bound)
     → greatest_channel_delay systems channels ≤ bound

@@ -38,7 +38,7 @@ next_still (Arrival link direction) act w is = subst (λ a. IsNoChange a × Sets
 next_still (Expiry place timer) act w (station, here, is) =
     subst (λ a. IsNoChange a × SetsAnOctet a) (sym is) (tt, tt)
 
-later_keeps : (time : ℕ) (w : WorldState) → KeepsNetwork w (at_time time w)
+pub later_keeps : (time : ℕ) (w : WorldState) → KeepsNetwork w (at_time time w)
 later_keeps time w = record { systems = refl; places = λ number. refl; setups = refl; links = refl; change = refl }
 
 -- what is so after a course
@@ -100,7 +100,7 @@ settles_by p m start w news quiet bounded (inr (short, late)) =
     )
 
 -- the start is that of the world at the end, whose network is the same
-same_from : (p : SettlingParams) (time : ℕ) (w w' : WorldState) → KeepsNetwork w w'
+pub same_from : (p : SettlingParams) (time : ℕ) (w w' : WorldState) → KeepsNetwork w w'
     → capable_from p w' time ≡ capable_from p w time
 same_from p time w w' keeps =
     ap (λ delay. time + interval_of p.params.pdelay + (delay + p.params.turnaround + delay) + 1) (delay_kept w w' keeps)

@@ -72,12 +72,14 @@ use Rattle.gptp_invariants.proofs.FailedSilentLemmas.{become_incapable}
 use Rattle.gptp_invariants.proofs.WorldStandsLemmas.{used_up}
 use Rattle.gptp_model.proofs.BareLemmas.{bare}
 use Rattle.gptp_setup.specs.SettlingParams.{largest_interval}
-use Rattle.gptp_settling_time.proofs.ExactlyLemmas.{later_keeps}
 use Rattle.gptp_settling_time.proofs.HeardLemmas.{IsHeardAt, heard_acts, heard_due, heard_later, heard_link, heard_now, heard_on}
 use Rattle.gptp_settling_time.proofs.LinkStoodLemmas.{stood_in}
-use Rattle.gptp_settling_time.proofs.OrderedLemmas.{link_seen, receiver_opposite, tells}
+use Rattle.gptp_settling_time.proofs.OrderedLemmas.{link_seen, tells}
 use Rattle.gptp_invariants.proofs.DelayCapableKeptLemmas.{stood}
-use Rattle.gptp_settling_time.proofs.NewsMeasuredLemmas.{LivesSomewhere, receiver_lives}
+use Rattle.gptp_invariants.proofs.WorldNewsCourseLemmas.{later_keeps}
+use Rattle.gptp_invariants.proofs.DelayUsedLinkLemmas.{receiver_lives}
+use Rattle.gptp_invariants.proofs.DelayPoppedLemmas.{receiver_opposite}
+use Rattle.gptp_settling_time.proofs.NewsMeasuredLemmas.{LivesSomewhere}
 
 -- ---- where the link of a way stands
 

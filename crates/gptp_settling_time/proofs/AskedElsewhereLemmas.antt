@@ -22,7 +22,7 @@ use Rattle.gptp_model.specs.Ahead.{IsPortAmong}
 use Rattle.gptp_model.specs.Changing.{CallsAll, CallsIfLive, ComesUpIf, Nothing, TellsEnds, brought_up}
 use Rattle.gptp_model.specs.Sound.{IsSound}
 use Rattle.gptp_model.specs.World.{Channel, WorldState, port_id, sender}
-use Rattle.gptp_model.proofs.StayLemmas.{JoinTheSame, Stays, calls_if_live_stay, calls_stay, carry_same, set_join}
+use Rattle.gptp_model.proofs.StayLemmas.{JoinTheSame, Stays, calls_if_live_stay, calls_stay, set_join}
 use Rattle.gptp_invariants.specs.DelayElsewhere.{IsOtherLink}
 use Rattle.gptp_invariants.specs.DelayLinkView.{LinkPlace, asked_at}
 use Rattle.gptp_invariants.specs.FailedUnanswered.{StandsUnanswered}
@@ -30,7 +30,8 @@ use Rattle.gptp_invariants.proofs.DelayElsewhereLemmas.{calls_orderly}
 use Rattle.gptp_invariants.proofs.DelayLinkCallLemmas.{at_own}
 use Rattle.gptp_invariants.proofs.DelayLinkKeptLemmas.{HasAll, all_stay, among_stays}
 use Rattle.gptp_invariants.proofs.DelayLinkLemmas.{IsOrderly, net_orderly, sound_orderly}
-use Rattle.gptp_invariants.proofs.WorldBeforeLemmas.{IsAsBefore, as_was, calls_before, stood}
+use Rattle.gptp_invariants.proofs.WorldBeforeLemmas.{stood}
+use Rattle.gptp_invariants.proofs.FailedSilentElsewhereLemmas.{changed_stood, live_before}
 use Rattle.gptp_settling_time.proofs.BetweenFailedLemmas.{AreGoneBetween, IsGoneBetween, StandsFailed, gone_still, live_gone}
 use Rattle.gptp_settling_time.proofs.AskedInTimeLemmas.{AreAskedInTime, AsksAfter, IsAskedInTime, called_in_time}
 
@@ -86,22 +87,6 @@ all_in_time gone at place (q ∷ ps) w draws w' (first, rest, between, answer, s
 
 -- ---- a link comes up
 
--- the time of the last change alone is another
-changed_stood : (at : LinkPlace) (w : WorldState) → StandsUnanswered at (record w { last_change = w.time })
-    → StandsUnanswered at w
-changed_stood at w s = record {
-  channel = s.channel;
-  here = s.here;
-  up = s.up;
-  asking = record {
-    station = s.asking.station;
-    here = s.asking.here;
-    live = s.asking.live;
-    named = s.asking.named;
-  };
-  answering = s.answering;
-}
-
 pub still_in_time : (gone : ℕ) (w : WorldState) → AreAskedInTime gone w
     → AreAskedInTime gone (record w { last_change = w.time })
 still_in_time gone w asked at s =
@@ -116,13 +101,6 @@ live_in_time gone at place port w draws w' of orderly is (inl (answer, k)) =
     up_in_time gone at place port w draws answer w' k (of k.station k.here) orderly is
 live_in_time gone at place port w draws w' of orderly is (inr (failed, none, same)) =
     subst (IsAskedInTime gone at) (sym same) is
-
-live_before : (place port : ℕ) (w : WorldState) (draws : List Draw) (w' : WorldState)
-    → CallsIfLive place (PortUp port) w draws w' → IsAsBefore w w'
-live_before place port w draws w' (inl (answer, k)) = calls_before place (PortUp port) w draws answer w' k
-live_before place port w draws w' (inr (failed, none, same)) =
-    subst (IsAsBefore w) (sym same)
-    (record { stations = as_was w.stations; links = carry_same w.net.channels; change = refl })
 
 live_orderly : (place port : ℕ) (w : WorldState) (draws : List Draw) (w' : WorldState) → IsOrderly w
     → CallsIfLive place (PortUp port) w draws w' → IsOrderly w'

@@ -8,7 +8,6 @@ use Rattle.gptp_lists.proofs.SystemSpecLemmas.{In-map, In-parts}
 use Rattle.gptp_vector.specs.declared.port.PortId.{PortId}
 use Rattle.gptp_links.specs.declared.bounds.Bounds.{Bounds}
 use Rattle.gptp_links.specs.declared.link.Direction.{Direction}
-use Rattle.gptp_links.specs.declared.link.Direction.TheVariants.{FromA, FromB}
 use Rattle.gptp_links.specs.Fate.{Draw}
 use Rattle.gptp_links.specs.Queue.{Frame, frame}
 use Rattle.gptp_setup.specs.declared.setup.Params.{Params}
@@ -46,7 +45,7 @@ use Rattle.gptp_invariants.proofs.DelayEndLemmas.{HearsWhatFits}
 use Rattle.gptp_invariants.proofs.DelayLinkLaneLemmas.{GrowsIn, IsAlone, sends_grow}
 use Rattle.gptp_invariants.proofs.DelayLinkCallLemmas.{asker_timer, at_own}
 use Rattle.gptp_invariants.proofs.DelayLinkExpiryLemmas.{expires_timely}
-use Rattle.gptp_invariants.proofs.DelayLinkLemmas.{IsOrderly, net_orderly, sender_opposite, sound_orderly}
+use Rattle.gptp_invariants.proofs.DelayLinkLemmas.{IsOrderly, net_orderly, one_end, sender_opposite, sound_orderly}
 use Rattle.gptp_invariants.proofs.DelayPartLemmas.{heard_asked}
 use Rattle.gptp_invariants.proofs.DelaySentLemmas.{asks_nothing}
 use Rattle.gptp_invariants.proofs.FailedUnansweredCallLemmas.{CallStep, asker_is, call_seen, failed_apart, relinked, same_sender}
@@ -77,12 +76,6 @@ AsksAfter now period input n x x' =
     (asked_at period x'.pdelay ≡ now)
     ⊎ ((asked_at period x'.pdelay ≡ asked_at period x.pdelay)
     × ((input ≢ TimerExpires (timers.Pdelay n)) × (input ≢ PortUp n)))
-
--- a link whose ends are one port sends where it receives
-one_end : (direction : Direction) (channel : Channel) → channel.a ≡ channel.b
-    → sender direction channel ≡ receiver direction channel
-one_end FromA channel e = e
-one_end FromB channel e = sym e
 
 module _ (gone : ℕ) (at : LinkPlace) (place : ℕ) (input : Input) (w : WorldState) (draws : List Draw) (answer : Answer)
     (w' : WorldState) (k : Calls place input w draws answer w') (timely : IsTimely k.station.system w.time input)

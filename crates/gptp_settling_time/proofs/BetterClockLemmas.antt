@@ -7,7 +7,6 @@ use Rattle.gptp_lists.proofs.MappedLemmas.{alike, same_there}
 use Rattle.gptp_graph.specs.PathBound.{BoundsPaths}
 use Rattle.gptp_graph.specs.Snapshot.{Joins, PortIdentity, System, port_of}
 use Rattle.gptp_graph.proofs.LinkLemmas.{Joins-sym}
-use Rattle.gptp_links.specs.declared.link.Direction.TheVariants.{FromA, FromB}
 use Rattle.gptp_links.specs.Fate.{Draw}
 use Rattle.gptp_setup.specs.Intervals.{interval_of}
 use Rattle.gptp_setup.specs.SettlingParams.{SettlingParams}
@@ -26,9 +25,9 @@ use Rattle.gptp_bmca_machine.specs.RestLaws.{SameWiring}
 use Rattle.gptp_bmca_machine.specs.SoundLaws.{AllAreNear, HasNews, IsSoundOnLinks}
 use Rattle.gptp_bmca_machine.proofs.SoundEverywhereLemmas.{on_links}
 use Rattle.gptp_bmca_machine.proofs.SoundLemmas.{received_fits}
-use Rattle.gptp_invariants.specs.ChoiceCalm.{HaveQuietLinks, delay_in, greatest_channel_delay, has_port_id, lane_of}
+use Rattle.gptp_invariants.specs.ChoiceCalm.{HaveQuietLinks, delay_in, greatest_channel_delay, lane_of}
 use Rattle.gptp_invariants.specs.ChoiceSettlesAsMachine.{IsWorld}
-use Rattle.gptp_invariants.specs.ChoiceView.{lane_place, says_announce, view}
+use Rattle.gptp_invariants.specs.ChoiceView.{says_announce, view}
 use Rattle.gptp_invariants.specs.DelayLinkView.{LinkPlace}
 use Rattle.gptp_invariants.specs.DelayMeasured.{LinkStandsAt}
 use Rattle.gptp_invariants.specs.WorldNews.{IsNews}
@@ -37,6 +36,7 @@ use Rattle.gptp_invariants.specs.WorldStanding.{channel_is_used, live_stations, 
 use Rattle.gptp_invariants.proofs.WorldSoundCallLemmas.{links_more}
 use Rattle.gptp_invariants.proofs.WorldSystemLemmas.{clock_lives}
 use Rattle.gptp_invariants.proofs.WorldWayLemmas.{way_of}
+use Rattle.gptp_invariants.proofs.ChoiceCalmKeptLemmas.{delay_bare, lane_bare}
 use Rattle.gptp_settling_time.proofs.AlwaysClaimedLemmas.{AreHeard, IsClaimedAlways, asks_back, capable_is_on, place_of_way, start_calm, start_net, start_network, way_back, way_stands}
 use Rattle.gptp_settling_time.proofs.HeardLemmas.{StaysCapableAt, stays_elsewhere, stays_link, stays_on}
 use Rattle.gptp_settling_time.specs.Idle.{Lives}
@@ -67,19 +67,6 @@ delay_alike systems others each (first ∷ channels) =
     λ i. if first.up && (each first.a.clock i && each first.b.clock i)
     then max first.bounds.max (delay_alike systems others each channels i)
     else delay_alike systems others each channels i
-
-delay_bare : (systems : List System) (channels : List Channel)
-    → greatest_channel_delay systems (map bare channels) ≡ greatest_channel_delay systems channels
-delay_bare systems [] = refl
-delay_bare systems (first ∷ channels) =
-    ap (λ rest. if channel_is_used systems first then max first.bounds.max rest else rest) (delay_bare systems channels)
-
-lane_bare : (port : PortIdentity) (channels : List Channel) → lane_of (map bare channels) port ≡ lane_of channels port
-lane_bare port [] = refl
-lane_bare port (first ∷ channels) =
-    ap (λ rest. if has_port_id first.a port then lane_place 0 FromA
-    else (if has_port_id first.b port then lane_place 0 FromB else suc (suc rest)))
-    (lane_bare port channels)
 
 of_bare : {X : Type 0} (f : List Channel → X) → ((channels : List Channel) → f (map bare channels) ≡ f channels)
     → (before after : List Channel) → DifferInFlight before after → f after ≡ f before

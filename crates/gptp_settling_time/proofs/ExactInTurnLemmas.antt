@@ -25,7 +25,7 @@ use Rattle.gptp_invariants.proofs.DelayMeasuredLinkLemmas.{used_measured}
 use Rattle.gptp_invariants.proofs.SyncFollowClaimLemmas.{acts_time}
 use Rattle.gptp_invariants.proofs.SyncFollowLaterLemmas.{time_begins, time_carries}
 use Rattle.gptp_invariants.proofs.SyncFollowMeasureLemmas.{measured_right}
-use Rattle.gptp_invariants.proofs.SyncFollowWorldLemmas.{done_carries}
+use Rattle.gptp_invariants.proofs.SyncFollowWorldLemmas.{done_carries, used_within}
 use Rattle.gptp_theorem.specs.PlayedLaws.{IsPlayable}
 use Rattle.gptp_theorem.proofs.CalmLemmas.{quiet_stands}
 use Rattle.gptp_theorem.proofs.PlayedLemmas.{no_change}
@@ -40,7 +40,6 @@ use Rattle.gptp_settling_time.proofs.LaterLemmas.{AreSteps}
 use Rattle.gptp_settling_time.proofs.NewsMeasuredLemmas.{news_measured}
 use Rattle.gptp_settling_time.proofs.NewsSoonLemmas.{news_now}
 use Rattle.gptp_settling_time.proofs.SoonOffsetLemmas.{CarriesRight, carried_exact}
-use Rattle.gptp_settling_time.proofs.TimedNewsLemmas.{used_within}
 
 module _ (d : DocumentState) (playable : IsPlayable d) (all : List Timed) (calm : IsCalm d.network all) (last : Past)
     (settled : ℕ) (settles : SettlesAfter d.network all last settled)

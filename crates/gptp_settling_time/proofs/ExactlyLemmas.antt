@@ -1,5 +1,5 @@
 -- How exactly, as soon as a world has settled after a start or a gain.
-use Rattle.std.proofs.Common.{◌≡◌, ◌<◌, ◌≤◌, ◌+◌, ◌*◌, ℕ, List, [], ◌∷◌, Option, refl, sym, ap, subst, inl, inr, arith}
+use Rattle.std.proofs.Common.{◌≡◌, ◌<◌, ◌≤◌, ◌+◌, ◌*◌, ℕ, List, [], ◌∷◌, Option, refl, sym, subst, inl, inr, arith}
 use Rattle.gptp_links.specs.declared.bounds.Bounds.{Bounds}
 use Rattle.gptp_setup.specs.Intervals.{interval_of}
 use Rattle.gptp_setup.specs.SettlingParams.{SettlingParams, largest_interval}
@@ -16,7 +16,7 @@ use Rattle.gptp_world.proofs.SettlingInvariantLemmas.{next_octet}
 use Rattle.gptp_world.proofs.InitialLemmas.{initial_sound}
 use Rattle.gptp_invariants.specs.WorldNewsCourse.{capable_from}
 use Rattle.gptp_invariants.specs.WorldNews.{AreSilentBy}
-use Rattle.gptp_invariants.proofs.ChoiceCalmKeptLemmas.{KeepsNetwork, acts_keep, delay_kept, keeps_on}
+use Rattle.gptp_invariants.proofs.ChoiceCalmKeptLemmas.{KeepsNetwork, acts_keep, keeps_on}
 use Rattle.gptp_invariants.proofs.WorldClaimLemmas.{claim_begins, claim_kept, claim_later}
 use Rattle.gptp_invariants.proofs.WorldLinkUpNewsLemmas.{link_up_news}
 use Rattle.gptp_invariants.proofs.WorldNewsActLemmas.{gain_news, unanswered_silent, watched_ready}
@@ -24,6 +24,7 @@ use Rattle.gptp_invariants.proofs.WorldNewsLemmas.{none_silent}
 use Rattle.gptp_invariants.proofs.WorldOutlineLemmas.{change_is_last, change_time, starts_are_last}
 use Rattle.gptp_invariants.proofs.WorldSoundLemmas.{sound_later}
 use Rattle.gptp_invariants.proofs.WorldStartNewsLemmas.{start_news}
+use Rattle.gptp_invariants.proofs.WorldNewsCourseLemmas.{later_keeps, same_from}
 use Rattle.gptp_theorem.proofs.HeadlineLemmas.{quiet_as}
 use Rattle.gptp_theorem.proofs.PlayedLemmas.{no_change}
 use Rattle.gptp_settling_time.specs.Exactly.{GainsAreExact, IsSettledBy, LinksUpAreExact, NewsAreExact, StartsAreExact}
@@ -31,10 +32,6 @@ use Rattle.gptp_settling_time.proofs.SoonOffsetLemmas.{act_exact}
 use Rattle.gptp_settling_time.proofs.TimedNewsLemmas.{CanSettle, IsTimed, timed_act, timed_begins}
 
 -- ---- what happens by itself
-
--- time that passes leaves the network
-pub later_keeps : (time : ℕ) (w : WorldState) → KeepsNetwork w (at_time time w)
-later_keeps time w = record { systems = refl; places = λ number. refl; setups = refl; links = refl; change = refl }
 
 module _ {F : Type 0} (answers : Bounds → ℕ → F → Option ℕ → F → Type 0) (until : ℕ) where
   advances_keep : (told : List Told) (fate fate_after : F) (w w' : WorldState)
@@ -79,12 +76,6 @@ early p m start settled w now pace keeps last by =
     let same = keeps.change in
     let old = by.old in
     omega (arith, some, same, old, last)
-
--- ports are capable from the same time on in a world that has the same network
-same_from : (p : SettlingParams) (time : ℕ) (w w' : WorldState) → KeepsNetwork w w'
-    → capable_from p w' time ≡ capable_from p w time
-same_from p time w w' keeps =
-    ap (λ delay. time + interval_of p.params.pdelay + (delay + p.params.turnaround + delay) + 1) (delay_kept w w' keeps)
 
 module _ {F : Type 0} (answers : Bounds → ℕ → F → Option ℕ → F → Type 0) where
   pub starts_are_exact : StartsAreExact answers

@@ -44,7 +44,7 @@ use Rattle.gptp_invariants.proofs.ChoiceCalmKeptLemmas.{KeepsNetwork, delay_kept
 use Rattle.gptp_invariants.proofs.ChoiceSeenLaneLemmas.{lane_there}
 use Rattle.gptp_invariants.proofs.ChoiceSettlesAsMachineLemmas.{kept_back}
 use Rattle.gptp_invariants.proofs.DelayClaimedCapableLemmas.{clock_has, used_if}
-use Rattle.gptp_invariants.proofs.DelayFirstUpLemmas.{sender_up}
+use Rattle.gptp_invariants.proofs.DelayFirstUpLemmas.{queue_up, sender_up}
 use Rattle.gptp_invariants.proofs.DelayLinkLemmas.{sender_opposite}
 use Rattle.gptp_invariants.proofs.FailedSilentElsewhereLemmas.{up_silences}
 use Rattle.gptp_invariants.proofs.FailedUnansweredLaneLemmas.{calls_shrink}
@@ -91,12 +91,6 @@ delay_set systems (first ∷ channels) zero old new here off dead =
 delay_set systems (first ∷ channels) (suc i) old new here off dead =
     ap (λ rest. if channel_is_used systems first then max first.bounds.max rest else rest)
     (delay_set systems channels i old new here off dead)
-
--- where it is up the same is in flight
-queue_up : (direction : Direction) (channel : Channel)
-    → world_queue direction (record channel { up = true }) ≡ world_queue direction channel
-queue_up FromA channel = refl
-queue_up FromB channel = refl
 
 -- its ends are different systems
 ways_apart : (way back : Direction) (channel : Channel) → channel.a.clock ≢ channel.b.clock

@@ -69,11 +69,11 @@ use Rattle.gptp_invariants.proofs.ChoicePlaceLemmas.{port_from, station_from}
 use Rattle.gptp_invariants.proofs.ChoiceSettlesAsMachineLemmas.{kept_back}
 use Rattle.gptp_invariants.proofs.WorldSoundCallLemmas.{links_more, same_systems, set_there}
 use Rattle.gptp_invariants.proofs.WorldWayLemmas.{IsWay, one_way, used_joins, way_of}
+use Rattle.gptp_invariants.proofs.SyncFollowWorldLemmas.{used_within}
 use Rattle.gptp_settling_time.proofs.AlwaysClaimedLemmas.{same_start, start_calm, start_net, start_network}
 use Rattle.gptp_settling_time.proofs.GainStageLemmas.{ClaimsAlways, stage_kept}
 use Rattle.gptp_settling_time.proofs.RaisedLemmas.{unmeasured_at}
 use Rattle.gptp_settling_time.proofs.SameLinkLemmas.{StaysSameLink, told_same}
-use Rattle.gptp_settling_time.proofs.TimedNewsLemmas.{used_within}
 
 -- where a lane stands is known by the ends of links alone
 pub lane_set : (channels : List Channel) (i : ℕ) (c d : Channel) (q : PortIdentity) → slice_get channels i ≡ Some c

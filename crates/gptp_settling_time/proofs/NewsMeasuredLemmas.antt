@@ -1,32 +1,29 @@
 -- From their start on the ports of a world since news have measured the links of the snapshot.
 use Rattle.std.proofs.Common.{◌≡◌, ◌≤◌, ℕ, suc, true, Some, slice_get, sym, ap, subst, ◌∙◌, inl, inr, arith}
 use Rattle.gptp_lists.proofs.MappedLemmas.{same_there, some_same}
-use Rattle.gptp_graph.specs.Snapshot.{Joins, PortIdentity, System}
-use Rattle.gptp_vector.specs.declared.port.PortId.{PortId}
-use Rattle.gptp_links.specs.declared.link.Direction.{Direction}
+use Rattle.gptp_graph.specs.Snapshot.{Joins, PortIdentity}
 use Rattle.gptp_setup.specs.declared.setup.Params.{Params}
 use Rattle.gptp_setup.specs.Intervals.{interval_of}
 use Rattle.gptp_setup.specs.SettlingParams.{SettlingParams}
 use Rattle.gptp_system.specs.declared.port.Port.{Port}
 use Rattle.gptp_system.specs.State.{clock, number, own}
 use Rattle.gptp_model.specs.declared.station.Station.{Station}
-use Rattle.gptp_model.specs.World.{Channel, WorldState, receiver, sender}
+use Rattle.gptp_model.specs.World.{WorldState, receiver, sender}
 use Rattle.gptp_pdelay_machine.specs.Measured.{HasMeasured}
 use Rattle.gptp_invariants.specs.ChoiceCalm.{HaveQuietLinks}
 use Rattle.gptp_invariants.specs.ChoiceSettlesAsMachine.{IsWorld}
 use Rattle.gptp_invariants.specs.WorldKnown.{IsKnown}
-use Rattle.gptp_invariants.specs.DelayLinkView.{IsLinkOf, LinkPlace, least_delay, other_direction, link_setting}
+use Rattle.gptp_invariants.specs.DelayLinkView.{IsLinkOf, LinkPlace, least_delay, link_setting}
 use Rattle.gptp_invariants.specs.DelayMeasured.{StationIsLiveAt, LinkStandsAt}
 use Rattle.gptp_invariants.specs.DelayMeasuredLinks.{HasMeasuredLink, HaveMeasuredLinks}
 use Rattle.gptp_invariants.specs.WorldNews.{AreReadyBy, IsNews, IsReadyBy}
-use Rattle.gptp_invariants.specs.WorldStanding.{stations_have_clock, channel_is_used, live_stations, snapshot_of}
+use Rattle.gptp_invariants.specs.WorldStanding.{live_stations, snapshot_of}
 use Rattle.gptp_invariants.specs.ChoiceView.{port_identity_number}
 use Rattle.gptp_invariants.proofs.DelayElsewhereLemmas.{watched_stay_capable}
 use Rattle.gptp_invariants.proofs.DelayFirstAtLemmas.{first_full}
-use Rattle.gptp_invariants.proofs.DelayLinkLemmas.{sender_opposite}
-use Rattle.gptp_invariants.proofs.WorldStandsLemmas.{sender_lives, stands_well, used_up}
-use Rattle.gptp_invariants.proofs.WorldSystemLemmas.{clock_lives, live_from}
+use Rattle.gptp_invariants.proofs.WorldStandsLemmas.{stands_well, used_up}
 use Rattle.gptp_invariants.proofs.WorldWayLemmas.{IsWay, way_of}
+use Rattle.gptp_invariants.proofs.DelayUsedLinkLemmas.{receiver_lives}
 
 -- ---- a link that is ready
 
@@ -55,25 +52,6 @@ ready_measured p start at w known (inr (gone, since, l, past, by)) late =
 pub record LivesSomewhere (number : ℕ) (w : WorldState) : Type 0 where
   pub place : ℕ
   pub at : StationIsLiveAt place number w
-
--- so it is where a used link leads to
-pub receiver_lives : (w : WorldState) (direction : Direction) (channel : Channel)
-    → channel_is_used (live_stations w.stations) channel ≡ true → LivesSomewhere (receiver direction channel).clock w
-receiver_lives w direction channel used =
-    let has = subst (λ (q : PortId). stations_have_clock (live_stations w.stations) q.clock ≡ true)
-    (sender_opposite direction channel) (sender_lives (live_stations w.stations)
-    (other_direction direction) channel used) in
-    let (s, member, same) = clock_lives w.stations (receiver direction channel).clock has in
-    let there = live_from w.stations s member in
-    record {
-      place = there.place;
-      at = record {
-        station = there.station;
-        here = there.here;
-        live = there.live;
-        named = ap (λ (x : System). x.clock) (sym there.is) ∙ same;
-      };
-    }
 
 module _ (p : SettlingParams) (start : ℕ) (w : WorldState) (is : IsWorld p w) (ready : AreReadyBy p start w)
     (quiet : HaveQuietLinks p.params w) (late : start ≤ w.time) (place : ℕ) (station : Station)

@@ -10,7 +10,6 @@ use Rattle.gptp_messages.specs.declared.message.Message.TheVariants as messages
 use Rattle.gptp_messages.proofs.GrammarLemmas.{one_reading}
 use Rattle.gptp_links.specs.declared.bounds.Bounds.{Bounds}
 use Rattle.gptp_links.specs.declared.link.Direction.{Direction}
-use Rattle.gptp_links.specs.declared.link.Direction.TheVariants.{FromA, FromB}
 use Rattle.gptp_links.specs.Fate.{Draw}
 use Rattle.gptp_links.specs.Queue.{Frame}
 use Rattle.gptp_pdelay.specs.Peer.{is_capable}
@@ -25,7 +24,7 @@ use Rattle.gptp_model.specs.declared.done.Done.{Done}
 use Rattle.gptp_model.specs.declared.station.Station.{Station}
 use Rattle.gptp_model.specs.Pending.{NothingBefore}
 use Rattle.gptp_model.specs.Sound.{IsSound}
-use Rattle.gptp_model.specs.World.{Channel, WorldState, receiver, sender, world_queue}
+use Rattle.gptp_model.specs.World.{Channel, WorldState, sender, world_queue}
 use Rattle.gptp_pdelay_machine.specs.Facts.{Facts}
 use Rattle.gptp_pdelay_machine.specs.First.{InvFirst}
 use Rattle.gptp_pdelay_machine.specs.FirstLaws.{exchange_span}
@@ -51,6 +50,7 @@ use Rattle.gptp_invariants.proofs.DelayLinkActLemmas.{acts_seen}
 use Rattle.gptp_invariants.proofs.DelayLinkFactLemmas.{nothing_late}
 use Rattle.gptp_invariants.proofs.DelayLinkLemmas.{sender_opposite}
 use Rattle.gptp_invariants.proofs.SyncFollowClaimLemmas.{acts_time}
+use Rattle.gptp_invariants.proofs.DelayPoppedLemmas.{receiver_opposite}
 use Rattle.gptp_settling_time.proofs.MasterLemmas.{BeginsAtMaster, WasOnLane, acted, master_capable}
 use Rattle.gptp_settling_time.proofs.ToldLemmas.{capable_on}
 
@@ -98,11 +98,6 @@ opposite at = record {
   asking = at.answering;
   answering = at.asking;
 }
-
-pub receiver_opposite : (direction : Direction) (channel : Channel)
-    → receiver (other_direction direction) channel ≡ sender direction channel
-receiver_opposite FromA channel = refl
-receiver_opposite FromB channel = refl
 
 pub turned : (p : SettlingParams) (w : WorldState) → IsWorld p w → (at : LinkPlace) → LinkStandsAt at w
     → LinkStandsAt (opposite at) w

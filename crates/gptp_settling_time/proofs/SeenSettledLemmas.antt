@@ -1,12 +1,10 @@
 -- A world whose systems are seen to have settled has settled.
-use Rattle.std.proofs.Common.{◌≡◌, ◌≢◌, ◌≤◌, ℕ, ℤ, zero, suc, Bool, true, false, Option, Some, None, slice_get, refl, ap, subst, arith}
+use Rattle.std.proofs.Common.{◌≡◌, ◌≢◌, ◌≤◌, ℕ, zero, suc, Bool, true, false, Option, Some, slice_get, refl, subst, arith}
 use Rattle.std.specs.Option.{option_map_or}
 use Rattle.std.specs.Prelude.{◌==◌}
-use Rattle.std.proofs.lemmas.Bool.{eq-eqb, eqb-true}
-use Rattle.std.proofs.lemmas.Option.{none-some, same_Some}
 use Rattle.gptp_lists.proofs.PlaceLemmas.{member_there}
 use Rattle.gptp_graph.specs.Distance.{IsNear}
-use Rattle.gptp_graph.specs.SettledRole.{Role, Disabled, Master, Slave, Passive, IsSettledRole}
+use Rattle.gptp_graph.specs.SettledRole.{IsSettledRole}
 use Rattle.gptp_graph.specs.Snapshot.{Snapshot, port_of}
 use Rattle.gptp_receipt.specs.declared.held.Held.{Held}
 use Rattle.gptp_receipt.specs.declared.held.Held.TheVariants as helds
@@ -21,53 +19,21 @@ use Rattle.gptp_model.specs.World.{WorldState}
 use Rattle.gptp_bmca_machine.specs.Calm.{Calm}
 use Rattle.gptp_bmca_machine.specs.Levels.{Invariant}
 use Rattle.gptp_bmca_machine.specs.Network.{IsSettlingNetwork, Network, settled_from}
-use Rattle.gptp_bmca_machine.specs.Settled.{HasSettledRoles, PlaysRole}
+use Rattle.gptp_bmca_machine.specs.Settled.{HasSettledRoles}
 use Rattle.gptp_bmca_machine.proofs.SettledLemmas.{network_settles}
 use Rattle.gptp_invariants.specs.ChoiceSettled.{IsSettledSystem, Settled, graph_role}
 use Rattle.gptp_invariants.specs.ChoiceSettlesAsMachine.{IsWorld}
-use Rattle.gptp_invariants.specs.ChoiceView.{held_view, port_view, says_announce, span_at, station_view, view}
+use Rattle.gptp_invariants.specs.ChoiceView.{port_view, says_announce, span_at, station_view, view}
 use Rattle.gptp_invariants.specs.WorldStanding.{snapshot_of}
 use Rattle.gptp_invariants.proofs.ChoiceParentLemmas.{parent_settled}
 use Rattle.gptp_invariants.proofs.ChoicePlaceLemmas.{port_there, station_there}
+use Rattle.gptp_invariants.proofs.ChoiceSettledLemmas.{plays_own}
 
 -- ---- roles
 
 -- whether this port is the slave port
 abbrev is_slave : Option ℕ → ℕ → Bool
 is_slave slave n = option_map_or (λ m. m == n) slave false
-
-slave_is : (slave : Option ℕ) (n : ℕ) → slave ≡ Some n → is_slave slave n ≡ true
-slave_is None n same = absurd (none-some n same)
-slave_is (Some m) n same = eq-eqb m n (same_Some m n same)
-
-slave_is_not : (slave : Option ℕ) (n : ℕ) → slave ≢ Some n → is_slave slave n ≡ false
-slave_is_not None n other = refl
-slave_is_not (Some m) n other = by (m == n) refl
-  where
-    by : (b : Bool) → (m == n) ≡ b → (m == n) ≡ false
-    by true same = absurd (other (ap Some (eqb-true m n same)))
-    by false differ = differ
-
--- the role that a port is seen to play is its role
-plays_own : (slave : Option ℕ) (n : ℕ) (keep : ℤ → ℕ) (h : Held) (r : Role) → PlaysRole slave n (held_view keep h) r
-    → graph_role (role_by (is_slave slave n) h) ≡ r
-plays_own slave n keep helds.Disabled Disabled plays = refl
-plays_own slave n keep helds.Disabled Master (root, steps, same) = absurd cc
-plays_own slave n keep helds.Disabled Slave (is, (r, same)) = absurd cc
-plays_own slave n keep helds.Disabled Passive (is, (r, same)) = absurd cc
-plays_own slave n keep helds.Aged Disabled same = absurd cc
-plays_own slave n keep helds.Aged Master plays = refl
-plays_own slave n keep helds.Aged Slave (is, (r, same)) = absurd cc
-plays_own slave n keep helds.Aged Passive (is, (r, same)) = absurd cc
-plays_own slave n keep (helds.Mine root steps) Disabled same = absurd cc
-plays_own slave n keep (helds.Mine root steps) Master plays = refl
-plays_own slave n keep (helds.Mine root steps) Slave (is, (r, same)) = absurd cc
-plays_own slave n keep (helds.Mine root steps) Passive (is, (r, same)) = absurd cc
-plays_own slave n keep (helds.Received x) Disabled same = absurd cc
-plays_own slave n keep (helds.Received x) Master (root, steps, same) = absurd cc
-plays_own slave n keep (helds.Received x) Slave (is, (r, same)) = let e = slave_is slave n is in rw e refl
-plays_own slave n keep (helds.Received x) Passive (is, (r, same)) =
-    let e = slave_is_not slave n is in rw e refl
 
 module _ (g : Snapshot) (station : Station) (shown : AreShown station.system)
     (seen : HasSettledRoles g (station_view station)) where

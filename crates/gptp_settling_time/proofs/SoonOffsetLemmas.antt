@@ -10,84 +10,38 @@ use Rattle.gptp_messages.specs.Grammar.{Reads}
 use Rattle.gptp_links.specs.declared.bounds.Bounds.{Bounds}
 use Rattle.gptp_links.specs.declared.link.Direction.{Direction}
 use Rattle.gptp_links.specs.Fate.{Draw}
-use Rattle.gptp_setup.specs.declared.setup.Params.{Params}
 use Rattle.gptp_setup.specs.SettlingParams.{SettlingParams}
 use Rattle.gptp_scenario.specs.declared.change.Act.{Act}
 use Rattle.gptp_scenario.specs.declared.change.Act.TheVariants.{Deliver, Expire, Change as Changing}
 use Rattle.gptp_scenario.specs.declared.change.Timed.{Timed}
 use Rattle.gptp_system.specs.declared.answer.Answer.TheVariants as answers
-use Rattle.gptp_system.specs.State.{SystemState, clock, local_time}
+use Rattle.gptp_system.specs.State.{SystemState, local_time}
 use Rattle.gptp_error_laws.specs.TimeError.{time_error_at}
-use Rattle.gptp_model.proofs.SoundLemmas.{acts_sound}
 use Rattle.gptp_model.specs.Acts.{Acts, TellsHearing, at}
 use Rattle.gptp_model.specs.Course.{WasDone}
 use Rattle.gptp_model.specs.declared.done.Done.{Done}
 use Rattle.gptp_model.specs.declared.done.Done.TheVariants.{Quiet, Heard}
 use Rattle.gptp_model.specs.declared.station.Station.{Station}
-use Rattle.gptp_model.specs.Sound.{IsSound}
 use Rattle.gptp_model.specs.Views.{ShowsLive}
 use Rattle.gptp_model.specs.World.{WorldState, port_id}
 use Rattle.gptp_sync_machine.proofs.TreeLemmas.{way_ends_at_parent, way_leads_to}
 use Rattle.gptp_sync_machine.specs.Follower.{from}
 use Rattle.gptp_sync_machine.specs.Tree.{IsWayTo}
-use Rattle.gptp_invariants.specs.ChoiceCalm.{clock_place}
 use Rattle.gptp_invariants.specs.SyncExact.{IsAhead, IsWayError}
 use Rattle.gptp_invariants.specs.SyncFollowers.{HasWay, follower_clock, follower_setting, follower_parts}
 use Rattle.gptp_invariants.specs.WorldStanding.{snapshot_of}
 use Rattle.gptp_invariants.specs.SyncTimed.{AllMeasureRight, CarriesTime, IsSettledFrom}
 use Rattle.gptp_invariants.specs.SyncTimedLaws.{IsRootOf}
-use Rattle.gptp_invariants.proofs.ChoiceCalmKeptLemmas.{acts_keep}
 use Rattle.gptp_invariants.proofs.SyncFollowOffsetLemmas.{offsets_are_exact}
 use Rattle.gptp_invariants.proofs.SyncFollowWayLemmas.{Follows, follows_parent}
-use Rattle.gptp_invariants.proofs.ChoiceFoundLemmas.{place_is}
+use Rattle.gptp_invariants.proofs.SyncExactLemmas.{ahead_then, error_then, stood}
 use Rattle.gptp_theorem.specs.Headline.{UsesFollowUp}
 use Rattle.gptp_settling_time.specs.Exactly.{AreExactFrom}
 use Rattle.gptp_settling_time.proofs.TimedNewsLemmas.{CanSettle, IsOldBy, IsTimed, can_later, right_from, settled_from, timed_later}
 
 -- ---- at another time
 
--- a system has the same way at another time
-error_then : (p : Params) (w : WorldState) (time number steps error : ℕ) → IsWayError p w number steps error
-    → IsWayError p (at time w) number steps error
-error_then p w time number steps error way =
-    record { way = way.way; phase = way.phase; leads = way.leads; is = way.is }
-
--- and the same state
-shows_then : (w : WorldState) (time number : ℕ) (s : SystemState) → ShowsLive number w s
-    → ShowsLive number (at time w) s
-shows_then w time number s shows = record {
-  place = shows.place;
-  station = shows.station;
-  is = record { here = shows.is.here; named = shows.is.named };
-  live = shows.live;
-  state = shows.state;
-}
-
-ahead_then : (w : WorldState) (number time : ℕ) (amount : ℤ) → IsAhead w number time amount
-    → IsAhead (at time w) number time amount
-ahead_then w number time amount is = record {
-  own = is.own;
-  shows = shows_then w time number is.own is.shows;
-  best = is.best;
-  is_best = is.is_best;
-  root = is.root;
-  shows_root = shows_then w time is.best.clock is.root is.shows_root;
-  is = is.is;
-}
-
 -- ---- a frame that a system uses
-
--- where a system stands after a delivery it stood before
-stood : (link : ℕ) (direction : Direction) (w : WorldState) (draws : List Draw) (done : Done) (w' : WorldState)
-    → IsSound w → Acts (Deliver link direction) w draws done w' → (place place' : ℕ) (station station' : Station)
-    → slice_get w.stations place ≡ Some station → slice_get w'.stations place' ≡ Some station'
-    → clock station'.system ≡ clock station.system → place' ≡ place
-stood link direction w draws done w' sound k place place' station station' here there same =
-    let act = Deliver link direction in
-    let keeps = acts_keep act w draws done w' tt k in
-    place_is w' (acts_sound act w draws done w' sound tt k).wired.clocks place' station' there
-    ∙ ap (clock_place w'.stations) same ∙ keeps.places (clock station.system)
-    ∙ sym (place_is w sound.wired.clocks place station here)
 
 module _ (link : ℕ) (direction : Direction) (w w' : WorldState) (draws : List Draw) (number port : ℕ)
     (octets : List ℕ) (done : Done) (p : SettlingParams) (settled steps error : ℕ) (ahead offset : ℤ) (s : SystemState)

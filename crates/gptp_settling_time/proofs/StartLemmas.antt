@@ -58,9 +58,9 @@ use Rattle.gptp_invariants.specs.ChoiceCalm.{clock_place}
 use Rattle.gptp_invariants.specs.DelayLinkView.{IsLinkOf}
 use Rattle.gptp_invariants.specs.WorldNewsCourse.{capable_from}
 use Rattle.gptp_invariants.proofs.SyncFollowClaimLemmas.{acts_time}
+use Rattle.gptp_invariants.proofs.WorldNewsCourseLemmas.{later_keeps}
 use Rattle.gptp_settling_time.specs.Starts.{DelaysVaryLittle, StartsSettleAtOnce}
 use Rattle.gptp_settling_time.proofs.LinkStoodLemmas.{exchange_over}
-use Rattle.gptp_settling_time.proofs.ExactlyLemmas.{later_keeps}
 use Rattle.gptp_settling_time.proofs.OrderedLemmas.{IsOrderedAt, opposite, turned}
 use Rattle.gptp_settling_time.proofs.SeenSettledLemmas.{seen_settles}
 use Rattle.gptp_settling_time.proofs.AlwaysClaimedLemmas.{AreHeard, IsClaimedAlways, little_back, since_acts, since_later, start_calm, start_net, start_network}

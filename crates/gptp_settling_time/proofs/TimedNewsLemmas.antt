@@ -1,9 +1,8 @@
 -- Time is carried right in a world since news from when it has settled.
-use Rattle.std.proofs.Common.{◌≡◌, ◌⊎◌, inl, inr, ◌<◌, ◌≤◌, ◌+◌, ◌*◌, ◌^◌, ℕ, zero, suc, true, false, pred, max, Bool, List, [], ◌∷◌, Option, Some, slice_get, refl, subst, arith}
+use Rattle.std.proofs.Common.{◌≡◌, ◌⊎◌, inl, inr, ◌<◌, ◌≤◌, ◌+◌, ◌*◌, ◌^◌, ℕ, true, false, pred, ◌∷◌, Option, refl, subst, arith}
 use Rattle.std.proofs.lemmas.Bool.{cases_lt}
 use Rattle.std.specs.Prelude.{if◌then◌else◌}
 use Rattle.gptp_graph.specs.PathBound.{BoundsPaths}
-use Rattle.gptp_graph.specs.Snapshot.{System}
 use Rattle.gptp_links.specs.declared.bounds.Bounds.{Bounds}
 use Rattle.gptp_setup.specs.SettlingParams.{SettlingParams, largest_interval}
 use Rattle.gptp_scenario.specs.declared.change.Timed.{Timed}
@@ -11,21 +10,21 @@ use Rattle.gptp_model.specs.Acts.{at}
 use Rattle.gptp_model.specs.Course.{WasDone}
 use Rattle.gptp_model.specs.declared.done.Done.{Done}
 use Rattle.gptp_model.specs.Pending.{NothingBefore}
-use Rattle.gptp_model.specs.World.{Channel, WorldState}
+use Rattle.gptp_model.specs.World.{WorldState}
 use Rattle.gptp_invariants.specs.WorldBounded.{IsBoundedWorld}
-use Rattle.gptp_invariants.specs.ChoiceCalm.{HaveQuietLinks, delay_in, greatest_channel_delay, paths_with, step_with}
+use Rattle.gptp_invariants.specs.ChoiceCalm.{HaveQuietLinks, delay_in, paths_with, step_with}
 use Rattle.gptp_invariants.specs.WorldEncodableLaws.{SetsAnOctet}
 use Rattle.gptp_invariants.specs.WorldNews.{IsNews}
 use Rattle.gptp_invariants.specs.ChoiceSeenLaws.{IsNoChange}
 use Rattle.gptp_invariants.specs.ChoiceSettled.{Settled}
-use Rattle.gptp_invariants.specs.WorldStanding.{channel_is_used, live_stations, snapshot_of}
+use Rattle.gptp_invariants.specs.WorldStanding.{live_stations, snapshot_of}
 use Rattle.gptp_invariants.specs.SyncTimed.{AllMeasureRight, CarriesTime, IsSettledFrom}
 use Rattle.gptp_invariants.proofs.WorldBoundedLemmas.{bounded_by}
 use Rattle.gptp_invariants.proofs.ChoiceCalmKeptLemmas.{KeepsNetwork, acts_keep, delay_kept, links_quiet, same_snapshot}
 use Rattle.gptp_invariants.proofs.SyncFollowClaimLemmas.{acts_time}
 use Rattle.gptp_invariants.proofs.SyncFollowLaterLemmas.{time_begins, time_carries}
 use Rattle.gptp_invariants.proofs.SyncFollowMeasureLemmas.{measured_right}
-use Rattle.gptp_invariants.proofs.SyncFollowWorldLemmas.{done_carries}
+use Rattle.gptp_invariants.proofs.SyncFollowWorldLemmas.{done_carries, used_within}
 use Rattle.gptp_invariants.proofs.ChoiceSettlesAsMachineLemmas.{kept_back}
 use Rattle.gptp_invariants.proofs.WorldNewsLemmas.{news_above, news_above_in_turn, news_worlds_settle, news_worlds_settle_in_turn}
 use Rattle.gptp_settling_time.specs.Exactly.{SettlesBy}
@@ -33,22 +32,6 @@ use Rattle.gptp_settling_time.proofs.NewsMeasuredLemmas.{news_measured}
 use Rattle.gptp_settling_time.proofs.NewsSoonLemmas.{IsNewsFrom, from_done, from_later, from_world, news_now}
 
 -- ---- delays
-
--- the greatest delay of links in use is no more than what none of them exceeds
-pub used_within : (systems : List System) (channels : List Channel) (bound : ℕ)
-    → ((link : ℕ) (channel : Channel) → slice_get channels link ≡ Some channel → channel_is_used systems channel ≡ true
-    → channel.bounds.max ≤ bound)
-    → greatest_channel_delay systems channels ≤ bound
-used_within systems [] bound each = omega arith
-used_within systems (first ∷ channels) bound each =
-    by (channel_is_used systems first) refl (used_within systems channels bound (λ link. each (suc link)))
-  where
-    by : (used : Bool) → channel_is_used systems first ≡ used → greatest_channel_delay systems channels ≤ bound
-        → (if used then max first.bounds.max (greatest_channel_delay systems channels) else greatest_channel_delay
-        systems channels)
-        ≤ bound
-    by true is later = let one = each zero first refl is in omega (arith, one, later)
-    by false is later = later
 
 -- ---- a world that settles by a time
 
