@@ -14,7 +14,7 @@ use Rattle.gptp_invariants.specs.ChoiceCalm.{HaveQuietLinks}
 use Rattle.gptp_invariants.specs.ChoiceSettlesAsMachine.{IsWorld}
 use Rattle.gptp_invariants.specs.WorldKnown.{IsKnown}
 use Rattle.gptp_invariants.specs.DelayLinkView.{IsLinkOf, LinkPlace, least_delay, link_setting}
-use Rattle.gptp_invariants.specs.DelayMeasured.{StationIsLiveAt, LinkStandsAt}
+use Rattle.gptp_invariants.specs.DelayMeasured.{LinkStandsAt}
 use Rattle.gptp_invariants.specs.DelayMeasuredLinks.{HasMeasuredLink, HaveMeasuredLinks}
 use Rattle.gptp_invariants.specs.WorldNews.{AreReadyBy, IsNews, IsReadyBy}
 use Rattle.gptp_invariants.specs.WorldStanding.{live_stations, snapshot_of}
@@ -47,11 +47,6 @@ ready_measured p start at w known (inr (gone, since, l, past, by)) late =
     }
 
 -- ---- where a link of the snapshot stands
-
--- a live system with the clock stands somewhere
-pub record LivesSomewhere (number : ℕ) (w : WorldState) : Type 0 where
-  pub place : ℕ
-  pub at : StationIsLiveAt place number w
 
 module _ (p : SettlingParams) (start : ℕ) (w : WorldState) (is : IsWorld p w) (ready : AreReadyBy p start w)
     (quiet : HaveQuietLinks p.params w) (late : start ≤ w.time) (place : ℕ) (station : Station)
