@@ -26,9 +26,9 @@ use Rattle.gptp_invariants.specs.DelayWatch.{GoodLinksMeasure}
 -- ---- the other end
 
 -- a live system with the clock stands somewhere
-record LivesSomewhere (number : ℕ) (w : WorldState) : Type 0 where
-  place : ℕ
-  at : StationIsLiveAt place number w
+pub record LivesSomewhere (number : ℕ) (w : WorldState) : Type 0 where
+  pub place : ℕ
+  pub at : StationIsLiveAt place number w
 
 -- so it is where a used link leads to
 pub receiver_lives : (w : WorldState) (direction : Direction) (channel : Channel)

@@ -77,9 +77,8 @@ use Rattle.gptp_settling_time.proofs.LinkStoodLemmas.{stood_in}
 use Rattle.gptp_settling_time.proofs.OrderedLemmas.{link_seen, tells}
 use Rattle.gptp_invariants.proofs.DelayCapableKeptLemmas.{stood}
 use Rattle.gptp_invariants.proofs.WorldNewsCourseLemmas.{later_keeps}
-use Rattle.gptp_invariants.proofs.DelayUsedLinkLemmas.{receiver_lives}
+use Rattle.gptp_invariants.proofs.DelayUsedLinkLemmas.{LivesSomewhere, receiver_lives}
 use Rattle.gptp_invariants.proofs.DelayPoppedLemmas.{receiver_opposite}
-use Rattle.gptp_settling_time.proofs.NewsMeasuredLemmas.{LivesSomewhere}
 
 -- ---- where the link of a way stands
 

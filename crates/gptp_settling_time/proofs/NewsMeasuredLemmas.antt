@@ -48,11 +48,6 @@ ready_measured p start at w known (inr (gone, since, l, past, by)) late =
 
 -- ---- where a link of the snapshot stands
 
--- a live system with the clock stands somewhere
-pub record LivesSomewhere (number : ℕ) (w : WorldState) : Type 0 where
-  pub place : ℕ
-  pub at : StationIsLiveAt place number w
-
 module _ (p : SettlingParams) (start : ℕ) (w : WorldState) (is : IsWorld p w) (ready : AreReadyBy p start w)
     (quiet : HaveQuietLinks p.params w) (late : start ≤ w.time) (place : ℕ) (station : Station)
     (here : slice_get w.stations place ≡ Some station) (live : station.live ≡ true) where
