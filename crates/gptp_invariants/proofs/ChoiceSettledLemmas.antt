@@ -42,7 +42,7 @@ use Rattle.gptp_invariants.proofs.SyncWaitLemmas.{spans_grow}
 -- ---- roles
 
 -- whether this port is the slave port
-abbrev is_slave : Option ℕ → ℕ → Bool
+abbrev pub is_slave : Option ℕ → ℕ → Bool
 is_slave slave n = option_map_or (λ m. m == n) slave false
 
 pub slave_is : (slave : Option ℕ) (n : ℕ) → slave ≡ Some n → is_slave slave n ≡ true

@@ -1,7 +1,5 @@
 -- A world whose systems are seen to have settled has settled.
 use Rattle.std.proofs.Common.{◌≡◌, ◌≢◌, ◌≤◌, ℕ, zero, suc, Bool, true, false, Option, Some, slice_get, refl, subst, arith}
-use Rattle.std.specs.Option.{option_map_or}
-use Rattle.std.specs.Prelude.{◌==◌}
 use Rattle.gptp_lists.proofs.PlaceLemmas.{member_there}
 use Rattle.gptp_graph.specs.Distance.{IsNear}
 use Rattle.gptp_graph.specs.SettledRole.{IsSettledRole}
@@ -27,13 +25,9 @@ use Rattle.gptp_invariants.specs.ChoiceView.{port_view, says_announce, span_at, 
 use Rattle.gptp_invariants.specs.WorldStanding.{snapshot_of}
 use Rattle.gptp_invariants.proofs.ChoiceParentLemmas.{parent_settled}
 use Rattle.gptp_invariants.proofs.ChoicePlaceLemmas.{port_there, station_there}
-use Rattle.gptp_invariants.proofs.ChoiceSettledLemmas.{plays_own}
+use Rattle.gptp_invariants.proofs.ChoiceSettledLemmas.{is_slave, plays_own}
 
 -- ---- roles
-
--- whether this port is the slave port
-abbrev is_slave : Option ℕ → ℕ → Bool
-is_slave slave n = option_map_or (λ m. m == n) slave false
 
 module _ (g : Snapshot) (station : Station) (shown : AreShown station.system)
     (seen : HasSettledRoles g (station_view station)) where
