@@ -97,7 +97,7 @@ settles until same = record {
     Heard 2000000001,
     inr (inl (
       subst (λ (x : SyncPaths). 1000002001 + pred x.systems * x.delay ≤ 2000000000) (sym paths_are) (omega arith),
-      better,
+      inl better,
     )),
     refl,
   );

@@ -328,14 +328,21 @@ module _ {F : Type 0} (answers : Bounds → ℕ → F → Option ℕ → F → T
     leads_to_heard (Heard start) next (inl (ahead, brings)) so =
         brought_up start next (since_later p start event.at w k.ready.timely.now k.ready.timely.first so.since) ahead
         so.since.news.sound brings
-    leads_to_heard (Heard start) next (inr (inl (settled, better))) so =
+    leads_to_heard (Heard start) next (inr (inl (settled, makes))) so =
         let claim = since_later p start event.at w k.ready.timely.now k.ready.timely.first so.since in
         let late : start + pred (path_bound (snapshot_of then)) * delay_in then ≤ event.at =
         subst (λ (x : SyncPaths). start + pred x.systems * x.delay ≤ event.at) paths_then settled in
-        bettered start next claim
-        (λ at_link stands.
-        heard_on p start at_link then claim.news.world (claim.heard at_link stands) (omega (arith, late)))
-        (omega (arith, late)) so.since.news.sound (always_settled p start then claim late) better
+        let on : AreOn p start then claim.heard = λ at_link stands.
+        heard_on p start at_link then claim.news.world (claim.heard at_link stands) (omega (arith, late)) in
+        elim makes [
+          | inl better ↦ bettered start next claim on (omega (arith, late)) so.since.news.sound
+              (always_settled p start then claim late) better
+          | inr leaves ↦
+              let since = leaves.since in
+              let (ready, silent) = ready_later p start next then (omega (arith, settled, since)) claim.news.ready
+              claim.news.silent in
+              left_settled start next claim on (always_settled p start then claim late) leaves ready silent
+        ]
     leads_to_heard (Heard start) next (inr (inr (nothing, same))) so =
         subst (λ time. IsClaimedTo d more time w') (sym same)
         (left_so start (since_later p start event.at w k.ready.timely.now k.ready.timely.first so.since) nothing)

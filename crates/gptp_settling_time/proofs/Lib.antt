@@ -15,6 +15,7 @@ pub mod IdleLemmas
 pub mod GainLemmas
 pub mod PassLemmas
 pub mod LaterLemmas
+pub mod SinceSetLemmas
 pub mod KeptToLemmas
 pub mod MadeLemmas
 pub mod BegunLemmas
@@ -50,6 +51,7 @@ pub mod NewsClaimedLemmas
 pub mod SettledClaimedLemmas
 pub mod InTurnLemmas
 pub mod UnchangedLemmas
+pub mod AsIfChangedLemmas
 mod ExactInTurnLemmas
 pub mod SamePathsLemmas
 pub mod MomentLemmas

@@ -45,6 +45,7 @@ use Rattle.gptp_theorem.proofs.ChangeLemmas.{changes_stand}
 use Rattle.gptp_theorem.proofs.SettlingInvariantLemmas.{IsFitEvent, least_of}
 use Rattle.gptp_theorem.proofs.KeptLemmas.{time_stands}
 use Rattle.gptp_theorem.proofs.SyncPathLemmas.{paths_stand}
+use Rattle.gptp_settling_time.specs.ExactInTurn.{last_set}
 use Rattle.gptp_settling_time.specs.Gains.{AreCapableAnyway, AreCapableNext, AreCapableStill, AreSparedBy, ChangesNothing, IsGainAfter, IsIdleAfter, IsSparedBy, JoinsLive, LeadsToLive, LeavesCapable, SparesFailed, TakesNothing}
 use Rattle.gptp_settling_time.specs.Idle.{Lives}
 use Rattle.gptp_settling_time.proofs.GainLemmas.{all_live, better_lives, failed_so, gain_so, idle_so, lives_so}
@@ -56,6 +57,7 @@ use Rattle.gptp_settling_time.proofs.KeptToLemmas.{IsNewsTo, KeepsTo, WereAskedI
 use Rattle.gptp_settling_time.proofs.NewsSoonLemmas.{AreComing, HowComing, IsNewsFrom, IsNewsSoon, coming_later, from_coming, from_later, from_sound}
 use Rattle.gptp_settling_time.proofs.PriorityNewsLemmas.{priority_soon, priority_stays_news}
 use Rattle.gptp_settling_time.proofs.RecoverLemmas.{recover_in_time, recover_soon}
+use Rattle.gptp_settling_time.proofs.SinceSetLemmas.{unset_later, unset_made}
 use Rattle.gptp_settling_time.proofs.StandsStillLemmas.{StandsStill, asked_still, between_still, from_stands}
 use Rattle.gptp_settling_time.proofs.UpSoonLemmas.{up_soon}
 
@@ -282,6 +284,8 @@ module _ {F : Type 0} (answers : Bounds → ℕ → F → Option ℕ → F → T
       slow = stays_none_faster (least_of d) w w'
           (done_stays answers event fate fate_after w w' done keeps.claim.world.sound.wired.setups k) keeps.slow;
       asked = asked_after;
+      unset = unset_made p made event is.change then k.draws w' is.act refl acts.1 made_time made_last claim_after.world
+          (unset_later p (last_set made) w event.at k.ready.timely.now keeps.unset);
     }
 
   module _ (keeps : KeepsTo d made w) (sound : IsSoundWorld w) (nothing : TakesNothing n made event.act) where

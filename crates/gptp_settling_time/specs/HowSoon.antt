@@ -3,14 +3,16 @@
 -- What stands *before* a time stands after all earlier events, and what stands *at* it after those of that time too. A
 -- *choice bound* at a time says by how much later the choice and the roles stand. Where nothing lapses for want of Sync
 -- the span from any past (`settling_span_at_once`) always is one. A time by which the choice of the time before stands
--- has sharper ones, by its events. It is 0 where they change nothing. Where they are gains it is what ports take to
--- become capable, an announce interval, and the greatest delay for each system of a path but one. No announce interval
--- has to pass where what the first gain tells is heard at once, and after it links alone come up whose delay varies
--- little. Nor has one at a start without events where all delays vary little.
+-- has sharper ones, by its events. It is 0 where they make nothing of what stands. Where they are gains it is what ports
+-- take to become capable, an announce interval, and the greatest delay for each system of a path but one. No announce
+-- interval has to pass where what the first gain tells is heard at once, and after it links alone come up whose delay
+-- varies little. Nor has one at a start without events where all delays vary little.
 --
--- These gains are followed: a link that comes up between live systems, a system that recovers, and a priority1 of a
--- live system that gets better. The first is heard at once where its delay varies little, the last where no path has
--- more than 255 systems. Not followed yet are events at time 0, and bounds that are set. There the span stands.
+-- Events that make nothing of what stands ask for no time: such that change nothing, and a link with a failed end that
+-- comes up or goes down. These gains are followed, at a time behind such events: a link that comes up between live
+-- systems, a system that recovers, and a priority1 of a live system that gets better. The first is heard at once where
+-- its delay varies little, the last where no path has more than 255 systems. Not followed yet are events at time 0, and
+-- bounds that are set. There the span stands.
 use Rattle.std.specs.Prelude.{◌≡◌, ◌<◌, ◌≤◌, ◌⊎◌, ◌+◌, ◌*◌, ◌==◌, ℕ, ⊤, pred, suc, List, [], ◌∷◌, ◌++◌, filter}
 use Rattle.gptp_lists.specs.Members.{In}
 use Rattle.gptp_setup.specs.Intervals.{interval_of}
@@ -18,13 +20,17 @@ use Rattle.gptp_setup.specs.SettlingParams.{SettlingParams, largest_interval}
 use Rattle.gptp_scenario.specs.Calm.{IsCalm, NothingLapses}
 use Rattle.gptp_scenario.specs.Network.{NetworkState, pace_of}
 use Rattle.gptp_scenario.specs.SettlingAtOnce.{settling_span_at_once}
-use Rattle.gptp_scenario.specs.SettlingTime.{settling_span_with}
+use Rattle.gptp_scenario.specs.SettlingTime.{capability_span, settling_span_with}
 use Rattle.gptp_scenario.specs.SyncWait.{sync_paths}
+use Rattle.gptp_scenario.specs.declared.change.Act.{Act}
+use Rattle.gptp_scenario.specs.declared.change.Act.TheVariants.{Change as Changing}
+use Rattle.gptp_scenario.specs.declared.change.Change.TheVariants.{LinkDown, LinkUp}
 use Rattle.gptp_scenario.specs.declared.change.Timed.{Timed}
 use Rattle.gptp_scenario.specs.declared.sync_wait.SyncPaths.{SyncPaths}
+use Rattle.gptp_model.specs.World.{port_id}
 use Rattle.gptp_network.specs.Document.{DocumentState}
 use Rattle.gptp_network.specs.Snapshot.{events_by}
-use Rattle.gptp_settling_time.specs.Gains.{ChangesNothing, LeavesCapable, TakesNothing}
+use Rattle.gptp_settling_time.specs.Gains.{ChangesNothing, EndHasFailed, LeavesCapable, TakesNothing}
 use Rattle.gptp_settling_time.specs.InTurn.{BettersClock, BringsUp}
 use Rattle.gptp_settling_time.specs.Starts.{LinksVaryLittle}
 
@@ -38,11 +44,24 @@ events_at time = filter (λ (t : Timed). t.at == time)
 abbrev pub NoneBetween : List Timed → ℕ → ℕ → Type 0
 NoneBetween events last time = (event : Timed) → In event events → last < event.at → time ≤ event.at
 
+-- the greatest delay for each system of a path but one
+abbrev pub way_span : SyncPaths → ℕ
+way_span paths = pred paths.systems * paths.delay
+
 -- ---- events that are followed, by what stands just before each
 
--- it changes nothing
+-- it brings up or takes down a link of which an end has failed
+abbrev pub TurnsUnused : NetworkState → List Timed → Act → Type 0
+TurnsUnused n made (Changing (LinkUp number port)) = EndHasFailed n made (port_id number port)
+TurnsUnused n made (Changing (LinkDown number port)) = EndHasFailed n made (port_id number port)
+TurnsUnused n made act = ⊥
+
+-- It makes nothing of what stands: it changes nothing; or it turns a link with a failed end, which is known to make
+-- nothing once L + 5 announce intervals and what a way takes have passed since the network began.
 abbrev pub IsIdleEvent : NetworkState → List Timed → Timed → Type 0
-IsIdleEvent n made event = ChangesNothing n made event.act
+IsIdleEvent n made event =
+    ChangesNothing n made event.act
+    ⊎ (TurnsUnused n made event.act × (capability_span (pace_of n) + way_span (sync_paths n made) ≤ event.at))
 
 -- it takes nothing away, and ports are capable from the next time on
 abbrev pub IsGainEvent : NetworkState → ℕ → List Timed → Timed → Type 0
@@ -53,32 +72,33 @@ abbrev pub IsHeardEvent : NetworkState → ℕ → List Timed → Timed → Type
 IsHeardEvent n next made event = BringsUp n made event next ⊎ BettersClock n made event next
 
 abbrev pub IsHeardToo : NetworkState → ℕ → List Timed → Timed → Type 0
-IsHeardToo n next made event = BringsUp n made event next ⊎ IsIdleEvent n made event
+IsHeardToo n next made event = BringsUp n made event next ⊎ ChangesNothing n made event.act
 
 abbrev pub IsFollowedEvent : NetworkState → ℕ → List Timed → Timed → Type 0
-IsFollowedEvent n next made event = IsIdleEvent n made event ⊎ IsGainEvent n next made event
+IsFollowedEvent n next made event = ChangesNothing n made event.act ⊎ IsGainEvent n next made event
 
 -- each of the events is such a one
 abbrev pub EachEvent : (List Timed → Timed → Type 0) → List Timed → List Timed → Type 0
 EachEvent Is made [] = ⊤
 EachEvent Is made (event ∷ events) = Is made event × EachEvent Is (made ++ event ∷ []) events
 
--- One of them is heard at once. Before it come none but such that change nothing, after it links too that come up.
+-- the first of them is heard at once, and the others are links that come up, or change nothing
 abbrev pub AreHeardEvents : NetworkState → ℕ → List Timed → List Timed → Type 0
 AreHeardEvents n next made [] = ⊥
 AreHeardEvents n next made (event ∷ events) =
-    (IsHeardEvent n next made event × EachEvent (IsHeardToo n next) (made ++ event ∷ []) events)
-    ⊎ (IsIdleEvent n made event × AreHeardEvents n next (made ++ event ∷ []) events)
+    IsHeardEvent n next made event × EachEvent (IsHeardToo n next) (made ++ event ∷ []) events
+
+-- so it is of the events, or of those that come after such that make nothing of what stands
+abbrev pub AfterIdleEvents : NetworkState → (List Timed → List Timed → Type 0) → List Timed → List Timed → Type 0
+AfterIdleEvents n Are made [] = Are made []
+AfterIdleEvents n Are made (event ∷ events) =
+    Are made (event ∷ events) ⊎ (IsIdleEvent n made event × AfterIdleEvents n Are (made ++ event ∷ []) events)
 
 -- ---- sharp bounds
 
 -- two exchanges, an interval between requests apart, over the slowest link
 abbrev pub two_exchanges : SettlingParams → SyncPaths → ℕ
 two_exchanges p paths = interval_of p.params.pdelay + (paths.delay + p.params.turnaround + paths.delay)
-
--- the greatest delay for each system of a path but one
-abbrev pub way_span : SyncPaths → ℕ
-way_span paths = pred paths.systems * paths.delay
 
 -- at a start without events
 abbrev pub BoundsStart : NetworkState → ℕ → Type 0
@@ -92,9 +112,9 @@ BoundsStart n choice =
 -- after a link, and a peer delay interval later after a system that recovers.
 abbrev pub BoundsGains : NetworkState → List Timed → List Timed → ℕ → ℕ → ℕ → Type 0
 BoundsGains n made now time ready choice =
-    (AreHeardEvents n (suc (time + ready)) made now
+    (AfterIdleEvents n (AreHeardEvents n (suc (time + ready))) made now
     × (choice ≡ ready + way_span (sync_paths n (made ++ now))))
-    ⊎ (EachEvent (IsFollowedEvent n (suc (time + ready))) made now
+    ⊎ (AfterIdleEvents n (EachEvent (IsFollowedEvent n (suc (time + ready)))) made now
     × (choice ≡ ready + largest_interval (pace_of n) + way_span (sync_paths n (made ++ now))))
 
 -- At a time by which the choice stands: its events change nothing, or are gains.

@@ -6,9 +6,9 @@
 -- lead to any past. To a gain it leads where it takes nothing away, or changes nothing. To what is heard it leads where
 -- the network has settled and it changes nothing, brings up a link between live systems, or sets a better priority1.
 -- Where the delay of that link varies little the first Announce over it comes to a port that is capable already, and a
--- system that gets better tells so at once. What changes nothing leaves a network settled that had settled, whatever it
--- came from. Where all was heard before, links may also come up one after another at any time, as several at once; and
--- what changes nothing asks for no time at all.
+-- system that gets better tells so at once. What makes nothing of what stands leaves a network settled that had settled,
+-- whatever it came from. Where all was heard before, links may also come up one after another at any time, as several at
+-- once; and what changes nothing asks for no time at all.
 use Rattle.std.specs.Prelude.{◌≡◌, ◌<◌, ◌≤◌, ◌⊎◌, ◌+◌, ◌*◌, ℕ, ⊤, pred, List, [], ◌∷◌, ◌++◌, Option, Some, slice_get}
 use Rattle.gptp_lists.specs.Members.{In}
 use Rattle.gptp_vector.specs.declared.port.PortId.{PortId}
@@ -122,7 +122,8 @@ LeadsToHeard n before (Gained start) event next =
     × (BringsUp n before event next ⊎ (BettersClock n before event next ⊎ LeavesSettled n before event next))
 LeadsToHeard n before (Heard start) event next =
     ((start ≤ next) × BringsUp n before event next)
-    ⊎ ((HasSettledHeard n before start event.at × BettersClock n before event next)
+    ⊎ ((HasSettledHeard n before start event.at
+    × (BettersClock n before event next ⊎ LeavesSettled n before event next))
     ⊎ (MakesNothing n before event start × (next ≡ start)))
 
 -- a gain, and what is heard, stays so from the start that it had
