@@ -32,7 +32,7 @@ use Rattle.gptp_theorem.proofs.PlayedLemmas.{no_change}
 use Rattle.gptp_theorem.proofs.SettlingInvariantLemmas.{events_fit, events_made}
 use Rattle.gptp_settling_time.specs.ExactInTurn.{ActsAreExactInTurn, last_set}
 use Rattle.gptp_settling_time.specs.Exactly.{AreExactFrom}
-use Rattle.gptp_settling_time.specs.InTurn.{AnyPast, Gained, Heard, Past, SettlesAfter, SettlesByEvents}
+use Rattle.gptp_settling_time.specs.InTurn.{AnyPast, Gained, Heard, Past, SettlesAfter, SettlesByEvents, Starting}
 use Rattle.gptp_settling_time.proofs.AsIfChangedLemmas.{changed_at, exact_so, known_so, measured_links_so, measured_so, was_done_so, world_so}
 use Rattle.gptp_settling_time.proofs.BegunLemmas.{begun_last}
 use Rattle.gptp_settling_time.proofs.DocumentLemmas.{run_to}
@@ -70,6 +70,7 @@ module _ (d : DocumentState) (playable : IsPlayable d) (all : List Timed) (calm 
           → w.last_change + 5 * largest_interval p ≤ w.time
       by (inl (off, passed)) change = omega (arith, passed, on, change)
       by (inr passed) change = omega (arith, passed, on, change)
+  have_measured Starting w so none links on = absurd none
   have_measured (Gained start) w so settles links on =
       let late = by settles in news_measured p start w (news_now p start w late so.news) links late
     where

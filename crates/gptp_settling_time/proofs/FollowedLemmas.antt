@@ -17,8 +17,10 @@ use Rattle.gptp_scenario.specs.declared.sync_wait.SyncPaths.{SyncPaths}
 use Rattle.gptp_network.specs.Document.{DocumentState}
 use Rattle.gptp_network.specs.Events.{AreInOrder}
 use Rattle.gptp_network.specs.Snapshot.{events_by}
-use Rattle.gptp_settling_time.specs.HowSoon.{AfterIdleEvents, AreHeardEvents, BoundsEvents, BoundsStart, EachEvent, IsChoiceBound, IsChoiceBoundAfter, IsFollowedEvent, IsGainEvent, IsHeardEvent, IsHeardToo, IsIdleEvent, TurnsUnused, events_at, two_exchanges, way_span}
-use Rattle.gptp_settling_time.specs.InTurn.{AnyPast, BeginsBy, EventLeads, Gained, HasSettledAnyhow, HasSettledHeard, HasSettledSince, Heard, LeadOn, LeavesSettled, MakesNothing, Past, SettlesAfter, SettlesByEvents, TurnsInVain}
+use Rattle.gptp_settling_time.specs.HowSoon.{AfterIdleEvents, AreHeardEvents, AreStartEvents, BoundsEvents, BoundsStart, EachEvent, IsChoiceBound, IsChoiceBoundAfter, IsFollowedEvent, IsGainEvent, IsHeardEvent, IsHeardToo, IsIdleEvent, TurnsUnused, events_at, two_exchanges, way_span}
+use Rattle.gptp_settling_time.specs.InTurn.{AnyPast, BeginsBy, EventLeads, Gained, HasSettledAnyhow, HasSettledHeard, HasSettledSince, Heard, LeadOn, LeavesSettled, MakesNothing, NoneUnanswered, Past, SettlesAfter, SettlesByEvents, Starting, StartsWith, TellsNothing, TurnsInVain, UsedVaryLittle}
+use Rattle.gptp_settling_time.specs.Gains.{exchanged_from}
+use Rattle.gptp_settling_time.proofs.CutLemmas.{IsBy, all_by}
 use Rattle.gptp_settling_time.proofs.MomentLemmas.{all_at, last_by, parted}
 use Rattle.gptp_settling_time.proofs.SamePathsLemmas.{idle_paths, turned_paths}
 
@@ -46,6 +48,7 @@ leads_on n made first mid last (event ∷ events) more (next, leads, is) then = 
 -- by a time it has settled, whatever it came from
 abbrev HasSettled : NetworkState → List Timed → Past → ℕ → Type 0
 HasSettled n events AnyPast time = HasSettledAnyhow n events time
+HasSettled n events Starting time = ⊥
 HasSettled n events (Gained start) time = HasSettledSince n events start time
 HasSettled n events (Heard start) time = HasSettledHeard n events start time
 
@@ -53,12 +56,14 @@ settled_later : (n : NetworkState) (events : List Timed) (past : Past) (time lat
     → HasSettled n events past time → HasSettled n events past later
 settled_later n events AnyPast time later less is =
     let passed = is.passed in record { calm = is.calm; passed = omega (arith, passed, less) }
+settled_later n events Starting time later less is = absurd is
 settled_later n events (Gained start) time later less is = omega (arith, is, less)
 settled_later n events (Heard start) time later less is = omega (arith, is, less)
 
 settled_so : (n : NetworkState) (events : List Timed) (past : Past) (time : ℕ) → NothingLapses n.params
     → HasSettled n events past time → SettlesAfter n events past time
 settled_so n events AnyPast time off is = inl (off, is.passed)
+settled_so n events Starting time off is = absurd is
 settled_so n events (Gained start) time off is = inl (off, is)
 settled_so n events (Heard start) time off is = (off, is)
 
@@ -88,6 +93,7 @@ module _ (n : NetworkState) (made : List Timed) (event : Timed) where
           (event.at, inr capable, inr (less, leaves)),
         ),
       )
+  gain_leads Starting next settled less gain = absurd settled
   gain_leads (Gained start) next settled less (takes, leaves) =
       inl (takes, inl (inr (omega (arith, settled, less), leaves)))
   gain_leads (Heard start) next settled less (takes, leaves) =
@@ -97,6 +103,7 @@ module _ (n : NetworkState) (made : List Timed) (event : Timed) where
       → EventLeads n made past event (Heard next)
   heard_leads AnyPast next settled (inl up) = (settled, inl up)
   heard_leads AnyPast next settled (inr better) = (settled, inr (inl better))
+  heard_leads Starting next settled heard = absurd settled
   heard_leads (Gained start) next settled (inl up) = (settled, inl up)
   heard_leads (Gained start) next settled (inr better) = (settled, inr (inl better))
   heard_leads (Heard start) next settled (inl up) =
@@ -117,6 +124,7 @@ module _ (n : NetworkState) (made : List Timed) (event : Timed) where
 
     way_over : (past : Past) → HasSettled n made past event.at → way ≤ event.at
     way_over AnyPast settled = let passed = settled.passed in omega (arith, passed)
+    way_over Starting settled = absurd settled
     way_over (Gained start) settled = omega (arith, settled)
     way_over (Heard start) settled = omega (arith, settled)
 
@@ -146,6 +154,7 @@ module _ (n : NetworkState) (made : List Timed) (event : Timed) where
 
       pub idle_leads : (past : Past) → HasSettled n made past event.at → EventLeads n made past event (Heard since)
       idle_leads AnyPast settled = (settled, inr (inr (leaves_so (way_over AnyPast settled))))
+      idle_leads Starting settled = absurd settled
       idle_leads (Gained start) settled = (settled, inr (inr (leaves_so (way_over (Gained start) settled))))
       idle_leads (Heard start) settled = inr (inl (settled, inr (leaves_so (way_over (Heard start) settled))))
 
@@ -186,7 +195,7 @@ module _ (n : NetworkState) (network : IsNetwork n) where
       → LeadOn n made (Gained next) now (Gained next)
   gains_lead next made [] each = refl
   gains_lead next made (event ∷ now) (inl nothing, each) =
-      (Gained next, inr (inl nothing, refl), gains_lead next (made ++ event ∷ []) now each)
+      (Gained next, inr (inl (inl nothing, refl)), gains_lead next (made ++ event ∷ []) now each)
   gains_lead next made (event ∷ now) (inr (takes, leaves), each) =
       (Gained next, inl (takes, inl (inr (omega arith, leaves))), gains_lead next (made ++ event ∷ []) now each)
 
@@ -314,8 +323,9 @@ module _ (n : NetworkState) (network : IsNetwork n) (off : NothingLapses n.param
         settles = record { calm = calm; passed = omega (arith, last, is) };
       }
 
-  started : (choice : ℕ) → BoundsStart n choice → IsFollowedTo n [] 0 choice
-  started choice (inl (little, is)) =
+  -- by a start without events
+  started : (choice : ℕ) → BoundsStart n [] choice → IsFollowedTo n [] 0 choice
+  started choice (quietly, inl (little, is)) =
       let start : ℕ = two_exchanges (pace_of n) (sync_paths n []) + 1 in
       record {
         first = Heard start;
@@ -324,7 +334,7 @@ module _ (n : NetworkState) (network : IsNetwork n) (off : NothingLapses n.param
         lead = refl;
         settles = omega (arith, is);
       }
-  started choice (inr is) =
+  started choice (quietly, inr is) =
       let start : ℕ = two_exchanges (pace_of n) (sync_paths n []) + 1 in
       record {
         first = Gained start;
@@ -334,13 +344,69 @@ module _ (n : NetworkState) (network : IsNetwork n) (off : NothingLapses n.param
         settles = omega (arith, is);
       }
 
+  -- events that tell nothing lead from a start to what the last of them leads to
+  start_lead : (last : Past) (now : List Timed)
+      → ((made : List Timed) (event : Timed) → made ++ event ∷ [] ≡ now → event.at ≡ 0 → TellsNothing event.act
+      → EventLeads n made Starting event last)
+      → (made : List Timed) (event : Timed) (events : List Timed) → made ++ event ∷ events ≡ now
+      → AllByRecursion (IsBy 0) (event ∷ events) → AreStartEvents (event ∷ events)
+      → LeadOn n made Starting (event ∷ events) last
+  start_lead last now leads made event [] are (at, none) (tells, rest) =
+      (last, leads made event are (omega (arith, at)) tells, refl)
+  start_lead last now leads made event (other ∷ events) are (at, later) (tells, rest) = (
+    Starting,
+    (omega (arith, at), tells),
+    start_lead last now leads (made ++ event ∷ []) other events
+        (append_assoc made (event ∷ []) (other ∷ events) ∙ are) later rest,
+  )
+
+  -- by a start with such events
+  started_with : (event : Timed) (events : List Timed) (choice : ℕ) → AllByRecursion (IsBy 0) (event ∷ events)
+      → BoundsStart n (event ∷ events) choice → IsFollowedTo n (event ∷ events) 0 choice
+  started_with event events choice at ((each, answered), inl (little, is)) =
+      let now = event ∷ events in
+      let start : ℕ = two_exchanges (pace_of n) (sync_paths n now) + 1 in
+      record {
+        first = Starting;
+        begins = tt;
+        last = Heard start;
+        lead = start_lead (Heard start) now (λ made one are zero tells. (
+          subst (λ es. NoneUnanswered n es → exchanged_from (pace_of n) (sync_paths n es) 0 ≤ start
+              → StartsWith n made one start) are
+              (λ none late. record { now = zero; tells = tells; answered = none; capable = late }) answered
+              (omega arith),
+          subst (UsedVaryLittle n) (sym are) little,
+        )) [] event events refl at each;
+        settles = omega (arith, is);
+      }
+  started_with event events choice at ((each, answered), inr is) =
+      let now = event ∷ events in
+      let start : ℕ = two_exchanges (pace_of n) (sync_paths n now) + 1 in
+      record {
+        first = Starting;
+        begins = tt;
+        last = Gained start;
+        lead = start_lead (Gained start) now (λ made one are zero tells.
+            inr (inr (subst (λ es. NoneUnanswered n es → exchanged_from (pace_of n) (sync_paths n es) 0 ≤ start
+            → StartsWith n made one start) are
+            (λ none late. record { now = zero; tells = tells; answered = none; capable = late }) answered
+            (omega arith)))) [] event events refl at each;
+        settles = omega (arith, is);
+      }
+
+  started_so : (now : List Timed) (choice : ℕ) → AllByRecursion (IsBy 0) now → BoundsStart n now choice
+      → IsFollowedTo n now 0 choice
+  started_so [] choice at is = started choice is
+  started_so (event ∷ events) choice at is = started_with event events choice at is
+
   followed : (earlier : List ℕ) (time choice : ℕ) → IsChoiceBoundAfter n all earlier time choice
       → IsFollowedTo n (events_by time all) time choice
   followed [] time choice (start, (calm, inl (lapses, is))) = absurd (lapses off)
   followed [] time choice (start, (calm, inr (nothing, inl is))) = spanned time choice calm is
-  followed [] time choice (start, (calm, inr (nothing, inr (none, is)))) =
-      subst (λ es. IsFollowedTo n es time choice) (sym none)
-      (subst (λ at. IsFollowedTo n [] at choice) (sym start) (started choice is))
+  followed [] time choice (start, (calm, inr (nothing, inr is))) =
+      subst (λ at. IsFollowedTo n (events_by at all) at choice) (sym start)
+      (started_so (events_by 0 all) choice (all_by 0 all)
+      (subst (λ at. BoundsStart n (events_by at all) choice) start is))
   followed (last ∷ earlier) time choice (later, between, (calm, inl (lapses, is))) = absurd (lapses off)
   followed (last ∷ earlier) time choice (later, between, (calm, inr (nothing, inl is))) = spanned time choice calm is
   followed (last ∷ earlier) time choice (later, between, (calm, inr (nothing, inr (then, bound, soon, sharp)))) =

@@ -17,6 +17,7 @@ pub mod PassLemmas
 pub mod LaterLemmas
 pub mod SinceSetLemmas
 pub mod KeptToLemmas
+pub mod PrioritySparedLemmas
 pub mod MadeLemmas
 pub mod BegunLemmas
 pub mod FindsLemmas
@@ -30,6 +31,9 @@ pub mod AlwaysClaimedLemmas
 pub mod SeenSettledLemmas
 pub mod StartLemmas
 pub mod ClaimedToLemmas
+pub mod StartCallLemmas
+pub mod EventStillLemmas
+pub mod StartEventLemmas
 pub mod StartDocumentLemmas
 pub mod SameShownLemmas
 pub mod StepLemmas
@@ -52,7 +56,7 @@ pub mod SettledClaimedLemmas
 pub mod InTurnLemmas
 pub mod UnchangedLemmas
 pub mod AsIfChangedLemmas
-mod ExactInTurnLemmas
+pub mod ExactInTurnLemmas
 pub mod SamePathsLemmas
 pub mod MomentLemmas
 pub mod FollowedLemmas

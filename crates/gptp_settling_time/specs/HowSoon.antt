@@ -6,13 +6,14 @@
 -- has sharper ones, by its events. It is 0 where they make nothing of what stands. Where they are gains it is what ports
 -- take to become capable, an announce interval, and the greatest delay for each system of a path but one. No announce
 -- interval has to pass where what the first gain tells is heard at once, and after it links alone come up whose delay
--- varies little. Nor has one at a start without events where all delays vary little.
+-- varies little. Nor has one at the start where all delays vary little.
 --
 -- Events that make nothing of what stands ask for no time: such that change nothing, and a link with a failed end that
 -- comes up or goes down. These gains are followed, at a time behind such events: a link that comes up between live
 -- systems, a system that recovers, and a priority1 of a live system that gets better. The first is heard at once where
--- its delay varies little, the last where no path has more than 255 systems. Not followed yet are events at time 0, and
--- bounds that are set. There the span stands.
+-- its delay varies little, the last where no path has more than 255 systems. At time 0 links may
+-- go down and come up, systems fail and a priority1 be set, where no live system is then linked to one that has failed.
+-- Not followed yet are bounds that are set. There the span stands.
 use Rattle.std.specs.Prelude.{◌≡◌, ◌<◌, ◌≤◌, ◌⊎◌, ◌+◌, ◌*◌, ◌==◌, ℕ, ⊤, pred, suc, List, [], ◌∷◌, ◌++◌, filter}
 use Rattle.gptp_lists.specs.Members.{In}
 use Rattle.gptp_setup.specs.Intervals.{interval_of}
@@ -31,8 +32,7 @@ use Rattle.gptp_model.specs.World.{port_id}
 use Rattle.gptp_network.specs.Document.{DocumentState}
 use Rattle.gptp_network.specs.Snapshot.{events_by}
 use Rattle.gptp_settling_time.specs.Gains.{ChangesNothing, EndHasFailed, LeavesCapable, TakesNothing}
-use Rattle.gptp_settling_time.specs.InTurn.{BettersClock, BringsUp}
-use Rattle.gptp_settling_time.specs.Starts.{LinksVaryLittle}
+use Rattle.gptp_settling_time.specs.InTurn.{BettersClock, BringsUp, NoneUnanswered, TellsNothing, UsedVaryLittle}
 
 -- ---- times
 
@@ -100,13 +100,24 @@ AfterIdleEvents n Are made (event ∷ events) =
 abbrev pub two_exchanges : SettlingParams → SyncPaths → ℕ
 two_exchanges p paths = interval_of p.params.pdelay + (paths.delay + p.params.turnaround + paths.delay)
 
--- at a start without events
-abbrev pub BoundsStart : NetworkState → ℕ → Type 0
-BoundsStart n choice =
-    (LinksVaryLittle n []
-    × (choice ≡ two_exchanges (pace_of n) (sync_paths n []) + way_span (sync_paths n [])))
+-- each of the events leaves a network that starts so that nothing is told
+abbrev pub AreStartEvents : List Timed → Type 0
+AreStartEvents [] = ⊤
+AreStartEvents (event ∷ events) = TellsNothing event.act × AreStartEvents events
+
+-- so do the events of time 0, if any, and after them no system waits for one that has failed
+abbrev pub StartsQuietly : NetworkState → List Timed → Type 0
+StartsQuietly n [] = ⊤
+StartsQuietly n (event ∷ events) = AreStartEvents (event ∷ events) × NoneUnanswered n (event ∷ events)
+
+-- at time 0
+abbrev pub BoundsStart : NetworkState → List Timed → ℕ → Type 0
+BoundsStart n now choice =
+    StartsQuietly n now
+    × ((UsedVaryLittle n now
+    × (choice ≡ two_exchanges (pace_of n) (sync_paths n now) + way_span (sync_paths n now)))
     ⊎ (choice
-    ≡ two_exchanges (pace_of n) (sync_paths n []) + largest_interval (pace_of n) + way_span (sync_paths n []))
+    ≡ two_exchanges (pace_of n) (sync_paths n now) + largest_interval (pace_of n) + way_span (sync_paths n now)))
 
 -- At a time with gains. Ports are capable so much later as `ready` says: at once after a priority1, by two exchanges
 -- after a link, and a peer delay interval later after a system that recovers.
@@ -137,7 +148,7 @@ BoundsChoice n Sharp events choice =
 abbrev pub IsChoiceBoundAfter : NetworkState → List Timed → List ℕ → ℕ → ℕ → Type 0
 IsChoiceBoundAfter n events [] time choice =
     (time ≡ 0)
-    × BoundsChoice n ((events_by time events ≡ []) × BoundsStart n choice) (events_by time events) choice
+    × BoundsChoice n (BoundsStart n (events_by time events) choice) (events_by time events) choice
 IsChoiceBoundAfter n events (last ∷ earlier) time choice =
     (last < time)
     × NoneBetween events last time
