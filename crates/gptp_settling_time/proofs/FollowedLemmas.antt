@@ -17,7 +17,7 @@ use Rattle.gptp_scenario.specs.declared.sync_wait.SyncPaths.{SyncPaths}
 use Rattle.gptp_network.specs.Document.{DocumentState}
 use Rattle.gptp_network.specs.Events.{AreInOrder}
 use Rattle.gptp_network.specs.Snapshot.{events_by}
-use Rattle.gptp_settling_time.specs.HowSoon.{AfterIdleEvents, AreHeardEvents, AreStartEvents, BoundsEvents, BoundsStart, EachEvent, IsChoiceBound, IsChoiceBoundAfter, IsFollowedEvent, IsGainEvent, IsHeardEvent, IsHeardToo, IsIdleEvent, TurnsUnused, events_at, two_exchanges, way_span}
+use Rattle.gptp_settling_time.specs.HowSoon.{AfterIdleEvents, AreGainEvents, AreHeardEvents, AreStartEvents, BoundsEvents, BoundsStart, EachEvent, IsChoiceBound, IsChoiceBoundAfter, IsGainEvent, IsGainToo, IsHeardEvent, IsHeardToo, IsIdleEvent, TurnsUnused, events_at, two_exchanges, way_span}
 use Rattle.gptp_settling_time.specs.InTurn.{AnyPast, BeginsBy, EventLeads, Gained, HasSettledAnyhow, HasSettledHeard, HasSettledSince, Heard, LeadOn, LeavesSettled, MakesNothing, NoneUnanswered, Past, SettlesAfter, SettlesByEvents, Starting, StartsWith, TellsNothing, TurnsInVain, UsedVaryLittle}
 use Rattle.gptp_settling_time.specs.Gains.{exchanged_from}
 use Rattle.gptp_settling_time.proofs.CutLemmas.{IsBy, all_by}
@@ -188,16 +188,15 @@ module _ (n : NetworkState) (network : IsNetwork n) where
   heard_lead next made (event ∷ now) (inl up, each) =
       (Heard next, inl (omega arith, up), heard_lead next (made ++ event ∷ []) now each)
   heard_lead next made (event ∷ now) (inr nothing, each) =
-      (Heard next, inr (inr (inl nothing, refl)), heard_lead next (made ++ event ∷ []) now each)
+      (Heard next, inr (inr (nothing, refl)), heard_lead next (made ++ event ∷ []) now each)
 
-  gains_lead : (next : ℕ) (made now : List Timed)
-      → EachEvent (IsFollowedEvent n next) made now
+  gains_lead : (next : ℕ) (made now : List Timed) → EachEvent (IsGainToo n next) made now
       → LeadOn n made (Gained next) now (Gained next)
   gains_lead next made [] each = refl
-  gains_lead next made (event ∷ now) (inl nothing, each) =
-      (Gained next, inr (inl (inl nothing, refl)), gains_lead next (made ++ event ∷ []) now each)
-  gains_lead next made (event ∷ now) (inr (takes, leaves), each) =
+  gains_lead next made (event ∷ now) (inl (takes, leaves), each) =
       (Gained next, inl (takes, inl (inr (omega arith, leaves))), gains_lead next (made ++ event ∷ []) now each)
+  gains_lead next made (event ∷ now) (inr nothing, each) =
+      (Gained next, inr (inl (nothing, refl)), gains_lead next (made ++ event ∷ []) now each)
 
   module _ (off : NothingLapses n.params) (time : ℕ) where
     abbrev AllNow : List Timed → Type 0
@@ -266,24 +265,13 @@ module _ (n : NetworkState) (network : IsNetwork n) where
                 (omega (arith, is));
           }
 
-      -- each is a gain, or changes nothing
+      -- one is a gain, and after it others
       gains_led : (all : List Timed) (choice : ℕ)
           → choice ≡ ready + largest_interval (pace_of n) + way_span (sync_paths n all)
           → (made now : List Timed) (past : Past) → made ++ now ≡ all → AllNow now → HasSettled n made past time
-          → EachEvent (IsFollowedEvent n next) made now → IsLed n made now past (suc (time + choice))
-      gains_led all choice is made [] past are at settled each =
-          none_led made past (suc (time + choice)) (omega arith) settled
-      gains_led all choice is made (event ∷ now) past are (here, at) settled (inl nothing, each) =
-          let then = subst (HasSettled n made past) (sym here) settled in
-          let start : ℕ = since n made event network off in
-          led_more n made now event past (Heard start) (suc (time + choice))
-          (idle_leads n made event network off (inl nothing) past then)
-          (gains_led all choice is (made ++ event ∷ []) now (Heard start)
-          (append_assoc made (event ∷ []) now ∙ are) at
-          (subst (HasSettled n (made ++ event ∷ []) (Heard start)) here
-          (idle_settled n made event network off (inl nothing) past then))
-          each)
-      gains_led all choice is made (event ∷ now) past are (here, at) settled (inr gain, each) =
+          → AreGainEvents n next made now → IsLed n made now past (suc (time + choice))
+      gains_led all choice is made [] past are at settled none = absurd none
+      gains_led all choice is made (event ∷ now) past are (here, at) settled (gain, each) =
           record {
             last = Gained next;
             lead = (
@@ -435,7 +423,7 @@ module _ (n : NetworkState) (network : IsNetwork n) (off : NothingLapses n.param
           (heard_led n network off time ready (events_by last all ++ events_at time all) choice is)
           (events_by last all) (events_at time all) past refl (all_at time all) settled heard
       by past settled (inr (ready, inr (each, is))) =
-          after_idle n network off time (EachEvent (IsFollowedEvent n (suc (time + ready))))
+          after_idle n network off time (AreGainEvents n (suc (time + ready)))
           (events_by last all ++ events_at time all) (suc (time + choice))
           (gains_led n network off time ready (events_by last all ++ events_at time all) choice is)
           (events_by last all) (events_at time all) past refl (all_at time all) settled each

@@ -11,9 +11,9 @@
 -- Events that make nothing of what stands ask for no time: such that change nothing, and a link with a failed end that
 -- comes up or goes down. These gains are followed, at a time behind such events: a link that comes up between live
 -- systems, a system that recovers, and a priority1 of a live system that gets better. The first is heard at once where
--- its delay varies little, the last where no path has more than 255 systems. At time 0 links may
--- go down and come up, systems fail and a priority1 be set, where no live system is then linked to one that has failed.
--- Not followed yet are bounds that are set. There the span stands.
+-- its delay varies little, the last where no path has more than 255 systems. At time 0 links may go down and come up,
+-- systems fail and a priority1 be set, where no live system is then linked to one that has failed. Not followed yet are
+-- bounds that are set, and events that take something away at a later time. There the span stands.
 use Rattle.std.specs.Prelude.{◌≡◌, ◌<◌, ◌≤◌, ◌⊎◌, ◌+◌, ◌*◌, ◌==◌, ℕ, ⊤, pred, suc, List, [], ◌∷◌, ◌++◌, filter}
 use Rattle.gptp_lists.specs.Members.{In}
 use Rattle.gptp_setup.specs.Intervals.{interval_of}
@@ -32,7 +32,7 @@ use Rattle.gptp_model.specs.World.{port_id}
 use Rattle.gptp_network.specs.Document.{DocumentState}
 use Rattle.gptp_network.specs.Snapshot.{events_by}
 use Rattle.gptp_settling_time.specs.Gains.{ChangesNothing, EndHasFailed, LeavesCapable, TakesNothing}
-use Rattle.gptp_settling_time.specs.InTurn.{BettersClock, BringsUp, NoneUnanswered, TellsNothing, UsedVaryLittle}
+use Rattle.gptp_settling_time.specs.InTurn.{BettersClock, BringsUp, MakesNothing, NoneUnanswered, TellsNothing, UsedVaryLittle}
 
 -- ---- times
 
@@ -71,22 +71,30 @@ IsGainEvent n next made event = TakesNothing n made event.act × LeavesCapable n
 abbrev pub IsHeardEvent : NetworkState → ℕ → List Timed → Timed → Type 0
 IsHeardEvent n next made event = BringsUp n made event next ⊎ BettersClock n made event next
 
+-- behind such a one of the same time: a link that comes up so, or what makes nothing of what then stands
 abbrev pub IsHeardToo : NetworkState → ℕ → List Timed → Timed → Type 0
-IsHeardToo n next made event = BringsUp n made event next ⊎ ChangesNothing n made event.act
+IsHeardToo n next made event = BringsUp n made event next ⊎ MakesNothing n made event next
 
-abbrev pub IsFollowedEvent : NetworkState → ℕ → List Timed → Timed → Type 0
-IsFollowedEvent n next made event = ChangesNothing n made event.act ⊎ IsGainEvent n next made event
+-- behind a gain of the same time: another, or what makes nothing of what then stands
+abbrev pub IsGainToo : NetworkState → ℕ → List Timed → Timed → Type 0
+IsGainToo n next made event = IsGainEvent n next made event ⊎ MakesNothing n made event next
 
 -- each of the events is such a one
 abbrev pub EachEvent : (List Timed → Timed → Type 0) → List Timed → List Timed → Type 0
 EachEvent Is made [] = ⊤
 EachEvent Is made (event ∷ events) = Is made event × EachEvent Is (made ++ event ∷ []) events
 
--- the first of them is heard at once, and the others are links that come up, or change nothing
+-- the first of them is heard at once, and the others are too
 abbrev pub AreHeardEvents : NetworkState → ℕ → List Timed → List Timed → Type 0
 AreHeardEvents n next made [] = ⊥
 AreHeardEvents n next made (event ∷ events) =
     IsHeardEvent n next made event × EachEvent (IsHeardToo n next) (made ++ event ∷ []) events
+
+-- the first of them is a gain, and the others are too
+abbrev pub AreGainEvents : NetworkState → ℕ → List Timed → List Timed → Type 0
+AreGainEvents n next made [] = ⊥
+AreGainEvents n next made (event ∷ events) =
+    IsGainEvent n next made event × EachEvent (IsGainToo n next) (made ++ event ∷ []) events
 
 -- so it is of the events, or of those that come after such that make nothing of what stands
 abbrev pub AfterIdleEvents : NetworkState → (List Timed → List Timed → Type 0) → List Timed → List Timed → Type 0
@@ -125,10 +133,10 @@ abbrev pub BoundsGains : NetworkState → List Timed → List Timed → ℕ → 
 BoundsGains n made now time ready choice =
     (AfterIdleEvents n (AreHeardEvents n (suc (time + ready))) made now
     × (choice ≡ ready + way_span (sync_paths n (made ++ now))))
-    ⊎ (AfterIdleEvents n (EachEvent (IsFollowedEvent n (suc (time + ready)))) made now
+    ⊎ (AfterIdleEvents n (AreGainEvents n (suc (time + ready))) made now
     × (choice ≡ ready + largest_interval (pace_of n) + way_span (sync_paths n (made ++ now))))
 
--- At a time by which the choice stands: its events change nothing, or are gains.
+-- At a time by which the choice stands: its events make nothing of what stands, or are gains.
 abbrev pub BoundsEvents : NetworkState → List Timed → List Timed → ℕ → ℕ → Type 0
 BoundsEvents n made now time choice =
     (EachEvent (IsIdleEvent n) made now × (choice ≡ 0)) ⊎ ((ready : ℕ) × BoundsGains n made now time ready choice)

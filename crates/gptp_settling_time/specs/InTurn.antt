@@ -1,15 +1,15 @@
 -- How soon a document has settled, event by event: each event leaves known of the network what it came from.
 --
 -- After some events of a document its network came from *any past*; or it is *starting*, and nothing is told yet; or it
--- has *gained* only, since it started or had
--- rested, and its ports at links are capable from a start on; or the same is so and all that is told over its links is
--- *heard*, so that no announce interval has to pass. An event leads from one to another (`EventLeads`). It may always
--- lead to any past. To a gain it leads where it takes nothing away, or changes nothing. To what is heard it leads where
--- the network has settled and it changes nothing, brings up a link between live systems, or sets a better priority1.
--- Where the delay of that link varies little the first Announce over it comes to a port that is capable already, and a
--- system that gets better tells so at once. What makes nothing of what stands leaves a network settled that had settled,
--- whatever it came from. Where all was heard before, links may also come up one after another at any time, as several at
--- once; and what changes nothing asks for no time at all.
+-- has *gained* only, since it started or had rested, and its ports at links are capable from a start on; or the same is
+-- so and all that is told over its links is *heard*, so that no announce interval has to pass. An event leads from one
+-- to another (`EventLeads`). It may always lead to any past. At time 0, as the network starts, it may take something
+-- away, since nothing is told yet. To a gain it leads where it takes nothing away, or changes nothing. To what is heard
+-- it leads where the network has settled and it changes nothing, brings up a link between live systems, or sets a better
+-- priority1. Where the delay of that link varies little the first Announce over it comes to a port that is capable
+-- already, and a system that gets better tells so at once. What makes nothing of what stands leaves a network settled
+-- that had settled, whatever it came from. Where all was heard before, links may also come up one after another at any
+-- time, as several at once; and what changes nothing asks for no time at all.
 use Rattle.std.specs.Prelude.{◌≡◌, ◌<◌, ◌≤◌, ◌⊎◌, ◌+◌, ◌*◌, ℕ, ⊤, pred, true, List, [], ◌∷◌, ◌++◌, Option, Some, slice_get}
 use Rattle.gptp_lists.specs.Members.{In}
 use Rattle.gptp_vector.specs.declared.port.PortId.{PortId}
