@@ -1,5 +1,5 @@
 -- How a document stands at each time, as its events come (profile).
-use Rattle.std.specs.Prelude.{◌≡◌, ℕ, ◌++◌, ◌∷◌, [], not, map, Some, None}
+use Rattle.std.specs.Prelude.{◌≡◌, ◌≤◌, ℕ, ◌++◌, ◌∷◌, [], ◌==◌, not, map, List, Some, None, IsTrue}
 use Rattle.std.specs.List.{find}
 use Rattle.std.specs.Option.{is_some}
 use Rattle.gptp_scenario.specs.Network.{NetworkState}

@@ -1,6 +1,6 @@
 //! What each event of a time does, by what stands just before it.
 
-ghost use Rattle.std.specs.Prelude.{◌≡◌, Option};
+ghost use Rattle.std.specs.Prelude.{◌≡◌, false};
 ghost use Rattle.std.specs.List.{list_all, list_any};
 ghost use Rattle.gptp_how_soon.specs.Kinds.{are_heard, fails_and_recovers, is_better, is_failure_of_same, is_gain, is_heard_too, is_idle, is_loss, is_other, is_priority1, is_link_up, is_recovery, is_recovery_of, kind_of, kind_of_change, kind_of_failure, kind_of_link_down, kind_of_link_up, kind_of_priority1, kind_of_recovery, recovers, sets_link, is_link_set, told_by, what_of, what_of_change};
 
