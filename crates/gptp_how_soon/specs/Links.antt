@@ -49,6 +49,9 @@ is_used_by (Some used) = used
 abbrev pub is_used_at : List Bool → ℕ → Bool
 is_used_at used place = is_used_by (slice_get used place)
 
+abbrev pub is_old_at : Bool → List Bool → ℕ → Bool
+is_old_at first used place = not first && is_used_at used place
+
 abbrev pub new_one : Standing → Bool → List Cable
 new_one s used_before = if cable_is_used s && not used_before then s.cable ∷ [] else []
 

@@ -1,6 +1,6 @@
 //! How soon the choice and the roles stand at a time, by whether it is from rest and what its events are.
 
-ghost use Rattle.std.specs.Prelude.{◌≡◌, ◌≤◌, ℕ, IfSome, length};
+ghost use Rattle.std.specs.Prelude.{◌≡◌, ◌≤◌, ◌+◌, IfSome};
 ghost use Rattle.std.specs.List.{list_any};
 ghost use Rattle.gptp_scenario.specs.Network.{pace_of};
 ghost use Rattle.gptp_scenario.specs.SettlingAtOnce.{settling_span_at_once};
@@ -114,13 +114,20 @@ fn is_hard_to_hear(told: &[Told], cable: &Cable) -> bool
     is_again(told, cable) || varies(cable)
 }
 
+/// Whether it may not be over one of these links.
+fn any_hard_to_hear(told: &[Told], new: &[Cable]) -> bool
+    ensures { result ≡ list_any (is_hard_to_hear told.now) new.now }
+{
+    new.iter().any(|cable| is_hard_to_hear(told, cable))
+}
+
 /// How much longer it takes where something may not be heard at once, in ns: an announce interval.
 pub(crate) fn heard(network: &Network, followed: bool, told: &[Told], new: &[Cable]) -> u64
     ensures is { result ≡ heard_by network.now followed told.now new.now }
     ensures bound { result ≤ 16000000000 }
 {
     network.well_formed();
-    if followed && !new.iter().any(|cable| is_hard_to_hear(told, cable)) {
+    if followed && !any_hard_to_hear(told, new) {
         0
     } else {
         interval_of(network.largest())

@@ -1,6 +1,6 @@
 //! What each event of a time does, by what stands just before it.
 
-ghost use Rattle.std.specs.Prelude.{◌≡◌, Option};
+ghost use Rattle.std.specs.Prelude.{◌≡◌, ◌++◌, ◌∷◌, [], false, OnOk};
 ghost use Rattle.std.specs.List.{list_all, list_any};
 ghost use Rattle.gptp_how_soon.specs.Kinds.{are_heard, fails_and_recovers, is_better, is_failure_of_same, is_gain, is_heard_too, is_idle, is_loss, is_other, is_priority1, is_link_up, is_recovery, is_recovery_of, kind_of, kind_of_change, kind_of_failure, kind_of_link_down, kind_of_link_up, kind_of_priority1, kind_of_recovery, recovers, sets_link, is_link_set, told_by, what_of, what_of_change};
 
@@ -8,6 +8,7 @@ use crate::systems::System;
 use gptp_scenario::{Act, Change};
 use gptp_topology::Standing;
 use gptp_vector::ClockId;
+use std::alloc::AllocError;
 
 /// What an event does to what stands just before it.
 #[derive(Clone, Copy)]
@@ -197,7 +198,7 @@ fn what_of(act: &Act) -> What
 }
 
 /// An act, by the link and the system that it names as they stand just before it.
-pub(crate) fn told_by(act: &Act, link: Option<Standing>, system: Option<System>) -> Told
+fn told_by(act: &Act, link: Option<Standing>, system: Option<System>) -> Told
     ensures { result ≡ told_by act.now link system }
 {
     Told {
@@ -206,13 +207,26 @@ pub(crate) fn told_by(act: &Act, link: Option<Standing>, system: Option<System>)
     }
 }
 
-pub(crate) fn is_idle(told: &Told) -> bool
+/// Puts it after the events told before.
+pub(crate) fn tell(
+    told: &mut Vec<Told>,
+    act: &Act,
+    link: Option<Standing>,
+    system: Option<System>,
+) -> Result<(), AllocError>
+    ensures { OnOk result (told.new.items ≡ told.old.items ++ told_by act.now link system ∷ []) }
+{
+    told.push(told_by(act, link, system))?;
+    Ok(())
+}
+
+fn is_idle(told: &Told) -> bool
     ensures { result ≡ is_idle told.now }
 {
     matches!(told.kind, Kind::Idle)
 }
 
-pub(crate) fn is_loss(told: &Told) -> bool
+fn is_loss(told: &Told) -> bool
     ensures { result ≡ is_loss told.now }
 {
     matches!(told.kind, Kind::Loss)
@@ -224,7 +238,7 @@ fn is_gain(told: &Told) -> bool
     matches!(told.kind, Kind::Gain)
 }
 
-pub(crate) fn is_other(told: &Told) -> bool
+fn is_other(told: &Told) -> bool
     ensures { result ≡ is_other told.now }
 {
     matches!(told.kind, Kind::Other)
@@ -256,14 +270,14 @@ pub(crate) fn sets_link(told: &[Told]) -> bool
 }
 
 /// Whether a system gets a better priority1 by it.
-pub(crate) fn is_better(told: &Told) -> bool
+fn is_better(told: &Told) -> bool
     ensures { result ≡ is_better told.now }
 {
     is_gain(told) && is_priority1(told)
 }
 
 /// Whether a failed system recovers by it.
-pub(crate) fn is_recovery(told: &Told) -> bool
+fn is_recovery(told: &Told) -> bool
     ensures { result ≡ is_recovery told.now }
 {
     match told.what {
@@ -304,6 +318,41 @@ pub(crate) fn fails_and_recovers(told: &[Told]) -> bool
     ensures { result ≡ fails_and_recovers told.now }
 {
     told.iter().any(|one| is_failure_of_same(told, one))
+}
+
+/// Whether each of these events is idle.
+pub(crate) fn are_idle(told: &[Told]) -> bool
+    ensures { result ≡ list_all is_idle told.now }
+{
+    told.iter().all(|one| is_idle(one))
+}
+
+/// Whether one of these events is a loss.
+pub(crate) fn any_loss(told: &[Told]) -> bool
+    ensures { result ≡ list_any is_loss told.now }
+{
+    told.iter().any(|one| is_loss(one))
+}
+
+/// Whether what one of these events does isn't followed.
+pub(crate) fn any_other(told: &[Told]) -> bool
+    ensures { result ≡ list_any is_other told.now }
+{
+    told.iter().any(|one| is_other(one))
+}
+
+/// Whether a system gets a better priority1 by one of these events.
+pub(crate) fn any_better(told: &[Told]) -> bool
+    ensures { result ≡ list_any is_better told.now }
+{
+    told.iter().any(|one| is_better(one))
+}
+
+/// Whether a failed system recovers by one of these events.
+pub(crate) fn any_recovery(told: &[Told]) -> bool
+    ensures { result ≡ list_any is_recovery told.now }
+{
+    told.iter().any(|one| is_recovery(one))
 }
 
 /// Whether what an event tells is heard at once, where something was heard before it or not.

@@ -2,7 +2,7 @@
 
 ghost use Rattle.std.specs.Prelude.{◌≡◌, ◌++◌, ◌∷◌, [], IfOk, OnOk, map};
 ghost use Rattle.gptp_topology.specs.Course.{cable_is_used};
-ghost use Rattle.gptp_how_soon.specs.Links.{is_used_at, new_among, new_one, standing_varies, vary, varies};
+ghost use Rattle.gptp_how_soon.specs.Links.{is_old_at, is_used_at, new_among, new_one, standing_varies, vary, varies};
 
 use gptp_topology::{Cable, Standing, is_used};
 use std::alloc::{AllocError, Global};
@@ -48,6 +48,13 @@ fn is_used_at(used: &[bool], place: usize) -> bool
     }
 }
 
+/// Whether it was before a time that is the first or isn't.
+fn is_old_at(first: bool, used_before: &[bool], place: usize) -> bool
+    ensures { result ≡ is_old_at first used_before.now place }
+{
+    !first && is_used_at(used_before, place)
+}
+
 /// Puts a link after others, where it is in use and wasn't before.
 fn push_new(new: &mut Vec<Cable>, standing: &Standing, used_before: bool) -> Result<(), AllocError>
     ensures { OnOk result (new.new.items ≡ new.old.items ++ new_one standing.now used_before) }
@@ -72,7 +79,7 @@ pub(crate) fn new_links(
         push_new(
             &mut new,
             &standings[place],
-            !first && is_used_at(used_before, place),
+            is_old_at(first, used_before, place),
         )?;
     }
     Ok(new)

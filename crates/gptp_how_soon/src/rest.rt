@@ -1,11 +1,11 @@
 //! Whether a time is from rest, so that what its events do says how soon the choice stands.
 
-ghost use Rattle.std.specs.Prelude.{◌≡◌, ◌≤◌, ℕ, length};
+ghost use Rattle.std.specs.Prelude.{◌≡◌, ◌+◌, nat_lt};
 ghost use Rattle.gptp_how_soon.specs.Rest.{are_events_followed, are_recoveries_followed, heard_at_once, is_from_rest, is_start_from_rest, rested, row_of};
 
 use crate::bounds::{Row, SettlingTime, any_again};
 use crate::kinds::{
-    Told, are_heard, fails_and_recovers, is_better, is_idle, is_loss, is_other, is_recovery,
+    Told, any_better, any_loss, any_other, any_recovery, are_heard, are_idle, fails_and_recovers,
 };
 use crate::links::vary;
 use gptp_scenario::Network;
@@ -19,12 +19,19 @@ fn is_start_from_rest(told: &[Told], new: &[Cable]) -> bool
     told.is_empty() && !new.is_empty()
 }
 
+/// Whether a time is later than another by more than a span.
+fn is_later(last: u64, span: u64, at: u64) -> bool
+    ensures { result ≡ nat_lt (last + span) at }
+{
+    u128::from(last) + u128::from(span) < u128::from(at)
+}
+
 /// Whether what was before a time has come to rest by then.
 fn rested(before: &SettlingTime, at: u64) -> bool
     ensures { result ≡ rested before.now at }
 {
     match before.settling {
-        Some(settling) => u128::from(before.at) + u128::from(settling.rest) < u128::from(at),
+        Some(settling) => is_later(before.at, settling.rest, at),
         None => false,
     }
 }
@@ -33,7 +40,7 @@ fn rested(before: &SettlingTime, at: u64) -> bool
 fn are_events_followed(told: &[Told]) -> bool
     ensures { result ≡ are_events_followed told.now }
 {
-    !told.iter().any(|one| is_other(one)) && !fails_and_recovers(told)
+    !any_other(told) && !fails_and_recovers(told)
 }
 
 /// Whether systems that recover are followed.
@@ -50,10 +57,10 @@ fn are_recoveries_followed(
     network.well_formed();
     let interval = interval_of(network.largest());
     let capable = (u64::from(network.params().lost) + 5) * interval;
-    u128::from(last) + u128::from(interval) < u128::from(at)
+    is_later(last, interval, at)
         && u128::from(capable) <= u128::from(at) + u128::from(ready)
         && any_again(told, new)
-        && !told.iter().any(|one| is_better(one))
+        && !any_better(told)
 }
 
 /// Whether a time is from rest.
@@ -71,7 +78,7 @@ pub(crate) fn is_from_rest(
         Some(before) => {
             rested(&before, at)
                 && are_events_followed(told)
-                && (!told.iter().any(|one| is_recovery(one))
+                && (!any_recovery(told)
                     || are_recoveries_followed(network, before.at, at, told, new, ready))
         }
         None => is_start_from_rest(told, new),
@@ -84,9 +91,9 @@ pub(crate) fn row_of(from_rest: bool, first: bool, told: &[Told]) -> Row
 {
     if !from_rest {
         Row::AnyPast
-    } else if !first && told.iter().all(|one| is_idle(one)) {
+    } else if !first && are_idle(told) {
         Row::Unchanged
-    } else if told.iter().any(|one| is_loss(one)) {
+    } else if any_loss(told) {
         Row::AnyPast
     } else {
         Row::Gained
@@ -105,6 +112,6 @@ pub(crate) fn heard_at_once(
     if first {
         !vary(standings)
     } else {
-        are_heard(told) && (systems_before <= 255 || !told.iter().any(|one| is_better(one)))
+        are_heard(told) && (systems_before <= 255 || !any_better(told))
     }
 }

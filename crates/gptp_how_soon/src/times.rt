@@ -42,7 +42,8 @@ fn settling_times_over(
     cables: &[Cable],
 ) -> Result<Vec<SettlingTime>, AllocError>
     requires { cables.now ≡ cables_of document.now.network }
-    ensures { IfOk result (λ times. times.items ≡ settling_times document.now) }
+    ensures times { IfOk result (λ times. times.items ≡ settling_times document.now) }
+    ensures watched { IfOk result (λ times. AllByRecursion IsWatchedShortly times.items) }
 {
     document.network().well_formed();
     document.well_formed();

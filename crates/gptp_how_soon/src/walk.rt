@@ -7,7 +7,7 @@ ghost use Rattle.gptp_how_soon.specs.Times.{settling_time};
 ghost use Rattle.gptp_how_soon.specs.Walk.{IsFirstWalk, WalkGoesOn, WalkPasses, view_seen};
 
 use crate::bounds::{SettlingTime, heard, ready, times_by, way_span};
-use crate::kinds::{Told, sets_link, told_by};
+use crate::kinds::{Told, sets_link, tell};
 use crate::links::{new_links, used_links};
 use crate::rest::{heard_at_once, is_from_rest, row_of};
 use crate::systems::{System, act_on_systems, first_systems, system_at};
@@ -61,7 +61,7 @@ impl Walk {
     {
         let link = self.tables.link_named(act);
         let system = system_at(&self.systems, named(act));
-        self.told.push(told_by(act, link, system))?;
+        tell(&mut self.told, act, link, system)?;
         self.tables.act(act);
         act_on_systems(self.systems.as_mut_slice(), act);
         Ok(())

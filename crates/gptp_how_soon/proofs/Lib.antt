@@ -1,0 +1,5 @@
+pub mod SystemsLemmas
+pub mod LinksLemmas
+pub mod WalkLemmas
+pub mod TimesLemmas
+pub mod SettleLemmas
