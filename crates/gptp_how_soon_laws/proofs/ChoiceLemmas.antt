@@ -61,13 +61,13 @@ module _ (d : DocumentState) (playable : IsPlayable d) where
       let v : View = view_at n [] now None 0 in
       let it = tells n v s is in
       let bound =
-      bounds_choice n (λ choice. (now ≡ []) × BoundsStart n choice) now (row_at n v) (gained_at n v) it.calm
+      bounds_choice n (λ choice. BoundsStart n now choice) now (row_at n v) (gained_at n v) it.calm
       (λ row. absurd (never_unchanged n now row)) (started n now) in
       record {
         choice = (
           refl,
-          subst (λ es. BoundsChoice n ((es ≡ []) × BoundsStart n s.choice) es s.choice) (sym (begin_at all))
-              (subst (λ choice. BoundsChoice n ((now ≡ []) × BoundsStart n choice) now choice) (sym it.choice) bound),
+          subst (λ es. BoundsChoice n (BoundsStart n es s.choice) es s.choice) (sym (begin_at all))
+              (subst (λ choice. BoundsChoice n (BoundsStart n now choice) now choice) (sym it.choice) bound),
         );
         roles = it.roles;
         rest = it.rest;

@@ -36,8 +36,9 @@ use Rattle.gptp_how_soon.specs.Kinds.{are_heard, is_better, is_gain, is_heard_to
 use Rattle.gptp_how_soon.specs.Links.{is_new, new_links, standing_then, varies}
 use Rattle.gptp_how_soon.specs.Times.{told_at, told_of}
 use Rattle.gptp_how_soon.specs.declared.kinds.Told.{Told}
+use Rattle.gptp_how_soon.specs.declared.kinds.What.TheVariants as whats
 use Rattle.gptp_settling_time.specs.Gains.{AreSparedBy, ChangesNothing, IsNoWorse, IsSparedBy, JoinsLive, LeavesCapable, SparesFailed, TakesNothing}
-use Rattle.gptp_settling_time.specs.HowSoon.{AreHeardEvents, EachEvent, IsFollowedEvent, IsGainEvent, IsHeardEvent, IsHeardToo, IsIdleEvent}
+use Rattle.gptp_settling_time.specs.HowSoon.{AfterIdleEvents, AreGainEvents, AreHeardEvents, EachEvent, IsGainEvent, IsGainToo, IsHeardEvent, IsHeardToo, IsIdleEvent}
 use Rattle.gptp_settling_time.specs.InTurn.{BettersClock, BringsUp}
 use Rattle.gptp_settling_time.proofs.SamePathsLemmas.{idle_paths}
 use Rattle.gptp_how_soon_laws.proofs.CalmLemmas.{lives_to, not_so, three_from, three_parts}
@@ -127,7 +128,6 @@ module _ (n : NetworkState) (network : IsNetwork n) (time : ℕ) (first events :
     pub past : AllByRecursion (λ (t : Timed). t.at + largest_interval (pace_of n) < time) first
     pub capable : capability_span (pace_of n) ≤ time + start
     pub again : list_any (is_again tolds) news ≡ true
-    pub better : list_any is_better tolds ≡ false
 
   -- an event of the time that takes nothing away
   pub record IsTold (e : Told) : Type 0 where
@@ -137,7 +137,7 @@ module _ (n : NetworkState) (network : IsNetwork n) (time : ℕ) (first events :
 
   pub all_told : list_any is_loss tolds ≡ false → list_any is_other tolds ≡ false → AllByRecursion IsTold tolds
   all_told no_loss no_other = all_from IsTold tolds (λ e member. record {
-    kind = idle_or_gain e.kind e.what (none_any is_loss tolds e no_loss member)
+    kind = idle_or_gain e.clock e.what e.kind (none_any is_loss tolds e no_loss member)
         (none_any is_other tolds e no_other member);
     recovery = λ is. passes_at is_recovery tolds e member is;
     better = λ is. passes_at is_better tolds e member is;
@@ -322,52 +322,53 @@ module _ (n : NetworkState) (network : IsNetwork n) (time : ℕ) (first events :
         gains_system number same gains
         (is.recovery
         (ap (λ a. is_recovery (told_at n made a)) same
-        ∙ ap not (gain_is_not_idle (told_at n made (acts.Change (changes.Recover number))).kind
-        (told_at n made (acts.Change (changes.Recover number))).what gain)))
+        ∙ ap not (gain_is_not_idle number whats.Recover (told_at n made (acts.Change (changes.Recover number))).kind
+        gain)))
     gains_so (acts.Change (changes.Priority1 number value)) same gain gains = gains_clock number value same gains
     gains_so (acts.Change (changes.Inject clock port octets)) same gain gains = absurd gains
 
-    pub follows : IsFollowedEvent n next made event
-    follows = elim is.kind [
-      | inl idle ↦ inl (idle_changes n network made event.act idle)
-      | inr gain ↦ inr (gains_so event.act refl gain (gain_gains n network made event.act gain))
+    pub gains : is_gain (told_at n made event.act) ≡ true → IsGainEvent n next made event
+    gains gain = gains_so event.act refl gain (gain_gains n network made event.act gain)
+
+    pub gains_too : IsGainToo n next made event
+    gains_too = elim is.kind [
+      | inl idle ↦ inr (inl (idle_changes n network made event.act idle))
+      | inr gain ↦ inl (gains gain)
     ]
 
     -- ---- what failed systems sent
 
-    spares_gain : (act : Act) → event.act ≡ act → is_gain (told_at n made act) ≡ true → Gains n network made act
-        → list_any is_better tolds ≡ false → IsSparedBy n made event time
-    spares_gain (acts.Deliver link direction) same gain gains none = absurd gains
-    spares_gain (acts.Expire clock timer) same gain gains none = absurd gains
-    spares_gain (acts.Change (changes.LinkDown clock port)) same gain gains none = absurd gains
-    spares_gain (acts.Change (changes.LinkUp clock port)) same gain gains none =
+    spares_gain : (act : Act) → event.act ≡ act → Gains n network made act → IsSparedBy n made event time
+    spares_gain (acts.Deliver link direction) same gains = absurd gains
+    spares_gain (acts.Expire clock timer) same gains = absurd gains
+    spares_gain (acts.Change (changes.LinkDown clock port)) same gains = absurd gains
+    spares_gain (acts.Change (changes.LinkUp clock port)) same gains =
         subst (λ a. (event.at + largest_interval (pace_of n) < time)
         ⊎ (ChangesNothing n made a ⊎ SparesFailed n made event a)) (sym same)
         (inr (inr (joins clock port same gains)))
-    spares_gain (acts.Change (changes.LinkSet clock port least greatest loss)) same gain gains none = absurd gains
-    spares_gain (acts.Change (changes.Fail number)) same gain gains none = absurd gains
-    spares_gain (acts.Change (changes.Recover number)) same gain gains none =
+    spares_gain (acts.Change (changes.LinkSet clock port least greatest loss)) same gains = absurd gains
+    spares_gain (acts.Change (changes.Fail number)) same gains = absurd gains
+    spares_gain (acts.Change (changes.Recover number)) same gains =
         subst (λ a. (event.at + largest_interval (pace_of n) < time)
         ⊎ (ChangesNothing n made a ⊎ SparesFailed n made event a)) (sym same)
         (inr (inr tt))
-    spares_gain (acts.Change (changes.Priority1 number value)) same gain gains none =
-        let better : is_better (told_at n made event.act) ≡ true =
-        ap (λ a. is_better (told_at n made a)) same ∙ ap (λ test. test && true) gain in
-        let no : true ≡ false = sym (is.better better) ∙ none in
-        absurd cc
-    spares_gain (acts.Change (changes.Inject clock port octets)) same gain gains none = absurd gains
+    spares_gain (acts.Change (changes.Priority1 number value)) same gains =
+        subst (λ a. (event.at + largest_interval (pace_of n) < time)
+        ⊎ (ChangesNothing n made a ⊎ SparesFailed n made event a)) (sym same)
+        (inr (inr tt))
+    spares_gain (acts.Change (changes.Inject clock port octets)) same gains = absurd gains
 
-    spares : list_any is_better tolds ≡ false → IsSparedBy n made event time
-    spares none = elim is.kind [
+    spares : IsSparedBy n made event time
+    spares = elim is.kind [
       | inl idle ↦ inr (inl (idle_changes n network made event.act idle))
-      | inr gain ↦ spares_gain event.act refl gain (gain_gains n network made event.act gain) none
+      | inr gain ↦ spares_gain event.act refl (gain_gains n network made event.act gain)
     ]
 
     pub so_on : IsSoFar then
     so_on = record {
       more = more_on n first made then so_far.more step;
       spared = λ recovers.
-          spared_more n time [] made event (so_far.spared recovers) (spares (followed recovers).better);
+          spared_more n time [] made event (so_far.spared recovers) spares;
     }
 
     -- ---- what is heard at once
@@ -426,16 +427,39 @@ module _ (n : NetworkState) (network : IsNetwork n) (time : ℕ) (first events :
         subst (IsMore n (made ++ event ∷ [])) (append_assoc made (event ∷ []) left ∙ are)
         (more_left (made ++ event ∷ []) left each)
 
-    pub each_followed : (made left : List Timed) → made ++ left ≡ all
+    -- each is a gain, or makes nothing
+    each_gain : (made left : List Timed) → made ++ left ≡ all
         → AllByRecursion (λ (t : Timed). t.at ≡ time) left → IsSoFar made
-        → AllByRecursion IsTold (told_of n made left) → EachEvent (IsFollowedEvent n next) made left
-    each_followed made [] are now so_far each = tt
-    each_followed made (event ∷ left) are now so_far each =
+        → AllByRecursion IsTold (told_of n made left) → EachEvent (IsGainToo n next) made left
+    each_gain made [] are now so_far each = tt
+    each_gain made (event ∷ left) are now so_far each =
         let later = later_than made event left are each.1 in (
-          follows followed made event now.0 so_far each.0 later,
-          each_followed (made ++ event ∷ []) left (append_assoc made (event ∷ []) left ∙ are) now.1
+          gains_too followed made event now.0 so_far each.0 later,
+          each_gain (made ++ event ∷ []) left (append_assoc made (event ∷ []) left ∙ are) now.1
               (so_on followed made event now.0 so_far each.0 later) each.1,
         )
+
+    -- the first that doesn't change nothing is a gain, if there is one
+    after_idle : (made left : List Timed) → made ++ left ≡ all
+        → AllByRecursion (λ (t : Timed). t.at ≡ time) left → IsSoFar made
+        → AllByRecursion IsTold (told_of n made left) → list_all is_idle (told_of n made left) ≡ false
+        → AfterIdleEvents n (AreGainEvents n next) made left
+    after_idle made [] are now so_far each some = absurd cc
+    after_idle made (event ∷ left) are now so_far each some =
+        let later = later_than made event left are each.1 in
+        let on = so_on followed made event now.0 so_far each.0 later in
+        let more = append_assoc made (event ∷ []) left ∙ are in
+        elim each.0.kind [
+          | inl idle ↦ inr (
+            inl (idle_changes n network made event.act idle),
+            after_idle (made ++ event ∷ []) left more now.1 on each.1
+                (ap (λ test. test && list_all is_idle (told_of n (made ++ event ∷ []) left)) (sym idle) ∙ some),
+          )
+          | inr gain ↦ inl (
+            gains followed made event now.0 so_far each.0 later gain,
+            each_gain (made ++ event ∷ []) left more now.1 on each.1,
+          )
+        ]
 
     module _ (soft : list_any (is_hard_to_hear tolds) news ≡ false) where
       -- links come up after what was heard
@@ -459,7 +483,7 @@ module _ (n : NetworkState) (network : IsNetwork n) (time : ℕ) (first events :
               → EachEvent (IsHeardToo n next) (made ++ event ∷ []) left)
               → (is_heard_too true (told_at n made event.act) ≡ true → BringsUp n made event next)
               → IsHeardToo n next made event × EachEvent (IsHeardToo n next) (made ++ event ∷ []) left
-          by true is heard rest one = (inr (idle_changes n network made event.act is), rest heard)
+          by true is heard rest one = (inr (inl (idle_changes n network made event.act is)), rest heard)
           by false is heard rest one =
               let (too, more) =
               and_parts (is_heard_too true (told_at n made event.act))
@@ -470,7 +494,7 @@ module _ (n : NetworkState) (network : IsNetwork n) (time : ℕ) (first events :
           → (made left : List Timed) → made ++ left ≡ all
           → AllByRecursion (λ (t : Timed). t.at ≡ time) left → IsSoFar made
           → AllByRecursion IsTold (told_of n made left) → sync_paths n made ≡ sync_paths n first
-          → are_heard false (told_of n made left) ≡ true → AreHeardEvents n next made left
+          → are_heard false (told_of n made left) ≡ true → AfterIdleEvents n (AreHeardEvents n next) made left
       events_heard few made [] are now so_far each same heard = absurd cc
       events_heard few made (event ∷ left) are now so_far each same heard =
           let later = later_than made event left are each.1 in
@@ -487,14 +511,14 @@ module _ (n : NetworkState) (network : IsNetwork n) (time : ℕ) (first events :
               (is_heard_too false (told_at n made event.act) && are_heard true (told_of n (made ++ event ∷ []) left))
               ≡ true
               → (ChangesNothing n made event.act → are_heard false (told_of n (made ++ event ∷ []) left) ≡ true
-              → AreHeardEvents n next (made ++ event ∷ []) left)
+              → AfterIdleEvents n (AreHeardEvents n next) (made ++ event ∷ []) left)
               → (are_heard true (told_of n (made ++ event ∷ []) left) ≡ true
               → EachEvent (IsHeardToo n next) (made ++ event ∷ []) left)
               → (is_heard_too false (told_at n made event.act) ≡ true → IsHeardEvent n next made event)
               → (IsHeardEvent n next made event × EachEvent (IsHeardToo n next) (made ++ event ∷ []) left)
-              ⊎ (IsIdleEvent n made event × AreHeardEvents n next (made ++ event ∷ []) left)
+              ⊎ (IsIdleEvent n made event × AfterIdleEvents n (AreHeardEvents n next) (made ++ event ∷ []) left)
           by true is heard rest others one =
-              let nothing = idle_changes n network made event.act is in inr (nothing, rest nothing heard)
+              let nothing = idle_changes n network made event.act is in inr (inl nothing, rest nothing heard)
           by false is heard rest others one =
               let (too, more) =
               and_parts (is_heard_too false (told_at n made event.act))
@@ -508,7 +532,7 @@ module _ (n : NetworkState) (network : IsNetwork n) (time : ℕ) (first events :
   each_idle made (event ∷ left) idle =
       let (one, rest) =
       and_parts (is_idle (told_at n made event.act)) (list_all is_idle (told_of n (made ++ event ∷ []) left)) idle in
-      (idle_changes n network made event.act one, each_idle (made ++ event ∷ []) left rest)
+      (inl (idle_changes n network made event.act one), each_idle (made ++ event ∷ []) left rest)
 
   -- ---- the bound
 
@@ -521,11 +545,11 @@ module _ (n : NetworkState) (network : IsNetwork n) (time : ℕ) (first events :
       spared = λ recovers. spared_past n time [] first positive (followed recovers).past;
     }
 
-    pub all_followed : EachEvent (IsFollowedEvent n next) first events
-    all_followed = each_followed followed first events refl now begins (all_told no_loss no_other)
+    pub all_gained : list_all is_idle tolds ≡ false → AfterIdleEvents n (AreGainEvents n next) first events
+    all_gained some = after_idle followed first events refl now begins (all_told no_loss no_other) some
 
     pub all_heard : list_any (is_hard_to_hear tolds) news ≡ false
         → (list_any is_better tolds ≡ true → (sync_paths n first).systems ≤ 255) → are_heard false tolds ≡ true
-        → AreHeardEvents n next first events
+        → AfterIdleEvents n (AreHeardEvents n next) first events
     all_heard soft few heard =
         events_heard followed soft few first events refl now begins (all_told no_loss no_other) refl heard

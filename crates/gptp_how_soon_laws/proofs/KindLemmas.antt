@@ -33,120 +33,121 @@ use Rattle.gptp_how_soon_laws.proofs.NamedLemmas.{LinkNamed, SystemNamed, end_fi
 
 -- ---- kinds
 
-abbrev pub told : Kind → What → Told
-told kind what = record { kind = kind; what = what }
+abbrev pub told : ℕ → What → Kind → Told
+told clock what kind = record { kind = kind; what = what; clock = clock }
 
 -- what is neither a loss nor another is idle or a gain
-pub idle_or_gain : (kind : Kind) (what : What) → is_loss (told kind what) ≡ false → is_other (told kind what) ≡ false
-    → (is_idle (told kind what) ≡ true) ⊎ (is_gain (told kind what) ≡ true)
-idle_or_gain Idle what no_loss no_other = inl refl
-idle_or_gain Loss what no_loss no_other = absurd cc
-idle_or_gain Gain what no_loss no_other = inr refl
-idle_or_gain Other what no_loss no_other = absurd cc
+pub idle_or_gain : (clock : ℕ) (what : What) (kind : Kind) → is_loss (told clock what kind) ≡ false
+    → is_other (told clock what kind) ≡ false
+    → (is_idle (told clock what kind) ≡ true) ⊎ (is_gain (told clock what kind) ≡ true)
+idle_or_gain clock what Idle no_loss no_other = inl refl
+idle_or_gain clock what Loss no_loss no_other = absurd cc
+idle_or_gain clock what Gain no_loss no_other = inr refl
+idle_or_gain clock what Other no_loss no_other = absurd cc
 
-pub gain_is_not_idle : (kind : Kind) (what : What) → is_gain (told kind what) ≡ true
-    → is_idle (told kind what) ≡ false
-gain_is_not_idle Idle what gain = absurd cc
-gain_is_not_idle Loss what gain = absurd cc
-gain_is_not_idle Gain what gain = refl
-gain_is_not_idle Other what gain = absurd cc
+pub gain_is_not_idle : (clock : ℕ) (what : What) (kind : Kind) → is_gain (told clock what kind) ≡ true
+    → is_idle (told clock what kind) ≡ false
+gain_is_not_idle clock what Idle gain = absurd cc
+gain_is_not_idle clock what Loss gain = absurd cc
+gain_is_not_idle clock what Gain gain = refl
+gain_is_not_idle clock what Other gain = absurd cc
 
-module _ (what : What) where
-  idle_down : (o : Option Standing) → is_idle (told (kind_of_link_down o) what) ≡ true
+module _ (clock : ℕ) (what : What) where
+  idle_down : (o : Option Standing) → is_idle (told clock what (kind_of_link_down o)) ≡ true
       → (s : Standing) × (o ≡ Some s) × (s.cable.up ≡ false)
   idle_down None is = absurd cc
   idle_down (Some s) is = (s, refl, by s.cable.up (s.a_lives && s.b_lives) is)
     where
       by : (up live : Bool)
-          → is_idle (told (if not up then Idle else if live then Loss else Other) what) ≡ true → up ≡ false
+          → is_idle (told clock what (if not up then Idle else if live then Loss else Other)) ≡ true → up ≡ false
       by false live is = refl
       by true true is = absurd cc
       by true false is = absurd cc
 
-  never_down : (o : Option Standing) → is_gain (told (kind_of_link_down o) what) ≡ true → ⊥
+  never_down : (o : Option Standing) → is_gain (told clock what (kind_of_link_down o)) ≡ true → ⊥
   never_down None is = absurd cc
   never_down (Some s) is = by s.cable.up (s.a_lives && s.b_lives) is
     where
       by : (up live : Bool)
-          → is_gain (told (if not up then Idle else if live then Loss else Other) what) ≡ true → ⊥
+          → is_gain (told clock what (if not up then Idle else if live then Loss else Other)) ≡ true → ⊥
       by false live is = absurd cc
       by true true is = absurd cc
       by true false is = absurd cc
 
-  idle_up : (o : Option Standing) → is_idle (told (kind_of_link_up o) what) ≡ true
+  idle_up : (o : Option Standing) → is_idle (told clock what (kind_of_link_up o)) ≡ true
       → (s : Standing) × (o ≡ Some s) × (s.cable.up ≡ true)
   idle_up None is = absurd cc
   idle_up (Some s) is = (s, refl, by s.cable.up (s.a_lives && s.b_lives) is)
     where
       by : (up live : Bool)
-          → is_idle (told (if up then Idle else if live then Gain else Other) what) ≡ true → up ≡ true
+          → is_idle (told clock what (if up then Idle else if live then Gain else Other)) ≡ true → up ≡ true
       by true live is = refl
       by false true is = absurd cc
       by false false is = absurd cc
 
-  gain_up : (o : Option Standing) → is_gain (told (kind_of_link_up o) what) ≡ true
+  gain_up : (o : Option Standing) → is_gain (told clock what (kind_of_link_up o)) ≡ true
       → (s : Standing) × (o ≡ Some s) × (s.cable.up ≡ false) × (s.a_lives ≡ true) × (s.b_lives ≡ true)
   gain_up None is = absurd cc
   gain_up (Some s) is = let (down, a, b) = by s.cable.up s.a_lives s.b_lives is in (s, refl, down, a, b)
     where
       by : (up a b : Bool)
-          → is_gain (told (if up then Idle else if a && b then Gain else Other) what) ≡ true
+          → is_gain (told clock what (if up then Idle else if a && b then Gain else Other)) ≡ true
           → (up ≡ false) × (a ≡ true) × (b ≡ true)
       by true a b is = absurd cc
       by false true true is = (refl, refl, refl)
       by false true false is = absurd cc
       by false false b is = absurd cc
 
-  idle_failure : (o : Option System) → is_idle (told (kind_of_failure o) what) ≡ true
+  idle_failure : (o : Option System) → is_idle (told clock what (kind_of_failure o)) ≡ true
       → (x : System) × (o ≡ Some x) × (x.lives ≡ false)
   idle_failure None is = absurd cc
   idle_failure (Some x) is = (x, refl, by x.lives is)
     where
-      by : (live : Bool) → is_idle (told (if live then Loss else Idle) what) ≡ true → live ≡ false
+      by : (live : Bool) → is_idle (told clock what (if live then Loss else Idle)) ≡ true → live ≡ false
       by true is = absurd cc
       by false is = refl
 
-  never_failure : (o : Option System) → is_gain (told (kind_of_failure o) what) ≡ true → ⊥
+  never_failure : (o : Option System) → is_gain (told clock what (kind_of_failure o)) ≡ true → ⊥
   never_failure None is = absurd cc
   never_failure (Some x) is = by x.lives is
     where
-      by : (live : Bool) → is_gain (told (if live then Loss else Idle) what) ≡ true → ⊥
+      by : (live : Bool) → is_gain (told clock what (if live then Loss else Idle)) ≡ true → ⊥
       by true is = absurd cc
       by false is = absurd cc
 
-  idle_recovery : (o : Option System) → is_idle (told (kind_of_recovery o) what) ≡ true
+  idle_recovery : (o : Option System) → is_idle (told clock what (kind_of_recovery o)) ≡ true
       → (x : System) × (o ≡ Some x) × (x.lives ≡ true)
   idle_recovery None is = absurd cc
   idle_recovery (Some x) is = (x, refl, by x.lives is)
     where
-      by : (live : Bool) → is_idle (told (if live then Idle else Gain) what) ≡ true → live ≡ true
+      by : (live : Bool) → is_idle (told clock what (if live then Idle else Gain)) ≡ true → live ≡ true
       by true is = refl
       by false is = absurd cc
 
-  gain_recovery : (o : Option System) → is_gain (told (kind_of_recovery o) what) ≡ true
+  gain_recovery : (o : Option System) → is_gain (told clock what (kind_of_recovery o)) ≡ true
       → (x : System) × (o ≡ Some x) × (x.lives ≡ false)
   gain_recovery None is = absurd cc
   gain_recovery (Some x) is = (x, refl, by x.lives is)
     where
-      by : (live : Bool) → is_gain (told (if live then Idle else Gain) what) ≡ true → live ≡ false
+      by : (live : Bool) → is_gain (told clock what (if live then Idle else Gain)) ≡ true → live ≡ false
       by true is = absurd cc
       by false is = refl
 
-  idle_priority1 : (value : ℕ) (o : Option System) → is_idle (told (kind_of_priority1 value o) what) ≡ true
+  idle_priority1 : (value : ℕ) (o : Option System) → is_idle (told clock what (kind_of_priority1 value o)) ≡ true
       → (x : System) × (o ≡ Some x) × ((x.lives ≡ false) ⊎ (identity_with value x ≡ x.identity))
   idle_priority1 value None is = absurd cc
   idle_priority1 value (Some x) is =
       (x, refl, by x.lives (identity_with value x == x.identity) (nat_lt (identity_with value x) x.identity) refl is)
     where
       by : (live same lower : Bool) → (identity_with value x == x.identity) ≡ same
-          → is_idle (told (if not live || same then Idle else if lower then Gain else Loss) what) ≡ true
+          → is_idle (told clock what (if not live || same then Idle else if lower then Gain else Loss)) ≡ true
           → (live ≡ false) ⊎ (identity_with value x ≡ x.identity)
       by false same lower e is = inl refl
       by true true lower e is = inr (eqb-true (identity_with value x) x.identity e)
       by true false true e is = absurd cc
       by true false false e is = absurd cc
 
-  gain_priority1 : (value : ℕ) (o : Option System) → is_gain (told (kind_of_priority1 value o) what) ≡ true
+  gain_priority1 : (value : ℕ) (o : Option System) → is_gain (told clock what (kind_of_priority1 value o)) ≡ true
       → (x : System) × (o ≡ Some x) × (x.lives ≡ true) × (identity_with value x ≤ x.identity)
   gain_priority1 value None is = absurd cc
   gain_priority1 value (Some x) is =
@@ -155,7 +156,7 @@ module _ (what : What) where
       (x, refl, live, lower)
     where
       by : (live same lower : Bool) → nat_lt (identity_with value x) x.identity ≡ lower
-          → is_gain (told (if not live || same then Idle else if lower then Gain else Loss) what) ≡ true
+          → is_gain (told clock what (if not live || same then Idle else if lower then Gain else Loss)) ≡ true
           → (live ≡ true) × (identity_with value x ≤ x.identity)
       by false same lower e is = absurd cc
       by true true lower e is = absurd cc
@@ -204,7 +205,7 @@ module _ (n : NetworkState) (network : IsNetwork n) (made : List Timed) where
   idle_changes (acts.Expire clock timer) is = absurd cc
   idle_changes (acts.Change (changes.LinkDown clock port)) is =
       let act = acts.Change (changes.LinkDown clock port) in
-      let (s, found_is, down) = idle_down whats.LinkDown (link_at act) is in
+      let (s, found_is, down) = idle_down clock whats.LinkDown (link_at act) is in
       let one = named_link n network made clock port act (λ x passed. passed) s found_is in
       λ place v there end.
       ap (λ (w : LinkSpec). (link_after made w).up)
@@ -212,7 +213,7 @@ module _ (n : NetworkState) (network : IsNetwork n) (made : List Timed) where
       ∙ ap (λ (x : Standing). x.cable.up) one.is ∙ down
   idle_changes (acts.Change (changes.LinkUp clock port)) is =
       let act = acts.Change (changes.LinkUp clock port) in
-      let (s, found_is, up) = idle_up whats.LinkUp (link_at act) is in
+      let (s, found_is, up) = idle_up clock whats.LinkUp (link_at act) is in
       let one = named_link n network made clock port act (λ x passed. passed) s found_is in
       λ place v there end.
       ap (λ (w : LinkSpec). (link_after made w).up)
@@ -220,10 +221,10 @@ module _ (n : NetworkState) (network : IsNetwork n) (made : List Timed) where
       ∙ ap (λ (x : Standing). x.cable.up) one.is ∙ up
   idle_changes (acts.Change (changes.LinkSet clock port least greatest loss)) is = absurd cc
   idle_changes (acts.Change (changes.Fail number)) is =
-      let (x, found_is, failed) = idle_failure (whats.Fail number) (system_at number) is in
+      let (x, found_is, failed) = idle_failure number whats.Fail (system_at number) is in
       not_live number x (named_system n network made number x found_is) failed
   idle_changes (acts.Change (changes.Recover number)) is =
-      let (x, found_is, live) = idle_recovery (whats.Recover number) (system_at number) is in
+      let (x, found_is, live) = idle_recovery number whats.Recover (system_at number) is in
       let one = named_system n network made number x found_is in
       record {
         place = one.place;
@@ -233,7 +234,7 @@ module _ (n : NetworkState) (network : IsNetwork n) (made : List Timed) where
         live = ap (λ (o : System). o.lives) one.is ∙ live;
       }
   idle_changes (acts.Change (changes.Priority1 number value)) is =
-      let (x, found_is, idle) = idle_priority1 whats.Priority1 value (system_at number) is in
+      let (x, found_is, idle) = idle_priority1 number whats.Priority1 value (system_at number) is in
       let one = named_system n network made number x found_is in
       λ place m there named.
       let same = one.only place m there named in
@@ -246,10 +247,10 @@ module _ (n : NetworkState) (network : IsNetwork n) (made : List Timed) where
   gain_gains (acts.Deliver link direction) is = absurd cc
   gain_gains (acts.Expire clock timer) is = absurd cc
   gain_gains (acts.Change (changes.LinkDown clock port)) is =
-      absurd (never_down whats.LinkDown (link_at (acts.Change (changes.LinkDown clock port))) is)
+      absurd (never_down clock whats.LinkDown (link_at (acts.Change (changes.LinkDown clock port))) is)
   gain_gains (acts.Change (changes.LinkUp clock port)) is =
       let act = acts.Change (changes.LinkUp clock port) in
-      let (s, found_is, down, a, b) = gain_up whats.LinkUp (link_at act) is in
+      let (s, found_is, down, a, b) = gain_up clock whats.LinkUp (link_at act) is in
       let one = named_link n network made clock port act (λ x passed. passed) s found_is in
       record {
         link = one.link;
@@ -263,12 +264,12 @@ module _ (n : NetworkState) (network : IsNetwork n) (made : List Timed) where
       }
   gain_gains (acts.Change (changes.LinkSet clock port least greatest loss)) is = absurd cc
   gain_gains (acts.Change (changes.Fail number)) is =
-      absurd (never_failure (whats.Fail number) (system_at number) is)
+      absurd (never_failure number whats.Fail (system_at number) is)
   gain_gains (acts.Change (changes.Recover number)) is =
-      let (x, found_is, failed) = gain_recovery (whats.Recover number) (system_at number) is in
+      let (x, found_is, failed) = gain_recovery number whats.Recover (system_at number) is in
       not_live number x (named_system n network made number x found_is) failed
   gain_gains (acts.Change (changes.Priority1 number value)) is =
-      let (x, found_is, live, lower) = gain_priority1 whats.Priority1 value (system_at number) is in
+      let (x, found_is, live, lower) = gain_priority1 number whats.Priority1 value (system_at number) is in
       let one = named_system n network made number x found_is in
       λ place m there named.
       let same = one.only place m there named in

@@ -6,7 +6,7 @@ use Rattle.std.proofs.lemmas.Bool.{and_parts, eqb-false, eqb-true, false_from_ne
 use Rattle.std.proofs.lemmas.Bool.Decides.{nat_tests}
 use Rattle.gptp_lists.specs.Members.{In}
 use Rattle.gptp_lists.proofs.MappedLemmas.{some_same}
-use Rattle.gptp_lists.proofs.SystemSpecLemmas.{In-map}
+use Rattle.gptp_lists.proofs.SystemSpecLemmas.{In-map, In-slice_get}
 use Rattle.gptp_setup.specs.SettlingParams.{largest_interval}
 use Rattle.gptp_scenario.specs.Calm.{NothingLapses}
 use Rattle.gptp_scenario.specs.Network.{IsNetwork, NetworkState, pace_of}
@@ -31,12 +31,12 @@ use Rattle.gptp_how_soon.specs.declared.bounds.Row.TheVariants.{AnyPast, Unchang
 use Rattle.gptp_how_soon.specs.declared.bounds.Settling.{Settling}
 use Rattle.gptp_how_soon.specs.declared.bounds.SettlingTime.{SettlingTime}
 use Rattle.gptp_how_soon.specs.declared.kinds.Told.{Told}
-use Rattle.gptp_settling_time.specs.HowSoon.{AreHeardEvents, BoundsChoice, BoundsEvents, BoundsGains, BoundsStart, EachEvent, IsFollowedEvent, IsIdleEvent, NoneBetween, way_span}
-use Rattle.gptp_settling_time.specs.Starts.{LinksVaryLittle}
+use Rattle.gptp_settling_time.specs.HowSoon.{AreHeardEvents, BoundsChoice, BoundsEvents, BoundsGains, BoundsStart, EachEvent, IsIdleEvent, NoneBetween, way_span}
+use Rattle.gptp_settling_time.specs.InTurn.{UsedVaryLittle}
 use Rattle.gptp_settling_time.proofs.CutLemmas.{IsBy, all_by}
 use Rattle.gptp_settling_time.proofs.MomentLemmas.{all_at}
 use Rattle.gptp_how_soon_laws.proofs.CalmLemmas.{calm_so, not_so}
-use Rattle.gptp_how_soon_laws.proofs.GainedLemmas.{AreFollowed, all_followed, all_heard, each_idle}
+use Rattle.gptp_how_soon_laws.proofs.GainedLemmas.{AreFollowed, all_gained, all_heard, each_idle}
 
 -- ---- what is told
 
@@ -108,13 +108,13 @@ unchanged_from true false false false is = absurd cc
 gained_from : (rest first idle loss : Bool)
     → (if not rest then AnyPast else if not first && idle then Unchanged else if loss then AnyPast else Gained)
     ≡ Gained
-    → (rest ≡ true) × (loss ≡ false)
+    → (rest ≡ true) × (loss ≡ false) × ((not first && idle) ≡ false)
 gained_from false first idle loss is = absurd cc
 gained_from true true idle true is = absurd cc
-gained_from true true idle false is = (refl, refl)
+gained_from true true idle false is = (refl, refl, refl)
 gained_from true false true loss is = absurd cc
 gained_from true false false true is = absurd cc
-gained_from true false false false is = (refl, refl)
+gained_from true false false false is = (refl, refl, refl)
 
 -- ---- at the start
 
@@ -127,8 +127,9 @@ never_again : (cs : List Cable) → list_any (is_again []) cs ≡ false
 never_again [] = refl
 never_again (c ∷ cs) = never_again cs
 
-vary_little : (n : NetworkState) → vary (standings_after n []) ≡ false → LinksVaryLittle n []
-vary_little n none v member =
+vary_little : (n : NetworkState) → vary (standings_after n []) ≡ false → UsedVaryLittle n []
+vary_little n none place v there used =
+    let member = In-slice_get v n.links place there in
     let one : standing_varies (standing_then n [] v) ≡ false =
     false_from_ne_true (standing_varies (standing_then n [] v)) (λ is.
     let some = passes_at standing_varies (standings_after n []) (standing_then n [] v)
@@ -138,12 +139,15 @@ vary_little n none v member =
 
 -- no event comes, and a link is in use
 starts : (n : NetworkState) → not (length (new_links n [] [] true) == 0) ≡ true
-    → BoundsStart n (gained_at n (view_at n [] [] None 0))
+    → BoundsStart n [] (gained_at n (view_at n [] [] None 0))
 starts n some =
-    by (vary (standings_after n [])) (list_any (is_hard_to_hear []) (new_links n [] [] true)) refl two
+    (tt, by (vary (standings_after n [])) (list_any (is_hard_to_hear []) (new_links n [] [] true)) refl two)
   where
     start : ℕ
     start = ready n.params (sync_paths n []) [] (new_links n [] [] true)
+
+    exchanges : ℕ
+    exchanges = two_exchanges n.params (sync_paths n [])
 
     two : start ≡ two_exchanges n.params (sync_paths n [])
     two =
@@ -153,26 +157,27 @@ starts n some =
 
     by : (much hard : Bool) → vary (standings_after n []) ≡ much
         → start ≡ two_exchanges n.params (sync_paths n [])
-        → BoundsStart n
-        (start + cond (not much && not hard) 0 (largest_interval (pace_of n)) + way_span (sync_paths n []))
+        → (UsedVaryLittle n []
+        × (start + cond (not much && not hard) 0 (largest_interval (pace_of n)) + way_span (sync_paths n [])
+        ≡ exchanges + way_span (sync_paths n [])))
+        ⊎ (start + cond (not much && not hard) 0 (largest_interval (pace_of n)) + way_span (sync_paths n [])
+        ≡ exchanges + largest_interval (pace_of n) + way_span (sync_paths n []))
     by true hard is same = inr (omega (arith, same))
     by false true is same = inr (omega (arith, same))
     by false false is same = inl (vary_little n is, omega (arith, same))
 
 -- time 0 with its row
 pub started : (n : NetworkState) (now : List Timed) → row_at n (view_at n [] now None 0) ≡ Gained
-    → (now ≡ []) × BoundsStart n (gained_at n (view_at n [] now None 0))
+    → BoundsStart n now (gained_at n (view_at n [] now None 0))
 started n now row =
     let v = view_at n [] now None 0 in
-    let (from, none) =
+    let (from, none, some_told) =
     gained_from (is_from_rest n v.at v.told v.new (ready_at n v) v.before) true (list_all is_idle v.told)
     (list_any is_loss v.told) row in
     let (quiet, some) = and_parts (length v.told == 0) (not (length v.new == 0)) from in
-    let empty = told_none n [] now quiet in (
-      empty,
-      subst (λ es. BoundsStart n (gained_at n (view_at n [] es None 0))) (sym empty)
-          (starts n (subst (λ es. not (length (new_links n [] es true) == 0) ≡ true) empty some)),
-    )
+    let empty = told_none n [] now quiet in
+    subst (λ es. BoundsStart n es (gained_at n (view_at n [] es None 0))) (sym empty)
+    (starts n (subst (λ es. not (length (new_links n [] es true) == 0) ≡ true) empty some))
 
 pub never_unchanged : (n : NetworkState) (now : List Timed) → row_at n (view_at n [] now None 0) ≡ Unchanged → ⊥
 never_unchanged n now row =
@@ -253,7 +258,6 @@ module _ (n : NetworkState) (network : IsNetwork n) (events : List Timed) (b : S
         past = over_before b.at (largest_interval (pace_of n)) at made over (all_by b.at events);
         capable = late_enough;
         again = again;
-        better = not_so (list_any is_better v.told) best;
       }
 
   pub unchanged : row_at n v ≡ Unchanged → HasComeToRest b at × EachEvent (IsIdleEvent n) made now
@@ -265,11 +269,11 @@ module _ (n : NetworkState) (network : IsNetwork n) (events : List Timed) (b : S
 
   pub gained : row_at n v ≡ Gained → HasComeToRest b at × BoundsGains n made now at (ready_at n v) (gained_at n v)
   gained row =
-      let (from, none) =
+      let (from, none, some) =
       gained_from (is_from_rest n at v.told v.new (ready_at n v) (Some b)) false (list_all is_idle v.told)
       (list_any is_loss v.told) row in
       let facts = from_rest from in
-      (facts.rested, by facts none (heard_at_once false v.systems_before v.standings v.told)
+      (facts.rested, by facts none some (heard_at_once false v.systems_before v.standings v.told)
       (list_any (is_hard_to_hear v.told) v.new) refl refl)
     where
       followed : IsFromRest → list_any is_recovery v.told ≡ true → AreFollowed n network at made now
@@ -282,12 +286,12 @@ module _ (n : NetworkState) (network : IsNetwork n) (events : List Timed) (b : S
         | inr none ↦ let no : true ≡ false = sym better ∙ not_so (list_any is_better v.told) none in absurd cc
       ]
 
-      by : IsFromRest → list_any is_loss v.told ≡ false → (heard hard : Bool)
+      by : IsFromRest → list_any is_loss v.told ≡ false → list_all is_idle v.told ≡ false → (heard hard : Bool)
           → heard_at_once false v.systems_before v.standings v.told ≡ heard
           → list_any (is_hard_to_hear v.told) v.new ≡ hard
           → BoundsGains n made now at (ready_at n v)
           (ready_at n v + cond (heard && not hard) 0 (largest_interval (pace_of n)) + way_span v.paths)
-      by facts none true false is soft =
+      by facts none some true false is soft =
           let (heard, few) =
           and_parts (are_heard false v.told) (nat_le v.systems_before 255 || not (list_any is_better v.told)) is in
           inl (
@@ -295,11 +299,11 @@ module _ (n : NetworkState) (network : IsNetwork n) (events : List Timed) (b : S
                 soft (few_before few) heard,
             omega arith,
           )
-      by facts none true true is hard = inr (
-        all_followed n network at made now (all_at at events) (followed facts) (omega (arith, late)) none facts.others,
+      by facts none some true true is hard = inr (
+        all_gained n network at made now (all_at at events) (followed facts) (omega (arith, late)) none facts.others some,
         refl,
       )
-      by facts none false hard is soft = inr (
-        all_followed n network at made now (all_at at events) (followed facts) (omega (arith, late)) none facts.others,
+      by facts none some false hard is soft = inr (
+        all_gained n network at made now (all_at at events) (followed facts) (omega (arith, late)) none facts.others some,
         refl,
       )
