@@ -1,10 +1,12 @@
 -- What is told of each time of a document is so: its choice is a choice bound, and roles stand as soon.
-use Rattle.std.proofs.Common.{◌≡◌, ◌<◌, ◌≤◌, inl, inr, ◌+◌, ℕ, Bool, true, false, cond, List, [], ◌∷◌, ◌++◌, Some, None, refl, sym, ap, subst, ◌∙◌, arith}
+use Rattle.std.proofs.Common.{◌≡◌, ◌<◌, ◌≤◌, inl, inr, ◌+◌, ◌*◌, max, ℕ, Bool, true, false, cond, List, [], ◌∷◌, ◌++◌, Some, None, refl, sym, ap, subst, ◌∙◌, arith}
 use Rattle.std.specs.Prelude.{◌==◌, nat_le}
 use Rattle.std.proofs.lemmas.Bool.{eqb-false, eqb-true}
 use Rattle.std.proofs.lemmas.Bool.Decides.{nat_tests}
 use Rattle.gptp_lists.specs.Members.{In}
-use Rattle.gptp_scenario.specs.Network.{NetworkState}
+use Rattle.gptp_setup.specs.SettlingParams.{largest_interval}
+use Rattle.gptp_scenario.specs.Network.{NetworkState, pace_of}
+use Rattle.gptp_scenario.specs.SyncWait.{sync_paths}
 use Rattle.gptp_scenario.specs.declared.change.Timed.{Timed}
 use Rattle.gptp_network.specs.Document.{DocumentState}
 use Rattle.gptp_network.specs.Snapshot.{events_by}
@@ -51,6 +53,9 @@ module _ (d : DocumentState) (playable : IsPlayable d) where
     pub choice : IsChoiceBoundAfter n all earlier at s.choice
     pub roles : s.roles ≡ s.choice
     pub rest : s.choice ≤ s.rest
+    pub exact : at + max s.choice (largest_interval (pace_of n))
+        + (sync_paths n (events_by at all)).systems * (n.params.threshold + n.params.residence)
+        ≤ s.exact_from
 
   abbrev pub TellsSo : List ℕ → SettlingTime → Type 0
   TellsSo earlier t = (s : Settling) → t.settling ≡ Some s → IsSo earlier t.at s
@@ -71,6 +76,9 @@ module _ (d : DocumentState) (playable : IsPlayable d) where
         );
         roles = it.roles;
         rest = it.rest;
+        exact = subst (λ es. 0 + max s.choice (largest_interval (pace_of n))
+            + (sync_paths n es).systems * (n.params.threshold + n.params.residence)
+            ≤ s.exact_from) (sym (begin_at all)) it.exact;
       }
 
   module _ (b : SettlingTime) (earlier : List ℕ) (at : ℕ) (late : b.at < at) (between : NoneBetween all b.at at)
@@ -113,6 +121,9 @@ module _ (d : DocumentState) (playable : IsPlayable d) where
           );
           roles = it.roles;
           rest = it.rest;
+          exact = subst (λ es. at + max s.choice (largest_interval (pace_of n))
+              + (sync_paths n es).systems * (n.params.threshold + n.params.residence)
+              ≤ s.exact_from) (sym (parted all b.at at playable.events.in_order late between)) it.exact;
         }
 
   -- so it is of each time after one

@@ -74,6 +74,9 @@ pub record IsTelling (n : NetworkState) (v : View) (s : Settling) : Type 0 where
   pub choice : s.choice ≡ choice_by n v.paths (row_at n v) (gained_at n v)
   pub roles : s.roles ≡ s.choice
   pub rest : s.choice ≤ s.rest
+  pub exact : v.at + max s.choice (largest_interval (pace_of n))
+      + v.paths.systems * (n.params.threshold + n.params.residence)
+      ≤ s.exact_from
 
 pub tells : (n : NetworkState) (v : View) (s : Settling) → (settling_time n v).settling ≡ Some s → IsTelling n v s
 tells n v s is = by v.calm refl is
@@ -89,6 +92,9 @@ tells n v s is = by v.calm refl is
           choice = ap (λ (x : Settling). x.choice) (sym same);
           roles = subst (λ (x : Settling). x.roles ≡ x.choice) same refl;
           rest = subst (λ (x : Settling). x.choice ≤ x.rest) same (omega arith);
+          exact = subst (λ (x : Settling). v.at + max x.choice (largest_interval (pace_of n))
+              + v.paths.systems * (n.params.threshold + n.params.residence)
+              ≤ x.exact_from) same (omega arith);
         }
     by false calm told = absurd cc
 

@@ -1,2 +1,3 @@
 pub mod Choice
+pub mod Exact
 pub mod Settled

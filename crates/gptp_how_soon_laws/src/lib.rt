@@ -9,7 +9,9 @@
 #![tactic(auto)]
 
 mod choice;
+mod exact;
 mod settled;
 
 pub use choice::settlings_are_choice_bounds;
+pub use exact::exact_soon;
 pub use settled::settled_soon;
