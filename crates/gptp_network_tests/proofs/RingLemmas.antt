@@ -45,7 +45,13 @@ little v (inr (inr (inr (inr none)))) = absurd none
 pub ring_bound : IsChoiceBound ring_document 0 1000003050
 ring_bound = (
   [],
-  (refl, (record { links = links_rest; lapses = inl refl }, inr (refl, inr (tt, inl (used_vary ring_network [] little, is))))),
+  (
+    refl,
+    (
+      record { links = links_rest; lapses = inl refl },
+      inr (refl, inr (tt, inl (used_vary ring_network [] little, is))),
+    ),
+  ),
 )
   where
     is : 1000003050

@@ -130,23 +130,22 @@ module _ (n : NetworkState) (made : List Timed) (event : Timed) where
 
     same_paths : IsIdleEvent n made event → sync_paths n more ≡ sync_paths n made
     same_paths (inl nothing) = idle_paths n network made event nothing
-    same_paths (inr (turns, late)) = turned_paths n made event turns
+    same_paths (inr turns) = turned_paths n made event turns
 
-    turns_in_vain : capability_span (pace_of n) + way ≤ event.at → (act : Act) → TurnsUnused n made act
-        → TurnsInVain n made event since act
-    turns_in_vain late (Changing (LinkUp number port)) failed = (failed, omega (arith, late))
-    turns_in_vain late (Changing (LinkDown number port)) failed = (failed, omega arith)
-    turns_in_vain late (Changing (LinkSet number port min max loss)) none = absurd none
-    turns_in_vain late (Changing (Fail number)) none = absurd none
-    turns_in_vain late (Changing (Recover number)) none = absurd none
-    turns_in_vain late (Changing (Priority1 number value)) none = absurd none
-    turns_in_vain late (Changing (Inject number port octets)) none = absurd none
-    turns_in_vain late (Deliver link direction) none = absurd none
-    turns_in_vain late (Expire number timer) none = absurd none
+    turns_in_vain : (act : Act) → TurnsUnused n made event act → TurnsInVain n made event since act
+    turns_in_vain (Changing (LinkUp number port)) (failed, late) = (failed, omega (arith, late))
+    turns_in_vain (Changing (LinkDown number port)) failed = (failed, omega arith)
+    turns_in_vain (Changing (LinkSet number port min max loss)) none = absurd none
+    turns_in_vain (Changing (Fail number)) none = absurd none
+    turns_in_vain (Changing (Recover number)) none = absurd none
+    turns_in_vain (Changing (Priority1 number value)) none = absurd none
+    turns_in_vain (Changing (Inject number port octets)) none = absurd none
+    turns_in_vain (Deliver link direction) none = absurd none
+    turns_in_vain (Expire number timer) none = absurd none
 
     makes_nothing : IsIdleEvent n made event → MakesNothing n made event since
     makes_nothing (inl nothing) = inl nothing
-    makes_nothing (inr (turns, late)) = inr (off, turns_in_vain late event.act turns)
+    makes_nothing (inr turns) = inr (off, turns_in_vain event.act turns)
 
     module _ (idle : IsIdleEvent n made event) where
       leaves_so : way ≤ event.at → LeavesSettled n made event since

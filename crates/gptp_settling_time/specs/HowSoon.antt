@@ -50,18 +50,18 @@ way_span paths = pred paths.systems * paths.delay
 
 -- ---- events that are followed, by what stands just before each
 
--- it brings up or takes down a link of which an end has failed
-abbrev pub TurnsUnused : NetworkState → List Timed → Act → Type 0
-TurnsUnused n made (Changing (LinkUp number port)) = EndHasFailed n made (port_id number port)
-TurnsUnused n made (Changing (LinkDown number port)) = EndHasFailed n made (port_id number port)
-TurnsUnused n made act = ⊥
+-- It takes down a link of which an end has failed, or brings it up. That one which comes up makes nothing is known once
+-- L + 5 announce intervals and what a way takes have passed since the network began.
+abbrev pub TurnsUnused : NetworkState → List Timed → Timed → Act → Type 0
+TurnsUnused n made event (Changing (LinkDown number port)) = EndHasFailed n made (port_id number port)
+TurnsUnused n made event (Changing (LinkUp number port)) =
+    EndHasFailed n made (port_id number port)
+    × (capability_span (pace_of n) + way_span (sync_paths n made) ≤ event.at)
+TurnsUnused n made event act = ⊥
 
--- It makes nothing of what stands: it changes nothing; or it turns a link with a failed end, which is known to make
--- nothing once L + 5 announce intervals and what a way takes have passed since the network began.
+-- it makes nothing of what stands: it changes nothing, or it turns a link that isn't used
 abbrev pub IsIdleEvent : NetworkState → List Timed → Timed → Type 0
-IsIdleEvent n made event =
-    ChangesNothing n made event.act
-    ⊎ (TurnsUnused n made event.act × (capability_span (pace_of n) + way_span (sync_paths n made) ≤ event.at))
+IsIdleEvent n made event = ChangesNothing n made event.act ⊎ TurnsUnused n made event event.act
 
 -- it takes nothing away, and ports are capable from the next time on
 abbrev pub IsGainEvent : NetworkState → ℕ → List Timed → Timed → Type 0
