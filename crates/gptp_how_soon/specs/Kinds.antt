@@ -120,6 +120,10 @@ is_recovery e = is_recover e && not (is_idle e)
 abbrev pub is_recovery_of : ℕ → Told → Bool
 is_recovery_of clock e = (e.clock == clock) && is_recovery e
 
+-- an act sets the bounds of a link, idly or not
+abbrev pub sets_bounds : Act → Bool
+sets_bounds act = elim (what_of act) [ whats.LinkSet ↦ true | _ ↦ false ]
+
 -- ---- the events of a time
 
 -- bounds are set, idly or not

@@ -2,7 +2,7 @@
 
 ghost use Rattle.std.specs.Prelude.{◌≡◌, ◌++◌, ◌∷◌, [], false, OnOk};
 ghost use Rattle.std.specs.List.{list_all, list_any};
-ghost use Rattle.gptp_how_soon.specs.Kinds.{are_heard, fails_and_recovers, is_fail, is_recover, is_better, is_failure_of_same, is_gain, is_heard_too, is_idle, is_loss, is_other, is_priority1, is_link_up, is_recovery, is_recovery_of, kind_of, kind_of_change, kind_of_failure, kind_of_link_down, kind_of_link_up, kind_of_priority1, kind_of_recovery, recovers, sets_link, is_link_set, told_by, what_of, what_of_change};
+ghost use Rattle.gptp_how_soon.specs.Kinds.{are_heard, fails_and_recovers, is_fail, is_recover, is_better, is_failure_of_same, is_gain, is_heard_too, is_idle, is_loss, is_other, is_priority1, is_link_up, is_recovery, is_recovery_of, kind_of, kind_of_change, kind_of_failure, kind_of_link_down, kind_of_link_up, kind_of_priority1, kind_of_recovery, recovers, sets_bounds, sets_link, is_link_set, told_by, what_of, what_of_change};
 
 use crate::systems::System;
 use gptp_scenario::{Act, Change};
@@ -196,6 +196,13 @@ fn what_of(act: &Act) -> What
         } => What::NoChange,
         Act::Expire { clock: _, timer: _ } => What::NoChange,
     }
+}
+
+/// Whether an act sets the bounds of a link.
+pub(crate) fn sets_bounds(act: &Act) -> bool
+    ensures { result ≡ sets_bounds act.now }
+{
+    matches!(what_of(act), What::LinkSet)
 }
 
 /// An act, by the link and the system that it names as they stand just before it.

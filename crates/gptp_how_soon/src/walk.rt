@@ -7,7 +7,7 @@ ghost use Rattle.gptp_how_soon.specs.Times.{settling_time};
 ghost use Rattle.gptp_how_soon.specs.Walk.{IsFirstWalk, WalkGoesOn, WalkPasses, view_seen};
 
 use crate::bounds::{SettlingTime, heard, ready, times_by, way_span};
-use crate::kinds::{Told, sets_link, tell};
+use crate::kinds::{Told, sets_bounds, sets_link, tell};
 use crate::links::{new_links, used_links};
 use crate::rest::{heard_at_once, is_from_rest, row_of};
 use crate::systems::{System, act_on_systems, first_systems, system_at};
@@ -20,6 +20,8 @@ use std::alloc::{AllocError, Global};
 pub(crate) struct Walk {
     pub tables: Tables,
     pub systems: Vec<System>,
+    /// When a link was last set; 0 where none was.
+    pub last_set: u64,
     /// The events of this time.
     pub told: Vec<Told>,
     /// The time before, if there is one.
@@ -47,6 +49,7 @@ impl Walk {
         Ok(Walk {
             tables,
             systems,
+            last_set: 0,
             told: Vec::new(alloc),
             before: None,
             used_before,
@@ -55,15 +58,18 @@ impl Walk {
     }
 
     /// Passes an event of this time.
-    pub(crate) fn pass(&mut self, act: &Act) -> Result<(), AllocError>
+    pub(crate) fn pass(&mut self, at: u64, act: &Act) -> Result<(), AllocError>
         requires { AreMarked self.old.tables }
-        ensures { OnOk result (WalkPasses act.now self.old self.new) }
+        ensures { OnOk result (WalkPasses at act.now self.old self.new) }
     {
         let link = self.tables.link_named(act);
         let system = system_at(&self.systems, named(act));
         tell(&mut self.told, act, link, system)?;
         self.tables.act(act);
         act_on_systems(self.systems.as_mut_slice(), act);
+        if sets_bounds(act) {
+            self.last_set = at;
+        }
         Ok(())
     }
 
@@ -89,6 +95,7 @@ impl Walk {
         requires few { length self.now.tables.nodes.items ≤ 512 }
         requires short { greatest_used self.now.tables.marks.items ≤ 16000000000 }
         requires early { at ≤ 800000000000000 }
+        requires set { self.now.last_set ≤ at }
         ensures is { IfOk result (λ time. time ≡ settling_time network.now (view_seen network.now self.now at)) }
         ensures bound { IfOk result (λ time. time.watch ≤ 200000000000000) }
     {
@@ -106,6 +113,7 @@ impl Walk {
         Ok(times_by(
             network,
             at,
+            self.last_set,
             paths,
             self.tables.is_calm(network, paths),
             sets_link(told),

@@ -12,7 +12,7 @@ use Rattle.gptp_network.specs.Document.{DocumentState}
 use Rattle.gptp_network.specs.Snapshot.{events_by}
 use Rattle.gptp_theorem.specs.PlayedLaws.{IsPlayable}
 use Rattle.gptp_topology.specs.Times.{times_of}
-use Rattle.gptp_how_soon.specs.Times.{View, events_at, gained_at, ready_at, row_at, settling_times, settling_times_from, time_at, view_at}
+use Rattle.gptp_how_soon.specs.Times.{View, events_at, gained_at, last_set, ready_at, row_at, settling_times, settling_times_from, time_at, view_at}
 use Rattle.gptp_how_soon.specs.declared.bounds.Row.TheVariants.{Unchanged, Gained}
 use Rattle.gptp_how_soon.specs.declared.bounds.Settling.{Settling}
 use Rattle.gptp_how_soon.specs.declared.bounds.SettlingTime.{SettlingTime}
@@ -53,7 +53,7 @@ module _ (d : DocumentState) (playable : IsPlayable d) where
     pub choice : IsChoiceBoundAfter n all earlier at s.choice
     pub roles : s.roles ≡ s.choice
     pub rest : s.choice ≤ s.rest
-    pub exact : at + max s.choice (largest_interval (pace_of n))
+    pub exact : max (at + s.choice) (last_set (events_by at all) + largest_interval (pace_of n))
         + (sync_paths n (events_by at all)).systems * (n.params.threshold + n.params.residence)
         ≤ s.exact_from
 
@@ -76,7 +76,7 @@ module _ (d : DocumentState) (playable : IsPlayable d) where
         );
         roles = it.roles;
         rest = it.rest;
-        exact = subst (λ es. 0 + max s.choice (largest_interval (pace_of n))
+        exact = subst (λ es. max (0 + s.choice) (last_set es + largest_interval (pace_of n))
             + (sync_paths n es).systems * (n.params.threshold + n.params.residence)
             ≤ s.exact_from) (sym (begin_at all)) it.exact;
       }
@@ -121,7 +121,7 @@ module _ (d : DocumentState) (playable : IsPlayable d) where
           );
           roles = it.roles;
           rest = it.rest;
-          exact = subst (λ es. at + max s.choice (largest_interval (pace_of n))
+          exact = subst (λ es. max (at + s.choice) (last_set es + largest_interval (pace_of n))
               + (sync_paths n es).systems * (n.params.threshold + n.params.residence)
               ≤ s.exact_from) (sym (parted all b.at at playable.events.in_order late between)) it.exact;
         }

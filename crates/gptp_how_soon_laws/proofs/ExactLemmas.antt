@@ -1,19 +1,19 @@
 -- Offsets are exact in each run from the time on that is told of a time.
-use Rattle.std.proofs.Common.{◌≡◌, ◌<◌, ◌≤◌, ◌+◌, ◌*◌, ℕ, Bool, true, false, cond, suc, max, List, [], ◌∷◌, Option, filter, refl, sym, ap, subst, arith}
-use Rattle.std.specs.List.{AllByRecursion}
+use Rattle.std.proofs.Common.{◌≡◌, ◌<◌, ◌≤◌, ◌+◌, ◌*◌, ℕ, Bool, true, false, cond, suc, max, List, [], ◌∷◌, Option, filter, refl, sym, ap, ap₂, subst, arith}
 use Rattle.std.proofs.Math.Nat.{mul-le-mul}
 use Rattle.gptp_graph.specs.PathBound.{path_bound}
 use Rattle.gptp_graph.proofs.PathBoundLemmas.{IsDistance-within, paths_within}
 use Rattle.gptp_lists.specs.Members.{In}
 use Rattle.gptp_links.specs.declared.bounds.Bounds.{Bounds}
 use Rattle.gptp_setup.specs.SettlingParams.{largest_interval}
-use Rattle.gptp_setup.proofs.IntervalLemmas.{interval_positive}
 use Rattle.gptp_scenario.specs.Calm.{last_change}
 use Rattle.gptp_scenario.specs.Network.{pace_of}
 use Rattle.gptp_scenario.specs.SyncWait.{sync_paths}
+use Rattle.gptp_scenario.specs.declared.change.Act.{Act}
+use Rattle.gptp_scenario.specs.declared.change.Act.TheVariants as acts
+use Rattle.gptp_scenario.specs.declared.change.Change.TheVariants as changes
 use Rattle.gptp_scenario.specs.declared.change.Timed.{Timed}
 use Rattle.gptp_scenario.specs.declared.sync_wait.SyncPaths.{SyncPaths}
-use Rattle.gptp_scenario.proofs.LogLemmas.{largest_log}
 use Rattle.gptp_model.specs.World.{WorldState}
 use Rattle.gptp_network.specs.Document.{DocumentState}
 use Rattle.gptp_network.specs.Snapshot.{events_by}
@@ -25,10 +25,11 @@ use Rattle.gptp_invariants.proofs.SyncFollowWayLemmas.{way_distance}
 use Rattle.gptp_invariants.proofs.WorldStandsLemmas.{stands_well}
 use Rattle.gptp_theorem.specs.PlayedLaws.{IsPlayable}
 use Rattle.gptp_theorem.proofs.SyncPathLemmas.{paths_stand}
+use Rattle.gptp_how_soon.specs.Kinds.{sets_bounds}
+use Rattle.gptp_how_soon.specs.Times.{last_set as set_here}
 use Rattle.gptp_settling_time.specs.ExactInTurn.{last_set, sets_link}
 use Rattle.gptp_settling_time.specs.HowSoon.{IsChoiceBound, NoneBetween}
 use Rattle.gptp_settling_time.proofs.ChoiceBoundLemmas.{choice_bounds_are_exact}
-use Rattle.gptp_settling_time.proofs.CutLemmas.{IsBy, all_by}
 use Rattle.gptp_settling_time.proofs.DocumentLemmas.{run_to}
 use Rattle.gptp_settling_time.proofs.FollowedLemmas.{bound_settles}
 use Rattle.gptp_settling_time.proofs.InTurnLemmas.{after_keeps, passed_in_turn}
@@ -36,27 +37,27 @@ use Rattle.gptp_settling_time.proofs.MomentLemmas.{last_by, none_later}
 use Rattle.gptp_how_soon_laws.specs.Exact.{IsExactSoon}
 use Rattle.gptp_how_soon_laws.proofs.ChoiceLemmas.{time_so}
 
--- ---- links were last set by then
+-- ---- when a link was last set
 
-all_kept : {X : Type 0} (P : X → Type 0) (p : X → Bool) (xs : List X) → AllByRecursion P xs
-    → AllByRecursion P (filter p xs)
-all_kept P p [] all = tt
-all_kept P p (x ∷ xs) all = by (p x) (all_kept P p xs all.1)
-  where
-    by : (test : Bool) → AllByRecursion P (filter p xs)
-        → AllByRecursion P (cond test (x ∷ filter p xs) (filter p xs))
-    by true rest = (all.0, rest)
-    by false rest = rest
+same_sets : (act : Act) → sets_bounds act ≡ sets_link act
+same_sets (acts.Deliver link direction) = refl
+same_sets (acts.Expire clock timer) = refl
+same_sets (acts.Change (changes.LinkDown clock port)) = refl
+same_sets (acts.Change (changes.LinkUp clock port)) = refl
+same_sets (acts.Change (changes.LinkSet clock port least greatest loss)) = refl
+same_sets (acts.Change (changes.Fail number)) = refl
+same_sets (acts.Change (changes.Recover number)) = refl
+same_sets (acts.Change (changes.Priority1 number value)) = refl
+same_sets (acts.Change (changes.Inject clock port octets)) = refl
 
-last_within : (until : ℕ) (events : List Timed) → AllByRecursion (IsBy until) events → last_change events ≤ until
-last_within until [] all = omega arith
-last_within until (t ∷ []) all = all.0
-last_within until (t ∷ (u ∷ us)) all = last_within until (u ∷ us) all.1
+same_kept : (events : List Timed)
+    → filter (λ (t : Timed). sets_bounds t.act) events ≡ filter (λ (t : Timed). sets_link t.act) events
+same_kept [] = refl
+same_kept (t ∷ ts) =
+    ap₂ (λ test (kept : List Timed). cond test (t ∷ kept) kept) (same_sets t.act) (same_kept ts)
 
-set_by : (until : ℕ) (events : List Timed) → last_set (events_by until events) ≤ until
-set_by until events =
-    last_within until (filter (λ (event : Timed). sets_link event.act) (events_by until events))
-    (all_kept (IsBy until) (λ (event : Timed). sets_link event.act) (events_by until events) (all_by until events))
+same_set : (events : List Timed) → set_here events ≡ last_set events
+same_set events = ap last_change (same_kept events)
 
 -- ---- a way has fewer links than a path has systems
 
@@ -100,24 +101,23 @@ come_down steps systems hop most settled exact at few some is told on =
     omega (arith, times, more, some, is, told, on)
 
 pub exact_soon : {F : Type 0} (answers : Bounds → ℕ → F → Option ℕ → F → Type 0) → IsExactSoon answers
-exact_soon answers d time s next until fate first w ts t playable k member shown told is none on early steps number error
-    offset ahead leaves near way is_ahead =
+exact_soon answers d time s next until fate first w ts t playable k member shown told is none behind on early steps number
+    error offset ahead leaves near way is_ahead =
     let (before, so) = time_so d playable time s told is in
     let at = t.told.timed.at in
     let interval : ℕ = largest_interval (pace_of d.network) in
     let hop : ℕ = d.network.params.threshold + d.network.params.residence in
     let systems : ℕ = (sync_paths d.network (events_by time.at d.events)).systems in
-    let most : ℕ = time.at + max s.choice interval in
+    let last : ℕ = set_here (events_by time.at d.events) in
+    let most : ℕ = max (time.at + s.choice) (last + interval) in
     let settled : ℕ = most + 1 in
     let exact : most + systems * hop ≤ s.exact_from = so.exact in
     let late : time.at + s.choice < settled = omega arith in
-    let some = interval_positive (pace_of d.network).largest (largest_log d.network playable.network) in
-    let there : time.at < at = omega (arith, some, exact, on) in
     let few : suc steps < systems =
     few_links answers d time.at s.choice next settled until fate first w ts t playable k member (before, so.choice) none
-    late there early steps number error way in
+    late behind early steps number error way in
     let least : 1 ≤ hop = let one = playable.network.params.ranges.params.threshold-least in omega (arith, one) in
-    let set = set_by time.at d.events in
+    let set = same_set (events_by time.at d.events) in
     choice_bounds_are_exact answers d time.at s.choice next settled until fate first w ts t playable k member shown
     (before, so.choice) none late (omega (arith, set)) early steps number error offset ahead
     (come_down steps systems hop most settled s.exact_from at few least refl exact on) leaves near way is_ahead

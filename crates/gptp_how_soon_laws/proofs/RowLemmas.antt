@@ -74,7 +74,7 @@ pub record IsTelling (n : NetworkState) (v : View) (s : Settling) : Type 0 where
   pub choice : s.choice ≡ choice_by n v.paths (row_at n v) (gained_at n v)
   pub roles : s.roles ≡ s.choice
   pub rest : s.choice ≤ s.rest
-  pub exact : v.at + max s.choice (largest_interval (pace_of n))
+  pub exact : max (v.at + s.choice) (v.last_set + largest_interval (pace_of n))
       + v.paths.systems * (n.params.threshold + n.params.residence)
       ≤ s.exact_from
 
@@ -82,7 +82,7 @@ pub tells : (n : NetworkState) (v : View) (s : Settling) → (settling_time n v)
 tells n v s is = by v.calm refl is
   where
     it : Settling
-    it = settled n v.at v.paths (sets_link v.told) (choice_by n v.paths (row_at n v) (gained_at n v))
+    it = settled n v.at v.last_set v.paths (sets_link v.told) (choice_by n v.paths (row_at n v) (gained_at n v))
 
     by : (calm : Bool) → v.calm ≡ calm → (if calm then Some it else None) ≡ Some s → IsTelling n v s
     by true calm told =
@@ -92,7 +92,7 @@ tells n v s is = by v.calm refl is
           choice = ap (λ (x : Settling). x.choice) (sym same);
           roles = subst (λ (x : Settling). x.roles ≡ x.choice) same refl;
           rest = subst (λ (x : Settling). x.choice ≤ x.rest) same (omega arith);
-          exact = subst (λ (x : Settling). v.at + max x.choice (largest_interval (pace_of n))
+          exact = subst (λ (x : Settling). max (v.at + x.choice) (v.last_set + largest_interval (pace_of n))
               + v.paths.systems * (n.params.threshold + n.params.residence)
               ≤ x.exact_from) same (omega arith);
         }

@@ -26,12 +26,12 @@ IsExact p w time w' done = (steps number error : ℕ) (offset ahead : ℤ)
     → IsNear (snapshot_of w) number → IsWayError p w number (suc steps) error → IsAhead w number time ahead
     → AreWithin error offset ahead
 
--- Each act leaves such an offset that is done from the time on which is told of a time of the document, and before the
--- next event.
+-- Each act leaves such an offset that is later than a time of the document, done from the time on which is told of it,
+-- and before the next event.
 abbrev pub IsExactSoon : {F : Type 0} → (Bounds → ℕ → F → Option ℕ → F → Type 0) → Type 0
 IsExactSoon {F} answers = (d : DocumentState) (time : SettlingTime) (s : Settling) (next until : ℕ) (fate : F)
     (first w : WorldState) (ts : List ActTrace) (t : ActTrace)
     → IsPlayable d → Unfolds answers d until fate first ts w → In t ts → t.told.timed.at ≤ 10 ^ 18
     → In time (settling_times d) → time.settling ≡ Some s → NoneBetween d.events time.at next
-    → s.exact_from ≤ t.told.timed.at → t.told.timed.at < next
+    → time.at < t.told.timed.at → s.exact_from ≤ t.told.timed.at → t.told.timed.at < next
     → IsExact d.network.params t.before t.told.timed.at t.after t.told.done
