@@ -94,6 +94,9 @@ is_gain e = elim e.kind [ Gain ↦ true | _ ↦ false ]
 abbrev pub is_other : Told → Bool
 is_other e = elim e.kind [ Other ↦ true | _ ↦ false ]
 
+abbrev pub is_link_down : Told → Bool
+is_link_down e = elim e.what [ whats.LinkDown ↦ true | _ ↦ false ]
+
 abbrev pub is_link_up : Told → Bool
 is_link_up e = elim e.what [ whats.LinkUp ↦ true | _ ↦ false ]
 
@@ -105,6 +108,11 @@ is_link_set e = elim e.what [ whats.LinkSet ↦ true | _ ↦ false ]
 
 abbrev pub is_fail : Told → Bool
 is_fail e = elim e.what [ whats.Fail ↦ true | _ ↦ false ]
+
+-- As a network starts such an event leaves it so that nothing is told: a link goes down or comes up, a system fails, or
+-- a priority1 is set.
+abbrev pub tells_nothing : Told → Bool
+tells_nothing e = is_link_down e || is_link_up e || is_fail e || is_priority1 e
 
 -- a live system gets better
 abbrev pub is_better : Told → Bool

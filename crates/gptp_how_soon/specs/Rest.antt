@@ -9,8 +9,8 @@ use Rattle.gptp_scenario.specs.SettlingTime.{capability_span}
 use Rattle.gptp_topology.specs.declared.course.Cable.{Cable}
 use Rattle.gptp_topology.specs.declared.course.Standing.{Standing}
 use Rattle.gptp_how_soon.specs.Bounds.{is_again}
-use Rattle.gptp_how_soon.specs.Kinds.{are_heard, fails_and_recovers, is_better, is_idle, is_loss, is_other, is_recovery}
-use Rattle.gptp_how_soon.specs.Links.{vary}
+use Rattle.gptp_how_soon.specs.Kinds.{are_heard, fails_and_recovers, is_better, is_idle, is_loss, is_other, is_recovery, tells_nothing}
+use Rattle.gptp_how_soon.specs.Links.{is_unanswered}
 use Rattle.gptp_how_soon.specs.declared.bounds.Row.{Row}
 use Rattle.gptp_how_soon.specs.declared.bounds.Row.TheVariants.{AnyPast, Unchanged, Gained}
 use Rattle.gptp_how_soon.specs.declared.bounds.Settling.{Settling}
@@ -19,9 +19,11 @@ use Rattle.gptp_how_soon.specs.declared.kinds.Told.{Told}
 
 -- ---- from rest
 
--- Time 0 is followed where no event has that time, and a link is in use, whose ports become capable.
-abbrev pub is_start_from_rest : List Told → List Cable → Bool
-is_start_from_rest told new = (length told == 0) && not (length new == 0)
+-- Time 0 is followed where its events, if any, leave it so that nothing is told, no link that is up then joins a live
+-- system to one that has failed, and a link is in use, whose ports become capable.
+abbrev pub is_start_from_rest : List Standing → List Told → List Cable → Bool
+is_start_from_rest standings told new =
+    list_all tells_nothing told && not (list_any is_unanswered standings) && not (length new == 0)
 
 -- what was at the time before has come to rest by this one
 abbrev pub rested_by : SettlingTime → ℕ → Option Settling → Bool
@@ -36,34 +38,33 @@ abbrev pub are_events_followed : List Told → Bool
 are_events_followed told = not (list_any is_other told) && not (fails_and_recovers told)
 
 -- Systems that recover are followed where an announce interval has passed since the time before, all ports that can't
--- be capable have shown it, a new link is at such a system, and no system gets a better priority1 besides.
+-- be capable have shown it, and a new link is at such a system.
 abbrev pub are_recoveries_followed : NetworkState → ℕ → ℕ → List Told → List Cable → ℕ → Bool
 are_recoveries_followed n last at told new ready =
     nat_lt (last + largest_interval (pace_of n)) at
     && nat_le (capability_span (pace_of n)) (at + ready)
     && list_any (is_again told) new
-    && not (list_any is_better told)
 
-abbrev pub is_from_rest : NetworkState → ℕ → List Told → List Cable → ℕ → Option SettlingTime → Bool
-is_from_rest n at told new ready None = is_start_from_rest told new
-is_from_rest n at told new ready (Some b) =
+abbrev pub is_from_rest : NetworkState → ℕ → List Standing → List Told → List Cable → ℕ → Option SettlingTime → Bool
+is_from_rest n at standings told new ready None = is_start_from_rest standings told new
+is_from_rest n at standings told new ready (Some b) =
     rested b at
     && are_events_followed told
     && (not (list_any is_recovery told) || are_recoveries_followed n b.at at told new ready)
 
 -- ---- rows
 
--- Not from rest, or after a loss, the network may come from any past. Events that change nothing leave it as it was, but
--- at the start nothing was.
+-- Not from rest, or after a loss, the network may come from any past. Events that change nothing leave it as it was. At
+-- the start nothing was, and so nothing is lost.
 abbrev pub row_of : Bool → Bool → List Told → Row
 row_of from_rest first told =
     if not from_rest then AnyPast
-    else if not first && list_all is_idle told then Unchanged
+    else if first then Gained
+    else if list_all is_idle told then Unchanged
     else if list_any is_loss told then AnyPast else Gained
 
--- It is followed that all is heard at once: at the start where over no link of the network delays vary, later where it
--- is so of each event. Who gets better is heard so where no path had more than 255 systems before.
-abbrev pub heard_at_once : Bool → ℕ → List Standing → List Told → Bool
-heard_at_once first systems_before standings told =
-    if first then not (vary standings)
-    else are_heard false told && (nat_le systems_before 255 || not (list_any is_better told))
+-- It is followed that all is heard at once at the start, and later where it is so of each event. Who gets better is
+-- heard so where no path had more than 255 systems before.
+abbrev pub heard_at_once : Bool → ℕ → List Told → Bool
+heard_at_once first systems_before told =
+    first || (are_heard false told && (nat_le systems_before 255 || not (list_any is_better told)))

@@ -51,7 +51,7 @@ abbrev pub ready_at : NetworkState → View → ℕ
 ready_at n v = ready n.params v.paths v.told v.new
 
 abbrev pub heard_at : NetworkState → View → ℕ
-heard_at n v = heard_by n (heard_at_once (is_first v) v.systems_before v.standings v.told) v.told v.new
+heard_at n v = heard_by n (heard_at_once (is_first v) v.systems_before v.told) v.told v.new
 
 -- After gains the choice stands once ports are capable, what they tell is heard, and the greatest delay has passed for
 -- each system of a path but one.
@@ -59,7 +59,7 @@ abbrev pub gained_at : NetworkState → View → ℕ
 gained_at n v = ready_at n v + heard_at n v + way_span v.paths
 
 abbrev pub row_at : NetworkState → View → Row
-row_at n v = row_of (is_from_rest n v.at v.told v.new (ready_at n v) v.before) (is_first v) v.told
+row_at n v = row_of (is_from_rest n v.at v.standings v.told v.new (ready_at n v) v.before) (is_first v) v.told
 
 abbrev pub settling_time : NetworkState → View → SettlingTime
 settling_time n v = times_by n v.at v.last_set v.paths v.calm (sets_link v.told) (row_at n v) (gained_at n v)

@@ -2,7 +2,7 @@
 
 ghost use Rattle.std.specs.Prelude.{◌≡◌, ◌++◌, ◌∷◌, [], false, OnOk};
 ghost use Rattle.std.specs.List.{list_all, list_any};
-ghost use Rattle.gptp_how_soon.specs.Kinds.{are_heard, fails_and_recovers, is_fail, is_recover, is_better, is_failure_of_same, is_gain, is_heard_too, is_idle, is_loss, is_other, is_priority1, is_link_up, is_recovery, is_recovery_of, kind_of, kind_of_change, kind_of_failure, kind_of_link_down, kind_of_link_up, kind_of_priority1, kind_of_recovery, recovers, sets_bounds, sets_link, is_link_set, told_by, what_of, what_of_change};
+ghost use Rattle.gptp_how_soon.specs.Kinds.{are_heard, fails_and_recovers, is_fail, is_recover, is_better, is_failure_of_same, is_gain, is_link_down, tells_nothing, is_heard_too, is_idle, is_loss, is_other, is_priority1, is_link_up, is_recovery, is_recovery_of, kind_of, kind_of_change, kind_of_failure, kind_of_link_down, kind_of_link_up, kind_of_priority1, kind_of_recovery, recovers, sets_bounds, sets_link, is_link_set, told_by, what_of, what_of_change};
 
 use crate::systems::System;
 use gptp_scenario::{Act, Change};
@@ -253,6 +253,12 @@ fn is_other(told: &Told) -> bool
     matches!(told.kind, Kind::Other)
 }
 
+fn is_link_down(told: &Told) -> bool
+    ensures { result ≡ is_link_down told.now }
+{
+    matches!(told.what, What::LinkDown)
+}
+
 fn is_link_up(told: &Told) -> bool
     ensures { result ≡ is_link_up told.now }
 {
@@ -276,6 +282,20 @@ pub(crate) fn sets_link(told: &[Told]) -> bool
     ensures { result ≡ sets_link told.now }
 {
     told.iter().any(|one| is_link_set(one))
+}
+
+/// Whether nothing is told after it as a network starts.
+fn tells_nothing(told: &Told) -> bool
+    ensures { result ≡ tells_nothing told.now }
+{
+    is_link_down(told) || is_link_up(told) || is_fail(told) || is_priority1(told)
+}
+
+/// Whether nothing is after each of these events.
+pub(crate) fn all_tell_nothing(told: &[Told]) -> bool
+    ensures { result ≡ list_all tells_nothing told.now }
+{
+    told.iter().all(|one| tells_nothing(one))
 }
 
 /// Whether a system gets a better priority1 by it.

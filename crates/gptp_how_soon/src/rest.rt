@@ -5,18 +5,19 @@ ghost use Rattle.gptp_how_soon.specs.Rest.{are_events_followed, are_recoveries_f
 
 use crate::bounds::{Row, SettlingTime, any_again};
 use crate::kinds::{
-    Told, any_better, any_loss, any_other, any_recovery, are_heard, are_idle, fails_and_recovers,
+    Told, all_tell_nothing, any_better, any_loss, any_other, any_recovery, are_heard, are_idle,
+    fails_and_recovers,
 };
-use crate::links::vary;
+use crate::links::any_unanswered;
 use gptp_scenario::Network;
 use gptp_setup::interval_of;
 use gptp_topology::{Cable, Standing};
 
 /// Whether time 0 is from rest.
-fn is_start_from_rest(told: &[Told], new: &[Cable]) -> bool
-    ensures { result ≡ is_start_from_rest told.now new.now }
+fn is_start_from_rest(standings: &[Standing], told: &[Told], new: &[Cable]) -> bool
+    ensures { result ≡ is_start_from_rest standings.now told.now new.now }
 {
-    told.is_empty() && !new.is_empty()
+    all_tell_nothing(told) && !any_unanswered(standings) && !new.is_empty()
 }
 
 /// Whether a time is later than another by more than a span.
@@ -60,19 +61,19 @@ fn are_recoveries_followed(
     is_later(last, interval, at)
         && u128::from(capable) <= u128::from(at) + u128::from(ready)
         && any_again(told, new)
-        && !any_better(told)
 }
 
 /// Whether a time is from rest.
 pub(crate) fn is_from_rest(
     network: &Network,
     at: u64,
+    standings: &[Standing],
     told: &[Told],
     new: &[Cable],
     ready: u64,
     before: Option<SettlingTime>,
 ) -> bool
-    ensures { result ≡ is_from_rest network.now at told.now new.now ready before }
+    ensures { result ≡ is_from_rest network.now at standings.now told.now new.now ready before }
 {
     match before {
         Some(before) => {
@@ -81,7 +82,7 @@ pub(crate) fn is_from_rest(
                 && (!any_recovery(told)
                     || are_recoveries_followed(network, before.at, at, told, new, ready))
         }
-        None => is_start_from_rest(told, new),
+        None => is_start_from_rest(standings, told, new),
     }
 }
 
@@ -91,7 +92,9 @@ pub(crate) fn row_of(from_rest: bool, first: bool, told: &[Told]) -> Row
 {
     if !from_rest {
         Row::AnyPast
-    } else if !first && are_idle(told) {
+    } else if first {
+        Row::Gained
+    } else if are_idle(told) {
         Row::Unchanged
     } else if any_loss(told) {
         Row::AnyPast
@@ -101,17 +104,8 @@ pub(crate) fn row_of(from_rest: bool, first: bool, told: &[Told]) -> Row
 }
 
 /// Whether it is followed that all is heard at once.
-pub(crate) fn heard_at_once(
-    first: bool,
-    systems_before: usize,
-    standings: &[Standing],
-    told: &[Told],
-) -> bool
-    ensures { result ≡ heard_at_once first systems_before standings.now told.now }
+pub(crate) fn heard_at_once(first: bool, systems_before: usize, told: &[Told]) -> bool
+    ensures { result ≡ heard_at_once first systems_before told.now }
 {
-    if first {
-        !vary(standings)
-    } else {
-        are_heard(told) && (systems_before <= 255 || !any_better(told))
-    }
+    first || (are_heard(told) && (systems_before <= 255 || !any_better(told)))
 }

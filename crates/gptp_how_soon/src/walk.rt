@@ -107,9 +107,9 @@ impl Walk {
         let new = new_links(alloc, first, standings, used)?;
         let new = new.as_slice();
         let ready = ready(network, paths, told, new);
-        let followed = heard_at_once(first, self.systems_before, standings, told);
+        let followed = heard_at_once(first, self.systems_before, told);
         let gained = ready + heard(network, followed, told, new) + way_span(paths);
-        let from_rest = is_from_rest(network, at, told, new, ready, self.before);
+        let from_rest = is_from_rest(network, at, standings, told, new, ready, self.before);
         Ok(times_by(
             network,
             at,

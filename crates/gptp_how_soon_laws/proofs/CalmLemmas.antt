@@ -63,7 +63,7 @@ module _ (n : NetworkState) (events : List Timed) where
 
   -- ---- links in use
 
-  used_cable : (w : LinkSpec) → IsUsed n.systems events (link_after events w)
+  pub used_cable : (w : LinkSpec) → IsUsed n.systems events (link_after events w)
       → cable_is_used (standing_then n events w) ≡ true
   used_cable w used =
       let ends = after_keeps events w in

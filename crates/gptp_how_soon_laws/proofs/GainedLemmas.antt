@@ -52,7 +52,7 @@ all_from : {X : Type 0} (P : X → Type 0) (xs : List X) → ((x : X) → In x x
 all_from P [] each = tt
 all_from P (x ∷ xs) each = (each x (inl refl), all_from P xs (λ y member. each y (inr member)))
 
-none_any : {X : Type 0} (p : X → Bool) (xs : List X) (x : X) → list_any p xs ≡ false → In x xs → p x ≡ false
+pub none_any : {X : Type 0} (p : X → Bool) (xs : List X) (x : X) → list_any p xs ≡ false → In x xs → p x ≡ false
 none_any p xs x none member = false_from_ne_true (p x) (λ is.
     let no : true ≡ false = sym (passes_at p xs x member is) ∙ none in cc)
 
