@@ -8,7 +8,6 @@ use Rattle.gptp_scenario.specs.Calm.{last_change}
 use Rattle.gptp_scenario.specs.Network.{IsNetwork, NetworkState}
 use Rattle.gptp_scenario.specs.SyncWait.{sync_paths}
 use Rattle.gptp_scenario.specs.declared.change.Timed.{Timed}
-use Rattle.gptp_scenario.specs.declared.sync_wait.SyncPaths.{SyncPaths}
 use Rattle.gptp_topology.specs.Course.{cable_is_used, named}
 use Rattle.gptp_topology.proofs.StandingLemmas.{Stand, stand_first, stand_more}
 use Rattle.gptp_how_soon.specs.Kinds.{sets_bounds, told_by}
@@ -28,7 +27,7 @@ pub record WalkStands (n : NetworkState) (made now : List Timed) (w : Walk) : Ty
   pub systems : w.systems.items ≡ systems_after n (made ++ now)
   pub told : w.told.items ≡ told_of n made now
   pub used : w.used_before.items ≡ map cable_is_used (standings_after n made)
-  pub paths : w.systems_before ≡ (sync_paths n made).systems
+  pub paths : w.paths_before ≡ sync_paths n made
 
 -- ---- when a link was last set
 
@@ -72,7 +71,7 @@ module _ (n : NetworkState) (network : IsNetwork n) where
         at = at;
         last_set = so.set i;
         before = w.before;
-        systems_before = so.paths i;
+        paths_before = so.paths i;
         standings = standings i;
         new = new i;
         told = so.told i;
@@ -90,7 +89,7 @@ module _ (n : NetworkState) (network : IsNetwork n) where
         systems = is.systems ∙ systems_first n;
         told = is.told;
         used = is.used ∙ ap (map cable_is_used) (standings_are n network [] w.tables tables);
-        paths = is.paths ∙ ap (λ (p : SyncPaths). p.systems) (crossed_is n network [] w.tables tables);
+        paths = is.paths ∙ crossed_is n network [] w.tables tables;
       }
 
   -- ---- one event more
@@ -128,6 +127,5 @@ module _ (n : NetworkState) (network : IsNetwork n) where
         systems = ap (λ (v : _). v.items) on.systems ∙ so.systems ∙ ap (systems_after n) none;
         told = on.told;
         used = on.used ∙ ap (map cable_is_used) (standings_are n network (made ++ now) old.tables so.tables);
-        paths = on.paths
-            ∙ ap (λ (p : SyncPaths). p.systems) (crossed_is n network (made ++ now) old.tables so.tables);
+        paths = on.paths ∙ crossed_is n network (made ++ now) old.tables so.tables;
       }

@@ -29,13 +29,13 @@ use Rattle.gptp_how_soon.specs.declared.bounds.SettlingTime.{SettlingTime}
 use Rattle.gptp_how_soon.specs.declared.bounds.Row.{Row}
 use Rattle.gptp_how_soon.specs.declared.kinds.Told.{Told}
 
--- What is seen of a time: when a link was last set; the time before, and how many systems a path had then; how links
+-- What is seen of a time: when a link was last set; the time before, and what Sync had to cross then; how links
 -- stand at it, and those that are new; its events; what Sync has to cross; and whether the network is calm.
 pub record View : Type 0 where
   pub at : ℕ
   pub last_set : ℕ
   pub before : Option SettlingTime
-  pub systems_before : ℕ
+  pub paths_before : SyncPaths
   pub standings : List Standing
   pub new : List Cable
   pub told : List Told
@@ -51,7 +51,7 @@ abbrev pub ready_at : NetworkState → View → ℕ
 ready_at n v = ready n.params v.paths v.told v.new
 
 abbrev pub heard_at : NetworkState → View → ℕ
-heard_at n v = heard_by n (heard_at_once (is_first v) v.systems_before v.told) v.told v.new
+heard_at n v = heard_by n (heard_at_once (is_first v) v.paths_before v.told) v.told v.new
 
 -- After gains the choice stands once ports are capable, what they tell is heard, and the greatest delay has passed for
 -- each system of a path but one.
@@ -59,7 +59,7 @@ abbrev pub gained_at : NetworkState → View → ℕ
 gained_at n v = ready_at n v + heard_at n v + way_span v.paths
 
 abbrev pub row_at : NetworkState → View → Row
-row_at n v = row_of (is_from_rest n v.at v.standings v.told v.new (ready_at n v) v.before) (is_first v) v.told
+row_at n v = row_of (is_from_rest n v.at v.paths_before v.standings v.told v.new (ready_at n v) v.before) (is_first v) v.told
 
 abbrev pub settling_time : NetworkState → View → SettlingTime
 settling_time n v = times_by n v.at v.last_set v.paths v.calm (sets_link v.told) (row_at n v) (gained_at n v)
@@ -97,7 +97,7 @@ view_at n made now before at = record {
   at = at;
   last_set = last_set (made ++ now);
   before = before;
-  systems_before = (sync_paths n made).systems;
+  paths_before = sync_paths n made;
   standings = standings_after n (made ++ now);
   new = new_links n made (made ++ now) (not (is_some before));
   told = told_of n made now;

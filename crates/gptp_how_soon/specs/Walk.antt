@@ -21,7 +21,7 @@ pub record IsFirstWalk (n : NetworkState) (w : Walk) : Type 0 where
   pub told : w.told.items ≡ []
   pub before : w.before ≡ None
   pub used : w.used_before.items ≡ map cable_is_used w.tables.standings.items
-  pub paths : w.systems_before ≡ (marked_paths w.tables.marks.items w.tables.nodes.items).systems
+  pub paths : w.paths_before ≡ marked_paths w.tables.marks.items w.tables.nodes.items
 
 -- an event of this time is passed
 pub record WalkPasses (at : ℕ) (act : Act) (old new : Walk) : Type 0 where
@@ -36,7 +36,7 @@ pub record WalkPasses (at : ℕ) (act : Act) (old new : Walk) : Type 0 where
       ∷ []
   pub before : new.before ≡ old.before
   pub used : new.used_before ≡ old.used_before
-  pub paths : new.systems_before ≡ old.systems_before
+  pub paths : new.paths_before ≡ old.paths_before
 
 -- it goes on to another time, where this is what is told of the one so far
 pub record WalkGoesOn (time : SettlingTime) (old new : Walk) : Type 0 where
@@ -46,7 +46,7 @@ pub record WalkGoesOn (time : SettlingTime) (old new : Walk) : Type 0 where
   pub told : new.told.items ≡ []
   pub before : new.before ≡ Some time
   pub used : new.used_before.items ≡ map cable_is_used old.tables.standings.items
-  pub paths : new.systems_before ≡ (marked_paths old.tables.marks.items old.tables.nodes.items).systems
+  pub paths : new.paths_before ≡ marked_paths old.tables.marks.items old.tables.nodes.items
 
 -- what is seen of this time
 abbrev pub view_seen : NetworkState → Walk → ℕ → View
@@ -54,7 +54,7 @@ view_seen n w at = record {
   at = at;
   last_set = w.last_set;
   before = w.before;
-  systems_before = w.systems_before;
+  paths_before = w.paths_before;
   standings = w.tables.standings.items;
   new = new_among (not (is_some w.before)) w.tables.standings.items w.used_before.items;
   told = w.told.items;

@@ -11,7 +11,7 @@ use crate::kinds::{Told, sets_bounds, sets_link, tell};
 use crate::links::{new_links, used_links};
 use crate::rest::{heard_at_once, is_from_rest, row_of};
 use crate::systems::{System, act_on_systems, first_systems, system_at};
-use gptp_scenario::{Act, Network};
+use gptp_scenario::{Act, Network, SyncPaths};
 use gptp_topology::{Cable, Tables, named};
 use std::alloc::{AllocError, Global};
 
@@ -26,9 +26,9 @@ pub(crate) struct Walk {
     pub told: Vec<Told>,
     /// The time before, if there is one.
     pub before: Option<SettlingTime>,
-    /// Which links were in use then, and how many systems a path had.
+    /// Which links were in use then, and what Sync had to cross.
     pub used_before: Vec<bool>,
-    pub systems_before: usize,
+    pub paths_before: SyncPaths,
 }
 
 impl Walk {
@@ -45,7 +45,7 @@ impl Walk {
         let tables = Tables::first(alloc, network, cables)?;
         let systems = first_systems(alloc, network)?;
         let used_before = used_links(alloc, &tables.standings)?;
-        let systems_before = tables.sync_paths().systems;
+        let paths_before = tables.sync_paths();
         Ok(Walk {
             tables,
             systems,
@@ -53,7 +53,7 @@ impl Walk {
             told: Vec::new(alloc),
             before: None,
             used_before,
-            systems_before,
+            paths_before,
         })
     }
 
@@ -79,7 +79,7 @@ impl Walk {
         ensures { OnOk result (WalkGoesOn time self.old self.new) }
     {
         self.used_before = used_links(alloc, &self.tables.standings)?;
-        self.systems_before = self.tables.sync_paths().systems;
+        self.paths_before = self.tables.sync_paths();
         self.told = Vec::new(alloc);
         self.before = Some(time);
         Ok(())
@@ -107,9 +107,18 @@ impl Walk {
         let new = new_links(alloc, first, standings, used)?;
         let new = new.as_slice();
         let ready = ready(network, paths, told, new);
-        let followed = heard_at_once(first, self.systems_before, told);
+        let followed = heard_at_once(first, self.paths_before, told);
         let gained = ready + heard(network, followed, told, new) + way_span(paths);
-        let from_rest = is_from_rest(network, at, standings, told, new, ready, self.before);
+        let from_rest = is_from_rest(
+            network,
+            at,
+            self.paths_before,
+            standings,
+            told,
+            new,
+            ready,
+            self.before,
+        );
         Ok(times_by(
             network,
             at,

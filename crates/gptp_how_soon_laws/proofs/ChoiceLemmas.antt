@@ -67,7 +67,7 @@ module _ (d : DocumentState) (playable : IsPlayable d) where
       let it = tells n v s is in
       let bound =
       bounds_choice n (λ choice. BoundsStart n now choice) now (row_at n v) (gained_at n v) it.calm
-      (λ row. absurd (never_unchanged n now row)) (started n now) in
+      (λ row. absurd (never_unchanged n now row)) (λ row off. started n now row) in
       record {
         choice = (
           refl,
@@ -109,7 +109,7 @@ module _ (d : DocumentState) (playable : IsPlayable d) where
         let bound =
         bounds_choice n Sharp (made ++ now) (row_at n v) (gained_at n v) it.calm
         (λ row. let (rest, idle) = unchanged n playable.network all b at late row in sharp 0 rest (inl (idle, refl)))
-        (λ row. let (rest, gains) = gained n playable.network all b at late row in
+        (λ row off. let (rest, gains) = gained n playable.network all b at late row off in
         sharp (gained_at n v) rest (inr (ready_at n v, gains))) in
         record {
           choice = (

@@ -12,7 +12,7 @@ use Rattle.gptp_links.specs.declared.bounds.Bounds.{Bounds}
 use Rattle.gptp_setup.specs.Intervals.{interval_of}
 use Rattle.gptp_setup.specs.SettlingParams.{largest_interval}
 use Rattle.gptp_setup.specs.declared.setup.Params.{Params}
-use Rattle.gptp_scenario.specs.Calm.{IsLive}
+use Rattle.gptp_scenario.specs.Calm.{IsLive, NothingLapses}
 use Rattle.gptp_scenario.specs.Change.{is_at, link_acted, link_after, with_up}
 use Rattle.gptp_scenario.specs.InUse.{lives}
 use Rattle.gptp_scenario.specs.Network.{IsEnd, IsNetwork, NetworkState, pace_of}
@@ -32,17 +32,17 @@ use Rattle.gptp_network.proofs.PassLemmas.{kept, passes_at}
 use Rattle.gptp_topology.specs.Course.{cable_is_used, cable_of}
 use Rattle.gptp_topology.specs.declared.course.Cable.{Cable}
 use Rattle.gptp_how_soon.specs.Bounds.{asked_again, is_again, is_hard_to_hear, ready, two_exchanges}
-use Rattle.gptp_how_soon.specs.Kinds.{are_heard, is_better, is_gain, is_heard_too, is_idle, is_link_up, is_loss, is_other, is_priority1, is_recovery}
+use Rattle.gptp_how_soon.specs.Kinds.{are_heard, is_better, is_gain, is_heard_too, is_idle, is_link_up, is_loss, is_other, is_priority1, is_recovery, is_unused, lowers_unused, makes_nothing, raises_unused}
 use Rattle.gptp_how_soon.specs.Links.{is_new, new_links, standing_then, varies}
 use Rattle.gptp_how_soon.specs.Times.{told_at, told_of}
 use Rattle.gptp_how_soon.specs.declared.kinds.Told.{Told}
 use Rattle.gptp_how_soon.specs.declared.kinds.What.TheVariants as whats
 use Rattle.gptp_settling_time.specs.Gains.{AreSparedBy, ChangesNothing, IsNoWorse, IsSparedBy, JoinsLive, LeavesCapable, SparesFailed, TakesNothing}
-use Rattle.gptp_settling_time.specs.HowSoon.{AfterIdleEvents, AreGainEvents, AreHeardEvents, EachEvent, IsGainEvent, IsGainToo, IsHeardEvent, IsHeardToo, IsIdleEvent}
-use Rattle.gptp_settling_time.specs.InTurn.{BettersClock, BringsUp}
-use Rattle.gptp_settling_time.proofs.SamePathsLemmas.{idle_paths}
+use Rattle.gptp_settling_time.specs.HowSoon.{AfterIdleEvents, AreGainEvents, AreHeardEvents, EachEvent, IsGainEvent, IsGainToo, IsHeardEvent, IsHeardToo, IsIdleEvent, TurnsUnused, way_span}
+use Rattle.gptp_settling_time.specs.InTurn.{BettersClock, BringsUp, MakesNothing, TurnsInVain}
+use Rattle.gptp_settling_time.proofs.SamePathsLemmas.{idle_paths, turned_paths}
 use Rattle.gptp_how_soon_laws.proofs.CalmLemmas.{lives_to, not_so, three_from, three_parts}
-use Rattle.gptp_how_soon_laws.proofs.KindLemmas.{Gains, RaisesLink, gain_gains, gain_is_not_idle, idle_changes, idle_or_gain}
+use Rattle.gptp_how_soon_laws.proofs.KindLemmas.{Gains, RaisesLink, TurnsBroken, gain_gains, gain_is_not_idle, idle_changes, nothing_or_gain, unused_turns}
 use Rattle.gptp_how_soon_laws.proofs.MoreLemmas.{IsMore, Leaves, more_delay, more_live, more_lives, more_on, one_more, same_more}
 use Rattle.gptp_how_soon_laws.proofs.NamedLemmas.{end_first}
 
@@ -128,19 +128,24 @@ module _ (n : NetworkState) (network : IsNetwork n) (time : ℕ) (first events :
     pub past : AllByRecursion (λ (t : Timed). t.at + largest_interval (pace_of n) < time) first
     pub capable : capability_span (pace_of n) ≤ time + start
     pub again : list_any (is_again tolds) news ≡ true
+    pub turns : list_any is_unused tolds ≡ false
+
+  -- where a link turns that isn't used
+  pub record AreTurnsFollowed : Type 0 where
+    pub raised : list_any raises_unused tolds ≡ true
+        → capability_span (pace_of n) + way_span (sync_paths n first) ≤ time
+    pub lowered : list_any lowers_unused tolds ≡ true → list_any is_gain tolds ≡ false
 
   -- an event of the time that takes nothing away
   pub record IsTold (e : Told) : Type 0 where
-    pub kind : (is_idle e ≡ true) ⊎ (is_gain e ≡ true)
-    pub recovery : is_recovery e ≡ true → list_any is_recovery tolds ≡ true
-    pub better : is_better e ≡ true → list_any is_better tolds ≡ true
+    pub among : In e tolds
+    pub kind : (makes_nothing e ≡ true) ⊎ (is_gain e ≡ true)
 
   pub all_told : list_any is_loss tolds ≡ false → list_any is_other tolds ≡ false → AllByRecursion IsTold tolds
   all_told no_loss no_other = all_from IsTold tolds (λ e member. record {
-    kind = idle_or_gain e.clock e.what e.kind (none_any is_loss tolds e no_loss member)
+    among = member;
+    kind = nothing_or_gain e.clock e.what e.kind (none_any is_loss tolds e no_loss member)
         (none_any is_other tolds e no_other member);
-    recovery = λ is. passes_at is_recovery tolds e member is;
-    better = λ is. passes_at is_better tolds e member is;
   })
 
   -- ---- what is in use stays in use
@@ -148,7 +153,7 @@ module _ (n : NetworkState) (network : IsNetwork n) (time : ℕ) (first events :
   leaves_idle : (made : List Timed) (act : Act) → ChangesNothing n made act → Leaves n made act
   leaves_idle made (acts.Deliver link direction) idle = tt
   leaves_idle made (acts.Expire clock timer) idle = tt
-  leaves_idle made (acts.Change (changes.LinkDown clock port)) idle = idle
+  leaves_idle made (acts.Change (changes.LinkDown clock port)) idle = inl idle
   leaves_idle made (acts.Change (changes.LinkUp clock port)) idle = tt
   leaves_idle made (acts.Change (changes.LinkSet clock port least greatest loss)) idle = absurd idle
   leaves_idle made (acts.Change (changes.Fail number)) idle = idle
@@ -167,9 +172,23 @@ module _ (n : NetworkState) (network : IsNetwork n) (time : ℕ) (first events :
   leaves_gain made (acts.Change (changes.Priority1 number value)) gains = tt
   leaves_gain made (acts.Change (changes.Inject clock port octets)) gains = tt
 
+  leaves_turned : (made : List Timed) (act : Act) → TurnsBroken n network made act → Leaves n made act
+  leaves_turned made (acts.Deliver link direction) broken = tt
+  leaves_turned made (acts.Expire clock timer) broken = tt
+  leaves_turned made (acts.Change (changes.LinkDown clock port)) broken = inr broken
+  leaves_turned made (acts.Change (changes.LinkUp clock port)) broken = tt
+  leaves_turned made (acts.Change (changes.LinkSet clock port least greatest loss)) broken = absurd broken
+  leaves_turned made (acts.Change (changes.Fail number)) broken = absurd broken
+  leaves_turned made (acts.Change (changes.Recover number)) broken = tt
+  leaves_turned made (acts.Change (changes.Priority1 number value)) broken = tt
+  leaves_turned made (acts.Change (changes.Inject clock port octets)) broken = tt
+
   leaves_told : (made : List Timed) (act : Act) → IsTold (told_at n made act) → Leaves n made act
   leaves_told made act is = elim is.kind [
-    | inl idle ↦ leaves_idle made act (idle_changes n network made act idle)
+    | inl nothing ↦ elim (or_cases (is_idle (told_at n made act)) (is_unused (told_at n made act)) nothing) [
+      | inl idle ↦ leaves_idle made act (idle_changes n network made act idle)
+      | inr unused ↦ leaves_turned made act (unused_turns n network made act unused)
+    ]
     | inr gain ↦ leaves_gain made act (gain_gains n network made act gain)
   ]
 
@@ -181,6 +200,75 @@ module _ (n : NetworkState) (network : IsNetwork n) (time : ℕ) (first events :
       (one_more n made event (leaves_told made event.act each.0))
       (subst (IsMore n (made ++ event ∷ [])) (append_assoc made (event ∷ []) left)
       (more_left (made ++ event ∷ []) left each.1))
+
+  -- ---- what makes nothing of what stands
+
+  module _ (turns : AreTurnsFollowed) (made : List Timed) (event : Timed) (here : event.at ≡ time)
+      (among : In (told_at n made event.act) tolds) where
+    -- a link turns that isn't used, before any gain
+    turned : sync_paths n made ≡ sync_paths n first → (act : Act) → event.act ≡ act
+        → is_unused (told_at n made act) ≡ true → TurnsBroken n network made act → TurnsUnused n made event act
+    turned same (acts.Deliver link direction) e is broken = absurd broken
+    turned same (acts.Expire clock timer) e is broken = absurd broken
+    turned same (acts.Change (changes.LinkDown clock port)) e is broken = broken
+    turned same (acts.Change (changes.LinkUp clock port)) e is broken =
+        let raised : raises_unused (told_at n made event.act) ≡ true =
+        ap (λ a. raises_unused (told_at n made a)) e ∙ ap (λ test. test && true) is in
+        let shown = turns.raised (passes_at raises_unused tolds (told_at n made event.act) among raised) in (
+          broken,
+          subst (λ (p : SyncPaths). capability_span (pace_of n) + way_span p ≤ event.at) (sym same)
+              (subst (λ at. capability_span (pace_of n) + way_span (sync_paths n first) ≤ at) (sym here) shown),
+        )
+    turned same (acts.Change (changes.LinkSet clock port least greatest loss)) e is broken = absurd broken
+    turned same (acts.Change (changes.Fail number)) e is broken = absurd broken
+    turned same (acts.Change (changes.Recover number)) e is broken = absurd broken
+    turned same (acts.Change (changes.Priority1 number value)) e is broken = absurd broken
+    turned same (acts.Change (changes.Inject clock port octets)) e is broken = absurd broken
+
+    idles : sync_paths n made ≡ sync_paths n first → makes_nothing (told_at n made event.act) ≡ true
+        → IsIdleEvent n made event
+    idles same nothing =
+        elim (or_cases (is_idle (told_at n made event.act)) (is_unused (told_at n made event.act)) nothing) [
+          | inl idle ↦ inl (idle_changes n network made event.act idle)
+          | inr unused ↦ inr (turned same event.act refl unused (unused_turns n network made event.act unused))
+        ]
+
+    -- behind a gain
+    turned_late : list_any is_gain tolds ≡ true → (act : Act) → event.act ≡ act
+        → is_unused (told_at n made act) ≡ true → TurnsBroken n network made act → TurnsInVain n made event next act
+    turned_late gained (acts.Deliver link direction) e is broken = absurd broken
+    turned_late gained (acts.Expire clock timer) e is broken = absurd broken
+    turned_late gained (acts.Change (changes.LinkDown clock port)) e is broken =
+        let lowered : lowers_unused (told_at n made event.act) ≡ true =
+        ap (λ a. lowers_unused (told_at n made a)) e ∙ ap (λ test. test && true) is in
+        let none = turns.lowered (passes_at lowers_unused tolds (told_at n made event.act) among lowered) in
+        let no : true ≡ false = sym gained ∙ none in absurd cc
+    turned_late gained (acts.Change (changes.LinkUp clock port)) e is broken =
+        let raised : raises_unused (told_at n made event.act) ≡ true =
+        ap (λ a. raises_unused (told_at n made a)) e ∙ ap (λ test. test && true) is in
+        let shown = turns.raised (passes_at raises_unused tolds (told_at n made event.act) among raised) in
+        (broken, omega (arith, shown))
+    turned_late gained (acts.Change (changes.LinkSet clock port least greatest loss)) e is broken = absurd broken
+    turned_late gained (acts.Change (changes.Fail number)) e is broken = absurd broken
+    turned_late gained (acts.Change (changes.Recover number)) e is broken = absurd broken
+    turned_late gained (acts.Change (changes.Priority1 number value)) e is broken = absurd broken
+    turned_late gained (acts.Change (changes.Inject clock port octets)) e is broken = absurd broken
+
+    idles_late : NothingLapses n.params → list_any is_gain tolds ≡ true
+        → makes_nothing (told_at n made event.act) ≡ true → MakesNothing n made event next
+    idles_late off gained nothing =
+        elim (or_cases (is_idle (told_at n made event.act)) (is_unused (told_at n made event.act)) nothing) [
+          | inl idle ↦ inl (idle_changes n network made event.act idle)
+          | inr unused ↦ inr (
+            off,
+            turned_late gained event.act refl unused (unused_turns n network made event.act unused),
+          )
+        ]
+
+  idle_ways : (made : List Timed) (event : Timed) → IsIdleEvent n made event
+      → sync_paths n (made ++ event ∷ []) ≡ sync_paths n made
+  idle_ways made event (inl idle) = idle_paths n network made event idle
+  idle_ways made event (inr turns) = turned_paths n made event turns
 
   -- ---- one event
 
@@ -320,7 +408,7 @@ module _ (n : NetworkState) (network : IsNetwork n) (time : ℕ) (first events :
     gains_so (acts.Change (changes.Fail number)) same gain gains = absurd gains
     gains_so (acts.Change (changes.Recover number)) same gain gains =
         gains_system number same gains
-        (is.recovery
+        (passes_at is_recovery tolds (told_at n made event.act) is.among
         (ap (λ a. is_recovery (told_at n made a)) same
         ∙ ap not (gain_is_not_idle number whats.Recover (told_at n made (acts.Change (changes.Recover number))).kind
         gain)))
@@ -330,9 +418,9 @@ module _ (n : NetworkState) (network : IsNetwork n) (time : ℕ) (first events :
     pub gains : is_gain (told_at n made event.act) ≡ true → IsGainEvent n next made event
     gains gain = gains_so event.act refl gain (gain_gains n network made event.act gain)
 
-    pub gains_too : IsGainToo n next made event
-    gains_too = elim is.kind [
-      | inl idle ↦ inr (inl (idle_changes n network made event.act idle))
+    pub gains_too : AreTurnsFollowed → NothingLapses n.params → list_any is_gain tolds ≡ true → IsGainToo n next made event
+    gains_too turns off gained = elim is.kind [
+      | inl nothing ↦ inr (idles_late turns made event here is.among off gained nothing)
       | inr gain ↦ inl (gains gain)
     ]
 
@@ -358,9 +446,15 @@ module _ (n : NetworkState) (network : IsNetwork n) (time : ℕ) (first events :
         (inr (inr tt))
     spares_gain (acts.Change (changes.Inject clock port octets)) same gains = absurd gains
 
-    spares : IsSparedBy n made event time
-    spares = elim is.kind [
-      | inl idle ↦ inr (inl (idle_changes n network made event.act idle))
+    spares : list_any is_recovery tolds ≡ true → IsSparedBy n made event time
+    spares recovers = elim is.kind [
+      | inl nothing ↦
+          elim (or_cases (is_idle (told_at n made event.act)) (is_unused (told_at n made event.act)) nothing) [
+            | inl idle ↦ inr (inl (idle_changes n network made event.act idle))
+            | inr unused ↦
+                let some = passes_at is_unused tolds (told_at n made event.act) is.among unused in
+                let no : true ≡ false = sym some ∙ (followed recovers).turns in absurd cc
+          ]
       | inr gain ↦ spares_gain event.act refl (gain_gains n network made event.act gain)
     ]
 
@@ -368,7 +462,7 @@ module _ (n : NetworkState) (network : IsNetwork n) (time : ℕ) (first events :
     so_on = record {
       more = more_on n first made then so_far.more step;
       spared = λ recovers.
-          spared_more n time [] made event (so_far.spared recovers) spares;
+          spared_more n time [] made event (so_far.spared recovers) (spares recovers);
     }
 
     -- ---- what is heard at once
@@ -400,7 +494,7 @@ module _ (n : NetworkState) (network : IsNetwork n) (time : ℕ) (first events :
         by (acts.Change (changes.Priority1 number value)) same gain rest gains =
             let better : is_better (told_at n made event.act) ≡ true =
             ap (λ a. is_better (told_at n made a)) same ∙ ap (λ test. test && true) gain in
-            inr (not_so heard rest, is.better better, betters number value same gains)
+            inr (not_so heard rest, passes_at is_better tolds (told_at n made event.act) is.among better, betters number value same gains)
         by (acts.Change (changes.Inject clock port octets)) same gain rest gains = absurd gains
 
     pub heard_first : is_heard_too false (told_at n made event.act) ≡ true
@@ -420,70 +514,92 @@ module _ (n : NetworkState) (network : IsNetwork n) (time : ℕ) (first events :
 
   -- ---- all of them
 
-  module _ (followed : list_any is_recovery tolds ≡ true → AreFollowed) where
+  -- each makes nothing of what stands
+  pub each_idle : AreTurnsFollowed → (made left : List Timed) → AllByRecursion (λ (t : Timed). t.at ≡ time) left
+      → AllByRecursion (λ (e : Told). In e tolds) (told_of n made left) → sync_paths n made ≡ sync_paths n first
+      → list_all makes_nothing (told_of n made left) ≡ true → EachEvent (IsIdleEvent n) made left
+  each_idle turns made [] now among same nothing = tt
+  each_idle turns made (event ∷ left) now among same nothing =
+      let (one, rest) =
+      and_parts (makes_nothing (told_at n made event.act)) (list_all makes_nothing (told_of n (made ++ event ∷ []) left))
+      nothing in
+      let idle = idles turns made event now.0 among.0 same one in
+      (idle, each_idle turns (made ++ event ∷ []) left now.1 among.1 (idle_ways made event idle ∙ same) rest)
+
+  pub all_idle : AreTurnsFollowed → AllByRecursion (λ (t : Timed). t.at ≡ time) events
+      → list_all makes_nothing tolds ≡ true → EachEvent (IsIdleEvent n) first events
+  all_idle turns now nothing =
+      each_idle turns first events now (all_from (λ (e : Told). In e tolds) tolds (λ e member. member)) refl nothing
+
+  module _ (off : NothingLapses n.params) (turns : AreTurnsFollowed)
+      (followed : list_any is_recovery tolds ≡ true → AreFollowed) where
     later_than : (made : List Timed) (event : Timed) (left : List Timed) → made ++ event ∷ left ≡ all
         → AllByRecursion IsTold (told_of n (made ++ event ∷ []) left) → IsMore n (made ++ event ∷ []) all
     later_than made event left are each =
         subst (IsMore n (made ++ event ∷ [])) (append_assoc made (event ∷ []) left ∙ are)
         (more_left (made ++ event ∷ []) left each)
 
-    -- each is a gain, or makes nothing
-    each_gain : (made left : List Timed) → made ++ left ≡ all
+    -- behind a gain each is one, or makes nothing
+    each_gain : list_any is_gain tolds ≡ true → (made left : List Timed) → made ++ left ≡ all
         → AllByRecursion (λ (t : Timed). t.at ≡ time) left → IsSoFar made
         → AllByRecursion IsTold (told_of n made left) → EachEvent (IsGainToo n next) made left
-    each_gain made [] are now so_far each = tt
-    each_gain made (event ∷ left) are now so_far each =
+    each_gain gained made [] are now so_far each = tt
+    each_gain gained made (event ∷ left) are now so_far each =
         let later = later_than made event left are each.1 in (
-          gains_too followed made event now.0 so_far each.0 later,
-          each_gain (made ++ event ∷ []) left (append_assoc made (event ∷ []) left ∙ are) now.1
+          gains_too followed made event now.0 so_far each.0 later turns off gained,
+          each_gain gained (made ++ event ∷ []) left (append_assoc made (event ∷ []) left ∙ are) now.1
               (so_on followed made event now.0 so_far each.0 later) each.1,
         )
 
-    -- the first that doesn't change nothing is a gain, if there is one
+    -- the first that makes something of what stands is a gain, if there is one
     after_idle : (made left : List Timed) → made ++ left ≡ all
         → AllByRecursion (λ (t : Timed). t.at ≡ time) left → IsSoFar made
-        → AllByRecursion IsTold (told_of n made left) → list_all is_idle (told_of n made left) ≡ false
-        → AfterIdleEvents n (AreGainEvents n next) made left
-    after_idle made [] are now so_far each some = absurd cc
-    after_idle made (event ∷ left) are now so_far each some =
+        → AllByRecursion IsTold (told_of n made left) → sync_paths n made ≡ sync_paths n first
+        → list_all makes_nothing (told_of n made left) ≡ false → AfterIdleEvents n (AreGainEvents n next) made left
+    after_idle made [] are now so_far each same some = absurd cc
+    after_idle made (event ∷ left) are now so_far each same some =
         let later = later_than made event left are each.1 in
         let on = so_on followed made event now.0 so_far each.0 later in
         let more = append_assoc made (event ∷ []) left ∙ are in
         elim each.0.kind [
-          | inl idle ↦ inr (
-            inl (idle_changes n network made event.act idle),
-            after_idle (made ++ event ∷ []) left more now.1 on each.1
-                (ap (λ test. test && list_all is_idle (told_of n (made ++ event ∷ []) left)) (sym idle) ∙ some),
-          )
+          | inl nothing ↦
+              let idle = idles turns made event now.0 each.0.among same nothing in
+              inr (
+                idle,
+                after_idle (made ++ event ∷ []) left more now.1 on each.1 (idle_ways made event idle ∙ same)
+                    (ap (λ test. test && list_all makes_nothing (told_of n (made ++ event ∷ []) left)) (sym nothing) ∙ some),
+              )
           | inr gain ↦ inl (
             gains followed made event now.0 so_far each.0 later gain,
-            each_gain (made ++ event ∷ []) left more now.1 on each.1,
+            each_gain (passes_at is_gain tolds (told_at n made event.act) each.0.among gain) (made ++ event ∷ []) left more
+                now.1 on each.1,
           )
         ]
 
     module _ (soft : list_any (is_hard_to_hear tolds) news ≡ false) where
-      -- links come up after what was heard
-      each_heard : (made left : List Timed) → made ++ left ≡ all
+      -- behind what was heard links come up
+      each_heard : list_any is_gain tolds ≡ true → (made left : List Timed) → made ++ left ≡ all
           → AllByRecursion (λ (t : Timed). t.at ≡ time) left → IsSoFar made
           → AllByRecursion IsTold (told_of n made left) → are_heard true (told_of n made left) ≡ true
           → EachEvent (IsHeardToo n next) made left
-      each_heard made [] are now so_far each heard = tt
-      each_heard made (event ∷ left) are now so_far each heard =
+      each_heard gained made [] are now so_far each heard = tt
+      each_heard gained made (event ∷ left) are now so_far each heard =
           let later = later_than made event left are each.1 in
           let on = so_on followed made event now.0 so_far each.0 later in
-          by (is_idle (told_at n made event.act)) refl heard
-          (each_heard (made ++ event ∷ []) left (append_assoc made (event ∷ []) left ∙ are) now.1 on each.1)
+          by (makes_nothing (told_at n made event.act)) refl heard
+          (each_heard gained (made ++ event ∷ []) left (append_assoc made (event ∷ []) left ∙ are) now.1 on each.1)
           (λ too. heard_then followed made event now.0 so_far each.0 later too soft)
         where
-          by : (idle : Bool) → is_idle (told_at n made event.act) ≡ idle
-              → cond idle (are_heard true (told_of n (made ++ event ∷ []) left))
+          by : (nothing : Bool) → makes_nothing (told_at n made event.act) ≡ nothing
+              → cond nothing (are_heard true (told_of n (made ++ event ∷ []) left))
               (is_heard_too true (told_at n made event.act) && are_heard true (told_of n (made ++ event ∷ []) left))
               ≡ true
               → (are_heard true (told_of n (made ++ event ∷ []) left) ≡ true
               → EachEvent (IsHeardToo n next) (made ++ event ∷ []) left)
               → (is_heard_too true (told_at n made event.act) ≡ true → BringsUp n made event next)
               → IsHeardToo n next made event × EachEvent (IsHeardToo n next) (made ++ event ∷ []) left
-          by true is heard rest one = (inr (inl (idle_changes n network made event.act is)), rest heard)
+          by true is heard rest one =
+              (inr (idles_late turns made event now.0 each.0.among off gained is), rest heard)
           by false is heard rest one =
               let (too, more) =
               and_parts (is_heard_too true (told_at n made event.act))
@@ -499,45 +615,38 @@ module _ (n : NetworkState) (network : IsNetwork n) (time : ℕ) (first events :
       events_heard few made (event ∷ left) are now so_far each same heard =
           let later = later_than made event left are each.1 in
           let on = so_on followed made event now.0 so_far each.0 later in
-          by (is_idle (told_at n made event.act)) refl heard
-          (λ nothing. events_heard few (made ++ event ∷ []) left (append_assoc made (event ∷ []) left ∙ are) now.1 on
-          each.1 (idle_paths n network made event nothing ∙ same))
-          (each_heard (made ++ event ∷ []) left (append_assoc made (event ∷ []) left ∙ are) now.1 on each.1)
+          by (makes_nothing (told_at n made event.act)) refl heard
+          (λ idle. events_heard few (made ++ event ∷ []) left (append_assoc made (event ∷ []) left ∙ are) now.1 on
+          each.1 (idle_ways made event idle ∙ same))
+          (λ gain. each_heard (passes_at is_gain tolds (told_at n made event.act) each.0.among gain) (made ++ event ∷ [])
+          left (append_assoc made (event ∷ []) left ∙ are) now.1 on each.1)
           (λ too. heard_first followed made event now.0 so_far each.0 later too soft
           (λ better. subst (λ (x : SyncPaths). x.systems ≤ 255) (sym same) (few better)))
         where
-          by : (idle : Bool) → is_idle (told_at n made event.act) ≡ idle
-              → cond idle (are_heard false (told_of n (made ++ event ∷ []) left))
+          by : (nothing : Bool) → makes_nothing (told_at n made event.act) ≡ nothing
+              → cond nothing (are_heard false (told_of n (made ++ event ∷ []) left))
               (is_heard_too false (told_at n made event.act) && are_heard true (told_of n (made ++ event ∷ []) left))
               ≡ true
-              → (ChangesNothing n made event.act → are_heard false (told_of n (made ++ event ∷ []) left) ≡ true
+              → (IsIdleEvent n made event → are_heard false (told_of n (made ++ event ∷ []) left) ≡ true
               → AfterIdleEvents n (AreHeardEvents n next) (made ++ event ∷ []) left)
-              → (are_heard true (told_of n (made ++ event ∷ []) left) ≡ true
+              → (is_gain (told_at n made event.act) ≡ true → are_heard true (told_of n (made ++ event ∷ []) left) ≡ true
               → EachEvent (IsHeardToo n next) (made ++ event ∷ []) left)
               → (is_heard_too false (told_at n made event.act) ≡ true → IsHeardEvent n next made event)
               → (IsHeardEvent n next made event × EachEvent (IsHeardToo n next) (made ++ event ∷ []) left)
               ⊎ (IsIdleEvent n made event × AfterIdleEvents n (AreHeardEvents n next) (made ++ event ∷ []) left)
           by true is heard rest others one =
-              let nothing = idle_changes n network made event.act is in inr (inl nothing, rest nothing heard)
+              let idle = idles turns made event now.0 each.0.among same is in inr (idle, rest idle heard)
           by false is heard rest others one =
+              let e = told_at n made event.act in
               let (too, more) =
-              and_parts (is_heard_too false (told_at n made event.act))
-              (are_heard true (told_of n (made ++ event ∷ []) left)) heard in
-              inl (one too, others more)
-
-  -- each changes nothing
-  pub each_idle : (made left : List Timed) → list_all is_idle (told_of n made left) ≡ true
-      → EachEvent (IsIdleEvent n) made left
-  each_idle made [] idle = tt
-  each_idle made (event ∷ left) idle =
-      let (one, rest) =
-      and_parts (is_idle (told_at n made event.act)) (list_all is_idle (told_of n (made ++ event ∷ []) left)) idle in
-      (inl (idle_changes n network made event.act one), each_idle (made ++ event ∷ []) left rest)
+              and_parts (is_heard_too false e) (are_heard true (told_of n (made ++ event ∷ []) left)) heard in
+              let (gain, which) = and_parts (is_gain e) (is_link_up e || (is_priority1 e && not false)) too in
+              inl (one too, others gain more)
 
   -- ---- the bound
 
-  module _ (now : AllByRecursion (λ (t : Timed). t.at ≡ time) events)
-      (followed : list_any is_recovery tolds ≡ true → AreFollowed) (positive : 0 < time)
+  module _ (now : AllByRecursion (λ (t : Timed). t.at ≡ time) events) (off : NothingLapses n.params)
+      (turns : AreTurnsFollowed) (followed : list_any is_recovery tolds ≡ true → AreFollowed) (positive : 0 < time)
       (no_loss : list_any is_loss tolds ≡ false) (no_other : list_any is_other tolds ≡ false) where
     begins : IsSoFar first
     begins = record {
@@ -545,11 +654,11 @@ module _ (n : NetworkState) (network : IsNetwork n) (time : ℕ) (first events :
       spared = λ recovers. spared_past n time [] first positive (followed recovers).past;
     }
 
-    pub all_gained : list_all is_idle tolds ≡ false → AfterIdleEvents n (AreGainEvents n next) first events
-    all_gained some = after_idle followed first events refl now begins (all_told no_loss no_other) some
+    pub all_gained : list_all makes_nothing tolds ≡ false → AfterIdleEvents n (AreGainEvents n next) first events
+    all_gained some = after_idle off turns followed first events refl now begins (all_told no_loss no_other) refl some
 
     pub all_heard : list_any (is_hard_to_hear tolds) news ≡ false
         → (list_any is_better tolds ≡ true → (sync_paths n first).systems ≤ 255) → are_heard false tolds ≡ true
         → AfterIdleEvents n (AreHeardEvents n next) first events
     all_heard soft few heard =
-        events_heard followed soft few first events refl now begins (all_told no_loss no_other) refl heard
+        events_heard off turns followed soft few first events refl now begins (all_told no_loss no_other) refl heard

@@ -1,5 +1,5 @@
 -- What takes nothing away leaves what is in use in use, and delays as great.
-use Rattle.std.proofs.Common.{◌≡◌, ◌≤◌, inl, inr, ℕ, Bool, true, false, cond, List, [], ◌∷◌, ◌++◌, Option, Some, None, slice_get, refl, sym, ap, ap₂, subst, ◌∙◌, append-nil, append_assoc, arith}
+use Rattle.std.proofs.Common.{◌≡◌, ◌≤◌, ◌⊎◌, inl, inr, ℕ, Bool, true, false, cond, List, [], ◌∷◌, ◌++◌, Option, Some, None, slice_get, refl, sym, ap, ap₂, subst, ◌∙◌, append-nil, append_assoc, arith}
 use Rattle.std.specs.Prelude.{◌==◌, ◌&&◌, ⊤, max}
 use Rattle.std.proofs.lemmas.Bool.{eqb-true}
 use Rattle.gptp_lists.specs.Members.{In}
@@ -23,7 +23,7 @@ use Rattle.gptp_model.specs.World.{port_id}
 use Rattle.gptp_theorem.proofs.EventLemmas.{link_behind, system_behind}
 use Rattle.gptp_topology.specs.Course.{cable_is_used}
 use Rattle.gptp_how_soon.specs.Links.{standing_then}
-use Rattle.gptp_settling_time.specs.Gains.{IsDownAfter}
+use Rattle.gptp_settling_time.specs.Gains.{EndHasFailed, IsDownAfter}
 use Rattle.gptp_how_soon_laws.proofs.CalmLemmas.{lives_from, lives_to, three_from, three_parts}
 use Rattle.gptp_how_soon_laws.proofs.NamedLemmas.{at_end}
 
@@ -109,37 +109,50 @@ module _ (n : NetworkState) (events more : List Timed) (is : IsMore n events mor
 
 -- no link in use goes down, no system that lives fails, and no bounds are set
 abbrev pub Leaves : NetworkState → List Timed → Act → Type 0
-Leaves n made (acts.Change (changes.LinkDown clock port)) = IsDownAfter n made (port_id clock port)
+Leaves n made (acts.Change (changes.LinkDown clock port)) =
+    IsDownAfter n made (port_id clock port) ⊎ EndHasFailed n made (port_id clock port)
 Leaves n made (acts.Change (changes.LinkSet clock port least greatest loss)) = ⊥
 Leaves n made (acts.Change (changes.Fail number)) = IsLive n.systems made number → ⊥
 Leaves n made act = ⊤
 
 module _ (n : NetworkState) (made : List Timed) where
-  stays_up : (act : Act) → Leaves n made act → (w : LinkSpec) → In w n.links → (link_after made w).up ≡ true
+  stays_up : (act : Act) → Leaves n made act → (w : LinkSpec) → In w n.links
+      → lives n.systems made w.a.clock ≡ true → lives n.systems made w.b.clock ≡ true → (link_after made w).up ≡ true
       → (link_acted act (link_after made w)).up ≡ true
-  stays_up (acts.Deliver link direction) leaves w member up = up
-  stays_up (acts.Expire clock timer) leaves w member up = up
-  stays_up (acts.Change (changes.LinkDown clock port)) leaves w member up =
+  stays_up (acts.Deliver link direction) leaves w member a b up = up
+  stays_up (acts.Expire clock timer) leaves w member a b up = up
+  stays_up (acts.Change (changes.LinkDown clock port)) leaves w member a b up =
       by (is_at clock port (link_after made w)) refl
     where
       by : (test : Bool) → is_at clock port (link_after made w) ≡ test
           → (cond test (with_up false (link_after made w)) (link_after made w)).up ≡ true
       by true at =
           let (place, there) = slice_get-In w n.links member in
-          let down = leaves place w there (at_end clock port (link_after made w) at) in
-          let no : true ≡ false = sym up ∙ down in absurd cc
+          let end = at_end clock port (link_after made w) at in
+          let ends = after_keeps made w in
+          elim leaves [
+            | inl down ↦ let no : true ≡ false = sym up ∙ down place w there end in absurd cc
+            | inr failed ↦ elim (failed place w there end) [
+              | inl none ↦
+                  absurd (none (subst (λ (p : PortId). IsLive n.systems made p.clock) (sym ends.a)
+                  (lives_to n made w.a.clock a)))
+              | inr none ↦
+                  absurd (none (subst (λ (p : PortId). IsLive n.systems made p.clock) (sym ends.b)
+                  (lives_to n made w.b.clock b)))
+            ]
+          ]
       by false at = up
-  stays_up (acts.Change (changes.LinkUp clock port)) leaves w member up =
+  stays_up (acts.Change (changes.LinkUp clock port)) leaves w member a b up =
       by (is_at clock port (link_after made w))
     where
       by : (test : Bool) → (cond test (with_up true (link_after made w)) (link_after made w)).up ≡ true
       by true = refl
       by false = up
-  stays_up (acts.Change (changes.LinkSet clock port least greatest loss)) leaves w member up = absurd leaves
-  stays_up (acts.Change (changes.Fail number)) leaves w member up = up
-  stays_up (acts.Change (changes.Recover number)) leaves w member up = up
-  stays_up (acts.Change (changes.Priority1 number value)) leaves w member up = up
-  stays_up (acts.Change (changes.Inject clock port octets)) leaves w member up = up
+  stays_up (acts.Change (changes.LinkSet clock port least greatest loss)) leaves w member a b up = absurd leaves
+  stays_up (acts.Change (changes.Fail number)) leaves w member a b up = up
+  stays_up (acts.Change (changes.Recover number)) leaves w member a b up = up
+  stays_up (acts.Change (changes.Priority1 number value)) leaves w member a b up = up
+  stays_up (acts.Change (changes.Inject clock port octets)) leaves w member a b up = up
 
   turned : (test up : Bool) (w : LinkSpec) → (cond test (with_up up w) w).bounds ≡ w.bounds
   turned true up w = refl
@@ -219,7 +232,7 @@ module _ (n : NetworkState) (made : List Timed) where
           let (up, a, b) =
           three_parts (link_after made w).up (lives n.systems made w.a.clock) (lives n.systems made w.b.clock) is in
           three_from (link_after more w).up (lives n.systems more w.a.clock) (lives n.systems more w.b.clock)
-          (ap (λ (v : LinkSpec). v.up) (link_behind made event w) ∙ stays_up event.act leaves w member up)
+          (ap (λ (v : LinkSpec). v.up) (link_behind made event w) ∙ stays_up event.act leaves w member a b up)
           (still_lives w.a.clock a) (still_lives w.b.clock b);
       bounds = λ w member. ap (λ (v : LinkSpec). v.bounds) (link_behind made event w)
           ∙ bounds_stay event.act leaves w;

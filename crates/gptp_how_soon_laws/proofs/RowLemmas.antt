@@ -30,9 +30,9 @@ use Rattle.gptp_topology.specs.Course.{cable_of}
 use Rattle.gptp_topology.specs.declared.course.Cable.{Cable}
 use Rattle.gptp_topology.specs.declared.course.Standing.{Standing}
 use Rattle.gptp_how_soon.specs.Bounds.{asked_again, choice_by, choice_of_row, heard_by, is_again, is_hard_to_hear, ready, settled, two_exchanges}
-use Rattle.gptp_how_soon.specs.Kinds.{are_heard, fails_and_recovers, is_better, is_idle, is_loss, is_other, is_recover, is_recovery, is_recovery_of, recovers, sets_link, tells_nothing}
+use Rattle.gptp_how_soon.specs.Kinds.{are_heard, fails_and_recovers, is_better, is_gain, is_idle, is_loss, is_other, is_recover, is_recovery, is_recovery_of, is_unused, lowers_unused, makes_nothing, raises_unused, recovers, sets_link, tells_nothing}
 use Rattle.gptp_how_soon.specs.Links.{is_new, is_unanswered, new_links, standing_then, standings_after, varies}
-use Rattle.gptp_how_soon.specs.Rest.{are_events_followed, are_recoveries_followed, heard_at_once, is_from_rest, rested, rested_by}
+use Rattle.gptp_how_soon.specs.Rest.{are_events_followed, are_recoveries_followed, are_turns_followed, have_shown, heard_at_once, is_from_rest, rested, rested_by}
 use Rattle.gptp_how_soon.specs.Times.{View, events_at, gained_at, heard_at, is_calm, ready_at, row_at, settling_time, told_at, told_of, view_at}
 use Rattle.gptp_how_soon.specs.declared.bounds.Row.{Row}
 use Rattle.gptp_how_soon.specs.declared.bounds.Row.TheVariants.{AnyPast, Unchanged, Gained}
@@ -47,14 +47,14 @@ use Rattle.gptp_settling_time.specs.InTurn.{NoneUnanswered, TellsNothing, UsedVa
 use Rattle.gptp_settling_time.proofs.CutLemmas.{IsBy, all_by}
 use Rattle.gptp_settling_time.proofs.MomentLemmas.{all_at}
 use Rattle.gptp_how_soon_laws.proofs.CalmLemmas.{calm_so, lives_from, lives_to, not_so, used_cable}
-use Rattle.gptp_how_soon_laws.proofs.GainedLemmas.{AreFollowed, all_gained, all_heard, each_idle, none_any}
+use Rattle.gptp_how_soon_laws.proofs.GainedLemmas.{AreFollowed, AreTurnsFollowed, all_gained, all_heard, all_idle, none_any}
 use Rattle.gptp_how_soon_laws.proofs.KindLemmas.{told}
 
 -- ---- what is told
 
 -- by its row the choice of a calm network is bounded
 pub bounds_choice : (n : NetworkState) (Sharp : ℕ → Type 0) (events : List Timed) (row : Row) (gained : ℕ)
-    → is_calm n events ≡ true → (row ≡ Unchanged → Sharp 0) → (row ≡ Gained → Sharp gained)
+    → is_calm n events ≡ true → (row ≡ Unchanged → Sharp 0) → (row ≡ Gained → NothingLapses n.params → Sharp gained)
     → BoundsChoice n (Sharp (choice_by n (sync_paths n events) row gained)) events
     (choice_by n (sync_paths n events) row gained)
 bounds_choice n Sharp events row gained calm unchanged is_gained =
@@ -63,12 +63,12 @@ bounds_choice n Sharp events row gained calm unchanged is_gained =
     span : ℕ
     span = settling_span_with (pace_of n) (sync_paths n events) (sync_paths n events).systems
 
-    by_row : (r : Row) → row ≡ r
+    by_row : NothingLapses n.params → (r : Row) → row ≡ r
         → (choice_of_row n (sync_paths n events) r gained ≡ settling_span_at_once (pace_of n) (sync_paths n events))
         ⊎ Sharp (choice_of_row n (sync_paths n events) r gained)
-    by_row AnyPast is = inl refl
-    by_row Unchanged is = inr (unchanged is)
-    by_row Gained is = inr (is_gained is)
+    by_row off AnyPast is = inl refl
+    by_row off Unchanged is = inr (unchanged is)
+    by_row off Gained is = inr (is_gained is off)
 
     by : (off : Bool) → (n.params.sync_timeout == 0) ≡ off
         → ((NothingLapses n.params → ⊥)
@@ -77,7 +77,7 @@ bounds_choice n Sharp events row gained calm unchanged is_gained =
         × ((cond (not off) span (choice_of_row n (sync_paths n events) row gained)
         ≡ settling_span_at_once (pace_of n) (sync_paths n events))
         ⊎ Sharp (cond (not off) span (choice_of_row n (sync_paths n events) row gained))))
-    by true is = inr (eqb-true n.params.sync_timeout 0 is, by_row row refl)
+    by true is = let off = eqb-true n.params.sync_timeout 0 is in inr (off, by_row off row refl)
     by false is = inl (eqb-false n.params.sync_timeout 0 is, refl)
 
 -- what is told of a calm network
@@ -273,7 +273,7 @@ pub started : (n : NetworkState) (now : List Timed) → row_at n (view_at n [] n
     → BoundsStart n now (gained_at n (view_at n [] now None 0))
 started n now row =
     let v = view_at n [] now None 0 in
-    let from = begun_from (is_from_rest n v.at v.standings v.told v.new (ready_at n v) v.before) row in
+    let from = begun_from (is_from_rest n v.at v.paths_before v.standings v.told v.new (ready_at n v) v.before) row in
     let (two, some) =
     and_parts (list_all tells_nothing v.told && not (list_any is_unanswered v.standings)) (not (length v.new == 0)) from
     in
@@ -284,7 +284,7 @@ started n now row =
 pub never_unchanged : (n : NetworkState) (now : List Timed) → row_at n (view_at n [] now None 0) ≡ Unchanged → ⊥
 never_unchanged n now row =
     let v = view_at n [] now None 0 in
-    never_begun (is_from_rest n v.at v.standings v.told v.new (ready_at n v) v.before) row
+    never_begun (is_from_rest n v.at v.paths_before v.standings v.told v.new (ready_at n v) v.before) row
 
 -- ---- later
 
@@ -298,6 +298,13 @@ rested_so : (b : SettlingTime) (at : ℕ) (o : Option Settling) → b.settling �
     → HasComeToRest b at
 rested_so b at None is rested = absurd cc
 rested_so b at (Some s) is rested = record { settling = s; is = is; passed = grind (arith, nat_tests) }
+
+at_most : (a b : ℕ) → nat_le a b ≡ true → a ≤ b
+at_most a b is = grind (arith, nat_tests)
+
+not_both : (a b : Bool) → (a && b) ≡ false → a ≡ true → b ≡ false
+not_both true b none is = none
+not_both false b none is = absurd cc
 
 over_before : (last most time : ℕ) (events : List Timed) → last + most < time → AllByRecursion (IsBy last) events
     → AllByRecursion (λ (t : Timed). t.at + most < time) events
@@ -320,20 +327,39 @@ module _ (n : NetworkState) (network : IsNetwork n) (events : List Timed) (b : S
   record IsFromRest : Type 0 where
     pub rested : HasComeToRest b at
     pub others : list_any is_other v.told ≡ false
+    pub turns : AreTurnsFollowed n network at made now
     pub followed : list_any is_recovery v.told ≡ true
         → are_recoveries_followed n b.at at v.told v.new (ready_at n v) ≡ true
 
-  from_rest : is_from_rest n at v.standings v.told v.new (ready_at n v) (Some b) ≡ true → IsFromRest
+  turns_so : are_turns_followed n at v.paths_before v.told ≡ true → AreTurnsFollowed n network at made now
+  turns_so is =
+      let (rise, fall) =
+      and_parts (not (list_any raises_unused v.told) || have_shown n v.paths_before at)
+      (not (list_any lowers_unused v.told && list_any is_gain v.told)) is in
+      record {
+        raised = λ some. elim (or_cases (not (list_any raises_unused v.told)) (have_shown n v.paths_before at) rise) [
+          | inl none ↦
+              let no : true ≡ false = sym some ∙ not_so (list_any raises_unused v.told) none in absurd cc
+          | inr shown ↦ at_most (capability_span (pace_of n) + way_span (sync_paths n made)) at shown
+        ];
+        lowered = not_both (list_any lowers_unused v.told) (list_any is_gain v.told)
+            (not_so (list_any lowers_unused v.told && list_any is_gain v.told) fall);
+      }
+
+  from_rest : is_from_rest n at v.paths_before v.standings v.told v.new (ready_at n v) (Some b) ≡ true → IsFromRest
   from_rest is =
-      let (two, third) =
-      and_parts (rested b at && are_events_followed v.told)
+      let (three, third) =
+      and_parts (rested b at && are_events_followed v.told && are_turns_followed n at v.paths_before v.told)
       (not (list_any is_recovery v.told) || are_recoveries_followed n b.at at v.told v.new (ready_at n v)) is in
+      let (two, turns_are) =
+      and_parts (rested b at && are_events_followed v.told) (are_turns_followed n at v.paths_before v.told) three in
       let (rest, events_are) = and_parts (rested b at) (are_events_followed v.told) two in
       let (known, apart) =
       and_parts (not (list_any is_other v.told)) (not (fails_and_recovers v.told)) events_are in
       record {
         rested = rested_so b at b.settling refl rest;
         others = not_so (list_any is_other v.told) known;
+        turns = turns_so turns_are;
         followed = λ recovers. elim (or_cases (not (list_any is_recovery v.told))
         (are_recoveries_followed n b.at at v.told v.new (ready_at n v)) third) [
           | inl none ↦
@@ -347,7 +373,9 @@ module _ (n : NetworkState) (network : IsNetwork n) (events : List Timed) (b : S
       let past_test : Bool = nat_lt (b.at + largest_interval (pace_of n)) at in
       let capable_test : Bool = nat_le (capability_span (pace_of n)) (at + ready_at n v) in
       let again_test : Bool = list_any (is_again v.told) v.new in
-      let (two, again) = and_parts (past_test && capable_test) again_test is in
+      let (three, turns) =
+      and_parts (past_test && capable_test && again_test) (not (list_any is_unused v.told)) is in
+      let (two, again) = and_parts (past_test && capable_test) again_test three in
       let (past, capable) = and_parts past_test capable_test two in
       let over : b.at + largest_interval (pace_of n) < at = grind (arith, nat_tests) in
       let late_enough : capability_span (pace_of n) ≤ at + ready_at n v = grind (arith, nat_tests) in
@@ -355,52 +383,53 @@ module _ (n : NetworkState) (network : IsNetwork n) (events : List Timed) (b : S
         past = over_before b.at (largest_interval (pace_of n)) at made over (all_by b.at events);
         capable = late_enough;
         again = again;
+        turns = not_so (list_any is_unused v.told) turns;
       }
 
   pub unchanged : row_at n v ≡ Unchanged → HasComeToRest b at × EachEvent (IsIdleEvent n) made now
   unchanged row =
       let (from, idle) =
-      unchanged_from (is_from_rest n at v.standings v.told v.new (ready_at n v) (Some b)) (list_all is_idle v.told)
+      unchanged_from (is_from_rest n at v.paths_before v.standings v.told v.new (ready_at n v) (Some b)) (list_all makes_nothing v.told)
       (list_any is_loss v.told) row in
-      ((from_rest from).rested, each_idle n network at made now made now idle)
+      let facts = from_rest from in (facts.rested, all_idle n network at made now facts.turns (all_at at events) idle)
 
-  pub gained : row_at n v ≡ Gained → HasComeToRest b at × BoundsGains n made now at (ready_at n v) (gained_at n v)
-  gained row =
+  pub gained : row_at n v ≡ Gained → NothingLapses n.params → HasComeToRest b at × BoundsGains n made now at (ready_at n v) (gained_at n v)
+  gained row off =
       let (from, none, some) =
-      gained_from (is_from_rest n at v.standings v.told v.new (ready_at n v) (Some b)) (list_all is_idle v.told)
+      gained_from (is_from_rest n at v.paths_before v.standings v.told v.new (ready_at n v) (Some b)) (list_all makes_nothing v.told)
       (list_any is_loss v.told) row in
       let facts = from_rest from in
-      (facts.rested, by facts none some (heard_at_once false v.systems_before v.told)
+      (facts.rested, by facts none some (heard_at_once false v.paths_before v.told)
       (list_any (is_hard_to_hear v.told) v.new) refl refl)
     where
       followed : IsFromRest → list_any is_recovery v.told ≡ true → AreFollowed n network at made now
       followed facts recovers = recoveries (facts.followed recovers)
 
-      few_before : (nat_le v.systems_before 255 || not (list_any is_better v.told)) ≡ true
+      few_before : (nat_le v.paths_before.systems 255 || not (list_any is_better v.told)) ≡ true
           → list_any is_better v.told ≡ true → (sync_paths n made).systems ≤ 255
-      few_before is better = elim (or_cases (nat_le v.systems_before 255) (not (list_any is_better v.told)) is) [
+      few_before is better = elim (or_cases (nat_le v.paths_before.systems 255) (not (list_any is_better v.told)) is) [
         | inl few ↦ grind (arith, nat_tests)
         | inr none ↦ let no : true ≡ false = sym better ∙ not_so (list_any is_better v.told) none in absurd cc
       ]
 
-      by : IsFromRest → list_any is_loss v.told ≡ false → list_all is_idle v.told ≡ false → (heard hard : Bool)
-          → heard_at_once false v.systems_before v.told ≡ heard
+      by : IsFromRest → list_any is_loss v.told ≡ false → list_all makes_nothing v.told ≡ false → (heard hard : Bool)
+          → heard_at_once false v.paths_before v.told ≡ heard
           → list_any (is_hard_to_hear v.told) v.new ≡ hard
           → BoundsGains n made now at (ready_at n v)
           (ready_at n v + cond (heard && not hard) 0 (largest_interval (pace_of n)) + way_span v.paths)
       by facts none some true false is soft =
           let (heard, few) =
-          and_parts (are_heard false v.told) (nat_le v.systems_before 255 || not (list_any is_better v.told)) is in
+          and_parts (are_heard false v.told) (nat_le v.paths_before.systems 255 || not (list_any is_better v.told)) is in
           inl (
-            all_heard n network at made now (all_at at events) (followed facts) (omega (arith, late)) none facts.others
+            all_heard n network at made now (all_at at events) off facts.turns (followed facts) (omega (arith, late)) none facts.others
                 soft (few_before few) heard,
             omega arith,
           )
       by facts none some true true is hard = inr (
-        all_gained n network at made now (all_at at events) (followed facts) (omega (arith, late)) none facts.others some,
+        all_gained n network at made now (all_at at events) off facts.turns (followed facts) (omega (arith, late)) none facts.others some,
         refl,
       )
       by facts none some false hard is soft = inr (
-        all_gained n network at made now (all_at at events) (followed facts) (omega (arith, late)) none facts.others some,
+        all_gained n network at made now (all_at at events) off facts.turns (followed facts) (omega (arith, late)) none facts.others some,
         refl,
       )
