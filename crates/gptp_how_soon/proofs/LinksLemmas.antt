@@ -1,5 +1,5 @@
 -- The links of a network stand so after events, by the tables of gptp_topology.
-use Rattle.std.proofs.Common.{◌≡◌, ◌≢◌, ℕ, Bool, true, false, ◌==◌, ◌&&◌, ◌||◌, not, cond, List, [], ◌∷◌, ◌++◌, ◌+◌, zero, suc, drop, filter, map, Option, Some, None, slice_get, refl, sym, ap, ap₂, subst, ◌∙◌, inl, inr}
+use Rattle.std.proofs.Common.{◌≡◌, ◌≢◌, ℕ, Bool, true, false, ◌==◌, ◌&&◌, ◌||◌, not, cond, List, [], ◌∷◌, ◌++◌, ◌+◌, zero, suc, drop, filter, map, Option, Some, None, slice_get, refl, sym, ap, ap₂, ◌∙◌, inl, inr, arith}
 use Rattle.std.specs.List.{find, list_any}
 use Rattle.std.specs.Option.{is_some, option_or}
 use Rattle.std.proofs.lemmas.Bool.{eqb-false}
@@ -20,7 +20,7 @@ use Rattle.gptp_scenario.specs.declared.change.Timed.{Timed}
 use Rattle.gptp_scenario.specs.declared.network.LinkSpec.{LinkSpec}
 use Rattle.gptp_scenario.specs.declared.sync_wait.SyncPaths.{SyncPaths}
 use Rattle.gptp_topology.specs.Course.{acted, cable_is_used, cable_of, cable_wire, first, is_link_named, named, named_by, names_link}
-use Rattle.gptp_topology.specs.Tables.{are_calm, cables_of, late_of, led, link_named, mark_of, marked_paths, named_among, named_there, neighbours_at, neighbours_of}
+use Rattle.gptp_topology.specs.Tables.{are_calm, late_of, led, link_named, mark_of, marked_paths, named_among, named_there, neighbours_at, neighbours_of}
 use Rattle.gptp_topology.specs.declared.course.Cable.{Cable}
 use Rattle.gptp_topology.specs.declared.course.Standing.{Standing}
 use Rattle.gptp_topology.specs.declared.nodes.Neighbour.{Neighbour}
@@ -30,7 +30,7 @@ use Rattle.gptp_topology.proofs.BoundLemmas.{greatest_is, lives_is, paths_is}
 use Rattle.gptp_topology.proofs.CourseLemmas.{a_after, after, b_after, cable_after, same_a, same_b}
 use Rattle.gptp_topology.proofs.NamedLemmas.{not_at}
 use Rattle.gptp_topology.proofs.StandingLemmas.{Stand, neighbours_are}
-use Rattle.gptp_how_soon.specs.Links.{is_new, is_old_at, new_among, new_links, new_one, standing_then, standings_after}
+use Rattle.gptp_how_soon.specs.Links.{is_old_at, is_used_at, new_among, new_links, new_one, standing_then, standings_after}
 use Rattle.gptp_how_soon.specs.Times.{is_calm, is_standing_named, is_troubled}
 
 maps_in : {X Y : Type 0} (f g : X → Y) (xs : List X) → ((x : X) → In x xs → f x ≡ g x) → map f xs ≡ map g xs
@@ -63,14 +63,44 @@ pub new_are : (n : NetworkState) (made events : List Timed) (first : Bool)
 new_are n made events first = new_by first (standing_then n events) (standing_then n made) n.links
 
 -- one link more is looked at
-pub new_more : (first : Bool) (ss : List Standing) (us : List Bool) (place : ℕ) (s : Standing) → slice_get ss place ≡ Some s
-    → new_one s (is_old_at first us place) ++ new_among first (drop (place + 1) ss) (drop (place + 1) us)
-    ≡ new_among first (drop place ss) (drop place us)
-new_more first [] us place s there = absurd cc
-new_more first (r ∷ ss) [] zero s there = ap (λ v. new_one v (not first && false) ++ new_among first ss []) (sym (some_same r s there))
-new_more first (r ∷ ss) (u ∷ us) zero s there = ap (λ v. new_one v (not first && u) ++ new_among first ss us) (sym (some_same r s there))
-new_more first (r ∷ ss) [] (suc place) s there = new_more first ss [] place s there
-new_more first (r ∷ ss) (u ∷ us) (suc place) s there = new_more first ss us place s there
+drop_none : (place : ℕ) → drop {A = Bool} place [] ≡ []
+drop_none zero = refl
+drop_none (suc place) = refl
+
+none_used : (place : ℕ) → is_used_at [] place ≡ false
+none_used zero = refl
+none_used (suc place) = refl
+
+new_behind : (start : Bool) (r : Standing) (ss : List Standing) (us vs : List Bool) (place : ℕ) (new : List Cable)
+    → new ++ new_among start (drop (place + 1) ss) (drop (place + 1) vs)
+    ≡ new_among start (drop place ss) (drop place vs)
+    → drop (suc (place + 1)) us ≡ drop (place + 1) vs → drop (suc place) us ≡ drop place vs
+    → new ++ new_among start (drop (suc place + 1) (r ∷ ss)) (drop (suc place + 1) us)
+    ≡ new_among start (drop (suc place) (r ∷ ss)) (drop (suc place) us)
+new_behind start r ss us vs place new rest next this =
+    let step : suc place + 1 ≡ suc (place + 1) = omega arith in
+    ap (λ k. new ++ new_among start (drop k (r ∷ ss)) (drop k us)) step
+    ∙ ap (λ ws. new ++ new_among start (drop (place + 1) ss) ws) next
+    ∙ rest ∙ ap (new_among start (drop place ss)) (sym this)
+
+pub new_more : (start : Bool) (ss : List Standing) (us : List Bool) (place : ℕ) (s : Standing)
+    → slice_get ss place ≡ Some s
+    → new_one s (is_old_at start us place) ++ new_among start (drop (place + 1) ss) (drop (place + 1) us)
+    ≡ new_among start (drop place ss) (drop place us)
+new_more start [] us place s there = absurd cc
+new_more start (r ∷ ss) [] zero s there =
+    ap (λ v. new_one v (not start && false) ++ new_among start ss []) (sym (some_same r s there))
+new_more start (r ∷ ss) (u ∷ us) zero s there =
+    ap (λ v. new_one v (not start && u) ++ new_among start ss us) (sym (some_same r s there))
+new_more start (r ∷ ss) [] (suc place) s there =
+    let none : is_old_at start [] (suc place) ≡ is_old_at start [] place =
+    ap (λ used. not start && used) (none_used (suc place) ∙ sym (none_used place)) in
+    ap (λ old. new_one s old ++ new_among start (drop (suc place + 1) (r ∷ ss)) (drop {A = Bool} (suc place + 1) [])) none
+    ∙ new_behind start r ss [] [] place (new_one s (is_old_at start [] place)) (new_more start ss [] place s there)
+    (sym (drop_none (place + 1))) (sym (drop_none place))
+new_more start (r ∷ ss) (u ∷ us) (suc place) s there =
+    new_behind start r ss (u ∷ us) us place (new_one s (is_old_at start us place)) (new_more start ss us place s there)
+    refl refl
 
 -- ---- a link that an act names
 
@@ -99,7 +129,7 @@ module _ (n : NetworkState) (network : IsNetwork n) (events : List Timed) where
   at_after [] s = refl
   at_after (t ∷ ts) s = at_after ts (acted t.act s)
 
-  standing_is : (w : LinkSpec) → In w n.links → after events (first w) ≡ stood w
+  pub standing_is : (w : LinkSpec) → In w n.links → after events (first w) ≡ stood w
   standing_is w member =
       let (place, there) = slice_get-In w n.links member in
       let wire = network.links place w there in

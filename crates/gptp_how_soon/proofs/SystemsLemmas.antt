@@ -1,5 +1,5 @@
 -- The systems of a network stand so after events, one event after another.
-use Rattle.std.proofs.Common.{◌≡◌, ℕ, Bool, true, false, ◌==◌, cond, List, [], ◌∷◌, ◌++◌, map, refl, sym, ap, ap₂, ◌∙◌}
+use Rattle.std.proofs.Common.{◌≡◌, ℕ, Bool, true, false, ◌==◌, cond, List, [], ◌∷◌, ◌++◌, map, refl, sym, ap₂}
 use Rattle.gptp_roles.specs.Selection.{clock_of}
 use Rattle.gptp_scenario.specs.Change.{standing, system_acted, system_changed, system_stands, with_live, with_priority1}
 use Rattle.gptp_scenario.specs.Network.{NetworkState}
@@ -9,19 +9,18 @@ use Rattle.gptp_scenario.specs.declared.change.Change.{Change}
 use Rattle.gptp_scenario.specs.declared.change.Change.TheVariants as changes
 use Rattle.gptp_scenario.specs.declared.change.Timed.{Timed}
 use Rattle.gptp_scenario.specs.declared.network.SystemSpec.{SystemSpec}
-use Rattle.gptp_topology.specs.Course.{lives_acted}
 use Rattle.gptp_topology.proofs.LivesLemmas.{acted_alike}
 use Rattle.gptp_topology.proofs.StandingLemmas.{maps_alike}
 use Rattle.gptp_how_soon.specs.Systems.{first_system, identity_acted, identity_changed, system_done, system_then, systems_after}
 use Rattle.gptp_how_soon.specs.declared.systems.System.{System}
 
 -- the identity of a system after a change stands by that before, whether it lives or not
-set_alike : (test live : Bool) (s : _) (identity : ℕ) → s.identity ≡ identity
+set_alike : (test live : Bool) (s : _)
     → (cond test (with_live live s) s).identity
-    ≡ (cond test (with_live live (record { identity = identity; live = true }))
-    (record { identity = identity; live = true })).identity
-set_alike true live s identity is = is
-set_alike false live s identity is = is
+    ≡ (cond test (with_live live (record { identity = s.identity; live = true }))
+    (record { identity = s.identity; live = true })).identity
+set_alike true live s = refl
+set_alike false live s = refl
 
 valued_alike : (test : Bool) (value : ℕ) (s : _)
     → (cond test (with_priority1 value s) s).identity
@@ -35,8 +34,8 @@ changed_identity : (change : Change) (own : ℕ) (s : _)
 changed_identity (changes.LinkDown clock port) own s = refl
 changed_identity (changes.LinkUp clock port) own s = refl
 changed_identity (changes.LinkSet clock port least greatest loss) own s = refl
-changed_identity (changes.Fail clock) own s = set_alike (clock == own) false s s.identity refl
-changed_identity (changes.Recover clock) own s = set_alike (clock == own) true s s.identity refl
+changed_identity (changes.Fail clock) own s = set_alike (clock == own) false s
+changed_identity (changes.Recover clock) own s = set_alike (clock == own) true s
 changed_identity (changes.Priority1 clock value) own s = valued_alike (clock == own) value s
 changed_identity (changes.Inject clock port octets) own s = refl
 

@@ -1,19 +1,20 @@
 -- Each time of a document is told, by the one before, as its events are passed.
-use Rattle.std.proofs.Common.{◌≡◌, ◌≤◌, ◌<◌, ◌+◌, ℕ, Bool, true, false, ◌==◌, cond, List, [], ◌∷◌, ◌++◌, IsTrue, Option, Some, None, append_assoc, refl, sym, ap, ap₂, subst, ◌∙◌, arith}
+use Rattle.std.proofs.Common.{◌≡◌, ◌≤◌, ◌<◌, ℕ, Bool, true, false, ◌==◌, cond, List, [], ◌∷◌, ◌++◌, Option, Some, None, append_assoc, refl, sym, ap, ap₂, subst, ◌∙◌, arith}
 use Rattle.std.specs.List.{AllByRecursion}
 use Rattle.std.proofs.lemmas.Bool.{eq-eqb, eqb-true, eqb-false, ne_eqb}
 use Rattle.std.proofs.lemmas.List.{append-nil}
-use Rattle.gptp_scenario.specs.Network.{IsNetwork, NetworkState}
+use Rattle.gptp_scenario.specs.Network.{IsNetwork}
 use Rattle.gptp_scenario.specs.declared.change.Timed.{Timed}
 use Rattle.gptp_network.specs.Document.{DocumentState}
 use Rattle.gptp_network.specs.Events.{AreEvents, AreInOrder, IsEvent}
 use Rattle.gptp_network.specs.Snapshot.{events_by}
-use Rattle.gptp_topology.specs.Times.{times_from, times_of}
+use Rattle.gptp_topology.specs.Times.{times_from}
 use Rattle.gptp_topology.proofs.CourseLemmas.{all_from_0, behind, not_before, order_behind, past_by, until_now}
-use Rattle.gptp_how_soon.specs.Times.{IsWatchedShortly, events_at, events_before, settling_time, settling_times, settling_times_from, time_at, view_at}
+use Rattle.gptp_how_soon.specs.Times.{AreRising, IsWatchedShortly, events_at, events_before, settling_time, settling_times, settling_times_from, time_at, view_at}
 use Rattle.gptp_how_soon.specs.Walk.{IsFirstWalk, WalkPasses, WalkTells, view_seen}
 use Rattle.gptp_how_soon.specs.declared.bounds.SettlingTime.{SettlingTime}
 use Rattle.gptp_how_soon.specs.declared.walk.Walk.{Walk}
+use Rattle.gptp_how_soon.proofs.RisingLemmas.{all_earlier, earlier_more, rising_more}
 use Rattle.gptp_how_soon.proofs.WalkLemmas.{WalkStands, stands_first, stands_more, stands_on, view_is}
 
 -- ---- the events of a time
@@ -165,6 +166,8 @@ pub record Walked (d : DocumentState) (left : List Timed) (w : Walk) (at : ℕ) 
   pub possible : AllByRecursion (IsEvent d.network) left
   pub early : at ≤ 800000000000000
   pub watched : AllByRecursion IsWatchedShortly times
+  pub rising : AreRising times
+  pub past : all_earlier at times
 
 watched_more : (times : List SettlingTime) (time : SettlingTime) → AllByRecursion IsWatchedShortly times
     → IsWatchedShortly time
@@ -186,6 +189,8 @@ module _ (d : DocumentState) (network : IsNetwork d.network) where
     possible = events.each;
     early = omega arith;
     watched = tt;
+    rising = tt;
+    past = tt;
   }
 
   -- an event is passed, once what is before it is told
@@ -209,17 +214,19 @@ module _ (d : DocumentState) (network : IsNetwork d.network) where
             possible = so.possible.1;
             early = so.possible.0.early;
             watched = subst (AllByRecursion IsWatchedShortly) (sym none) so.watched;
+            rising = subst AreRising (sym none) so.rising;
+            past = subst (all_earlier t.at) (sym none) (subst (λ a. all_earlier a times) (sym same) so.past);
           }
 
       by : (test : Bool) → (t.at == at) ≡ test → Walked d left new t.at after
       by true is =
-          let (unmoved, none) = tells.0 (subst IsTrue (sym is) tt) in
+          let (unmoved, none) = tells.0 is in
           same_time (eqb-true t.at at is) unmoved none
       by false is =
           let apart = eqb-false t.at at is in
           let least = so.told.come.0 in
           let later : at < t.at = omega (arith, least, apart) in
-          let (on, more, short) = tells.1 (λ yes. subst IsTrue is yes) in
+          let (on, more, short) = tells.1 (λ yes. let no : true ≡ false = sym yes ∙ is in absurd cc) in
           let seen = settling_time d.network (view_seen d.network old at) in
           let this : seen ≡ time_at d old.before at =
           ap (settling_time d.network) (view_is d.network network so.made so.now old at so.stands)
@@ -240,18 +247,24 @@ module _ (d : DocumentState) (network : IsNetwork d.network) where
             early = so.possible.0.early;
             watched = subst (AllByRecursion IsWatchedShortly) (sym more)
                 (watched_more times seen so.watched (shortly seen at refl so.early short));
+            rising = subst AreRising (sym more) (rising_more times seen so.rising so.past);
+            past = subst (all_earlier t.at) (sym more)
+                (earlier_more at t.at times seen so.past (omega (arith, later)) later);
           }
 
   -- after the last event
   pub walked_all : (w : Walk) (at : ℕ) (times after : List SettlingTime) (time : SettlingTime) → Walked d [] w at times
       → time ≡ settling_time d.network (view_seen d.network w at) → time.watch ≤ 200000000000000
       → after ≡ times ++ time ∷ []
-      → (after ≡ settling_times d) × AllByRecursion IsWatchedShortly after
+      → (after ≡ settling_times d) × AreRising after × AllByRecursion IsWatchedShortly after
   walked_all w at times after time so is short more =
       let this : time ≡ time_at d w.before at =
       is ∙ ap (settling_time d.network) (view_is d.network network so.made so.now w at so.stands)
       ∙ this_is d so.made so.now w.before at times [] so.told tt in (
         more ∙ ap (λ x. times ++ x ∷ []) this ∙ so.told.rest,
+        subst AreRising (sym more)
+            (rising_more times time so.rising
+            (subst (λ a. all_earlier a times) (sym (ap (λ (x : SettlingTime). x.at) is)) so.past)),
         subst (AllByRecursion IsWatchedShortly) (sym more)
             (watched_more times time so.watched
             (shortly time at (ap (λ (x : SettlingTime). x.at) is) so.early short)),

@@ -6,6 +6,7 @@ use Rattle.gptp_scenario.specs.declared.change.Act.{Act}
 use Rattle.gptp_scenario.specs.declared.change.Act.TheVariants as acts
 use Rattle.gptp_scenario.specs.declared.change.Change.{Change}
 use Rattle.gptp_scenario.specs.declared.change.Change.TheVariants as changes
+use Rattle.gptp_topology.specs.Course.{named}
 use Rattle.gptp_topology.specs.declared.course.Standing.{Standing}
 use Rattle.gptp_how_soon.specs.declared.kinds.Kind.{Kind}
 use Rattle.gptp_how_soon.specs.declared.kinds.Kind.TheVariants.{Idle, Loss, Gain, Other}
@@ -66,8 +67,8 @@ abbrev pub what_of_change : Change → What
 what_of_change (changes.LinkDown clock port) = whats.LinkDown
 what_of_change (changes.LinkUp clock port) = whats.LinkUp
 what_of_change (changes.LinkSet clock port least greatest loss) = whats.LinkSet
-what_of_change (changes.Fail clock) = whats.Fail clock
-what_of_change (changes.Recover clock) = whats.Recover clock
+what_of_change (changes.Fail clock) = whats.Fail
+what_of_change (changes.Recover clock) = whats.Recover
 what_of_change (changes.Priority1 clock value) = whats.Priority1
 what_of_change (changes.Inject clock port octets) = whats.Inject
 
@@ -77,7 +78,7 @@ what_of (acts.Deliver link direction) = whats.NoChange
 what_of (acts.Expire clock timer) = whats.NoChange
 
 abbrev pub told_by : Act → Option Standing → Option System → Told
-told_by act s o = record { kind = kind_of act s o; what = what_of act }
+told_by act s o = record { kind = kind_of act s o; what = what_of act; clock = named act }
 
 -- ---- one event
 
@@ -102,16 +103,22 @@ is_priority1 e = elim e.what [ whats.Priority1 ↦ true | _ ↦ false ]
 abbrev pub is_link_set : Told → Bool
 is_link_set e = elim e.what [ whats.LinkSet ↦ true | _ ↦ false ]
 
+abbrev pub is_fail : Told → Bool
+is_fail e = elim e.what [ whats.Fail ↦ true | _ ↦ false ]
+
 -- a live system gets better
 abbrev pub is_better : Told → Bool
 is_better e = is_gain e && is_priority1 e
 
 -- a failed system recovers; and the one with this clock does
+abbrev pub is_recover : Told → Bool
+is_recover e = elim e.what [ whats.Recover ↦ true | _ ↦ false ]
+
 abbrev pub is_recovery : Told → Bool
-is_recovery e = elim e.what [ whats.Recover clock ↦ not (is_idle e) | _ ↦ false ]
+is_recovery e = is_recover e && not (is_idle e)
 
 abbrev pub is_recovery_of : ℕ → Told → Bool
-is_recovery_of clock e = elim e.what [ whats.Recover own ↦ (own == clock) && not (is_idle e) | _ ↦ false ]
+is_recovery_of clock e = (e.clock == clock) && is_recovery e
 
 -- ---- the events of a time
 
@@ -125,7 +132,7 @@ recovers told clock = list_any (is_recovery_of clock) told
 
 -- a system both fails and recovers
 abbrev pub is_failure_of_same : List Told → Told → Bool
-is_failure_of_same told e = elim e.what [ whats.Fail clock ↦ not (is_idle e) && recovers told clock | _ ↦ false ]
+is_failure_of_same told e = is_fail e && not (is_idle e) && recovers told e.clock
 
 abbrev pub fails_and_recovers : List Told → Bool
 fails_and_recovers told = list_any (is_failure_of_same told) told

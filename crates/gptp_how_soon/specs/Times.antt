@@ -2,8 +2,8 @@
 --
 -- What stands *before* a time stands after the events up to the time before, at 0 before all events; what stands *at* it
 -- after its own too.
-use Rattle.std.specs.Prelude.{ℕ, ◌+◌, ◌≤◌, ◌==◌, ◌||◌, not, Bool, List, [], ◌∷◌, ◌++◌, filter, Option, Some, None}
-use Rattle.std.specs.List.{find, list_any}
+use Rattle.std.specs.Prelude.{ℕ, ◌+◌, ◌≤◌, ◌<◌, ⊤, ◌==◌, ◌||◌, not, Bool, List, [], ◌∷◌, ◌++◌, filter, Option, Some, None}
+use Rattle.std.specs.List.{AllByRecursion, find, list_any}
 use Rattle.std.specs.Option.{is_some}
 use Rattle.gptp_setup.specs.declared.setup.Params.{Params}
 use Rattle.gptp_scenario.specs.Network.{NetworkState}
@@ -121,6 +121,11 @@ settling_times_from d before (at ∷ ats) =
 
 abbrev pub settling_times : DocumentState → List SettlingTime
 settling_times d = settling_times_from d None (times_of d.events)
+
+-- each is later than those before it
+abbrev pub AreRising : List SettlingTime → Type 0
+AreRising [] = ⊤
+AreRising (t ∷ ts) = AllByRecursion (λ (u : SettlingTime). t.at < u.at) ts × AreRising ts
 
 -- the time at a moment, if there is one
 abbrev pub is_time_at : ℕ → SettlingTime → Bool

@@ -2,11 +2,11 @@
 
 ghost use Rattle.std.specs.Prelude.{◌≡◌, ◌++◌, ◌∷◌, [], false, OnOk};
 ghost use Rattle.std.specs.List.{list_all, list_any};
-ghost use Rattle.gptp_how_soon.specs.Kinds.{are_heard, fails_and_recovers, is_better, is_failure_of_same, is_gain, is_heard_too, is_idle, is_loss, is_other, is_priority1, is_link_up, is_recovery, is_recovery_of, kind_of, kind_of_change, kind_of_failure, kind_of_link_down, kind_of_link_up, kind_of_priority1, kind_of_recovery, recovers, sets_link, is_link_set, told_by, what_of, what_of_change};
+ghost use Rattle.gptp_how_soon.specs.Kinds.{are_heard, fails_and_recovers, is_fail, is_recover, is_better, is_failure_of_same, is_gain, is_heard_too, is_idle, is_loss, is_other, is_priority1, is_link_up, is_recovery, is_recovery_of, kind_of, kind_of_change, kind_of_failure, kind_of_link_down, kind_of_link_up, kind_of_priority1, kind_of_recovery, recovers, sets_link, is_link_set, told_by, what_of, what_of_change};
 
 use crate::systems::System;
 use gptp_scenario::{Act, Change};
-use gptp_topology::Standing;
+use gptp_topology::{Standing, named};
 use gptp_vector::ClockId;
 use std::alloc::AllocError;
 
@@ -29,19 +29,20 @@ pub(crate) enum What {
     LinkDown,
     LinkUp,
     LinkSet,
-    Fail { clock: ClockId },
-    Recover { clock: ClockId },
+    Fail,
+    Recover,
     Priority1,
     Inject,
     /// A frame or a timer; no document has one.
     NoChange,
 }
 
-/// An event of a time.
+/// An event of a time, and the system that it names.
 #[derive(Clone, Copy)]
 pub(crate) struct Told {
     pub kind: Kind,
     pub what: What,
+    pub clock: ClockId,
 }
 
 /// What a `link_down` does to the link as it stands.
@@ -172,8 +173,8 @@ fn what_of_change(change: &Change) -> What
             max: _,
             loss: _,
         } => What::LinkSet,
-        Change::Fail { clock } => What::Fail { clock },
-        Change::Recover { clock } => What::Recover { clock },
+        Change::Fail { clock: _ } => What::Fail,
+        Change::Recover { clock: _ } => What::Recover,
         Change::Priority1 { clock: _, value: _ } => What::Priority1,
         Change::Inject {
             clock: _,
@@ -204,6 +205,7 @@ fn told_by(act: &Act, link: Option<Standing>, system: Option<System>) -> Told
     Told {
         kind: kind_of(act, link, system),
         what: what_of(act),
+        clock: named(act),
     }
 }
 
@@ -276,24 +278,30 @@ fn is_better(told: &Told) -> bool
     is_gain(told) && is_priority1(told)
 }
 
+fn is_recover(told: &Told) -> bool
+    ensures { result ≡ is_recover told.now }
+{
+    matches!(told.what, What::Recover)
+}
+
+fn is_fail(told: &Told) -> bool
+    ensures { result ≡ is_fail told.now }
+{
+    matches!(told.what, What::Fail)
+}
+
 /// Whether a failed system recovers by it.
 fn is_recovery(told: &Told) -> bool
     ensures { result ≡ is_recovery told.now }
 {
-    match told.what {
-        What::Recover { clock: _ } => !is_idle(told),
-        _ => false,
-    }
+    is_recover(told) && !is_idle(told)
 }
 
 /// Whether the system with this clock, which has failed, recovers by it.
 fn is_recovery_of(clock: ClockId, told: &Told) -> bool
     ensures { result ≡ is_recovery_of clock told.now }
 {
-    match told.what {
-        What::Recover { clock: own } => own == clock && !is_idle(told),
-        _ => false,
-    }
+    told.clock == clock && is_recovery(told)
 }
 
 /// Whether the system with this clock recovers by one of these events.
@@ -307,10 +315,7 @@ pub(crate) fn recovers(told: &[Told], clock: ClockId) -> bool
 fn is_failure_of_same(told: &[Told], one: &Told) -> bool
     ensures { result ≡ is_failure_of_same told.now one.now }
 {
-    match one.what {
-        What::Fail { clock } => !is_idle(one) && recovers(told, clock),
-        _ => false,
-    }
+    is_fail(one) && !is_idle(one) && recovers(told, one.clock)
 }
 
 /// Whether a system both fails and recovers by these events.

@@ -3,7 +3,7 @@
 ghost use Rattle.std.specs.Prelude.{◌≡◌, ◌≤◌, IfOk, OnOk, IfSome, length};
 ghost use Rattle.std.specs.List.{AllByRecursion, find};
 ghost use Rattle.gptp_topology.specs.Tables.{cables_of, greatest_used};
-ghost use Rattle.gptp_how_soon.specs.Times.{IsWatchedShortly, is_time_at, settling_times};
+ghost use Rattle.gptp_how_soon.specs.Times.{AreRising, IsWatchedShortly, is_time_at, settling_times};
 ghost use Rattle.gptp_how_soon.specs.Walk.{WalkTells};
 
 use crate::bounds::SettlingTime;
@@ -43,6 +43,7 @@ fn settling_times_over(
 ) -> Result<Vec<SettlingTime>, AllocError>
     requires { cables.now ≡ cables_of document.now.network }
     ensures times { IfOk result (λ times. times.items ≡ settling_times document.now) }
+    ensures rising { IfOk result (λ times. AreRising times.items) }
     ensures watched { IfOk result (λ times. AllByRecursion IsWatchedShortly times.items) }
 {
     document.network().well_formed();
@@ -57,7 +58,8 @@ fn settling_times_over(
         at = event.at;
         walk.pass(&event.act)?;
     }
-    times.push(walk.settle(alloc, network, at)?)?;
+    let time = walk.settle(alloc, network, at)?;
+    times.push(time)?;
     Ok(times)
 }
 
@@ -65,14 +67,15 @@ fn settling_times_over(
 /// stand, and for how long to watch. Refused for want of memory alone.
 pub fn settling_times(alloc: Global, document: &Document) -> Result<Vec<SettlingTime>, AllocError>
     ensures times { IfOk result (λ times. times.items ≡ settling_times document.now) }
+    ensures rising { IfOk result (λ times. AreRising times.items) }
     ensures watched { IfOk result (λ times. AllByRecursion IsWatchedShortly times.items) }
 {
     let cables = cables_of(alloc, document.network())?;
     settling_times_over(alloc, document, &cables)
 }
 
-/// The time among these that is at a moment, if there is one.
-pub fn settling_at(times: &[SettlingTime], at: u64) -> Option<SettlingTime>
+/// The first of these times that is at a moment, if there is one.
+fn first_at(times: &[SettlingTime], at: u64) -> Option<SettlingTime>
     ensures { result ≡ find (is_time_at at) times.now }
 {
     for time in times {
@@ -81,4 +84,18 @@ pub fn settling_at(times: &[SettlingTime], at: u64) -> Option<SettlingTime>
         }
     }
     None
+}
+
+/// The time among these, which rise as those of a document, that is at a moment in ns, if there is one.
+pub fn settling_at(times: &[SettlingTime], at: u64) -> Option<SettlingTime>
+    requires { AreRising times.now }
+    ensures { result ≡ find (is_time_at at) times.now }
+{
+    if let Ok(place) = times.binary_search_by_key(&at, |time| time.at) {
+        let time = times[place];
+        if time.at == at {
+            return Some(time);
+        }
+    }
+    first_at(times, at)
 }

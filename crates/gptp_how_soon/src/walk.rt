@@ -93,14 +93,16 @@ impl Walk {
         ensures bound { IfOk result (λ time. time.watch ≤ 200000000000000) }
     {
         let first = self.before.is_none();
-        let standings = &self.tables.standings;
-        let told = &self.told;
+        let standings = self.tables.standings.as_slice();
+        let told = self.told.as_slice();
+        let used = self.used_before.as_slice();
         let paths = self.tables.sync_paths();
-        let new = new_links(alloc, first, standings, &self.used_before)?;
-        let ready = ready(network, paths, told, &new);
+        let new = new_links(alloc, first, standings, used)?;
+        let new = new.as_slice();
+        let ready = ready(network, paths, told, new);
         let followed = heard_at_once(first, self.systems_before, standings, told);
-        let gained = ready + heard(network, followed, told, &new) + way_span(paths);
-        let from_rest = is_from_rest(network, at, told, &new, ready, self.before);
+        let gained = ready + heard(network, followed, told, new) + way_span(paths);
+        let from_rest = is_from_rest(network, at, told, new, ready, self.before);
         Ok(times_by(
             network,
             at,
