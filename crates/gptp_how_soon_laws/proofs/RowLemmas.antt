@@ -1,10 +1,9 @@
 -- What is told of a time, by its row, is so by its events.
-use Rattle.std.proofs.Common.{◌≡◌, ◌<◌, ◌≤◌, ◌⊎◌, inl, inr, ◌+◌, ◌*◌, ℕ, Bool, true, false, cond, List, [], ◌∷◌, ◌++◌, Option, Some, None, length, refl, sym, ap, ap₂, subst, ◌∙◌, arith}
+use Rattle.std.proofs.Common.{◌≡◌, ◌<◌, ◌≤◌, ◌⊎◌, inl, inr, ◌+◌, ◌*◌, ℕ, Bool, true, false, cond, List, [], ◌∷◌, Option, Some, None, length, refl, sym, ap, ap₂, subst, ◌∙◌, arith}
 use Rattle.std.specs.Prelude.{◌==◌, ◌&&◌, ◌||◌, not, nat_le, nat_lt, max, if◌then◌else◌}
 use Rattle.std.specs.List.{AllByRecursion, list_all, list_any}
-use Rattle.std.proofs.lemmas.Bool.{and_parts, eqb-false, eqb-true, false_from_ne_true, or_cases, or_parts}
+use Rattle.std.proofs.lemmas.Bool.{and_parts, eqb-false, eqb-true, false_from_ne_true, or_cases}
 use Rattle.std.proofs.lemmas.Bool.Decides.{nat_tests}
-use Rattle.gptp_lists.specs.Members.{In}
 use Rattle.gptp_lists.proofs.MappedLemmas.{some_same}
 use Rattle.gptp_lists.proofs.SystemSpecLemmas.{In-map, In-slice_get}
 use Rattle.gptp_setup.specs.SettlingParams.{largest_interval}
@@ -14,24 +13,19 @@ use Rattle.gptp_scenario.specs.SettlingAtOnce.{settling_span_at_once}
 use Rattle.gptp_scenario.specs.SettlingTime.{capability_span, settling_span_with}
 use Rattle.gptp_scenario.specs.SyncWait.{sync_paths}
 use Rattle.gptp_scenario.specs.declared.change.Timed.{Timed}
-use Rattle.gptp_scenario.specs.declared.network.LinkSpec.{LinkSpec}
-use Rattle.gptp_scenario.specs.declared.sync_wait.SyncPaths.{SyncPaths}
-use Rattle.gptp_network.specs.Events.{AreInOrder}
 use Rattle.gptp_network.specs.Snapshot.{events_by}
 use Rattle.gptp_network.proofs.PassLemmas.{passes_at}
 use Rattle.gptp_topology.specs.declared.course.Cable.{Cable}
-use Rattle.gptp_topology.specs.declared.course.Standing.{Standing}
-use Rattle.gptp_how_soon.specs.Bounds.{asked_again, choice_by, choice_of_row, heard_by, is_again, is_hard_to_hear, ready, settled, two_exchanges}
+use Rattle.gptp_how_soon.specs.Bounds.{asked_again, choice_by, choice_of_row, is_again, is_hard_to_hear, ready, settled, two_exchanges}
 use Rattle.gptp_how_soon.specs.Kinds.{are_heard, fails_and_recovers, is_better, is_idle, is_loss, is_other, is_recovery, sets_link}
-use Rattle.gptp_how_soon.specs.Links.{new_links, standing_then, standing_varies, standings_after, varies, vary}
+use Rattle.gptp_how_soon.specs.Links.{new_links, standing_then, standing_varies, standings_after, vary}
 use Rattle.gptp_how_soon.specs.Rest.{are_events_followed, are_recoveries_followed, heard_at_once, is_from_rest, rested, rested_by}
-use Rattle.gptp_how_soon.specs.Times.{View, events_at, gained_at, heard_at, is_calm, ready_at, row_at, settling_time, told_of, view_at}
+use Rattle.gptp_how_soon.specs.Times.{View, events_at, gained_at, is_calm, ready_at, row_at, settling_time, told_of, view_at}
 use Rattle.gptp_how_soon.specs.declared.bounds.Row.{Row}
 use Rattle.gptp_how_soon.specs.declared.bounds.Row.TheVariants.{AnyPast, Unchanged, Gained}
 use Rattle.gptp_how_soon.specs.declared.bounds.Settling.{Settling}
 use Rattle.gptp_how_soon.specs.declared.bounds.SettlingTime.{SettlingTime}
-use Rattle.gptp_how_soon.specs.declared.kinds.Told.{Told}
-use Rattle.gptp_settling_time.specs.HowSoon.{AreHeardEvents, BoundsChoice, BoundsEvents, BoundsGains, BoundsStart, EachEvent, IsIdleEvent, NoneBetween, way_span}
+use Rattle.gptp_settling_time.specs.HowSoon.{BoundsChoice, BoundsGains, BoundsStart, EachEvent, IsIdleEvent, way_span}
 use Rattle.gptp_settling_time.specs.InTurn.{UsedVaryLittle}
 use Rattle.gptp_settling_time.proofs.CutLemmas.{IsBy, all_by}
 use Rattle.gptp_settling_time.proofs.MomentLemmas.{all_at}
