@@ -79,8 +79,8 @@ come_down steps systems hop most settled exact at few some is told on =
     omega (arith, times, more, some, is, told, on)
 
 pub exact_soon : {F : Type 0} (answers : Bounds → ℕ → F → Option ℕ → F → Type 0) → IsExactSoon answers
-exact_soon answers d time s next until fate first w ts t playable k member shown told is none on early steps number error
-    offset ahead leaves near way is_ahead =
+exact_soon answers d time s next until fate first w ts t playable k member shown told is none on early steps number
+    error offset ahead leaves near way is_ahead =
     let (before, so) = time_so d playable time s told is in
     let at = t.told.timed.at in
     let interval : ℕ = largest_interval (pace_of d.network) in
@@ -94,7 +94,8 @@ exact_soon answers d time s next until fate first w ts t playable k member shown
     let there : time.at < at = omega (arith, some, exact, on) in
     let few : suc steps < systems =
     few_links d (events_by time.at d.events) t steps number error playable
-    (kept answers d time.at s.choice next until fate first w ts t playable k member (before, so.choice) none there early)
+    (kept answers d time.at s.choice next until fate first w ts t playable k member (before, so.choice) none there
+    early)
     way in
     let least : 1 ≤ hop = let one = playable.network.params.ranges.params.threshold-least in omega (arith, one) in
     let set = set_by time.at d.events in

@@ -1,9 +1,9 @@
--- The events of a time that are told to be idle or gains are followed: by when ports are capable after them, and whether
--- what they tell is heard at once.
+-- The events of a time that are told to be idle or gains are followed: by when ports are capable after them, and
+-- whether what they tell is heard at once.
 use Rattle.std.proofs.Common.{◌≡◌, ◌<◌, ◌≤◌, ◌⊎◌, inl, inr, ◌+◌, ◌*◌, ℕ, Bool, true, false, cond, suc, List, [], ◌∷◌, ◌++◌, length, filter, refl, sym, ap, ap₂, subst, ◌∙◌, append-nil, append_assoc, arith}
 use Rattle.std.specs.Prelude.{◌==◌, ◌&&◌, ◌||◌, not}
 use Rattle.std.specs.List.{AllByRecursion, list_all, list_any}
-use Rattle.std.proofs.lemmas.Bool.{and_parts, false_from_ne_true, ne_eqb, or_parts}
+use Rattle.std.proofs.lemmas.Bool.{and_parts, false_from_ne_true, ne_eqb, not-true, or_parts}
 use Rattle.std.proofs.lemmas.Bool.Decides.{nat_tests}
 use Rattle.gptp_lists.specs.Members.{In}
 use Rattle.gptp_lists.proofs.SystemSpecLemmas.{In-map, In-slice_get}
@@ -39,7 +39,7 @@ use Rattle.gptp_settling_time.specs.Gains.{AreSparedBy, ChangesNothing, IsNoWors
 use Rattle.gptp_settling_time.specs.HowSoon.{AfterIdleEvents, AreGainEvents, AreHeardEvents, EachEvent, IsGainEvent, IsGainToo, IsHeardEvent, IsHeardToo, IsIdleEvent}
 use Rattle.gptp_settling_time.specs.InTurn.{BettersClock, BringsUp}
 use Rattle.gptp_settling_time.proofs.SamePathsLemmas.{idle_paths}
-use Rattle.gptp_how_soon_laws.proofs.CalmLemmas.{lives_to, not_so, three_from, three_parts}
+use Rattle.gptp_how_soon_laws.proofs.CalmLemmas.{lives_to, three_from, three_parts}
 use Rattle.gptp_how_soon_laws.proofs.KindLemmas.{Gains, RaisesLink, gain_gains, gain_is_not_idle, idle_changes, idle_or_gain}
 use Rattle.gptp_how_soon_laws.proofs.MoreLemmas.{IsMore, Leaves, more_delay, more_live, more_lives, more_on, one_more, same_more}
 use Rattle.gptp_how_soon_laws.proofs.NamedLemmas.{end_first}
@@ -260,7 +260,8 @@ module _ (n : NetworkState) (network : IsNetwork n) (time : ℕ) (first events :
         port = port;
         act = act;
         down = λ place v there end.
-            ap (λ (w : LinkSpec). (link_after made w).up) (up.only place v there (end_first made (port_id clock port) v end))
+            ap (λ (w : LinkSpec). (link_after made w).up)
+            (up.only place v there (end_first made (port_id clock port) v end))
             ∙ up.down;
         little = λ place v there end.
             let one = none_any (is_hard_to_hear tolds) news (cable_of (link_after all up.link)) soft new in
@@ -286,9 +287,15 @@ module _ (n : NetworkState) (network : IsNetwork n) (time : ℕ) (first events :
           let soon = facts.capable in
           let more = ready_again n.params paths tolds news facts.again in
           let less = delay in
-          subst (λ a. TakesNothing n made a × LeavesCapable n made event next a) (sym act)
-          (tt, (failed, inr (omega (arith, soon)), subst (AreSparedBy n [] made) (sym here) (so_far.spared recovers),
-          omega (arith, here, more, less)))
+          subst (λ a. TakesNothing n made a × LeavesCapable n made event next a) (sym act) (
+            tt,
+            (
+              failed,
+              inr (omega (arith, soon)),
+              subst (AreSparedBy n [] made) (sym here) (so_far.spared recovers),
+              omega (arith, here, more, less),
+            ),
+          )
 
     -- a priority1 gets better
     module _ (number value : ℕ) (act : event.act ≡ acts.Change (changes.Priority1 number value))
@@ -320,8 +327,8 @@ module _ (n : NetworkState) (network : IsNetwork n) (time : ℕ) (first events :
         gains_system number same gains
         (is.recovery
         (ap (λ a. is_recovery (told_at n made a)) same
-        ∙ ap not (gain_is_not_idle number (what_of (acts.Change (changes.Recover number))) (told_at n made (acts.Change (changes.Recover number))).kind
-        gain)))
+        ∙ ap not (gain_is_not_idle number (what_of (acts.Change (changes.Recover number)))
+        (told_at n made (acts.Change (changes.Recover number))).kind gain)))
     gains_so (acts.Change (changes.Priority1 number value)) same gain gains = gains_clock number value same gains
     gains_so (acts.Change (changes.Inject clock port octets)) same gain gains = absurd gains
 
@@ -398,7 +405,7 @@ module _ (n : NetworkState) (network : IsNetwork n) (time : ℕ) (first events :
         by (acts.Change (changes.Priority1 number value)) same gain rest gains =
             let better : is_better (told_at n made event.act) ≡ true =
             ap (λ a. is_better (told_at n made a)) same ∙ ap (λ test. test && true) gain in
-            inr (not_so heard rest, is.better better, betters number value same gains)
+            inr (not-true heard rest, is.better better, betters number value same gains)
         by (acts.Change (changes.Inject clock port octets)) same gain rest gains = absurd gains
 
     pub heard_first : is_heard_too false (told_at n made event.act) ≡ true

@@ -187,6 +187,15 @@ module _ (n : NetworkState) (network : IsNetwork n) (made : List Timed) where
   abbrev system_at : ℕ → Option System
   system_at number = find (has_clock number) (systems_after n made)
 
+  abbrev failing : ℕ → Act
+  failing number = acts.Change (changes.Fail number)
+
+  abbrev recovering : ℕ → Act
+  recovering number = acts.Change (changes.Recover number)
+
+  abbrev setting : ℕ → ℕ → Act
+  setting number value = acts.Change (changes.Priority1 number value)
+
   -- whether the system lives that is found
   not_live : (number : ℕ) (x : System) → SystemNamed n network made number x → x.lives ≡ false
       → IsLive n.systems made number → ⊥
@@ -218,10 +227,10 @@ module _ (n : NetworkState) (network : IsNetwork n) (made : List Timed) where
       ∙ ap (λ (x : Standing). x.cable.up) one.is ∙ up
   idle_changes (acts.Change (changes.LinkSet clock port least greatest loss)) is = absurd cc
   idle_changes (acts.Change (changes.Fail number)) is =
-      let (x, found_is, failed) = idle_failure number (what_of (acts.Change (changes.Fail number))) (system_at number) is in
+      let (x, found_is, failed) = idle_failure number (what_of (failing number)) (system_at number) is in
       not_live number x (named_system n network made number x found_is) failed
   idle_changes (acts.Change (changes.Recover number)) is =
-      let (x, found_is, live) = idle_recovery number (what_of (acts.Change (changes.Recover number))) (system_at number) is in
+      let (x, found_is, live) = idle_recovery number (what_of (recovering number)) (system_at number) is in
       let one = named_system n network made number x found_is in
       record {
         place = one.place;
@@ -231,7 +240,7 @@ module _ (n : NetworkState) (network : IsNetwork n) (made : List Timed) where
         live = ap (λ (o : System). o.lives) one.is ∙ live;
       }
   idle_changes (acts.Change (changes.Priority1 number value)) is =
-      let (x, found_is, idle) = idle_priority1 number (what_of (acts.Change (changes.Priority1 number value))) value (system_at number) is in
+      let (x, found_is, idle) = idle_priority1 number (what_of (setting number value)) value (system_at number) is in
       let one = named_system n network made number x found_is in
       λ place m there named.
       let same = one.only place m there named in
@@ -244,7 +253,7 @@ module _ (n : NetworkState) (network : IsNetwork n) (made : List Timed) where
   gain_gains (acts.Deliver link direction) is = absurd cc
   gain_gains (acts.Expire clock timer) is = absurd cc
   gain_gains (acts.Change (changes.LinkDown clock port)) is =
-      absurd (never_down clock (what_of (acts.Change (changes.LinkDown clock port))) (link_at (acts.Change (changes.LinkDown clock port))) is)
+      let act = acts.Change (changes.LinkDown clock port) in absurd (never_down clock (what_of act) (link_at act) is)
   gain_gains (acts.Change (changes.LinkUp clock port)) is =
       let act = acts.Change (changes.LinkUp clock port) in
       let (s, found_is, down, a, b) = gain_up clock (what_of act) (link_at act) is in
@@ -261,12 +270,13 @@ module _ (n : NetworkState) (network : IsNetwork n) (made : List Timed) where
       }
   gain_gains (acts.Change (changes.LinkSet clock port least greatest loss)) is = absurd cc
   gain_gains (acts.Change (changes.Fail number)) is =
-      absurd (never_failure number (what_of (acts.Change (changes.Fail number))) (system_at number) is)
+      absurd (never_failure number (what_of (failing number)) (system_at number) is)
   gain_gains (acts.Change (changes.Recover number)) is =
-      let (x, found_is, failed) = gain_recovery number (what_of (acts.Change (changes.Recover number))) (system_at number) is in
+      let (x, found_is, failed) = gain_recovery number (what_of (recovering number)) (system_at number) is in
       not_live number x (named_system n network made number x found_is) failed
   gain_gains (acts.Change (changes.Priority1 number value)) is =
-      let (x, found_is, live, lower) = gain_priority1 number (what_of (acts.Change (changes.Priority1 number value))) value (system_at number) is in
+      let (x, found_is, live, lower) =
+      gain_priority1 number (what_of (setting number value)) value (system_at number) is in
       let one = named_system n network made number x found_is in
       λ place m there named.
       let same = one.only place m there named in

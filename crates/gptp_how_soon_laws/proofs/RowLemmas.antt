@@ -2,7 +2,7 @@
 use Rattle.std.proofs.Common.{◌≡◌, ◌<◌, ◌≤◌, ◌⊎◌, inl, inr, ◌+◌, ◌*◌, ℕ, Bool, true, false, cond, List, [], ◌∷◌, Option, Some, None, length, refl, sym, ap, ap₂, subst, ◌∙◌, arith}
 use Rattle.std.specs.Prelude.{◌==◌, ◌&&◌, ◌||◌, not, nat_le, nat_lt, max, if◌then◌else◌}
 use Rattle.std.specs.List.{AllByRecursion, list_all, list_any}
-use Rattle.std.proofs.lemmas.Bool.{and_parts, eqb-false, eqb-true, false_from_ne_true, or_cases}
+use Rattle.std.proofs.lemmas.Bool.{and_parts, eqb-false, eqb-true, false_from_ne_true, not-true, or_cases}
 use Rattle.std.proofs.lemmas.Bool.Decides.{nat_tests}
 use Rattle.gptp_lists.proofs.MappedLemmas.{some_same}
 use Rattle.gptp_lists.proofs.SystemSpecLemmas.{In-map, In-slice_get}
@@ -29,7 +29,7 @@ use Rattle.gptp_settling_time.specs.HowSoon.{BoundsChoice, BoundsGains, BoundsSt
 use Rattle.gptp_settling_time.specs.InTurn.{UsedVaryLittle}
 use Rattle.gptp_settling_time.proofs.CutLemmas.{IsBy, all_by}
 use Rattle.gptp_settling_time.proofs.MomentLemmas.{all_at}
-use Rattle.gptp_how_soon_laws.proofs.CalmLemmas.{calm_so, not_so}
+use Rattle.gptp_how_soon_laws.proofs.CalmLemmas.{calm_so}
 use Rattle.gptp_how_soon_laws.proofs.GainedLemmas.{AreFollowed, all_gained, all_heard, each_idle}
 
 -- ---- what is told
@@ -153,7 +153,7 @@ starts n some =
     two =
         ap₂ (λ none again. cond none 0
         (cond again (asked_again n.params (sync_paths n [])) (two_exchanges n.params (sync_paths n []))))
-        (not_so (length (new_links n [] [] true) == 0) some) (never_again (new_links n [] [] true))
+        (not-true (length (new_links n [] [] true) == 0) some) (never_again (new_links n [] [] true))
 
     by : (much hard : Bool) → vary (standings_after n []) ≡ much
         → start ≡ two_exchanges n.params (sync_paths n [])
@@ -234,13 +234,13 @@ module _ (n : NetworkState) (network : IsNetwork n) (events : List Timed) (b : S
       and_parts (not (list_any is_other v.told)) (not (fails_and_recovers v.told)) events_are in
       record {
         rested = rested_so b at b.settling refl rest;
-        others = not_so (list_any is_other v.told) known;
+        others = not-true (list_any is_other v.told) known;
         followed = λ recovers. elim (or_cases (not (list_any is_recovery v.told))
-        (are_recoveries_followed n b.at at v.told v.new (ready_at n v)) third) [
-          | inl none ↦
-              let no : true ≡ false = sym recovers ∙ not_so (list_any is_recovery v.told) none in absurd cc
-          | inr are ↦ are
-        ];
+            (are_recoveries_followed n b.at at v.told v.new (ready_at n v)) third) [
+              | inl none ↦
+                  let no : true ≡ false = sym recovers ∙ not-true (list_any is_recovery v.told) none in absurd cc
+              | inr are ↦ are
+            ];
       }
 
   recoveries : are_recoveries_followed n b.at at v.told v.new (ready_at n v) ≡ true → AreFollowed n network at made now
@@ -272,9 +272,11 @@ module _ (n : NetworkState) (network : IsNetwork n) (events : List Timed) (b : S
       let (from, none, some) =
       gained_from (is_from_rest n at v.told v.new (ready_at n v) (Some b)) false (list_all is_idle v.told)
       (list_any is_loss v.told) row in
-      let facts = from_rest from in
-      (facts.rested, by facts none some (heard_at_once false v.systems_before v.standings v.told)
-      (list_any (is_hard_to_hear v.told) v.new) refl refl)
+      let facts = from_rest from in (
+        facts.rested,
+        by facts none some (heard_at_once false v.systems_before v.standings v.told)
+            (list_any (is_hard_to_hear v.told) v.new) refl refl,
+      )
     where
       followed : IsFromRest → list_any is_recovery v.told ≡ true → AreFollowed n network at made now
       followed facts recovers = recoveries (facts.followed recovers)
@@ -283,7 +285,7 @@ module _ (n : NetworkState) (network : IsNetwork n) (events : List Timed) (b : S
           → list_any is_better v.told ≡ true → (sync_paths n made).systems ≤ 255
       few_before is better = elim (or_cases (nat_le v.systems_before 255) (not (list_any is_better v.told)) is) [
         | inl few ↦ grind (arith, nat_tests)
-        | inr none ↦ let no : true ≡ false = sym better ∙ not_so (list_any is_better v.told) none in absurd cc
+        | inr none ↦ let no : true ≡ false = sym better ∙ not-true (list_any is_better v.told) none in absurd cc
       ]
 
       by : IsFromRest → list_any is_loss v.told ≡ false → list_all is_idle v.told ≡ false → (heard hard : Bool)
@@ -300,10 +302,12 @@ module _ (n : NetworkState) (network : IsNetwork n) (events : List Timed) (b : S
             omega arith,
           )
       by facts none some true true is hard = inr (
-        all_gained n network at made now (all_at at events) (followed facts) (omega (arith, late)) none facts.others some,
+        all_gained n network at made now (all_at at events) (followed facts) (omega (arith, late)) none facts.others
+            some,
         refl,
       )
       by facts none some false hard is soft = inr (
-        all_gained n network at made now (all_at at events) (followed facts) (omega (arith, late)) none facts.others some,
+        all_gained n network at made now (all_at at events) (followed facts) (omega (arith, late)) none facts.others
+            some,
         refl,
       )

@@ -35,16 +35,17 @@ module _ {F : Type 0} (answers : Bounds → ℕ → F → Option ℕ → F → T
   kept =
       let now = t.told.timed.at in
       let events : List Timed = events_by now d.events in
-      let same : events ≡ events_by time d.events = none_later d.events time now next (omega (arith, late)) early none in
+      let same : events ≡ events_by time d.events =
+      none_later d.events time now next (omega (arith, late)) early none in
       let settled : ℕ = suc (time + choice) in
-      let is = bound_settles d playable.network playable.events.in_order time choice now settled same (omega arith) bound
-      in
+      let is =
+      bound_settles d playable.network playable.events.in_order time choice now settled same (omega arith) bound in
       let last = last_by time d.events in
       let later : last_change events < now =
       subst (λ es. last_change es < now) (sym same) (omega (arith, last, late)) in
       let run = run_to answers d until fate first w ts t playable k member in
-      let step = (passed_in_turn answers d now settled fate first run.w run.ts playable run.unfolds is).each t run.member
-      later in
+      let steps = passed_in_turn answers d now settled fate first run.w run.ts playable run.unfolds is in
+      let step = steps.each t run.member later in
       subst (λ es. IsKept d es t) same (record {
         before = after_keeps d events is.last t.before step.before;
         after = after_keeps d events is.last t.after step.after;

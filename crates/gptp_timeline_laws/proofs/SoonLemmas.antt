@@ -157,8 +157,8 @@ module _ {F : Type 0} (answers : Bounds → ℕ → F → Option ℕ → F → T
       let fit = playable_by p.from d playable in
       let early : at_of a < suc p.to = omega (arith, soon) in
       let (settled, leaves) =
-      choice_bounds_hold answers short p.from choice (suc p.to) p.to fate start p.after run.ts a fit unfolds among bounded
-      none late early in
+      choice_bounds_hold answers short p.from choice (suc p.to) p.to fate start p.after run.ts a fit unfolds among
+      bounded none late early in
       let keeps = kept answers short p.from choice (suc p.to) p.to fate start p.after run.ts a fit unfolds among bounded
       none (omega (arith, late)) early in
       let same = courses_after answers p.from p.to p.events p.acts run.fate_then run.drawn run.begins p.after run.early
@@ -181,8 +181,10 @@ module _ {F : Type 0} (answers : Bounds → ℕ → F → Option ℕ → F → T
 
       all : (ts : List ActTrace) → ((a : ActTrace) → In a ts → In a p.acts) → StillBehind (p.from + choice) ts
       all [] among = tt
-      all (t ∷ ts) among =
-          (by t (among t (inl refl)) (nat_le (at_of t) (p.from + choice)) refl, all ts (λ a member. among a (inr member)))
+      all (t ∷ ts) among = (
+        by t (among t (inl refl)) (nat_le (at_of t) (p.from + choice)) refl,
+        all ts (λ a member. among a (inr member)),
+      )
 
 -- ---- the law
 
@@ -208,8 +210,8 @@ stretches_settle_soon answers d until options fate lines exceeded t playable p t
     let to_is = b.passage.to_is in
     let due = b.is_left.within in
     let ends = ends_on until b.from b.left (later_than b.from b.left) refl due in
-    let calm = still answers d playable until p s.choice fate t.started t.start t.begun run (omega (arith, from_is, due))
-    (omega (arith, from_is, to_is, ends)) here near in (
+    let calm = still answers d playable until p s.choice fate t.started t.start t.begun run
+    (omega (arith, from_is, due)) (omega (arith, from_is, to_is, ends)) here near in (
       within p.from s.choice _ (last_choice names (p.from + s.choice) p.acts calm),
       subst (λ r. IfSome (option_map (λ time. time - p.from) _) (λ time. time ≤ r)) (sym roles)
           (within p.from s.choice _ (last_roles names (p.from + s.choice) p.acts calm)),

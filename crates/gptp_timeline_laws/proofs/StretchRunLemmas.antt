@@ -100,8 +100,8 @@ module _ {F : Type 0} (answers : Bounds → ℕ → F → Option ℕ → F → T
         let soon : nat_le e.at p.from ≡ true = grind (arith, nat_tests, ends, least) in
         let before : from ≤ p.from = omega (arith, behind, ends, least) in
         let first : events_by p.from (e ∷ es) ≡ e ∷ events_by p.from es = rw soon refl in
-        let courses = courses_on answers p.to q.events e (events_by p.from es) q.acts run.ts fate drawn run.drawn w q.after
-        p.after (subst (λ to. Courses answers to q.events q.acts fate drawn w q.after) ends passage.courses)
+        let courses = courses_on answers p.to q.events e (events_by p.from es) q.acts run.ts fate drawn run.drawn w
+        q.after p.after (subst (λ to. Courses answers to q.events q.acts fate drawn w q.after) ends passage.courses)
         (subst (λ events. Courses answers p.to events run.ts drawn run.drawn q.after p.after) first run.courses) in
         let are : q.events ++ e ∷ events_by p.from es ≡ events_by p.from events =
         ap (λ xs. xs ++ e ∷ events_by p.from es) passage.events_are
