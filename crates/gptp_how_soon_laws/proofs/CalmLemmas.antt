@@ -2,7 +2,7 @@
 use Rattle.std.proofs.Common.{◌≡◌, ◌≤◌, ℕ, ◌==◌, ◌&&◌, ◌||◌, not, nat_lt, Bool, true, false, cond, List, Option, Some, None, refl, sym, ap, subst, ◌∙◌, arith}
 use Rattle.std.specs.List.{list_any}
 use Rattle.std.specs.Option.{is_some}
-use Rattle.std.proofs.lemmas.Bool.{and_from, and_parts, eq-eqb, eqb-true, false_from_ne_true, not-false, or_parts}
+use Rattle.std.proofs.lemmas.Bool.{and_from, and_parts, eq-eqb, eqb-true, false_from_ne_true, not-false, not-true, or_parts}
 use Rattle.std.proofs.lemmas.Bool.Decides.{nat_tests}
 use Rattle.gptp_lists.proofs.SystemSpecLemmas.{In-map, In-slice_get, slice_get-In}
 use Rattle.gptp_vector.specs.declared.port.PortId.{PortId}
@@ -23,10 +23,6 @@ use Rattle.gptp_topology.specs.Trouble.{is_long, loss_in_use, needed}
 use Rattle.gptp_topology.proofs.RestLemmas.{in_all, in_time}
 use Rattle.gptp_how_soon.specs.Links.{standing_then, standings_after}
 use Rattle.gptp_how_soon.specs.Times.{is_calm, is_troubled}
-
-pub not_so : (test : Bool) → not test ≡ true → test ≡ false
-not_so true is = absurd cc
-not_so false is = refl
 
 pub three_from : (a b c : Bool) → a ≡ true → b ≡ true → c ≡ true → (a && (b && c)) ≡ true
 three_from a b c x y z = rw (x, y, z) refl
@@ -94,15 +90,15 @@ module _ (n : NetworkState) (events : List Timed) where
       let (never, untroubled) =
       or_parts (is_some (late_of n.params (sync_paths n events)))
       (list_any (is_troubled n.params) (standings_after n events))
-      (not_so (is_some (late_of n.params (sync_paths n events))
+      (not-true (is_some (late_of n.params (sync_paths n events))
       || list_any (is_troubled n.params) (standings_after n events)) is) in
       record {
         links = in_all (Rests n.params n.systems events) n.links (λ w member.
-        quiet_so w (false_from_ne_true (is_troubled n.params (standing_then n events w)) (λ one.
-        let some =
-        passes_at (is_troubled n.params) (standings_after n events) (standing_then n events w)
-        (In-map (standing_then n events) w n.links member) one in
-        let no : true ≡ false = sym some ∙ untroubled in cc)));
+            quiet_so w (false_from_ne_true (is_troubled n.params (standing_then n events w)) (λ one.
+            let some =
+            passes_at (is_troubled n.params) (standings_after n events) (standing_then n events w)
+            (In-map (standing_then n events) w n.links member) one in
+            let no : true ≡ false = sym some ∙ untroubled in cc)));
         lapses = in_time n.params (sync_paths n events)
             (none_some (late_of n.params (sync_paths n events)) never);
       }

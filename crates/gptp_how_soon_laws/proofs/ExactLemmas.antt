@@ -1,9 +1,8 @@
 -- Offsets are exact in each run from the time on that is told of a time.
-use Rattle.std.proofs.Common.{◌≡◌, ◌<◌, ◌≤◌, ◌+◌, ◌*◌, ℕ, Bool, true, false, cond, suc, max, List, [], ◌∷◌, Option, filter, refl, sym, ap, ap₂, subst, arith}
+use Rattle.std.proofs.Common.{◌≡◌, ◌<◌, ◌≤◌, ◌+◌, ◌*◌, ℕ, Bool, true, false, cond, suc, max, List, [], ◌∷◌, Option, filter, refl, ap, ap₂, arith}
 use Rattle.std.proofs.Math.Nat.{mul-le-mul}
 use Rattle.gptp_graph.specs.PathBound.{path_bound}
 use Rattle.gptp_graph.proofs.PathBoundLemmas.{IsDistance-within, paths_within}
-use Rattle.gptp_lists.specs.Members.{In}
 use Rattle.gptp_links.specs.declared.bounds.Bounds.{Bounds}
 use Rattle.gptp_setup.specs.SettlingParams.{largest_interval}
 use Rattle.gptp_scenario.specs.Calm.{last_change}
@@ -14,10 +13,9 @@ use Rattle.gptp_scenario.specs.declared.change.Act.TheVariants as acts
 use Rattle.gptp_scenario.specs.declared.change.Change.TheVariants as changes
 use Rattle.gptp_scenario.specs.declared.change.Timed.{Timed}
 use Rattle.gptp_scenario.specs.declared.sync_wait.SyncPaths.{SyncPaths}
-use Rattle.gptp_model.specs.World.{WorldState}
 use Rattle.gptp_network.specs.Document.{DocumentState}
 use Rattle.gptp_network.specs.Snapshot.{events_by}
-use Rattle.gptp_report.specs.Transitions.{ActTrace, Unfolds}
+use Rattle.gptp_report.specs.Transitions.{ActTrace}
 use Rattle.gptp_invariants.specs.SyncExact.{IsWayError}
 use Rattle.gptp_invariants.specs.SyncFollowers.{follower_parts}
 use Rattle.gptp_invariants.specs.WorldStanding.{snapshot_of}
@@ -28,14 +26,10 @@ use Rattle.gptp_theorem.proofs.SyncPathLemmas.{paths_stand}
 use Rattle.gptp_how_soon.specs.Kinds.{sets_bounds}
 use Rattle.gptp_how_soon.specs.Times.{last_set as set_here}
 use Rattle.gptp_settling_time.specs.ExactInTurn.{last_set, sets_link}
-use Rattle.gptp_settling_time.specs.HowSoon.{IsChoiceBound, NoneBetween}
 use Rattle.gptp_settling_time.proofs.ChoiceBoundLemmas.{choice_bounds_are_exact}
-use Rattle.gptp_settling_time.proofs.DocumentLemmas.{run_to}
-use Rattle.gptp_settling_time.proofs.FollowedLemmas.{bound_settles}
-use Rattle.gptp_settling_time.proofs.InTurnLemmas.{after_keeps, passed_in_turn}
-use Rattle.gptp_settling_time.proofs.MomentLemmas.{last_by, none_later}
 use Rattle.gptp_how_soon_laws.specs.Exact.{IsExactSoon}
 use Rattle.gptp_how_soon_laws.proofs.ChoiceLemmas.{time_so}
+use Rattle.gptp_how_soon_laws.proofs.StepLemmas.{IsKept, kept}
 
 -- ---- when a link was last set
 
@@ -61,36 +55,21 @@ same_set events = ap last_change (same_kept events)
 
 -- ---- a way has fewer links than a path has systems
 
-module _ {F : Type 0} (answers : Bounds → ℕ → F → Option ℕ → F → Type 0) (d : DocumentState)
-    (time choice next settled until : ℕ) (fate : F) (first w : WorldState) (ts : List ActTrace) (t : ActTrace)
-    (playable : IsPlayable d) (k : Unfolds answers d until fate first ts w) (member : In t ts)
-    (bound : IsChoiceBound d time choice) (none : NoneBetween d.events time next) (late : time + choice < settled)
-    (on : time < t.told.timed.at) (early : t.told.timed.at < next) where
-  few_links : (steps number error : ℕ) → IsWayError d.network.params t.before number (suc steps) error
-      → suc steps < (sync_paths d.network (events_by time d.events)).systems
-  few_links steps number error way =
-      let at = t.told.timed.at in
-      let events : List Timed = events_by at d.events in
-      let same : events ≡ events_by time d.events = none_later d.events time at next (omega (arith, on)) early none
-      in
-      let is = bound_settles d playable.network playable.events.in_order time choice at settled same late bound in
-      let last = last_by time d.events in
-      let later : last_change events < at =
-      subst (λ es. last_change es < at) (sym same) (omega (arith, last, on)) in
-      let run = run_to answers d until fate first w ts t playable k member in
-      let step = (passed_in_turn answers d at settled fate first run.w run.ts playable run.unfolds is).each t run.member
-      later in
-      let keeps = after_keeps d events is.last t.before step.before in
-      let world = keeps.claim.world in
-      let well = stands_well t.before world.sound world.between world.encodable in
-      let far = way_distance (follower_parts d.network.params t.before) (snapshot_of t.before) (suc steps) number way.way
-      way.phase well way.leads in
-      let less = IsDistance-within (snapshot_of t.before) (path_bound (snapshot_of t.before)) number (suc steps)
-      (paths_within (snapshot_of t.before) well) far in
-      let systems : (sync_paths d.network events).systems ≡ path_bound (snapshot_of t.before) =
-      ap (λ (x : SyncPaths). x.systems)
-      (paths_stand d.network events t.before playable.network keeps.stands world.sound) in
-      subst (λ es. suc steps < (sync_paths d.network es).systems) same (omega (arith, less, systems))
+few_links : (d : DocumentState) (events : List Timed) (t : ActTrace) (steps number error : ℕ) → IsPlayable d
+    → IsKept d events t → IsWayError d.network.params t.before number (suc steps) error
+    → suc steps < (sync_paths d.network events).systems
+few_links d events t steps number error playable kept_then way =
+    let keeps = kept_then.before in
+    let world = keeps.claim.world in
+    let well = stands_well t.before world.sound world.between world.encodable in
+    let far = way_distance (follower_parts d.network.params t.before) (snapshot_of t.before) (suc steps) number way.way
+    way.phase well way.leads in
+    let less = IsDistance-within (snapshot_of t.before) (path_bound (snapshot_of t.before)) number (suc steps)
+    (paths_within (snapshot_of t.before) well) far in
+    let systems : (sync_paths d.network events).systems ≡ path_bound (snapshot_of t.before) =
+    ap (λ (x : SyncPaths). x.systems)
+    (paths_stand d.network events t.before playable.network keeps.stands world.sound) in
+    omega (arith, less, systems)
 
 -- so a Sync has had the time to come down it
 come_down : (steps systems hop most settled exact at : ℕ) → suc steps < systems → 1 ≤ hop → settled ≡ most + 1
@@ -114,8 +93,10 @@ exact_soon answers d time s next until fate first w ts t playable k member shown
     let exact : most + systems * hop ≤ s.exact_from = so.exact in
     let late : time.at + s.choice < settled = omega arith in
     let few : suc steps < systems =
-    few_links answers d time.at s.choice next settled until fate first w ts t playable k member (before, so.choice) none
-    late behind early steps number error way in
+    few_links d (events_by time.at d.events) t steps number error playable
+    (kept answers d time.at s.choice next until fate first w ts t playable k member (before, so.choice) none behind
+    early)
+    way in
     let least : 1 ≤ hop = let one = playable.network.params.ranges.params.threshold-least in omega (arith, one) in
     let set = same_set (events_by time.at d.events) in
     choice_bounds_are_exact answers d time.at s.choice next settled until fate first w ts t playable k member shown

@@ -1,26 +1,25 @@
--- The events of a time that are told to be idle or gains are followed: by when ports are capable after them, and whether
--- what they tell is heard at once.
-use Rattle.std.proofs.Common.{◌≡◌, ◌<◌, ◌≤◌, ◌⊎◌, inl, inr, ◌+◌, ◌*◌, ℕ, Bool, true, false, cond, suc, List, [], ◌∷◌, ◌++◌, Option, Some, None, length, filter, map, slice_get, refl, sym, ap, ap₂, subst, ◌∙◌, append-nil, append_assoc, arith}
-use Rattle.std.specs.Prelude.{◌==◌, ◌&&◌, ◌||◌, not, ⊤, nat_le}
+-- The events of a time that are told to be idle or gains are followed: by when ports are capable after them, and
+-- whether what they tell is heard at once.
+use Rattle.std.proofs.Common.{◌≡◌, ◌<◌, ◌≤◌, ◌⊎◌, inl, inr, ◌+◌, ◌*◌, ℕ, Bool, true, false, cond, suc, List, [], ◌∷◌, ◌++◌, length, filter, refl, sym, ap, ap₂, subst, ◌∙◌, append-nil, append_assoc, arith}
+use Rattle.std.specs.Prelude.{◌==◌, ◌&&◌, ◌||◌, not}
 use Rattle.std.specs.List.{AllByRecursion, list_all, list_any}
-use Rattle.std.proofs.lemmas.Bool.{and_from, and_parts, eqb-true, false_from_ne_true, ne_eqb, or_cases, or_parts}
+use Rattle.std.proofs.lemmas.Bool.{and_parts, false_from_ne_true, ne_eqb, not-true, or_cases, or_parts}
 use Rattle.std.proofs.lemmas.Bool.Decides.{nat_tests}
 use Rattle.gptp_lists.specs.Members.{In}
-use Rattle.gptp_lists.proofs.SystemSpecLemmas.{In-map, In-slice_get, slice_get-In}
+use Rattle.gptp_lists.proofs.SystemSpecLemmas.{In-map, In-slice_get}
 use Rattle.gptp_vector.specs.declared.port.PortId.{PortId}
 use Rattle.gptp_links.specs.declared.bounds.Bounds.{Bounds}
 use Rattle.gptp_setup.specs.Intervals.{interval_of}
 use Rattle.gptp_setup.specs.SettlingParams.{largest_interval}
 use Rattle.gptp_setup.specs.declared.setup.Params.{Params}
 use Rattle.gptp_scenario.specs.Calm.{IsLive, NothingLapses}
-use Rattle.gptp_scenario.specs.Change.{is_at, link_acted, link_after, with_up}
+use Rattle.gptp_scenario.specs.Change.{link_acted, link_after, with_up}
 use Rattle.gptp_scenario.specs.InUse.{lives}
-use Rattle.gptp_scenario.specs.Network.{IsEnd, IsNetwork, NetworkState, pace_of}
+use Rattle.gptp_scenario.specs.Network.{IsNetwork, NetworkState, pace_of}
 use Rattle.gptp_scenario.specs.SettlingTime.{capability_span}
 use Rattle.gptp_scenario.specs.SyncWait.{sync_paths}
 use Rattle.gptp_scenario.specs.declared.change.Act.{Act}
 use Rattle.gptp_scenario.specs.declared.change.Act.TheVariants as acts
-use Rattle.gptp_scenario.specs.declared.change.Change.{Change}
 use Rattle.gptp_scenario.specs.declared.change.Change.TheVariants as changes
 use Rattle.gptp_scenario.specs.declared.change.Timed.{Timed}
 use Rattle.gptp_scenario.specs.declared.network.LinkSpec.{LinkSpec}
@@ -32,16 +31,15 @@ use Rattle.gptp_network.proofs.PassLemmas.{kept, passes_at}
 use Rattle.gptp_topology.specs.Course.{cable_is_used, cable_of}
 use Rattle.gptp_topology.specs.declared.course.Cable.{Cable}
 use Rattle.gptp_how_soon.specs.Bounds.{asked_again, is_again, is_hard_to_hear, ready, two_exchanges}
-use Rattle.gptp_how_soon.specs.Kinds.{are_heard, is_better, is_gain, is_heard_too, is_idle, is_link_up, is_loss, is_other, is_priority1, is_recovery, is_unused, lowers_unused, makes_nothing, raises_unused}
+use Rattle.gptp_how_soon.specs.Kinds.{are_heard, is_better, is_gain, is_heard_too, is_idle, is_link_up, is_loss, is_other, is_priority1, is_recovery, is_unused, lowers_unused, makes_nothing, raises_unused, what_of}
 use Rattle.gptp_how_soon.specs.Links.{is_new, new_links, standing_then, varies}
 use Rattle.gptp_how_soon.specs.Times.{told_at, told_of}
 use Rattle.gptp_how_soon.specs.declared.kinds.Told.{Told}
-use Rattle.gptp_how_soon.specs.declared.kinds.What.TheVariants as whats
 use Rattle.gptp_settling_time.specs.Gains.{AreSparedBy, ChangesNothing, IsNoWorse, IsSparedBy, JoinsLive, LeavesCapable, SparesFailed, TakesNothing}
 use Rattle.gptp_settling_time.specs.HowSoon.{AfterIdleEvents, AreGainEvents, AreHeardEvents, EachEvent, IsGainEvent, IsGainToo, IsHeardEvent, IsHeardToo, IsIdleEvent, TurnsUnused, way_span}
 use Rattle.gptp_settling_time.specs.InTurn.{BettersClock, BringsUp, MakesNothing, TurnsInVain}
 use Rattle.gptp_settling_time.proofs.SamePathsLemmas.{idle_paths, turned_paths}
-use Rattle.gptp_how_soon_laws.proofs.CalmLemmas.{lives_to, not_so, three_from, three_parts}
+use Rattle.gptp_how_soon_laws.proofs.CalmLemmas.{lives_to, three_from, three_parts}
 use Rattle.gptp_how_soon_laws.proofs.KindLemmas.{Gains, RaisesLink, TurnsBroken, gain_gains, gain_is_not_idle, idle_changes, nothing_or_gain, unused_turns}
 use Rattle.gptp_how_soon_laws.proofs.MoreLemmas.{IsMore, Leaves, more_delay, more_live, more_lives, more_on, one_more, same_more}
 use Rattle.gptp_how_soon_laws.proofs.NamedLemmas.{end_first}
@@ -350,7 +348,8 @@ module _ (n : NetworkState) (network : IsNetwork n) (time : ℕ) (first events :
         port = port;
         act = act;
         down = λ place v there end.
-            ap (λ (w : LinkSpec). (link_after made w).up) (up.only place v there (end_first made (port_id clock port) v end))
+            ap (λ (w : LinkSpec). (link_after made w).up)
+            (up.only place v there (end_first made (port_id clock port) v end))
             ∙ up.down;
         little = λ place v there end.
             let one = none_any (is_hard_to_hear tolds) news (cable_of (link_after all up.link)) soft new in
@@ -376,9 +375,15 @@ module _ (n : NetworkState) (network : IsNetwork n) (time : ℕ) (first events :
           let soon = facts.capable in
           let more = ready_again n.params paths tolds news facts.again in
           let less = delay in
-          subst (λ a. TakesNothing n made a × LeavesCapable n made event next a) (sym act)
-          (tt, (failed, inr (omega (arith, soon)), subst (AreSparedBy n [] made) (sym here) (so_far.spared recovers),
-          omega (arith, here, more, less)))
+          subst (λ a. TakesNothing n made a × LeavesCapable n made event next a) (sym act) (
+            tt,
+            (
+              failed,
+              inr (omega (arith, soon)),
+              subst (AreSparedBy n [] made) (sym here) (so_far.spared recovers),
+              omega (arith, here, more, less),
+            ),
+          )
 
     -- a priority1 gets better
     module _ (number value : ℕ) (act : event.act ≡ acts.Change (changes.Priority1 number value))
@@ -410,8 +415,8 @@ module _ (n : NetworkState) (network : IsNetwork n) (time : ℕ) (first events :
         gains_system number same gains
         (passes_at is_recovery tolds (told_at n made event.act) is.among
         (ap (λ a. is_recovery (told_at n made a)) same
-        ∙ ap not (gain_is_not_idle number whats.Recover (told_at n made (acts.Change (changes.Recover number))).kind
-        gain)))
+        ∙ ap not (gain_is_not_idle number (what_of (acts.Change (changes.Recover number)))
+        (told_at n made (acts.Change (changes.Recover number))).kind gain)))
     gains_so (acts.Change (changes.Priority1 number value)) same gain gains = gains_clock number value same gains
     gains_so (acts.Change (changes.Inject clock port octets)) same gain gains = absurd gains
 
@@ -494,7 +499,11 @@ module _ (n : NetworkState) (network : IsNetwork n) (time : ℕ) (first events :
         by (acts.Change (changes.Priority1 number value)) same gain rest gains =
             let better : is_better (told_at n made event.act) ≡ true =
             ap (λ a. is_better (told_at n made a)) same ∙ ap (λ test. test && true) gain in
-            inr (not_so heard rest, passes_at is_better tolds (told_at n made event.act) is.among better, betters number value same gains)
+            inr (
+              not-true heard rest,
+              passes_at is_better tolds (told_at n made event.act) is.among better,
+              betters number value same gains,
+            )
         by (acts.Change (changes.Inject clock port octets)) same gain rest gains = absurd gains
 
     pub heard_first : is_heard_too false (told_at n made event.act) ≡ true

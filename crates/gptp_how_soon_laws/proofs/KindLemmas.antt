@@ -1,18 +1,16 @@
 -- What an event does that is told to be idle, or a gain.
-use Rattle.std.proofs.Common.{◌≡◌, ◌<◌, ◌≤◌, ◌⊎◌, inl, inr, ◌+◌, ◌*◌, ◌^◌, ◌%◌, ℕ, Bool, true, false, cond, nat_lt, List, Option, Some, None, slice_get, refl, sym, ap, subst, ◌∙◌, arith}
+use Rattle.std.proofs.Common.{◌≡◌, ◌≤◌, ◌⊎◌, inl, inr, ◌+◌, ◌*◌, ◌^◌, ◌%◌, ℕ, Bool, true, false, nat_lt, List, Option, Some, None, slice_get, refl, sym, ap, subst, ◌∙◌, arith}
 use Rattle.std.specs.Prelude.{◌==◌, ◌&&◌, ◌||◌, not, if◌then◌else◌}
 use Rattle.std.specs.List.{find}
 use Rattle.std.proofs.lemmas.Bool.{eqb-true}
 use Rattle.std.proofs.lemmas.Bool.Decides.{nat_tests}
 use Rattle.gptp_vector.specs.declared.port.PortId.{PortId}
-use Rattle.gptp_roles.specs.Selection.{clock_of}
 use Rattle.gptp_scenario.specs.Calm.{IsLive}
 use Rattle.gptp_scenario.specs.Change.{is_at, link_after, system_after}
 use Rattle.gptp_scenario.specs.InUse.{lives}
 use Rattle.gptp_scenario.specs.Network.{IsEnd, IsNetwork, NetworkState}
 use Rattle.gptp_scenario.specs.declared.change.Act.{Act}
 use Rattle.gptp_scenario.specs.declared.change.Act.TheVariants as acts
-use Rattle.gptp_scenario.specs.declared.change.Change.{Change}
 use Rattle.gptp_scenario.specs.declared.change.Change.TheVariants as changes
 use Rattle.gptp_scenario.specs.declared.change.Timed.{Timed}
 use Rattle.gptp_scenario.specs.declared.network.LinkSpec.{LinkSpec}
@@ -20,15 +18,14 @@ use Rattle.gptp_scenario.specs.declared.network.SystemSpec.{SystemSpec}
 use Rattle.gptp_scenario.proofs.AfterLemmas.{after_keeps}
 use Rattle.gptp_model.specs.World.{port_id}
 use Rattle.gptp_topology.specs.declared.course.Standing.{Standing}
-use Rattle.gptp_how_soon.specs.Kinds.{identity_with, is_gain, is_idle, is_loss, is_other, is_unused, makes_nothing, kind_of_failure, kind_of_link_down, kind_of_link_up, kind_of_priority1, kind_of_recovery}
-use Rattle.gptp_how_soon.specs.Links.{standing_then, standings_after}
-use Rattle.gptp_how_soon.specs.Systems.{has_clock, system_then, systems_after}
+use Rattle.gptp_how_soon.specs.Kinds.{identity_with, is_gain, is_idle, is_loss, is_other, is_unused, makes_nothing, kind_of_failure, kind_of_link_down, kind_of_link_up, kind_of_priority1, kind_of_recovery, what_of}
+use Rattle.gptp_how_soon.specs.Links.{standings_after}
+use Rattle.gptp_how_soon.specs.Systems.{has_clock, systems_after}
 use Rattle.gptp_how_soon.specs.Times.{is_standing_named, told_at}
 use Rattle.gptp_how_soon.specs.declared.kinds.Kind.{Kind}
 use Rattle.gptp_how_soon.specs.declared.kinds.Kind.TheVariants.{Idle, Unused, Loss, Gain, Other}
 use Rattle.gptp_how_soon.specs.declared.kinds.Told.{Told}
 use Rattle.gptp_how_soon.specs.declared.kinds.What.{What}
-use Rattle.gptp_how_soon.specs.declared.kinds.What.TheVariants as whats
 use Rattle.gptp_how_soon.specs.declared.systems.System.{System}
 use Rattle.gptp_settling_time.specs.Gains.{ChangesNothing, EndHasFailed, IsNoWorse}
 use Rattle.gptp_how_soon_laws.proofs.CalmLemmas.{lives_from}
@@ -258,6 +255,15 @@ module _ (n : NetworkState) (network : IsNetwork n) (made : List Timed) where
   abbrev system_at : ℕ → Option System
   system_at number = find (has_clock number) (systems_after n made)
 
+  abbrev failing : ℕ → Act
+  failing number = acts.Change (changes.Fail number)
+
+  abbrev recovering : ℕ → Act
+  recovering number = acts.Change (changes.Recover number)
+
+  abbrev setting : ℕ → ℕ → Act
+  setting number value = acts.Change (changes.Priority1 number value)
+
   -- whether the system lives that is found
   not_live : (number : ℕ) (x : System) → SystemNamed n network made number x → x.lives ≡ false
       → IsLive n.systems made number → ⊥
@@ -273,7 +279,7 @@ module _ (n : NetworkState) (network : IsNetwork n) (made : List Timed) where
   idle_changes (acts.Expire clock timer) is = absurd cc
   idle_changes (acts.Change (changes.LinkDown clock port)) is =
       let act = acts.Change (changes.LinkDown clock port) in
-      let (s, found_is, down) = idle_down clock whats.LinkDown (link_at act) is in
+      let (s, found_is, down) = idle_down clock (what_of act) (link_at act) is in
       let one = named_link n network made clock port act (λ x passed. passed) s found_is in
       λ place v there end.
       ap (λ (w : LinkSpec). (link_after made w).up)
@@ -281,7 +287,7 @@ module _ (n : NetworkState) (network : IsNetwork n) (made : List Timed) where
       ∙ ap (λ (x : Standing). x.cable.up) one.is ∙ down
   idle_changes (acts.Change (changes.LinkUp clock port)) is =
       let act = acts.Change (changes.LinkUp clock port) in
-      let (s, found_is, up) = idle_up clock whats.LinkUp (link_at act) is in
+      let (s, found_is, up) = idle_up clock (what_of act) (link_at act) is in
       let one = named_link n network made clock port act (λ x passed. passed) s found_is in
       λ place v there end.
       ap (λ (w : LinkSpec). (link_after made w).up)
@@ -289,10 +295,10 @@ module _ (n : NetworkState) (network : IsNetwork n) (made : List Timed) where
       ∙ ap (λ (x : Standing). x.cable.up) one.is ∙ up
   idle_changes (acts.Change (changes.LinkSet clock port least greatest loss)) is = absurd cc
   idle_changes (acts.Change (changes.Fail number)) is =
-      let (x, found_is, failed) = idle_failure number whats.Fail (system_at number) is in
+      let (x, found_is, failed) = idle_failure number (what_of (failing number)) (system_at number) is in
       not_live number x (named_system n network made number x found_is) failed
   idle_changes (acts.Change (changes.Recover number)) is =
-      let (x, found_is, live) = idle_recovery number whats.Recover (system_at number) is in
+      let (x, found_is, live) = idle_recovery number (what_of (recovering number)) (system_at number) is in
       let one = named_system n network made number x found_is in
       record {
         place = one.place;
@@ -302,7 +308,7 @@ module _ (n : NetworkState) (network : IsNetwork n) (made : List Timed) where
         live = ap (λ (o : System). o.lives) one.is ∙ live;
       }
   idle_changes (acts.Change (changes.Priority1 number value)) is =
-      let (x, found_is, idle) = idle_priority1 number whats.Priority1 value (system_at number) is in
+      let (x, found_is, idle) = idle_priority1 number (what_of (setting number value)) value (system_at number) is in
       let one = named_system n network made number x found_is in
       λ place m there named.
       let same = one.only place m there named in
@@ -315,10 +321,10 @@ module _ (n : NetworkState) (network : IsNetwork n) (made : List Timed) where
   gain_gains (acts.Deliver link direction) is = absurd cc
   gain_gains (acts.Expire clock timer) is = absurd cc
   gain_gains (acts.Change (changes.LinkDown clock port)) is =
-      absurd (never_down clock whats.LinkDown (link_at (acts.Change (changes.LinkDown clock port))) is)
+      let act = acts.Change (changes.LinkDown clock port) in absurd (never_down clock (what_of act) (link_at act) is)
   gain_gains (acts.Change (changes.LinkUp clock port)) is =
       let act = acts.Change (changes.LinkUp clock port) in
-      let (s, found_is, down, a, b) = gain_up clock whats.LinkUp (link_at act) is in
+      let (s, found_is, down, a, b) = gain_up clock (what_of act) (link_at act) is in
       let one = named_link n network made clock port act (λ x passed. passed) s found_is in
       record {
         link = one.link;
@@ -332,12 +338,13 @@ module _ (n : NetworkState) (network : IsNetwork n) (made : List Timed) where
       }
   gain_gains (acts.Change (changes.LinkSet clock port least greatest loss)) is = absurd cc
   gain_gains (acts.Change (changes.Fail number)) is =
-      absurd (never_failure number whats.Fail (system_at number) is)
+      absurd (never_failure number (what_of (failing number)) (system_at number) is)
   gain_gains (acts.Change (changes.Recover number)) is =
-      let (x, found_is, failed) = gain_recovery number whats.Recover (system_at number) is in
+      let (x, found_is, failed) = gain_recovery number (what_of (recovering number)) (system_at number) is in
       not_live number x (named_system n network made number x found_is) failed
   gain_gains (acts.Change (changes.Priority1 number value)) is =
-      let (x, found_is, live, lower) = gain_priority1 number whats.Priority1 value (system_at number) is in
+      let (x, found_is, live, lower) =
+      gain_priority1 number (what_of (setting number value)) value (system_at number) is in
       let one = named_system n network made number x found_is in
       λ place m there named.
       let same = one.only place m there named in
@@ -374,16 +381,17 @@ module _ (n : NetworkState) (network : IsNetwork n) (made : List Timed) where
   unused_turns (acts.Expire clock timer) is = absurd cc
   unused_turns (acts.Change (changes.LinkDown clock port)) is =
       let act = acts.Change (changes.LinkDown clock port) in
-      let (s, found_is, failed) = unused_down clock whats.LinkDown (link_at act) is in
+      let (s, found_is, failed) = unused_down clock (what_of act) (link_at act) is in
       end_failed clock port s (named_link n network made clock port act (λ x passed. passed) s found_is) failed
   unused_turns (acts.Change (changes.LinkUp clock port)) is =
       let act = acts.Change (changes.LinkUp clock port) in
-      let (s, found_is, failed) = unused_up clock whats.LinkUp (link_at act) is in
+      let (s, found_is, failed) = unused_up clock (what_of act) (link_at act) is in
       end_failed clock port s (named_link n network made clock port act (λ x passed. passed) s found_is) failed
   unused_turns (acts.Change (changes.LinkSet clock port least greatest loss)) is = absurd cc
-  unused_turns (acts.Change (changes.Fail number)) is = absurd (used_failure number whats.Fail (system_at number) is)
+  unused_turns (acts.Change (changes.Fail number)) is =
+      absurd (used_failure number (what_of (failing number)) (system_at number) is)
   unused_turns (acts.Change (changes.Recover number)) is =
-      absurd (used_recovery number whats.Recover (system_at number) is)
+      absurd (used_recovery number (what_of (recovering number)) (system_at number) is)
   unused_turns (acts.Change (changes.Priority1 number value)) is =
-      absurd (used_priority1 number whats.Priority1 value (system_at number) is)
+      absurd (used_priority1 number (what_of (setting number value)) value (system_at number) is)
   unused_turns (acts.Change (changes.Inject clock port octets)) is = absurd cc

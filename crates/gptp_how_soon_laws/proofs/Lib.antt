@@ -6,5 +6,6 @@ mod MoreLemmas
 mod GainedLemmas
 mod RowLemmas
 pub mod ChoiceLemmas
+pub mod StepLemmas
 mod SettledLemmas
 mod ExactLemmas

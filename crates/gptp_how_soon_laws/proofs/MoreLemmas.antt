@@ -8,12 +8,11 @@ use Rattle.gptp_vector.specs.declared.port.PortId.{PortId}
 use Rattle.gptp_roles.specs.Selection.{clock_of}
 use Rattle.gptp_links.specs.declared.bounds.Bounds.{Bounds}
 use Rattle.gptp_scenario.specs.Calm.{IsLive}
-use Rattle.gptp_scenario.specs.Change.{is_at, link_acted, link_after, link_changed, standing, system_acted, system_after, system_changed, with_live, with_priority1, with_up}
+use Rattle.gptp_scenario.specs.Change.{is_at, link_acted, link_after, standing, system_acted, system_after, with_live, with_priority1, with_up}
 use Rattle.gptp_scenario.specs.InUse.{greatest_delay, is_used, lives}
 use Rattle.gptp_scenario.specs.Network.{NetworkState}
 use Rattle.gptp_scenario.specs.declared.change.Act.{Act}
 use Rattle.gptp_scenario.specs.declared.change.Act.TheVariants as acts
-use Rattle.gptp_scenario.specs.declared.change.Change.{Change}
 use Rattle.gptp_scenario.specs.declared.change.Change.TheVariants as changes
 use Rattle.gptp_scenario.specs.declared.change.Timed.{Timed}
 use Rattle.gptp_scenario.specs.declared.network.LinkSpec.{LinkSpec}

@@ -1,5 +1,5 @@
 -- The link and the system that a change names, as they stand before it.
-use Rattle.std.proofs.Common.{◌≡◌, inl, inr, ℕ, Bool, true, false, cond, List, [], ◌∷◌, Option, Some, None, slice_get, refl, sym, ap, ap₂, subst, ◌∙◌}
+use Rattle.std.proofs.Common.{◌≡◌, inl, inr, ℕ, Bool, true, false, cond, List, [], ◌∷◌, Some, slice_get, refl, sym, ap, ap₂, subst, ◌∙◌}
 use Rattle.std.specs.Prelude.{◌==◌}
 use Rattle.std.specs.List.{find}
 use Rattle.std.proofs.lemmas.Bool.{and_parts, eqb-true, or_cases}
@@ -8,7 +8,7 @@ use Rattle.gptp_lists.proofs.MappedLemmas.{same_there, some_same}
 use Rattle.gptp_lists.proofs.SystemSpecLemmas.{from_map, slice_get-In}
 use Rattle.gptp_vector.specs.declared.port.PortId.{PortId}
 use Rattle.gptp_roles.specs.Selection.{clock_of}
-use Rattle.gptp_scenario.specs.Change.{is_at, link_after, system_after}
+use Rattle.gptp_scenario.specs.Change.{is_at, link_after}
 use Rattle.gptp_scenario.specs.Network.{IsEnd, IsNetwork, NetworkState, same_port}
 use Rattle.gptp_scenario.specs.declared.change.Act.{Act}
 use Rattle.gptp_scenario.specs.declared.change.Timed.{Timed}

@@ -2,9 +2,8 @@
 use Rattle.std.proofs.Common.{◌≡◌, ◌<◌, ◌≤◌, ◌⊎◌, inl, inr, ◌+◌, ◌*◌, ℕ, Bool, true, false, cond, List, [], ◌∷◌, ◌++◌, Option, Some, None, length, filter, refl, sym, ap, ap₂, subst, ◌∙◌, arith}
 use Rattle.std.specs.Prelude.{◌==◌, ◌&&◌, ◌||◌, not, nat_le, nat_lt, max, if◌then◌else◌}
 use Rattle.std.specs.List.{AllByRecursion, list_all, list_any}
-use Rattle.std.proofs.lemmas.Bool.{and_parts, eqb-false, eqb-true, or_cases, or_from, or_parts}
+use Rattle.std.proofs.lemmas.Bool.{and_parts, eqb-false, eqb-true, not-true, or_cases, or_from, or_parts}
 use Rattle.std.proofs.lemmas.Bool.Decides.{nat_tests}
-use Rattle.gptp_lists.specs.Members.{In}
 use Rattle.gptp_lists.proofs.MappedLemmas.{some_same}
 use Rattle.gptp_lists.proofs.SystemSpecLemmas.{In-map, In-slice_get}
 use Rattle.gptp_setup.specs.SettlingParams.{largest_interval}
@@ -21,19 +20,15 @@ use Rattle.gptp_scenario.specs.declared.change.Act.{Act}
 use Rattle.gptp_scenario.specs.declared.change.Act.TheVariants as acts
 use Rattle.gptp_scenario.specs.declared.change.Change.TheVariants as changes
 use Rattle.gptp_scenario.specs.declared.change.Timed.{Timed}
-use Rattle.gptp_scenario.specs.declared.network.LinkSpec.{LinkSpec}
-use Rattle.gptp_scenario.specs.declared.sync_wait.SyncPaths.{SyncPaths}
-use Rattle.gptp_network.specs.Events.{AreInOrder}
 use Rattle.gptp_network.specs.Snapshot.{events_by}
 use Rattle.gptp_network.proofs.PassLemmas.{kept}
 use Rattle.gptp_topology.specs.Course.{cable_of}
 use Rattle.gptp_topology.specs.declared.course.Cable.{Cable}
-use Rattle.gptp_topology.specs.declared.course.Standing.{Standing}
-use Rattle.gptp_how_soon.specs.Bounds.{asked_again, choice_by, choice_of_row, heard_by, is_again, is_hard_to_hear, ready, settled, two_exchanges}
+use Rattle.gptp_how_soon.specs.Bounds.{asked_again, choice_by, choice_of_row, is_again, is_hard_to_hear, ready, settled, two_exchanges}
 use Rattle.gptp_how_soon.specs.Kinds.{are_heard, fails_and_recovers, is_better, is_gain, is_idle, is_loss, is_other, is_recover, is_recovery, is_recovery_of, is_unused, lowers_unused, makes_nothing, raises_unused, recovers, sets_link, tells_nothing}
 use Rattle.gptp_how_soon.specs.Links.{is_new, is_unanswered, new_links, standing_then, standings_after, varies}
 use Rattle.gptp_how_soon.specs.Rest.{are_events_followed, are_recoveries_followed, are_turns_followed, have_shown, heard_at_once, is_from_rest, rested, rested_by}
-use Rattle.gptp_how_soon.specs.Times.{View, events_at, gained_at, heard_at, is_calm, ready_at, row_at, settling_time, told_at, told_of, view_at}
+use Rattle.gptp_how_soon.specs.Times.{View, events_at, gained_at, is_calm, ready_at, row_at, settling_time, told_at, told_of, view_at}
 use Rattle.gptp_how_soon.specs.declared.bounds.Row.{Row}
 use Rattle.gptp_how_soon.specs.declared.bounds.Row.TheVariants.{AnyPast, Unchanged, Gained}
 use Rattle.gptp_how_soon.specs.declared.bounds.Settling.{Settling}
@@ -42,11 +37,11 @@ use Rattle.gptp_how_soon.specs.declared.kinds.Kind.{Kind}
 use Rattle.gptp_how_soon.specs.declared.kinds.Told.{Told}
 use Rattle.gptp_how_soon.specs.declared.kinds.What.{What}
 use Rattle.gptp_how_soon.specs.declared.kinds.What.TheVariants as whats
-use Rattle.gptp_settling_time.specs.HowSoon.{AreHeardEvents, AreStartEvents, BoundsChoice, BoundsEvents, BoundsGains, BoundsStart, EachEvent, IsIdleEvent, NoneBetween, StartsQuietly, way_span}
+use Rattle.gptp_settling_time.specs.HowSoon.{AreStartEvents, BoundsChoice, BoundsGains, BoundsStart, EachEvent, IsIdleEvent, StartsQuietly, way_span}
 use Rattle.gptp_settling_time.specs.InTurn.{NoneUnanswered, TellsNothing, UsedVaryLittle}
 use Rattle.gptp_settling_time.proofs.CutLemmas.{IsBy, all_by}
 use Rattle.gptp_settling_time.proofs.MomentLemmas.{all_at}
-use Rattle.gptp_how_soon_laws.proofs.CalmLemmas.{calm_so, lives_from, lives_to, not_so, used_cable}
+use Rattle.gptp_how_soon_laws.proofs.CalmLemmas.{calm_so, lives_from, lives_to, used_cable}
 use Rattle.gptp_how_soon_laws.proofs.GainedLemmas.{AreFollowed, AreTurnsFollowed, all_gained, all_heard, all_idle, none_any}
 use Rattle.gptp_how_soon_laws.proofs.KindLemmas.{told}
 
@@ -255,7 +250,7 @@ starts n now quiet none some = (
     two =
         ap₂ (λ none again. cond none 0
         (cond again (asked_again n.params (sync_paths n now)) (two_exchanges n.params (sync_paths n now))))
-        (not_so (length (new_links n [] now true) == 0) some)
+        (not-true (length (new_links n [] now true) == 0) some)
         (never_again (told_of n [] now) quiet (new_links n [] now true))
 
     by : (hard : Bool) → list_any (is_hard_to_hear (told_of n [] now)) (new_links n [] now true) ≡ hard
@@ -279,7 +274,7 @@ started n now row =
     in
     let (quiet, none) =
     and_parts (list_all tells_nothing v.told) (not (list_any is_unanswered v.standings)) two in
-    starts n now quiet (not_so (list_any is_unanswered v.standings) none) some
+    starts n now quiet (not-true (list_any is_unanswered v.standings) none) some
 
 pub never_unchanged : (n : NetworkState) (now : List Timed) → row_at n (view_at n [] now None 0) ≡ Unchanged → ⊥
 never_unchanged n now row =
@@ -339,11 +334,11 @@ module _ (n : NetworkState) (network : IsNetwork n) (events : List Timed) (b : S
       record {
         raised = λ some. elim (or_cases (not (list_any raises_unused v.told)) (have_shown n v.paths_before at) rise) [
           | inl none ↦
-              let no : true ≡ false = sym some ∙ not_so (list_any raises_unused v.told) none in absurd cc
+              let no : true ≡ false = sym some ∙ not-true (list_any raises_unused v.told) none in absurd cc
           | inr shown ↦ at_most (capability_span (pace_of n) + way_span (sync_paths n made)) at shown
         ];
         lowered = not_both (list_any lowers_unused v.told) (list_any is_gain v.told)
-            (not_so (list_any lowers_unused v.told && list_any is_gain v.told) fall);
+            (not-true (list_any lowers_unused v.told && list_any is_gain v.told) fall);
       }
 
   from_rest : is_from_rest n at v.paths_before v.standings v.told v.new (ready_at n v) (Some b) ≡ true → IsFromRest
@@ -358,14 +353,14 @@ module _ (n : NetworkState) (network : IsNetwork n) (events : List Timed) (b : S
       and_parts (not (list_any is_other v.told)) (not (fails_and_recovers v.told)) events_are in
       record {
         rested = rested_so b at b.settling refl rest;
-        others = not_so (list_any is_other v.told) known;
+        others = not-true (list_any is_other v.told) known;
         turns = turns_so turns_are;
         followed = λ recovers. elim (or_cases (not (list_any is_recovery v.told))
-        (are_recoveries_followed n b.at at v.told v.new (ready_at n v)) third) [
-          | inl none ↦
-              let no : true ≡ false = sym recovers ∙ not_so (list_any is_recovery v.told) none in absurd cc
-          | inr are ↦ are
-        ];
+            (are_recoveries_followed n b.at at v.told v.new (ready_at n v)) third) [
+              | inl none ↦
+                  let no : true ≡ false = sym recovers ∙ not-true (list_any is_recovery v.told) none in absurd cc
+              | inr are ↦ are
+            ];
       }
 
   recoveries : are_recoveries_followed n b.at at v.told v.new (ready_at n v) ≡ true → AreFollowed n network at made now
@@ -383,7 +378,7 @@ module _ (n : NetworkState) (network : IsNetwork n) (events : List Timed) (b : S
         past = over_before b.at (largest_interval (pace_of n)) at made over (all_by b.at events);
         capable = late_enough;
         again = again;
-        turns = not_so (list_any is_unused v.told) turns;
+        turns = not-true (list_any is_unused v.told) turns;
       }
 
   pub unchanged : row_at n v ≡ Unchanged → HasComeToRest b at × EachEvent (IsIdleEvent n) made now
@@ -409,7 +404,7 @@ module _ (n : NetworkState) (network : IsNetwork n) (events : List Timed) (b : S
           → list_any is_better v.told ≡ true → (sync_paths n made).systems ≤ 255
       few_before is better = elim (or_cases (nat_le v.paths_before.systems 255) (not (list_any is_better v.told)) is) [
         | inl few ↦ grind (arith, nat_tests)
-        | inr none ↦ let no : true ≡ false = sym better ∙ not_so (list_any is_better v.told) none in absurd cc
+        | inr none ↦ let no : true ≡ false = sym better ∙ not-true (list_any is_better v.told) none in absurd cc
       ]
 
       by : IsFromRest → list_any is_loss v.told ≡ false → list_all makes_nothing v.told ≡ false → (heard hard : Bool)

@@ -1,5 +1,5 @@
 -- From when on offsets are exact in each run of a document, as it is computed.
-use Rattle.std.specs.Prelude.{◌≡◌, ◌<◌, ◌≤◌, ◌+◌, ◌^◌, ℕ, ℤ, suc, List, Option, Some}
+use Rattle.std.specs.Prelude.{◌≡◌, ◌<◌, ◌≤◌, ◌^◌, ℕ, ℤ, suc, List, Option, Some}
 use Rattle.gptp_lists.specs.Members.{In}
 use Rattle.gptp_graph.specs.Distance.{IsNear}
 use Rattle.gptp_links.specs.declared.bounds.Bounds.{Bounds}
