@@ -208,8 +208,8 @@ module _ (d : DocumentState) (network : IsNetwork d.network) where
   walked_more t left old told new at times after so tells passes = by (t.at == at) refl
     where
       set_early : old.last_set ≤ at → told.last_set ≡ old.last_set → at ≤ t.at → new.last_set ≤ t.at
-      set_early was same later = set_by (sets_bounds t.act) told.last_set t.at new.last_set (omega (arith, was, same, later))
-          passes.set
+      set_early was same later =
+          set_by (sets_bounds t.act) told.last_set t.at new.last_set (omega (arith, was, same, later)) passes.set
 
       same_time : t.at ≡ at → told ≡ old → after ≡ times → Walked d left new t.at after
       same_time same unmoved none =

@@ -17,7 +17,8 @@ use Rattle.gptp_how_soon.specs.declared.systems.System.{System}
 
 -- ---- kinds
 
--- A link that is down doesn't go down, and one that is up doesn't come up. One with a failed end isn't used, up or down.
+-- A link that is down doesn't go down, and one that is up doesn't come up. One with a failed end isn't used, up or
+-- down.
 abbrev pub kind_of_link_down : Option Standing → Kind
 kind_of_link_down None = Other
 kind_of_link_down (Some s) = if not s.cable.up then Idle else if s.a_lives && s.b_lives then Loss else Unused

@@ -1,6 +1,7 @@
 -- Whether a time is from rest, so that what its events do says how soon the choice stands (profile).
 --
--- Each word that ends in `followed` says where this is proved, and no more: elsewhere the network may come from any past.
+-- Each word that ends in `followed` says where this is proved, and no more: elsewhere the network may come from any
+-- past.
 use Rattle.std.specs.Prelude.{ℕ, ◌+◌, ◌==◌, ◌&&◌, ◌||◌, nat_le, nat_lt, not, Bool, false, if◌then◌else◌, List, length, Option, Some, None}
 use Rattle.std.specs.List.{list_all, list_any}
 use Rattle.gptp_setup.specs.SettlingParams.{largest_interval}
@@ -69,8 +70,8 @@ is_from_rest n at paths_before standings told new ready (Some b) =
 
 -- ---- rows
 
--- Not from rest, or after a loss, the network may come from any past. Events that make nothing of what stands leave it as
--- it was. At the start nothing was, and so nothing is lost.
+-- Not from rest, or after a loss, the network may come from any past. Events that make nothing of what stands leave it
+-- as it was. At the start nothing was, and so nothing is lost.
 abbrev pub row_of : Bool → Bool → List Told → Row
 row_of from_rest first told =
     if not from_rest then AnyPast

@@ -1,7 +1,7 @@
 -- How soon the choice and the roles stand at each time of a document (profile).
 --
--- What stands *before* a time stands after the events up to the time before, at 0 before all events; what stands *at* it
--- after its own too.
+-- What stands *before* a time stands after the events up to the time before, at 0 before all events; what stands *at*
+-- it after its own too.
 use Rattle.std.specs.Prelude.{ℕ, ◌+◌, ◌≤◌, ◌<◌, ⊤, ◌==◌, ◌||◌, not, Bool, List, [], ◌∷◌, ◌++◌, filter, Option, Some, None}
 use Rattle.std.specs.List.{AllByRecursion, find, list_any}
 use Rattle.std.specs.Option.{is_some}
@@ -59,7 +59,8 @@ abbrev pub gained_at : NetworkState → View → ℕ
 gained_at n v = ready_at n v + heard_at n v + way_span v.paths
 
 abbrev pub row_at : NetworkState → View → Row
-row_at n v = row_of (is_from_rest n v.at v.paths_before v.standings v.told v.new (ready_at n v) v.before) (is_first v) v.told
+row_at n v =
+    row_of (is_from_rest n v.at v.paths_before v.standings v.told v.new (ready_at n v) v.before) (is_first v) v.told
 
 abbrev pub settling_time : NetworkState → View → SettlingTime
 settling_time n v = times_by n v.at v.last_set v.paths v.calm (sets_link v.told) (row_at n v) (gained_at n v)

@@ -173,7 +173,11 @@ fn links_that_are_not_used_turn_at_no_cost(rt: HostRuntime) -> Result<(), Fail> 
 fn offsets_are_exact_an_announce_interval_after_the_start(rt: HostRuntime) -> Result<(), Fail> {
     // Eight exchanges each second.
     assert_eq!(rt;
-        pair(rt.alloc(), "min = 500\nmax = 500\n", "[network]\npdelay = -3\n")?,
+        pair(
+            rt.alloc(),
+            "min = 500\nmax = 500\n",
+            "[network]\npdelay = -3\n"
+        )?,
         start(125_002_500, 125_003_000, 1_000_003_600, 2_000_003_600)
     );
     Ok(())

@@ -80,8 +80,8 @@ come_down steps systems hop most settled exact at few some is told on =
     omega (arith, times, more, some, is, told, on)
 
 pub exact_soon : {F : Type 0} (answers : Bounds → ℕ → F → Option ℕ → F → Type 0) → IsExactSoon answers
-exact_soon answers d time s next until fate first w ts t playable k member shown told is none behind on early steps number
-    error offset ahead leaves near way is_ahead =
+exact_soon answers d time s next until fate first w ts t playable k member shown told is none behind on early steps
+    number error offset ahead leaves near way is_ahead =
     let (before, so) = time_so d playable time s told is in
     let at = t.told.timed.at in
     let interval : ℕ = largest_interval (pace_of d.network) in

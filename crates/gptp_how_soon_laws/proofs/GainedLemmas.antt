@@ -423,7 +423,8 @@ module _ (n : NetworkState) (network : IsNetwork n) (time : ℕ) (first events :
     pub gains : is_gain (told_at n made event.act) ≡ true → IsGainEvent n next made event
     gains gain = gains_so event.act refl gain (gain_gains n network made event.act gain)
 
-    pub gains_too : AreTurnsFollowed → NothingLapses n.params → list_any is_gain tolds ≡ true → IsGainToo n next made event
+    pub gains_too : AreTurnsFollowed → NothingLapses n.params → list_any is_gain tolds ≡ true
+        → IsGainToo n next made event
     gains_too turns off gained = elim is.kind [
       | inl nothing ↦ inr (idles_late turns made event here is.among off gained nothing)
       | inr gain ↦ inl (gains gain)
@@ -530,8 +531,8 @@ module _ (n : NetworkState) (network : IsNetwork n) (time : ℕ) (first events :
   each_idle turns made [] now among same nothing = tt
   each_idle turns made (event ∷ left) now among same nothing =
       let (one, rest) =
-      and_parts (makes_nothing (told_at n made event.act)) (list_all makes_nothing (told_of n (made ++ event ∷ []) left))
-      nothing in
+      and_parts (makes_nothing (told_at n made event.act))
+      (list_all makes_nothing (told_of n (made ++ event ∷ []) left)) nothing in
       let idle = idles turns made event now.0 among.0 same one in
       (idle, each_idle turns (made ++ event ∷ []) left now.1 among.1 (idle_ways made event idle ∙ same) rest)
 
@@ -576,12 +577,13 @@ module _ (n : NetworkState) (network : IsNetwork n) (time : ℕ) (first events :
               inr (
                 idle,
                 after_idle (made ++ event ∷ []) left more now.1 on each.1 (idle_ways made event idle ∙ same)
-                    (ap (λ test. test && list_all makes_nothing (told_of n (made ++ event ∷ []) left)) (sym nothing) ∙ some),
+                    (ap (λ test. test && list_all makes_nothing (told_of n (made ++ event ∷ []) left)) (sym nothing)
+                    ∙ some),
               )
           | inr gain ↦ inl (
             gains followed made event now.0 so_far each.0 later gain,
-            each_gain (passes_at is_gain tolds (told_at n made event.act) each.0.among gain) (made ++ event ∷ []) left more
-                now.1 on each.1,
+            each_gain (passes_at is_gain tolds (told_at n made event.act) each.0.among gain) (made ++ event ∷ []) left
+                more now.1 on each.1,
           )
         ]
 
@@ -627,8 +629,8 @@ module _ (n : NetworkState) (network : IsNetwork n) (time : ℕ) (first events :
           by (makes_nothing (told_at n made event.act)) refl heard
           (λ idle. events_heard few (made ++ event ∷ []) left (append_assoc made (event ∷ []) left ∙ are) now.1 on
           each.1 (idle_ways made event idle ∙ same))
-          (λ gain. each_heard (passes_at is_gain tolds (told_at n made event.act) each.0.among gain) (made ++ event ∷ [])
-          left (append_assoc made (event ∷ []) left ∙ are) now.1 on each.1)
+          (λ gain. each_heard (passes_at is_gain tolds (told_at n made event.act) each.0.among gain)
+          (made ++ event ∷ []) left (append_assoc made (event ∷ []) left ∙ are) now.1 on each.1)
           (λ too. heard_first followed made event now.0 so_far each.0 later too soft
           (λ better. subst (λ (x : SyncPaths). x.systems ≤ 255) (sym same) (few better)))
         where

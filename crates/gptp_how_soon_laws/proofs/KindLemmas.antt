@@ -371,9 +371,9 @@ module _ (n : NetworkState) (network : IsNetwork n) (made : List Timed) where
       ⊎ (IsLive n.systems made (link_after made w).b.clock → ⊥)) (sym same)
       (elim (either_failed s.a_lives s.b_lives failed) [
         | inl a ↦ inl (not_alive (link_after made one.link).a.clock one.link.a.clock
-        (ap (λ (p : PortId). p.clock) ends.a) (ap (λ (x : Standing). x.a_lives) one.is ∙ a))
+            (ap (λ (p : PortId). p.clock) ends.a) (ap (λ (x : Standing). x.a_lives) one.is ∙ a))
         | inr b ↦ inr (not_alive (link_after made one.link).b.clock one.link.b.clock
-        (ap (λ (p : PortId). p.clock) ends.b) (ap (λ (x : Standing). x.b_lives) one.is ∙ b))
+            (ap (λ (p : PortId). p.clock) ends.b) (ap (λ (x : Standing). x.b_lives) one.is ∙ b))
       ])
 
   pub unused_turns : (act : Act) → is_unused (told_at n made act) ≡ true → TurnsBroken act

@@ -21,6 +21,7 @@ use Rattle.gptp_scenario.specs.declared.change.Act.{Act}
 use Rattle.gptp_scenario.specs.declared.change.Act.TheVariants as acts
 use Rattle.gptp_scenario.specs.declared.change.Change.TheVariants as changes
 use Rattle.gptp_scenario.specs.declared.change.Timed.{Timed}
+use Rattle.gptp_scenario.specs.declared.network.LinkSpec.{LinkSpec}
 use Rattle.gptp_network.specs.Snapshot.{events_by}
 use Rattle.gptp_network.proofs.PassLemmas.{kept}
 use Rattle.gptp_topology.specs.Course.{cable_of}
@@ -175,11 +176,11 @@ answered n now none place v there up =
     both_live (link_after now v).up (lives n.systems now v.a.clock) (lives n.systems now v.b.clock) one up in
     let ends = after_keeps now v in (
       λ live. subst (λ (p : PortId). IsLive n.systems now p.clock) (sym ends.b)
-      (lives_to n now v.b.clock
-      (a_to_b (lives_from n now v.a.clock (subst (λ (p : PortId). IsLive n.systems now p.clock) ends.a live)))),
+          (lives_to n now v.b.clock
+          (a_to_b (lives_from n now v.a.clock (subst (λ (p : PortId). IsLive n.systems now p.clock) ends.a live)))),
       λ live. subst (λ (p : PortId). IsLive n.systems now p.clock) (sym ends.a)
-      (lives_to n now v.a.clock
-      (b_to_a (lives_from n now v.b.clock (subst (λ (p : PortId). IsLive n.systems now p.clock) ends.b live)))),
+          (lives_to n now v.a.clock
+          (b_to_a (lives_from n now v.b.clock (subst (λ (p : PortId). IsLive n.systems now p.clock) ends.b live)))),
     )
 
 starts_quietly : (n : NetworkState) (now : List Timed) → AreStartEvents now → NoneUnanswered n now → StartsQuietly n now
@@ -385,18 +386,21 @@ module _ (n : NetworkState) (network : IsNetwork n) (events : List Timed) (b : S
   pub unchanged : row_at n v ≡ Unchanged → HasComeToRest b at × EachEvent (IsIdleEvent n) made now
   unchanged row =
       let (from, idle) =
-      unchanged_from (is_from_rest n at v.paths_before v.standings v.told v.new (ready_at n v) (Some b)) (list_all makes_nothing v.told)
-      (list_any is_loss v.told) row in
+      unchanged_from (is_from_rest n at v.paths_before v.standings v.told v.new (ready_at n v) (Some b))
+      (list_all makes_nothing v.told) (list_any is_loss v.told) row in
       let facts = from_rest from in (facts.rested, all_idle n network at made now facts.turns (all_at at events) idle)
 
-  pub gained : row_at n v ≡ Gained → NothingLapses n.params → HasComeToRest b at × BoundsGains n made now at (ready_at n v) (gained_at n v)
+  pub gained : row_at n v ≡ Gained → NothingLapses n.params
+      → HasComeToRest b at × BoundsGains n made now at (ready_at n v) (gained_at n v)
   gained row off =
       let (from, none, some) =
-      gained_from (is_from_rest n at v.paths_before v.standings v.told v.new (ready_at n v) (Some b)) (list_all makes_nothing v.told)
-      (list_any is_loss v.told) row in
-      let facts = from_rest from in
-      (facts.rested, by facts none some (heard_at_once false v.paths_before v.told)
-      (list_any (is_hard_to_hear v.told) v.new) refl refl)
+      gained_from (is_from_rest n at v.paths_before v.standings v.told v.new (ready_at n v) (Some b))
+      (list_all makes_nothing v.told) (list_any is_loss v.told) row in
+      let facts = from_rest from in (
+        facts.rested,
+        by facts none some (heard_at_once false v.paths_before v.told)
+            (list_any (is_hard_to_hear v.told) v.new) refl refl,
+      )
     where
       followed : IsFromRest → list_any is_recovery v.told ≡ true → AreFollowed n network at made now
       followed facts recovers = recoveries (facts.followed recovers)
@@ -415,17 +419,20 @@ module _ (n : NetworkState) (network : IsNetwork n) (events : List Timed) (b : S
           (ready_at n v + cond (heard && not hard) 0 (largest_interval (pace_of n)) + way_span v.paths)
       by facts none some true false is soft =
           let (heard, few) =
-          and_parts (are_heard false v.told) (nat_le v.paths_before.systems 255 || not (list_any is_better v.told)) is in
+          and_parts (are_heard false v.told)
+          (nat_le v.paths_before.systems 255 || not (list_any is_better v.told)) is in
           inl (
-            all_heard n network at made now (all_at at events) off facts.turns (followed facts) (omega (arith, late)) none facts.others
-                soft (few_before few) heard,
+            all_heard n network at made now (all_at at events) off facts.turns (followed facts) (omega (arith, late))
+                none facts.others soft (few_before few) heard,
             omega arith,
           )
       by facts none some true true is hard = inr (
-        all_gained n network at made now (all_at at events) off facts.turns (followed facts) (omega (arith, late)) none facts.others some,
+        all_gained n network at made now (all_at at events) off facts.turns (followed facts) (omega (arith, late)) none
+            facts.others some,
         refl,
       )
       by facts none some false hard is soft = inr (
-        all_gained n network at made now (all_at at events) off facts.turns (followed facts) (omega (arith, late)) none facts.others some,
+        all_gained n network at made now (all_at at events) off facts.turns (followed facts) (omega (arith, late)) none
+            facts.others some,
         refl,
       )
