@@ -90,8 +90,8 @@ settles until same = record {
   first = Heard 1000002001;
   begins = (
     used_vary pair_network [] few,
-    subst (λ (p : SettlingParams). exchanged_from p (sync_paths pair_network []) 0 ≤ 1000002001) (sym pace_is)
-        (subst (λ (x : SyncPaths). exchanged_from pair_pace x 0 ≤ 1000002001) (sym paths_are) (omega arith)),
+    inl (subst (λ (p : SettlingParams). exchanged_from p (sync_paths pair_network []) 0 ≤ 1000002001) (sym pace_is)
+        (subst (λ (x : SyncPaths). exchanged_from pair_pace x 0 ≤ 1000002001) (sym paths_are) (omega arith))),
   );
   last = Heard 2000000001;
   lead = subst (λ es. LeadOn pair_network [] (Heard 1000002001) es (Heard 2000000001)) (sym same) (

@@ -79,13 +79,13 @@ little (suc place) v there used = absurd (none-some v there)
 pub early_bound : IsChoiceBound early_document 0 1000002500
 early_bound = (
   [],
-  (refl, (record { links = links_rest; lapses = inl refl }, inr (refl, inr (((tt, tt), answered), inl (little, is))))),
+  (refl, (record { links = links_rest; lapses = inl refl }, inr (refl, inr (((tt, tt), answered), (1000002000, inl ready, inl (little, is)))))),
 )
   where
-    is : 1000002500
-        ≡ two_exchanges (pace_of pair_network) (sync_paths pair_network events)
-        + way_span (sync_paths pair_network events)
-    is =
-        subst (λ (p : SettlingParams). 1000002500
-        ≡ two_exchanges p (sync_paths pair_network events) + way_span (sync_paths pair_network events)) (sym pace_is)
-        (subst (λ (x : SyncPaths). 1000002500 ≡ two_exchanges pair_pace x + way_span x) (sym paths_then) refl)
+    ready : 1000002000 ≡ two_exchanges (pace_of pair_network) (sync_paths pair_network events)
+    ready =
+        subst (λ (p : SettlingParams). 1000002000 ≡ two_exchanges p (sync_paths pair_network events)) (sym pace_is)
+        (subst (λ (x : SyncPaths). 1000002000 ≡ two_exchanges pair_pace x) (sym paths_then) refl)
+
+    is : 1000002500 ≡ 1000002000 + way_span (sync_paths pair_network events)
+    is = subst (λ (x : SyncPaths). 1000002500 ≡ 1000002000 + way_span x) (sym paths_then) refl

@@ -49,17 +49,18 @@ ring_bound = (
     refl,
     (
       record { links = links_rest; lapses = inl refl },
-      inr (refl, inr (tt, inl (used_vary ring_network [] little, is))),
+      inr (refl, inr (tt, (1000001820, inl ready, inl (used_vary ring_network [] little, is)))),
     ),
   ),
 )
   where
-    is : 1000003050
-        ≡ two_exchanges (pace_of ring_network) (sync_paths ring_network []) + way_span (sync_paths ring_network [])
-    is =
-        subst (λ (p : SettlingParams). 1000003050
-        ≡ two_exchanges p (sync_paths ring_network []) + way_span (sync_paths ring_network [])) (sym pace_is)
-        (subst (λ (x : SyncPaths). 1000003050 ≡ two_exchanges pair_pace x + way_span x) (sym paths_are) refl)
+    ready : 1000001820 ≡ two_exchanges (pace_of ring_network) (sync_paths ring_network [])
+    ready =
+        subst (λ (p : SettlingParams). 1000001820 ≡ two_exchanges p (sync_paths ring_network [])) (sym pace_is)
+        (subst (λ (x : SyncPaths). 1000001820 ≡ two_exchanges pair_pace x) (sym paths_are) refl)
+
+    is : 1000003050 ≡ 1000001820 + way_span (sync_paths ring_network [])
+    is = subst (λ (x : SyncPaths). 1000003050 ≡ 1000001820 + way_span x) (sym paths_are) refl
 
 pub ring_playable : IsNetwork ring_network → IsPlayable ring_document
 ring_playable network = record {

@@ -118,14 +118,15 @@ followed_soon w number (Some (root, steps, port)) named k some none =
 
 -- by two exchanges and the delay of the link after they began
 pub pair_bound : IsChoiceBound pair_document 0 1000002500
-pair_bound = ([], (refl, (is_calm, inr (refl, inr (tt, inl (used_vary pair_network [] few, is))))))
+pair_bound = ([], (refl, (is_calm, inr (refl, inr (tt, (1000002000, inl ready, inl (used_vary pair_network [] few, is)))))))
   where
-    is : 1000002500
-        ≡ two_exchanges (pace_of pair_network) (sync_paths pair_network []) + way_span (sync_paths pair_network [])
-    is =
-        subst (λ (p : SettlingParams). 1000002500
-        ≡ two_exchanges p (sync_paths pair_network []) + way_span (sync_paths pair_network [])) (sym pace_is)
-        (subst (λ (x : SyncPaths). 1000002500 ≡ two_exchanges pair_pace x + way_span x) (sym paths_are) refl)
+    ready : 1000002000 ≡ two_exchanges (pace_of pair_network) (sync_paths pair_network [])
+    ready =
+        subst (λ (p : SettlingParams). 1000002000 ≡ two_exchanges p (sync_paths pair_network [])) (sym pace_is)
+        (subst (λ (x : SyncPaths). 1000002000 ≡ two_exchanges pair_pace x) (sym paths_are) refl)
+
+    is : 1000002500 ≡ 1000002000 + way_span (sync_paths pair_network [])
+    is = subst (λ (x : SyncPaths). 1000002500 ≡ 1000002000 + way_span x) (sym paths_are) refl
 
 -- a document that can be played settles within its choice bound
 pub settles_within : {F : Type 0} (answers : Bounds → ℕ → F → Option ℕ → F → Type 0) → ChoiceBoundsHold answers

@@ -1,5 +1,5 @@
 -- A choice bound of a time gives what the network came from then, and when it has settled by that.
-use Rattle.std.proofs.Common.{◌≡◌, inl, inr, ◌<◌, ◌≤◌, ◌+◌, ◌-◌, ◌*◌, ℕ, suc, pred, List, [], ◌∷◌, ◌++◌, refl, sym, subst, ◌∙◌, append_assoc, append-nil, arith}
+use Rattle.std.proofs.Common.{◌≡◌, ◌⊎◌, inl, inr, ◌<◌, ◌≤◌, ◌+◌, ◌-◌, ◌*◌, ℕ, suc, pred, List, [], ◌∷◌, ◌++◌, refl, sym, subst, ◌∙◌, append_assoc, append-nil, arith}
 use Rattle.std.specs.Prelude.{max}
 use Rattle.std.specs.List.{AllByRecursion}
 use Rattle.std.proofs.Math.Nat.{le-max_left, le-max_right}
@@ -17,9 +17,8 @@ use Rattle.gptp_scenario.specs.declared.sync_wait.SyncPaths.{SyncPaths}
 use Rattle.gptp_network.specs.Document.{DocumentState}
 use Rattle.gptp_network.specs.Events.{AreInOrder}
 use Rattle.gptp_network.specs.Snapshot.{events_by}
-use Rattle.gptp_settling_time.specs.HowSoon.{AfterIdleEvents, AreGainEvents, AreHeardEvents, AreStartEvents, BoundsEvents, BoundsStart, EachEvent, IsChoiceBound, IsChoiceBoundAfter, IsGainEvent, IsGainToo, IsHeardEvent, IsHeardToo, IsIdleEvent, TurnsUnused, events_at, two_exchanges, way_span}
-use Rattle.gptp_settling_time.specs.InTurn.{AnyPast, BeginsBy, EventLeads, Gained, HasSettledAnyhow, HasSettledHeard, HasSettledSince, Heard, LeadOn, LeavesSettled, MakesNothing, NoneUnanswered, Past, SettlesAfter, SettlesByEvents, Starting, StartsWith, TellsNothing, TurnsInVain, UsedVaryLittle}
-use Rattle.gptp_settling_time.specs.Gains.{exchanged_from}
+use Rattle.gptp_settling_time.specs.HowSoon.{AfterIdleEvents, AreGainEvents, AreHeardEvents, AreReadyAtStart, AreStartEvents, BoundsEvents, BoundsStart, EachEvent, IsChoiceBound, IsChoiceBoundAfter, IsGainEvent, IsGainToo, IsHeardEvent, IsHeardToo, IsIdleEvent, TurnsUnused, events_at, way_span}
+use Rattle.gptp_settling_time.specs.InTurn.{AnyPast, AreCapableSoon, BeginsBy, EventLeads, Gained, HasSettledAnyhow, HasSettledHeard, HasSettledSince, Heard, LeadOn, LeavesSettled, MakesNothing, NoneUnanswered, Past, SettlesAfter, SettlesByEvents, Starting, StartsWith, TellsNothing, TurnsInVain, UsedVaryLittle}
 use Rattle.gptp_settling_time.proofs.CutLemmas.{IsBy, all_by}
 use Rattle.gptp_settling_time.proofs.MomentLemmas.{all_at, last_by, parted}
 use Rattle.gptp_settling_time.proofs.SamePathsLemmas.{idle_paths, turned_paths}
@@ -310,23 +309,26 @@ module _ (n : NetworkState) (network : IsNetwork n) (off : NothingLapses n.param
         settles = record { calm = calm; passed = omega (arith, last, is) };
       }
 
+  -- ports are capable by then
+  capable_soon : (now : List Timed) (ready : ℕ) → AreReadyAtStart n now ready → AreCapableSoon n now (suc ready)
+  capable_soon now ready (inl is) = inl (omega (arith, is))
+  capable_soon now ready (inr (none, is)) = inr (none, omega arith)
+
   -- by a start without events
   started : (choice : ℕ) → BoundsStart n [] choice → IsFollowedTo n [] 0 choice
-  started choice (quietly, inl (little, is)) =
-      let start : ℕ = two_exchanges (pace_of n) (sync_paths n []) + 1 in
+  started choice (quietly, (ready, soon, inl (little, is))) =
       record {
-        first = Heard start;
-        begins = (little, omega arith);
-        last = Heard start;
+        first = Heard (suc ready);
+        begins = (little, capable_soon [] ready soon);
+        last = Heard (suc ready);
         lead = refl;
         settles = omega (arith, is);
       }
-  started choice (quietly, inr is) =
-      let start : ℕ = two_exchanges (pace_of n) (sync_paths n []) + 1 in
+  started choice (quietly, (ready, soon, inr is)) =
       record {
-        first = Gained start;
-        begins = omega arith;
-        last = Gained start;
+        first = Gained (suc ready);
+        begins = capable_soon [] ready soon;
+        last = Gained (suc ready);
         lead = refl;
         settles = omega (arith, is);
       }
@@ -348,43 +350,51 @@ module _ (n : NetworkState) (network : IsNetwork n) (off : NothingLapses n.param
   )
 
   -- by a start with such events
-  started_with : (event : Timed) (events : List Timed) (choice : ℕ) → AllByRecursion (IsBy 0) (event ∷ events)
-      → BoundsStart n (event ∷ events) choice → IsFollowedTo n (event ∷ events) 0 choice
-  started_with event events choice at ((each, answered), inl (little, is)) =
-      let now = event ∷ events in
-      let start : ℕ = two_exchanges (pace_of n) (sync_paths n now) + 1 in
-      record {
-        first = Starting;
-        begins = tt;
-        last = Heard start;
-        lead = start_lead (Heard start) now (λ made one are zero tells. (
-          subst (λ es. NoneUnanswered n es → exchanged_from (pace_of n) (sync_paths n es) 0 ≤ start
-              → StartsWith n made one start) are
-              (λ none late. record { now = zero; tells = tells; answered = none; capable = late }) answered
-              (omega arith),
-          subst (UsedVaryLittle n) (sym are) little,
-        )) [] event events refl at each;
-        settles = omega (arith, is);
-      }
-  started_with event events choice at ((each, answered), inr is) =
-      let now = event ∷ events in
-      let start : ℕ = two_exchanges (pace_of n) (sync_paths n now) + 1 in
-      record {
-        first = Starting;
-        begins = tt;
-        last = Gained start;
-        lead = start_lead (Gained start) now (λ made one are zero tells.
-            inr (inr (subst (λ es. NoneUnanswered n es → exchanged_from (pace_of n) (sync_paths n es) 0 ≤ start
-            → StartsWith n made one start) are
-            (λ none late. record { now = zero; tells = tells; answered = none; capable = late }) answered
-            (omega arith)))) [] event events refl at each;
-        settles = omega (arith, is);
-      }
+  module _ (event : Timed) (events : List Timed) (at : AllByRecursion (IsBy 0) (event ∷ events)) (ready : ℕ)
+      (each : AreStartEvents (event ∷ events)) (answered : NoneUnanswered n (event ∷ events))
+      (soon : AreReadyAtStart n (event ∷ events) ready) where
+    abbrev all_now : List Timed
+    all_now = event ∷ events
+
+    starts_with : (made : List Timed) (one : Timed) → made ++ one ∷ [] ≡ all_now → one.at ≡ 0
+        → TellsNothing one.act → StartsWith n made one (suc ready)
+    starts_with made one are zero tells = record {
+      now = zero;
+      tells = tells;
+      answered = subst (NoneUnanswered n) (sym are) answered;
+      capable = subst (λ es. AreCapableSoon n es (suc ready)) (sym are) (capable_soon all_now ready soon);
+    }
+
+    started_with : (choice : ℕ)
+        → (UsedVaryLittle n all_now × (choice ≡ ready + way_span (sync_paths n all_now)))
+        ⊎ (choice ≡ ready + largest_interval (pace_of n) + way_span (sync_paths n all_now))
+        → IsFollowedTo n all_now 0 choice
+    started_with choice (inl (little, is)) =
+        record {
+          first = Starting;
+          begins = tt;
+          last = Heard (suc ready);
+          lead = start_lead (Heard (suc ready)) all_now (λ made one are zero tells. (
+            starts_with made one are zero tells,
+            subst (UsedVaryLittle n) (sym are) little,
+          )) [] event events refl at each;
+          settles = omega (arith, is);
+        }
+    started_with choice (inr is) =
+        record {
+          first = Starting;
+          begins = tt;
+          last = Gained (suc ready);
+          lead = start_lead (Gained (suc ready)) all_now
+              (λ made one are zero tells. inr (inr (starts_with made one are zero tells))) [] event events refl at each;
+          settles = omega (arith, is);
+        }
 
   started_so : (now : List Timed) (choice : ℕ) → AllByRecursion (IsBy 0) now → BoundsStart n now choice
       → IsFollowedTo n now 0 choice
   started_so [] choice at is = started choice is
-  started_so (event ∷ events) choice at is = started_with event events choice at is
+  started_so (event ∷ events) choice at ((each, answered), (ready, soon, is)) =
+      started_with event events at ready each answered soon choice is
 
   followed : (earlier : List ℕ) (time choice : ℕ) → IsChoiceBoundAfter n all earlier time choice
       → IsFollowedTo n (events_by time all) time choice

@@ -51,7 +51,7 @@ use Rattle.gptp_settling_time.specs.Exactly.{SettlesBy}
 use Rattle.gptp_settling_time.specs.Gains.{ChangesNothing, IsIdleAfter, LeavesCapable, TakesNothing}
 use Rattle.gptp_settling_time.specs.InTurn.{ActsFindSettledInTurn, AnyPast, BeginsBy, BettersClock, BringsUp, EventLeads, Gained, Heard, LeadOn, LeavesSettled, MakesNothing, Past, SettlesAfter, SettlesByEvents, Starting, TurnsInVain}
 use Rattle.gptp_settling_time.proofs.AlwaysClaimedLemmas.{IsClaimedAlways, since_later}
-use Rattle.gptp_settling_time.proofs.BegunLemmas.{begun_keeps, begun_last, begun_news, rested_sound}
+use Rattle.gptp_settling_time.proofs.BegunLemmas.{begun_keeps, begun_last, rested_sound}
 use Rattle.gptp_settling_time.proofs.ClaimedToLemmas.{IsClaimedTo, claimed_act, claimed_later, claimed_settled}
 use Rattle.gptp_settling_time.proofs.DocumentLemmas.{run_to}
 use Rattle.gptp_settling_time.proofs.GainLemmas.{better_lives, down_so, few_so, gain_so, idle_so, unused_so}
@@ -70,9 +70,8 @@ use Rattle.gptp_settling_time.proofs.RestClaimedLemmas.{AreOn, rest_claimed, res
 use Rattle.gptp_settling_time.proofs.SettledClaimedLemmas.{settled_claimed}
 use Rattle.gptp_settling_time.proofs.SettledSeenLemmas.{HasSettledSeen, always_settled}
 use Rattle.gptp_settling_time.proofs.BetterClockLemmas.{better_claimed}
-use Rattle.gptp_settling_time.proofs.StartDocumentLemmas.{begun_claimed}
 use Rattle.gptp_settling_time.proofs.StandsStillLemmas.{StandsStill, claims_stand, from_stands}
-use Rattle.gptp_settling_time.proofs.StartEventLemmas.{IsStarting, IsStartingTo, starting_act, starting_begins, starting_later, starting_made, starts_claimed, starts_news}
+use Rattle.gptp_settling_time.proofs.StartEventLemmas.{IsStarting, IsStartingTo, begun_soon_claimed, begun_soon_news, starting_act, starting_begins, starting_later, starting_made, starts_claimed, starts_news}
 use Rattle.gptp_settling_time.proofs.TimedNewsLemmas.{CanSettle, has_settled}
 
 -- ---- what is so after some events
@@ -530,10 +529,12 @@ begins_after answers d playable fate until first w ts k Starting begins =
     starting_begins answers d playable fate k.started first k.begun
 begins_after answers d playable fate until first w ts k (Gained start) begins = record {
   keeps = begun_keeps answers d playable fate k.started first k.begun;
-  news = begun_news answers d playable fate k.started first k.begun start begins;
+  news = inl (begun_soon_news answers d playable fate k.started first k.begun start begins);
 }
-begins_after answers d playable fate until first w ts k (Heard start) (little, begins) =
-    begun_claimed answers d playable fate k.started first k.begun start begins little
+begins_after answers d playable fate until first w ts k (Heard start) (little, begins) = record {
+  keeps = begun_keeps answers d playable fate k.started first k.begun;
+  since = begun_soon_claimed answers d playable fate k.started first k.begun start begins little;
+}
 
 -- each act of a run that is later than all events is done in such worlds
 pub passed_in_turn : {F : Type 0} (answers : Bounds → ℕ → F → Option ℕ → F → Type 0) (d : DocumentState)

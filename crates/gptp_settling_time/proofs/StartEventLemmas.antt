@@ -1,5 +1,5 @@
 -- Events at time 0, as a network starts, leave it so that nothing is told; and what happens by itself then does.
-use Rattle.std.proofs.Common.{◌≡◌, inl, inr, ◌≤◌, ℕ, Bool, true, false, List, [], ◌∷◌, ◌++◌, length, Option, Some, slice_get, refl, sym, ap, subst, ◌∙◌, arith}
+use Rattle.std.proofs.Common.{◌≡◌, ◌<◌, inl, inr, ◌≤◌, ℕ, Bool, true, false, List, [], ◌∷◌, ◌++◌, length, Option, Some, slice_get, refl, sym, ap, subst, ◌∙◌, arith}
 use Rattle.std.specs.Prelude.{◌==◌}
 use Rattle.std.specs.List.{range_with_len}
 use Rattle.std.proofs.lemmas.Bool.{eq-eqb}
@@ -16,7 +16,7 @@ use Rattle.gptp_roles.specs.Selection.{clock_of}
 use Rattle.gptp_setup.specs.declared.setup.Params.{Params}
 use Rattle.gptp_setup.specs.SettlingParams.{SettlingParams}
 use Rattle.gptp_system.specs.Input.{Input}
-use Rattle.gptp_scenario.specs.Calm.{IsLive}
+use Rattle.gptp_scenario.specs.Calm.{IsLive, IsUsed}
 use Rattle.gptp_scenario.specs.Change.{link_acted, link_after, link_changed, standing, system_acted, system_after, system_changed}
 use Rattle.gptp_scenario.specs.Network.{IsEnd, IsNetwork, NetworkState, pace_of}
 use Rattle.gptp_scenario.specs.SyncWait.{sync_paths}
@@ -55,8 +55,9 @@ use Rattle.gptp_invariants.proofs.ChoiceCalmKeptLemmas.{acts_keep}
 use Rattle.gptp_invariants.proofs.ChoiceSeenActLemmas.{acts_seen}
 use Rattle.gptp_invariants.proofs.DelayCapableKeptLemmas.{stood}
 use Rattle.gptp_invariants.proofs.DelayFirstAtLemmas.{first_goes_on, first_goes_through}
-use Rattle.gptp_invariants.proofs.DelayStartFirstLemmas.{start_first}
+use Rattle.gptp_invariants.proofs.DelayStartFirstLemmas.{start_first, start_lives, start_time}
 use Rattle.gptp_invariants.proofs.SyncFollowClaimLemmas.{acts_time}
+use Rattle.gptp_invariants.proofs.WorldNewsLemmas.{link_used, none_silent}
 use Rattle.gptp_invariants.proofs.WorldSoundCallLemmas.{tells_keep}
 use Rattle.gptp_theorem.specs.PlayedLaws.{IsMade, IsPlayable}
 use Rattle.gptp_theorem.specs.Reached.{channel_wire}
@@ -64,12 +65,12 @@ use Rattle.gptp_theorem.proofs.EventLemmas.{link_behind, system_behind}
 use Rattle.gptp_theorem.proofs.PlayedLemmas.{no_change}
 use Rattle.gptp_theorem.proofs.SettlingInvariantLemmas.{IsFitEvent, least_of}
 use Rattle.gptp_theorem.proofs.SyncPathLemmas.{paths_stand}
-use Rattle.gptp_settling_time.specs.InTurn.{StartsWith, TellsNothing, UsedVaryLittle}
+use Rattle.gptp_settling_time.specs.InTurn.{AreCapableSoon, StartsWith, TellsNothing, UsedVaryLittle}
 use Rattle.gptp_settling_time.proofs.AlwaysClaimedLemmas.{IsClaimedAlways}
 use Rattle.gptp_settling_time.proofs.BegunLemmas.{begun_keeps}
 use Rattle.gptp_settling_time.proofs.ClaimedToLemmas.{varies_little}
 use Rattle.gptp_settling_time.proofs.EventStillLemmas.{at_end, down_still, fail_still, set_still}
-use Rattle.gptp_settling_time.proofs.GainLemmas.{live_named, lives_as, lives_so, member_at, named_as}
+use Rattle.gptp_settling_time.proofs.GainLemmas.{live_named, lives_as, lives_so, member_at, named_as, used_as}
 use Rattle.gptp_settling_time.proofs.KeptToLemmas.{KeepsTo, keeps_act, keeps_later}
 use Rattle.gptp_settling_time.proofs.LinkStoodLemmas.{stood_in, stood_untold, up_first}
 use Rattle.gptp_settling_time.proofs.MadeLemmas.{made_keeps, made_time}
@@ -211,6 +212,54 @@ module _ (d : DocumentState) (events : List Timed) where
             starting_acts p timed.act (at_time timed.at w) was.draws t.told.done t.after none (sym same ∙ now) was.acts
             then.keeps.claim.world after.claim.world then.keeps.claim.measured (then.yet (sym same ∙ now));
       }
+
+-- ---- how soon ports are capable
+
+module _ (d : DocumentState) (playable : IsPlayable d) (events : List Timed) (next : ℕ) (w : WorldState)
+    (keeps : KeepsTo d events w) (starting : IsStarting w) (now : w.time ≡ 0)
+    (silent : AreSilentBy (pace_of d.network) next w) (soon : AreCapableSoon d.network events next) where
+  abbrev pace : SettlingParams
+  pace = pace_of d.network
+
+  abbrev net : NetworkState
+  net = d.network
+
+  begun_world : IsWorld pace w
+  begun_world = keeps.claim.world
+
+  over : (at : LinkPlace) → LinkStandsAt at w → ExchangesAreOver pace next w
+  over at stands = by soon
+    where
+      delay : (sync_paths net events).delay ≡ delay_in w
+      delay =
+          ap (λ (x : SyncPaths). x.delay)
+          (paths_stand net events w playable.network keeps.stands begun_world.sound)
+
+      by : AreCapableSoon net events next → ExchangesAreOver pace next w
+      by (inl capable) = omega (arith, capable, delay)
+      by (inr (none, some)) =
+          let l = (starting.first at stands).link in
+          let (v, there, same) = alike (link_after events) channel_wire net.links w.net.channels
+          (sym keeps.stands.links) at.link l.channel l.here in
+          absurd (none at.link v there (subst (IsUsed net.systems events) (sym same)
+          (used_as net events w keeps.stands begun_world.sound l.channel (link_used at w l))))
+
+  early : w.time < next
+  early = by soon
+    where
+      by : AreCapableSoon net events next → w.time < next
+      by (inl capable) = omega (arith, capable, now)
+      by (inr (none, some)) = omega (arith, some, now)
+
+  pub soon_news : IsNews pace next w
+  soon_news =
+      untold_news pace w begun_world starting.quiet.untold starting.first next keeps.claim.pace keeps.claim.measured
+      silent early over
+
+  pub soon_claimed : UsedVaryLittle net events → IsClaimedAlways pace next w
+  soon_claimed vary =
+      untold_since pace w begun_world starting.quiet.untold starting.first next soon_news over
+      (varies_little d events w keeps vary)
 
 -- ---- what stood before an event
 
@@ -489,14 +538,6 @@ module _ {F : Type 0} (answers : Bounds → ℕ → F → Option ℕ → F → T
     time_is : w'.time ≡ 0
     time_is = made_time answers d playable made event fate fate_after w w' done is fit k ∙ starts.now
 
-    over : ExchangesAreOver p next w'
-    over =
-        let capable = starts.capable in
-        let delay : (sync_paths n more).delay ≡ delay_in w' =
-        ap (λ (x : SyncPaths). x.delay)
-        (paths_stand n more w' playable.network after.stands world'.sound) in
-        omega (arith, capable, delay)
-
     none_unanswered : AreSilentBy p next w'
     none_unanswered at s =
         let (v, there, same) = alike (link_after more) channel_wire n.links w'.net.channels (sym after.stands.links)
@@ -523,12 +564,30 @@ module _ {F : Type 0} (answers : Bounds → ℕ → F → Option ℕ → F → T
         beyond FromB c both asks = both.1 asks
 
     pub starts_news : IsNews p next w'
-    starts_news =
-        let late = over in
-        untold_news p w' world' starting.quiet.untold starting.first next after.claim.pace after.claim.measured
-        none_unanswered (omega (arith, late, time_is)) late
+    starts_news = soon_news d playable more next w' after starting time_is none_unanswered starts.capable
 
     pub starts_claimed : UsedVaryLittle n more → IsClaimedAlways p next w'
-    starts_claimed vary =
-        untold_since p w' world' starting.quiet.untold starting.first next starts_news over
-        (varies_little d more w' after vary)
+    starts_claimed = soon_claimed d playable more next w' after starting time_is none_unanswered starts.capable
+
+-- ---- a document begins
+
+module _ {F : Type 0} (answers : Bounds → ℕ → F → Option ℕ → F → Type 0) (d : DocumentState)
+    (playable : IsPlayable d) (fate fate_after : F) (w : WorldState) (k : Begun answers d.network fate fate_after w)
+    (start : ℕ) (soon : AreCapableSoon d.network [] start) where
+  so : IsStartingTo d [] w
+  so = starting_begins answers d playable fate fate_after w k
+
+  time_now : w.time ≡ 0
+  time_now =
+      start_time answers d.network fate fate_after w playable.network (initial_sound d.network playable.network) k
+
+  none_failed : AreSilentBy (pace_of d.network) start w
+  none_failed =
+      none_silent (pace_of d.network) start w
+      (start_lives answers d.network fate fate_after w playable.network (initial_sound d.network playable.network) k)
+
+  pub begun_soon_news : IsNews (pace_of d.network) start w
+  begun_soon_news = soon_news d playable [] start w so.keeps (so.yet time_now) time_now none_failed soon
+
+  pub begun_soon_claimed : UsedVaryLittle d.network [] → IsClaimedAlways (pace_of d.network) start w
+  begun_soon_claimed = soon_claimed d playable [] start w so.keeps (so.yet time_now) time_now none_failed soon

@@ -131,8 +131,10 @@ module _ (p : SettlingParams) (w : WorldState) (world : IsWorld p w) (untold : I
           (subst (λ (o : List ℕ). says_announce o a) (ap (λ (g : LaneFrame). g.octets) (sym same)) said)
 
   -- what is told over each link is heard
-  untold_heard : (start : ℕ) → ExchangesAreOver p start w → DelaysVaryLittle w → AreHeard p start w
+  untold_heard : (start : ℕ) → ((at : LinkPlace) → LinkStandsAt at w → ExchangesAreOver p start w)
+      → DelaysVaryLittle w → AreHeard p start w
   untold_heard start over little at stands =
+      let soon = over at stands in
       let one = untold_timely at stands in
       let l = one.timely.link in
       inl (
@@ -141,7 +143,7 @@ module _ (p : SettlingParams) (w : WorldState) (world : IsWorld p w) (untold : I
           one = one;
           few = little at.link l.channel l.here (link_used at w l);
           other = (untold_timely (opposite at) (turned p w world at stands)).timely;
-          by = exchange_over p 0 start at w world l (omega (arith, over));
+          by = exchange_over p 0 start at w world l (omega (arith, soon));
         },
       )
 
@@ -171,12 +173,15 @@ module _ (p : SettlingParams) (w : WorldState) (world : IsWorld p w) (untold : I
 
   -- so the world is one since news
   pub untold_news : (start : ℕ) → KeepPace p → LinkIsMeasured w → AreSilentBy p start w → w.time < start
-      → ExchangesAreOver p start w → IsNews p start w
+      → ((at : LinkPlace) → LinkStandsAt at w → ExchangesAreOver p start w) → IsNews p start w
   untold_news start pace measured silent early over =
       news_begin p start w pace world measured silent untold_sound
-      (λ at stands. first_ready p start 0 w world at (omega (arith, over)) (first at stands)) early
+      (λ at stands.
+      let soon = over at stands in
+      first_ready p start 0 w world at (omega (arith, soon)) (first at stands)) early
 
-  pub untold_since : (start : ℕ) → IsNews p start w → ExchangesAreOver p start w → DelaysVaryLittle w
+  pub untold_since : (start : ℕ) → IsNews p start w
+      → ((at : LinkPlace) → LinkStandsAt at w → ExchangesAreOver p start w) → DelaysVaryLittle w
       → IsClaimedAlways p start w
   untold_since start news over little =
       record {
@@ -202,7 +207,7 @@ module _ {F : Type 0} (answers : Bounds → ℕ → F → Option ℕ → F → T
       let world = (claim_begins answers n fate fate_after w network sound k).world in
       untold_since (pace_of n) w world (begun_untold answers n fate fate_after w network sound k)
       (λ at stands. start_first answers n fate fate_after w network sound k world at stands) start
-      (start_news answers n fate fate_after w start network sound k world over) over little
+      (start_news answers n fate fate_after w start network sound k world over) (λ at stands. over) little
 
 -- ---- it settles
 

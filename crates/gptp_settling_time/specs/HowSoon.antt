@@ -32,7 +32,7 @@ use Rattle.gptp_model.specs.World.{port_id}
 use Rattle.gptp_network.specs.Document.{DocumentState}
 use Rattle.gptp_network.specs.Snapshot.{events_by}
 use Rattle.gptp_settling_time.specs.Gains.{ChangesNothing, EndHasFailed, LeavesCapable, TakesNothing}
-use Rattle.gptp_settling_time.specs.InTurn.{BettersClock, BringsUp, MakesNothing, NoneUnanswered, TellsNothing, UsedVaryLittle}
+use Rattle.gptp_settling_time.specs.InTurn.{BettersClock, BringsUp, MakesNothing, NoneUnanswered, NoneUsed, TellsNothing, UsedVaryLittle}
 
 -- ---- times
 
@@ -118,17 +118,21 @@ abbrev pub StartsQuietly : NetworkState → List Timed → Type 0
 StartsQuietly n [] = ⊤
 StartsQuietly n (event ∷ events) = AreStartEvents (event ∷ events) × NoneUnanswered n (event ∷ events)
 
+-- ports are capable so much after time 0: by two exchanges, and at once where no link is in use
+abbrev pub AreReadyAtStart : NetworkState → List Timed → ℕ → Type 0
+AreReadyAtStart n now ready =
+    (ready ≡ two_exchanges (pace_of n) (sync_paths n now)) ⊎ (NoneUsed n now × (ready ≡ 0))
+
 -- at time 0
 abbrev pub BoundsStart : NetworkState → List Timed → ℕ → Type 0
 BoundsStart n now choice =
     StartsQuietly n now
-    × ((UsedVaryLittle n now
-    × (choice ≡ two_exchanges (pace_of n) (sync_paths n now) + way_span (sync_paths n now)))
-    ⊎ (choice
-    ≡ two_exchanges (pace_of n) (sync_paths n now) + largest_interval (pace_of n) + way_span (sync_paths n now)))
+    × ((ready : ℕ) × AreReadyAtStart n now ready
+    × ((UsedVaryLittle n now × (choice ≡ ready + way_span (sync_paths n now)))
+    ⊎ (choice ≡ ready + largest_interval (pace_of n) + way_span (sync_paths n now))))
 
--- At a time with gains. Ports are capable so much later as `ready` says: at once after a priority1, by two exchanges
--- after a link, and a peer delay interval later after a system that recovers.
+-- At a time with gains. Ports are capable so much later as `ready` says: at once after a priority1 and a system that
+-- recovers without a link in use, by two exchanges after a link, and a peer delay interval later after another system.
 abbrev pub BoundsGains : NetworkState → List Timed → List Timed → ℕ → ℕ → ℕ → Type 0
 BoundsGains n made now time ready choice =
     (AfterIdleEvents n (AreHeardEvents n (suc (time + ready))) made now

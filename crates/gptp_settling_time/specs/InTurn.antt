@@ -65,13 +65,25 @@ UsedVaryLittle n events = (place : ℕ) (v : LinkSpec) → slice_get n.links pla
     → IsUsed n.systems events (link_after events v)
     → (link_after events v).bounds.max < 2 * (link_after events v).bounds.min
 
+-- after these events no link is in use
+abbrev pub NoneUsed : NetworkState → List Timed → Type 0
+NoneUsed n events = (place : ℕ) (v : LinkSpec) → slice_get n.links place ≡ Some v
+    → IsUsed n.systems events (link_after events v)
+    → ⊥
+
+-- From this time on ports are capable at links that are in use after these events, where they first ask at time 0: one
+-- peer delay interval, one exchange over the slowest link, and 1 ns later; 1 ns later where no link is in use.
+abbrev pub AreCapableSoon : NetworkState → List Timed → ℕ → Type 0
+AreCapableSoon n events start =
+    (exchanged_from (pace_of n) (sync_paths n events) 0 ≤ start) ⊎ (NoneUsed n events × (0 < start))
+
 -- This is the last of such events of time 0: nothing is told yet after it, and no system waits for one that has failed.
 -- Ports are capable from the next time on.
 pub record StartsWith (n : NetworkState) (before : List Timed) (event : Timed) (next : ℕ) : Type 0 where
   pub now : event.at ≡ 0
   pub tells : TellsNothing event.act
   pub answered : NoneUnanswered n (before ++ event ∷ [])
-  pub capable : exchanged_from (pace_of n) (sync_paths n (before ++ event ∷ [])) 0 ≤ next
+  pub capable : AreCapableSoon n (before ++ event ∷ []) next
 
 -- ---- events
 
@@ -202,8 +214,8 @@ LeadOn n before past (event ∷ events) last =
 abbrev pub BeginsBy : NetworkState → Past → Type 0
 BeginsBy n AnyPast = ⊤
 BeginsBy n Starting = ⊤
-BeginsBy n (Gained start) = exchanged_from (pace_of n) (sync_paths n []) 0 ≤ start
-BeginsBy n (Heard start) = UsedVaryLittle n [] × (exchanged_from (pace_of n) (sync_paths n []) 0 ≤ start)
+BeginsBy n (Gained start) = AreCapableSoon n [] start
+BeginsBy n (Heard start) = UsedVaryLittle n [] × AreCapableSoon n [] start
 
 -- By this time a calm network has settled after these events. From any past the span has to pass, the sharper one where
 -- nothing lapses. Else ports become capable; then an announce interval passes where something may not be heard; and
