@@ -404,12 +404,14 @@ module _ (n : NetworkState) (network : IsNetwork n) (time : ℕ) (first events :
             | inl at ↦
                 let no : true ≡ false =
                 sym recovers_so
-                ∙ ap (recovers tolds) (sym (ap (λ (p : PortId). p.clock) (all_ends.a ∙ sym kept_ends.a) ∙ at)) ∙ a_none in
+                ∙ ap (recovers tolds) (sym (ap (λ (p : PortId). p.clock) (all_ends.a ∙ sym kept_ends.a) ∙ at))
+                ∙ a_none in
                 cc
             | inr at ↦
                 let no : true ≡ false =
                 sym recovers_so
-                ∙ ap (recovers tolds) (sym (ap (λ (p : PortId). p.clock) (all_ends.b ∙ sym kept_ends.b) ∙ at)) ∙ b_none in
+                ∙ ap (recovers tolds) (sym (ap (λ (p : PortId). p.clock) (all_ends.b ∙ sym kept_ends.b) ∙ at))
+                ∙ b_none in
                 cc
           ]
 
