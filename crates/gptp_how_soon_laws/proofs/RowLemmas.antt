@@ -249,9 +249,11 @@ starts : (n : NetworkState) (now : List Timed) → list_all tells_nothing (told_
     → list_any is_unanswered (standings_after n now) ≡ false → BoundsStart n now (gained_at n (view_at n [] now None 0))
 starts n now quiet none = (
   starts_quietly n now (all_tell_so n [] now quiet) (answered n now none),
-  start,
-  soon (length (new_links n [] now true) == 0) refl,
-  by (list_any (is_hard_to_hear (told_of n [] now)) (new_links n [] now true)) refl,
+  (
+    start,
+    soon (length (new_links n [] now true) == 0) refl,
+    by (list_any (is_hard_to_hear (told_of n [] now)) (new_links n [] now true)) refl,
+  ),
 )
   where
     start : ℕ
