@@ -32,7 +32,7 @@ use Rattle.gptp_how_soon_laws.proofs.StepLemmas.{IsKept, kept}
 
 -- ---- links were last set by then
 
-all_kept : {X : Type 0} (P : X → Type 0) (p : X → Bool) (xs : List X) → AllByRecursion P xs
+pub all_kept : {X : Type 0} (P : X → Type 0) (p : X → Bool) (xs : List X) → AllByRecursion P xs
     → AllByRecursion P (filter p xs)
 all_kept P p [] all = tt
 all_kept P p (x ∷ xs) all = by (p x) (all_kept P p xs all.1)

@@ -4,6 +4,7 @@ use Rattle.std.specs.Prelude.{◌==◌, if◌then◌else◌}
 use Rattle.std.specs.List.{AllByRecursion}
 use Rattle.std.proofs.lemmas.Bool.{ne_eqb}
 use Rattle.std.proofs.lemmas.Bool.Decides.{nat_tests}
+use Rattle.gptp_how_soon_laws.proofs.ExactLemmas.{all_kept}
 use Rattle.gptp_lists.specs.Members.{In}
 use Rattle.gptp_invariants.specs.WorldEncodableLaws.{SetsAnOctet}
 use Rattle.gptp_network.specs.Document.{DocumentState}
@@ -21,16 +22,6 @@ abbrev pub shortened : ℕ → DocumentState → DocumentState
 shortened time d = record { network = d.network; events = events_by time d.events }
 
 -- ---- it can be played
-
-all_kept : {X : Type 0} (P : X → Type 0) (test : X → Bool) (xs : List X) → AllByRecursion P xs
-    → AllByRecursion P (filter test xs)
-all_kept P test [] all = tt
-all_kept P test (x ∷ xs) all = by (test x) (all_kept P test xs all.1)
-  where
-    by : (passes : Bool) → AllByRecursion P (filter test xs)
-        → AllByRecursion P (cond passes (x ∷ filter test xs) (filter test xs))
-    by true rest = (all.0, rest)
-    by false rest = rest
 
 pub playable_by : (time : ℕ) (d : DocumentState) → IsPlayable d → IsPlayable (shortened time d)
 playable_by time d playable =
