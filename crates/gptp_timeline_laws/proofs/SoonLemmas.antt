@@ -1,14 +1,13 @@
 -- The stretches of a timeline settle by the choice that is told of the times at which they begin.
-use Rattle.std.proofs.Common.{◌≡◌, ◌⊎◌, inl, inr, ◌<◌, ◌≤◌, ◌+◌, ◌-◌, ℕ, Bool, true, false, nat_le, zero, suc, List, [], ◌∷◌, length, map, slice_get, Option, Some, None, IfSome, option_map, refl, sym, ap, subst, ◌∙◌, arith}
-use Rattle.std.specs.List.{AllByRecursion, range_with_len}
+use Rattle.std.proofs.Common.{◌≡◌, inl, inr, ◌<◌, ◌≤◌, ◌+◌, ◌-◌, ℕ, Bool, true, false, nat_le, zero, suc, List, [], ◌∷◌, length, map, slice_get, Option, Some, None, IfSome, option_map, refl, sym, ap, subst, ◌∙◌, arith}
+use Rattle.std.specs.List.{range_with_len}
 use Rattle.std.specs.Option.{is_some}
 use Rattle.std.proofs.lemmas.Bool.Decides.{nat_tests}
 use Rattle.std.proofs.lemmas.Option.{same_Some}
 use Rattle.gptp_graph.specs.Snapshot.{IsWellFormed, Snapshot, System}
 use Rattle.gptp_graph.proofs.SystemLemmas.{same_clock}
-use Rattle.gptp_how_soon.specs.Times.{settling_times}
 use Rattle.gptp_how_soon_laws.proofs.ChoiceLemmas.{settlings_are_choice_bounds}
-use Rattle.gptp_how_soon_laws.proofs.StepLemmas.{IsKept, kept}
+use Rattle.gptp_how_soon_laws.proofs.StepLemmas.{kept}
 use Rattle.gptp_invariants.specs.WorldStanding.{snapshot_of}
 use Rattle.gptp_invariants.proofs.WorldStandsLemmas.{stands_well}
 use Rattle.gptp_links.specs.declared.bounds.Bounds.{Bounds}
@@ -26,20 +25,18 @@ use Rattle.gptp_settling_time.specs.HowSoon.{IsChoiceBound, NoneBetween}
 use Rattle.gptp_settling_time.specs.Unchanged.{LeavesShown, ShowsSameChoice, ShowsSameRoles}
 use Rattle.gptp_settling_time.proofs.ChoiceBoundLemmas.{choice_bounds_hold}
 use Rattle.gptp_settling_time.proofs.CutLemmas.{acts_by}
-use Rattle.gptp_system.specs.Start.{role_at}
-use Rattle.gptp_system.specs.State.{SystemState, clock, is_capable_at}
+use Rattle.gptp_system.specs.State.{SystemState}
 use Rattle.gptp_system.specs.Steps.{HasPortNumber}
 use Rattle.gptp_theorem.specs.PlayedLaws.{IsPlayable}
 use Rattle.gptp_timeline.specs.Laws.{AllNear}
 use Rattle.gptp_timeline.specs.Ports.{shown_port, shown_ports}
 use Rattle.gptp_timeline.specs.Shown.{live_system, same_choice, same_roles, shown, shown_of}
 use Rattle.gptp_timeline.specs.Stretch.{at_of, last_at, leaves_another}
-use Rattle.gptp_timeline.specs.Timeline.{StretchTrace, TimelineOf, later_than}
-use Rattle.gptp_timeline.specs.declared.timeline.TimelineOptions.{TimelineOptions}
+use Rattle.gptp_timeline.specs.Timeline.{StretchTrace, later_than}
 use Rattle.gptp_timeline.proofs.BehindLemmas.{IsStill, ShowsTheSame, StillBehind, last_choice, last_roles}
 use Rattle.gptp_timeline.proofs.EventLemmas.{filter_in_order, now_by}
 use Rattle.gptp_timeline.proofs.PastLemmas.{by_sooner}
-use Rattle.gptp_timeline.proofs.RestLemmas.{lives_there, shows_live, stands_there}
+use Rattle.gptp_timeline.proofs.RestLemmas.{shows_live, stands_there}
 use Rattle.gptp_timeline.proofs.SameLemmas.{choice_itself, roles_itself}
 use Rattle.gptp_timeline.proofs.SettlingLemmas.{begins, keeps_first, left_first}
 use Rattle.gptp_timeline.proofs.ShownLemmas.{live_shown}
