@@ -20,15 +20,15 @@ taken_count look place x after o = length-set o.systems place (watched_after loo
 
 module _ (look : ActView) (w : WorldState) (place : ℕ) (x : Watched) (o : WatchState)
     (there : slice_get o.systems place ≡ Some x) (live : Option SystemState) (is : live_system x.clock w ≡ live) where
-  pub sees_it : see_at look w place o ≡ taken look place x (left_by look.known_alone live x.shown) o
+  pub sees_it : see_at look w place o ≡ taken look place x (left_by look.compared live x.shown) o
   sees_it =
-      ap (λ y. see_one look w place y o) there ∙ ap (λ l. taken look place x (left_by look.known_alone l x.shown) o) is
+      ap (λ y. see_one look w place y o) there ∙ ap (λ l. taken look place x (left_by look.compared l x.shown) o) is
 
   pub tells_it : lines_at look w place o
-      ≡ unless o.summary (change_lines look.at x.clock x.shown (left_by look.known_alone live x.shown))
+      ≡ unless o.summary (change_lines look.at x.clock x.shown (left_by look.compared live x.shown))
   tells_it =
       ap (λ y. unless o.summary (one_lines look w y)) there
-      ∙ ap (λ l. unless o.summary (change_lines look.at x.clock x.shown (left_by look.known_alone l x.shown))) is
+      ∙ ap (λ l. unless o.summary (change_lines look.at x.clock x.shown (left_by look.compared l x.shown))) is
 
 -- ---- a delivery or an expiry at the system with a clock
 

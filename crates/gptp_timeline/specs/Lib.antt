@@ -21,6 +21,7 @@ pub mod TimeLines
 pub mod TimeWatch
 pub mod Limits
 pub mod End
+pub mod Compared
 pub mod Leaving
 pub mod Watch
 pub mod Timeline
