@@ -7,7 +7,7 @@ use Rattle.gptp_model.specs.declared.done.Done.{Done}
 use Rattle.gptp_scenario.specs.declared.change.Act.{Act}
 use Rattle.gptp_scenario.specs.declared.change.Act.TheVariants.{Change as Changing, Deliver, Expire}
 use Rattle.gptp_setup.specs.declared.timer.Timer.TheVariants as timers
-use Rattle.gptp_timeline.specs.Readings.{by_receipt, by_takeover, gets, is_sending, new_reading, own_reading, reading_among, reads_own, received_reading}
+use Rattle.gptp_timeline.specs.Readings.{by_receipt, by_takeover, gets, is_leading, new_reading, own_reading, reading_among, reads_own, received_reading}
 use Rattle.gptp_timeline.specs.Receipts.{received_by}
 use Rattle.gptp_timeline.specs.Shown.{live_system}
 use Rattle.gptp_timeline.specs.declared.readings.KeptReading.{KeptReading}
@@ -31,7 +31,7 @@ by_receipt_follows w rs (Some name) u is = by (option_and_then received_reading 
 by_takeover_follows : (w : WorldState) (rs : List SystemReading) (name : ℕ) (u : NewReading)
     → by_takeover w rs name ≡ Some u → FollowsOn rs u
 by_takeover_follows w rs name u is =
-    by (reads_own (reading_among rs name) || not (option_map_or is_sending (live_system name w) false)) is
+    by (reads_own (reading_among rs name) || not (option_map_or is_leading (live_system name w) false)) is
   where
     by : (none : Bool)
         → (if none then None else Some (gets name false (reading_among rs name) (own_reading name))) ≡ Some u

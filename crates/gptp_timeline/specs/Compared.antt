@@ -1,7 +1,7 @@
 -- What the code compares of a system after an act, and what that tells of all that is shown of it: contracts of private
 -- functions alone cite this.
 use Rattle.std.specs.Prelude.{ℕ, ◌%◌, ◌==◌, ◌&&◌, Bool, false, if◌then◌else◌, List, [], ◌∷◌, Option, Some, None, is_some}
-use Rattle.std.specs.Option.{option_map_or}
+use Rattle.std.specs.Option.{option_map, option_map_or}
 use Rattle.gptp_setup.specs.declared.timer.Timer.{Timer}
 use Rattle.gptp_setup.specs.declared.timer.Timer.TheVariants as timers
 use Rattle.gptp_system.specs.State.{SystemState, number}
@@ -20,18 +20,26 @@ same_port_at port s x =
     option_map_or (λ (p : ShownPort). option_map_or (shows_same_port p) (number x.ports port) false)
     (number (shown_ports s) port) false
 
--- what is compared of a live system; where that is all, it is looked at anew
-abbrev pub is_as_shown : Compared → SystemState → Shown → Bool
-is_as_shown compares.All s x = false
-is_as_shown compares.Known s x = same_bool (is_some s.offset) x.known
-is_as_shown (compares.Port port) s x = same_port_at port s x
-is_as_shown (compares.Choice port) s x = same_way (shown_of s) x && same_port_at port s x
+-- whether its offset is known
+abbrev pub is_known_as : SystemState → Shown → Bool
+is_known_as s x = same_bool (is_some s.offset) x.known
 
--- What is shown of a system after an act: what it was, where what is compared is as it was.
+-- root, steps and Slave port, and the port with this number
+abbrev pub is_choice_as : ℕ → SystemState → Shown → Bool
+is_choice_as port s x = same_way (shown_of s) x && same_port_at port s x
+
+-- what is shown of a system after an act: what was shown before, where it is so by this test
+abbrev pub left_where : (SystemState → Shown → Bool) → Option SystemState → Option Shown → Option Shown
+left_where same None before = None
+left_where same (Some s) None = Some (shown_of s)
+left_where same (Some s) (Some x) = if same s x then Some x else Some (shown_of s)
+
+-- by what is compared of it
 abbrev pub left_by : Compared → Option SystemState → Option Shown → Option Shown
-left_by compared None before = None
-left_by compared (Some s) None = Some (shown_of s)
-left_by compared (Some s) (Some x) = if is_as_shown compared s x then Some x else Some (shown_of s)
+left_by compares.All live before = option_map shown_of live
+left_by compares.Known live before = left_where is_known_as live before
+left_by (compares.Port port) live before = left_where (same_port_at port) live before
+left_by (compares.Choice port) live before = left_where (is_choice_as port) live before
 
 -- ---- what is compared
 

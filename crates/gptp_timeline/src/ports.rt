@@ -1,6 +1,6 @@
 //! What is shown of the ports of a system.
 
-ghost use Rattle.std.specs.Prelude.{◌≡◌, ◌≤◌, true, length};
+ghost use Rattle.std.specs.Prelude.{◌≡◌, ◌≤◌, true, false, length};
 ghost use Rattle.gptp_system.specs.State.{number};
 ghost use Rattle.gptp_system.specs.Steps.{HasPortNumber};
 ghost use Rattle.gptp_timeline.specs.Ports.{role_number, same_bool, shows_same_port, same_ports, shown_port, shown_ports};
@@ -104,15 +104,23 @@ fn shown_port(system: &System, port: u8) -> ShownPort
     }
 }
 
+/// Whether a system has a port with a number.
+fn has_port(system: &System, port: u16) -> bool
+    ensures yes { result ≡ true → HasPortNumber system.now port }
+    ensures no { result ≡ false → HasPortNumber system.now port → ⊥ }
+{
+    port != 0 && port <= u16::from(system.ports())
+}
+
 /// What is shown of the port of a system with a number, if it has that.
 pub(crate) fn port_of(system: &System, port: u16) -> Option<ShownPort>
     requires { length system.now.ports ≤ 16 }
     ensures { result ≡ number (shown_ports system.now) port }
 {
-    if port == 0 || u16::from(system.ports()) < port {
-        return None;
+    match has_port(system, port) {
+        true => Some(shown_port(system, port as u8)),
+        false => None,
     }
-    Some(shown_port(system, port as u8))
 }
 
 /// What is shown of the ports of a system.

@@ -661,7 +661,10 @@ impl Watch {
         match done {
             Done::Quiet => Ok(()),
             Done::Heard {
-                clock, port, frame, ..
+                clock,
+                port,
+                frame,
+                ..
             } => {
                 let compared = compared_by_frame(*port, frame.as_slice());
                 self.see_system(text, world, at, *clock, received, compared)

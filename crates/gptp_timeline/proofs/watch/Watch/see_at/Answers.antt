@@ -5,7 +5,8 @@ use Rattle.gptp_words.specs.Lines.{text_of}
 use Rattle.gptp_timeline.specs.Changes.{change_lines}
 use Rattle.gptp_timeline.specs.Shown.{live_system}
 use Rattle.gptp_timeline.specs.Watch.{taken, unless}
-use Rattle.gptp_timeline.proofs.LookLemmas.{left_none, sees_it, tells_it}
+use Rattle.gptp_timeline.proofs.ComparedLemmas.{left_none}
+use Rattle.gptp_timeline.proofs.LookLemmas.{sees_it, tells_it}
 use Rattle.gptp_timeline.proofs.PlaceLemmas.{at_place}
 use Rattle.gptp_timeline.proofs.ShownLemmas.{live_shown, none_shown}
 use Rattle.gptp_timeline.proofs.watch.Watch.see_at.Goals as goal

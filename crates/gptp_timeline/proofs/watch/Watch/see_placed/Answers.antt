@@ -3,9 +3,10 @@ use Rattle.std.specs.Prelude.{string_bytes}
 use Rattle.std.proofs.lemmas.Result.{on_ok_weaker}
 use Rattle.gptp_words.specs.Lines.{text_of}
 use Rattle.gptp_timeline.specs.Changes.{change_lines}
-use Rattle.gptp_timeline.specs.Leaving.{left_by}
+use Rattle.gptp_timeline.specs.Compared.{left_by}
 use Rattle.gptp_timeline.specs.Watch.{own_look, taken, unless, WatchState}
-use Rattle.gptp_timeline.proofs.LookLemmas.{left_none, sees_none_placed, sees_placed, taken_count, tells_none_placed, tells_placed}
+use Rattle.gptp_timeline.proofs.ComparedLemmas.{left_none}
+use Rattle.gptp_timeline.proofs.LookLemmas.{sees_none_placed, sees_placed, taken_count, tells_none_placed, tells_placed}
 use Rattle.gptp_timeline.proofs.PlaceLemmas.{at_place}
 use Rattle.gptp_timeline.proofs.ShownLemmas.{live_shown, none_shown}
 use Rattle.gptp_timeline.proofs.watch.Watch.see_placed.Goals as goal

@@ -1,10 +1,10 @@
 use Rattle.std.proofs.Common.{◌≡◌, ◌<◌, Some, length, slice_get, sym, subst, ap, ◌∙◌}
 use Rattle.std.proofs.lemmas.Option.{same_Some, slice_get-get_or}
-use Rattle.gptp_timeline.specs.Leaving.{left_by}
+use Rattle.gptp_timeline.specs.Compared.{left_by}
 use Rattle.gptp_timeline.specs.Shown.{shown_of}
 use Rattle.gptp_timeline.specs.Watch.{WatchState}
 use Rattle.gptp_timeline.specs.declared.watched.Watched.{Watched}
-use Rattle.gptp_timeline.proofs.LookLemmas.{left_new}
+use Rattle.gptp_timeline.proofs.ComparedLemmas.{left_new}
 use Rattle.gptp_timeline.proofs.watch.Watch.shows_at.Goals as goal
 
 pub returns-in-Some-clause-same : goal.returns-in-Some-clause-same
