@@ -1,5 +1,5 @@
 -- Every system of a world is at rest: it follows what its ports hold. No act ends that.
-use Rattle.std.proofs.Common.{◌≡◌, ℕ, true, false, List, [], ◌∷◌, map, Option, Some, None, Bool, slice_get, slice_set, sym, ap, subst, ◌∙◌, inl, inr}
+use Rattle.std.proofs.Common.{◌≡◌, ℕ, true, false, List, [], ◌∷◌, map, Option, Some, None, Bool, slice_get, slice_set, sym, subst, inl, inr}
 use Rattle.gptp_model.specs.declared.station.Station.{Station}
 use Rattle.gptp_model.specs.Act.{in_state, Calls, Hears}
 use Rattle.gptp_model.specs.Acts.{Acts, Changes}

@@ -16,7 +16,7 @@ use Rattle.gptp_messages.specs.declared.announce.AnnounceView.{AnnounceView}
 use Rattle.gptp_messages.specs.declared.follow_up.FollowUp.{FollowUp}
 use Rattle.gptp_messages.specs.declared.message.Message.{Message}
 use Rattle.gptp_messages.specs.declared.message.Message.TheVariants as messages
-use Rattle.gptp_pdelay.specs.Peer.{PeerState, after_interval, after_follow_up, changes_capability, is_capable}
+use Rattle.gptp_pdelay.specs.Peer.{PeerState, after_interval, after_follow_up, is_capable}
 use Rattle.gptp_receipt.specs.declared.held.Held.{Held}
 use Rattle.gptp_receipt.specs.declared.held.Held.TheVariants as helds
 use Rattle.gptp_roles.specs.Choice.{slave_port}
@@ -40,7 +40,7 @@ use Rattle.gptp_system.proofs.PortLemmas.{all_announced-map}
 use Rattle.gptp_system.proofs.TypeLemmas.{type_is, type_number}
 use Rattle.gptp_vector.specs.declared.vector.Vector.{Vector}
 use Rattle.gptp_timeline.specs.Compared.{compared_by_expiry, compared_by_frame, compared_by_type, is_choice_as, is_known_as, left_by, left_where, same_port_at}
-use Rattle.gptp_timeline.specs.Ports.{shown_port, shown_ports, same_bool, shows_same_port}
+use Rattle.gptp_timeline.specs.Ports.{shown_port, shown_ports, shows_same_port}
 use Rattle.gptp_timeline.specs.Shown.{live_among, live_system, same_slave, same_way, shown, shown_of}
 use Rattle.gptp_timeline.specs.declared.compared.Compared.{Compared}
 use Rattle.gptp_timeline.specs.declared.compared.Compared.TheVariants as compares

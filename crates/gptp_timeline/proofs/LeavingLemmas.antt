@@ -6,7 +6,6 @@ use Rattle.std.specs.Option.{option_map_or}
 use Rattle.std.proofs.lemmas.Bool.Decides.{nat_tests}
 use Rattle.std.proofs.lemmas.Option.{same_Some, slice_get-map}
 use Rattle.gptp_model.specs.Act.{in_state, Calls, Hears}
-use Rattle.gptp_model.specs.Acts.{Delivery}
 use Rattle.gptp_model.specs.World.{WorldState, receiver}
 use Rattle.gptp_model.specs.declared.done.Done.{Done}
 use Rattle.gptp_model.specs.declared.done.Done.TheVariants.{Heard, Quiet}
@@ -33,7 +32,7 @@ use Rattle.gptp_system.specs.Selection.{announced_again}
 use Rattle.gptp_system.specs.Start.{role_at}
 use Rattle.gptp_system.specs.State.{SystemState, change, change_at, clock, is_capable_at, local_time, number, on_port, with_peer}
 use Rattle.gptp_system.specs.Steps.{HearsFrame, HearsMessage}
-use Rattle.gptp_system.specs.Syncing.{is_followed, is_leading, restarted, telling, timer_stopped, HearsSync, HearsSyncIf, KeepsIf, RelaysBy, RelaysIf, SyncsIf, delay_at, root_rate_at, said_on, HearsFollowUp, HearsFollowUpIf, KnowsBy, KnowsIf}
+use Rattle.gptp_system.specs.Syncing.{is_followed, is_leading, restarted, telling, timer_stopped, HearsSync, HearsSyncIf, KeepsIf, RelaysBy, RelaysIf, SyncsIf}
 use Rattle.gptp_system.specs.declared.answer.Answer.{Answer}
 use Rattle.gptp_system.specs.declared.answer.Answer.TheVariants as answers
 use Rattle.gptp_system.specs.declared.port.Port.{Port}
@@ -41,13 +40,12 @@ use Rattle.gptp_system.specs.declared.sending.Sending.{Sending}
 use Rattle.gptp_system.proofs.PortLemmas.{counted-map}
 use Rattle.gptp_system.proofs.TypeLemmas.{type_is, type_number}
 use Rattle.gptp_messages.specs.declared.follow_up.FollowUp.{FollowUp}
-use Rattle.gptp_timeline.proofs.SameLemmas.{same_truth}
 use Rattle.gptp_timeline.specs.Leaving.{FrameLeaves, LeavesAll, TimerLeaves, TypeLeaves, can_take_over}
 use Rattle.gptp_timeline.specs.Readings.{by_expiry, by_receipt}
 use Rattle.gptp_timeline.specs.declared.readings.SystemReading.{SystemReading}
-use Rattle.gptp_timeline.specs.Ports.{shown_port, shown_ports, same_bool}
+use Rattle.gptp_timeline.specs.Ports.{shown_port, shown_ports}
 use Rattle.gptp_timeline.specs.Receipts.{is_follow_up, received_by, receiver_clock}
-use Rattle.gptp_timeline.specs.Shown.{live_among, shown, shown_of, live_system}
+use Rattle.gptp_timeline.specs.Shown.{live_among, shown_of, live_system}
 use Rattle.gptp_timeline.specs.declared.ports.ShownPort.{ShownPort}
 use Rattle.gptp_timeline.specs.declared.shown.Shown.{Shown}
 
@@ -305,7 +303,7 @@ module _ {X : Type 0} (f : SystemState → X) where
       (λ s s' sends steps. leaves s s' sends answer steps) calls name
 
 -- no system takes over by an expiry of another timer than Sync
-none_takes_over : (number : ℕ) (timer : Timer) (w : WorldState) (systems : List SystemReading)
+pub none_takes_over : (number : ℕ) (timer : Timer) (w : WorldState) (systems : List SystemReading)
     → can_take_over (Expire number timer) ≡ false → by_expiry w systems number timer ≡ None
 none_takes_over number timers.Sync w systems other = absurd cc
 none_takes_over number timers.Relay w systems other = refl

@@ -6,7 +6,7 @@ use Rattle.gptp_system.specs.State.{SystemState}
 use Rattle.gptp_words.specs.Lines.{text_of}
 use Rattle.gptp_timeline.specs.Compared.{left_by}
 use Rattle.gptp_timeline.specs.Changes.{change_lines}
-use Rattle.gptp_timeline.specs.Shown.{live_system, shown_of}
+use Rattle.gptp_timeline.specs.Shown.{live_system}
 use Rattle.gptp_timeline.specs.Watch.{lines_at, one_lines, own_look, placed_lines, receipt_lines_if, receipt_lines_of, see_at, see_one, see_placed, see_receipt_if, see_receipt_of, taken, unless, watched_after, WatchState}
 use Rattle.gptp_timeline.specs.declared.compared.Compared.{Compared}
 use Rattle.gptp_timeline.specs.declared.shown.Shown.{Shown}

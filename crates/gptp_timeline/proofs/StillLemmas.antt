@@ -1,5 +1,5 @@
 -- An act that leaves all that is shown as it was changes nothing that is kept, and no line tells of it.
-use Rattle.std.proofs.Common.{◌≡◌, ◌&&◌, ◌||◌, ℕ, zero, suc, not, Bool, true, false, List, [], ◌∷◌, Option, Some, None, is_none, is_some, slice_get, slice_set, refl, sym, ap, subst, ◌∙◌, append-nil, if◌then◌else◌, option_map, ◌++◌}
+use Rattle.std.proofs.Common.{◌≡◌, ◌&&◌, ◌||◌, ℕ, zero, suc, not, Bool, true, false, List, [], ◌∷◌, Option, Some, None, is_none, is_some, slice_get, slice_set, refl, sym, ap, subst, ◌∙◌, append-nil, ◌++◌}
 use Rattle.std.proofs.lemmas.Option.{same_Some}
 use Rattle.gptp_model.specs.World.{WorldState}
 use Rattle.gptp_model.specs.declared.done.Done.{Done}
@@ -7,12 +7,11 @@ use Rattle.gptp_model.specs.declared.done.Done.TheVariants.{Heard, Quiet}
 use Rattle.gptp_scenario.specs.declared.change.Act.{Act}
 use Rattle.gptp_scenario.specs.declared.change.Act.TheVariants.{Change as Changing, Deliver, Expire}
 use Rattle.gptp_world.specs.Transitions.{ActTrace}
-use Rattle.gptp_system.specs.State.{SystemState}
 use Rattle.gptp_timeline.specs.Compared.{compared_by_expiry, compared_by_frame, left_by}
 use Rattle.gptp_timeline.specs.Changes.{change_lines}
 use Rattle.gptp_timeline.specs.Measures.{better_if, ended_by, since_after}
 use Rattle.gptp_timeline.specs.Receipts.{received_by}
-use Rattle.gptp_timeline.specs.Shown.{is_expecting, shown, live_system, shown_of}
+use Rattle.gptp_timeline.specs.Shown.{is_expecting, shown, live_system}
 use Rattle.gptp_timeline.specs.Stretch.{at_of, is_change, waits as waits_by}
 use Rattle.gptp_timeline.specs.Watch.{lines_at, measures_after, one_lines, own_look, place_of, placed_lines, see_act, see_at, see_one, see_placed, see_system, seen_lines, unless, wait_behind, watched_after, watched_lines, WatchState, left_at, see_receipt_if, receipt_lines_if, taken}
 use Rattle.gptp_timeline.specs.declared.compared.Compared.{Compared}

@@ -23,6 +23,7 @@ pub mod Limits
 pub mod End
 pub mod Compared
 pub mod Leaving
+pub mod NewReading
 pub mod Watch
 pub mod Timeline
 pub mod Ends

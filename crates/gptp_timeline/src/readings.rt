@@ -4,11 +4,13 @@ ghost use Rattle.std.specs.Prelude.{◌≡◌, ◌≤◌, ◌<◌, ◌^◌, ◌-
 ghost use Rattle.std.specs.List.{list_any};
 ghost use Rattle.std.specs.Option.{option_and_then, option_map, option_map_or};
 ghost use Rattle.gptp_system.specs.Reading.{read_at};
+ghost use Rattle.gptp_timeline.specs.NewReading.{can_give_reading};
 ghost use Rattle.gptp_timeline.specs.Readings.{by_expiry, by_receipt, by_takeover, changes_source, clock_time, failed_by, is_master, is_leading, new_reading, own_reading, read_by, reading_among, reading_error, put_reading, reads_own, received_reading};
 ghost use Rattle.gptp_timeline.specs.Jumps.{IsSmallJump, jump_of};
 ghost use Rattle.gptp_timeline.specs.Shown.{live_system};
 ghost use Rattle.gptp_timeline.specs.ToldSources.{ReadingsRise};
 
+use crate::leaving::can_take_over;
 use crate::ports::{ShownPort, ports_of};
 use crate::receipts::received_by;
 use gptp_links::Fate;
@@ -303,6 +305,13 @@ pub(crate) fn new_reading<F: Fate + Drop>(
         Act::Expire { clock, timer } => by_expiry(world, systems, *clock, *timer),
         Act::Change(_) => None,
     }
+}
+
+/// Whether a system can get a reading by an act of which this is told: it received time, or can take over.
+pub(crate) fn can_give_reading(act: &Act, done: &Done) -> bool
+    ensures { result ≡ can_give_reading act.now done.now }
+{
+    received_by(done).is_some() || can_take_over(act)
 }
 
 /// The system that an act makes fail.
