@@ -79,7 +79,8 @@ system_times at w clock received compared o = placed_times at w clock received c
 delivery_times : (at : ℕ) (w : WorldState) (done : Done) (o : WatchState) → (see_delivery at w done o).times ≡ o.times
 delivery_times at w Quiet o = refl
 delivery_times at w (Heard clock port answer frame) o =
-    system_times at w clock (is_some (received_by (Heard clock port answer frame))) (compared_by_frame port frame.items) o
+    system_times at w clock (is_some (received_by (Heard clock port answer frame)))
+    (compared_by_frame port frame.items) o
 
 pub act_times : (at : ℕ) (act : Act) (done : Done) (w : WorldState) (o : WatchState)
     → (see_act at act done w o).times ≡ o.times

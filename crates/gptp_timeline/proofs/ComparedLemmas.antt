@@ -333,7 +333,8 @@ module _ (p now : ℕ) (s s' : SystemState) (sends : List Sending) (answer : Ans
       by true k = said (said_on p m s) k
 
   hears_announce : (a : AnnounceView) → IsAtRest s
-      → HearsOff p s s' sends answer ⊎ (HearsUnqualified p a s s' sends answer ⊎ HearsQualified p a now s s' sends answer)
+      → HearsOff p s s' sends answer
+      ⊎ (HearsUnqualified p a s s' sends answer ⊎ HearsQualified p a now s s' sends answer)
       → LeftSo (compares.Choice p) s s'
   hears_announce a rest (inl off) = all_left (compares.Choice p) s s' (ap shown_of off.becomes.state)
   hears_announce a rest (inr (inl unqualified)) =
@@ -415,7 +416,8 @@ module _ (compared : Compared) where
     by_name true false = left_none compared None
     by_name false live = left_itself compared (live_among name others)
 
-    first_left : clock new.system ≡ clock old.system → new.live ≡ old.live → LeftAmong name (old ∷ others) (new ∷ others)
+    first_left : clock new.system ≡ clock old.system → new.live ≡ old.live
+        → LeftAmong name (old ∷ others) (new ∷ others)
     first_left named live =
         subst (λ number. FirstLeft (clock old.system == name) old.live (number == name) new.live) (sym named)
         (subst (FirstLeft (clock old.system == name) old.live (clock old.system == name)) (sym live)

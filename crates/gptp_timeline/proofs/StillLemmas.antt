@@ -138,7 +138,8 @@ module _ (summary offsets : Bool) (from : Option ℕ) (names : List ℕ) (begun 
         tells_none (look compared) t.after x (stays compared place x there) place o there,
       )
 
-  at_clock : (clock : ℕ) (compared : Compared) (p : Option ℕ) → (see_placed (at_of t) t.after clock false compared p o ≡ o)
+  at_clock : (clock : ℕ) (compared : Compared) (p : Option ℕ)
+      → (see_placed (at_of t) t.after clock false compared p o ≡ o)
       × (placed_lines (at_of t) t.after clock false compared p o ≡ [])
   at_clock clock compared None = (refl, refl)
   at_clock clock compared (Some place) =

@@ -225,7 +225,8 @@ see_delivery at w (Heard clock port answer frame) o =
 abbrev pub delivery_lines : ℕ → WorldState → Done → WatchState → List (List ℕ)
 delivery_lines at w Quiet o = []
 delivery_lines at w (Heard clock port answer frame) o =
-    watched_lines at w clock (is_some (received_by (Heard clock port answer frame))) (compared_by_frame port frame.items) o
+    watched_lines at w clock (is_some (received_by (Heard clock port answer frame)))
+    (compared_by_frame port frame.items) o
 
 abbrev pub see_act : ℕ → Act → Done → WorldState → WatchState → WatchState
 see_act at (Deliver link direction) done w o = see_delivery at w done o
