@@ -74,7 +74,8 @@ used_bare systems [] = refl
 used_bare systems (first ∷ channels) =
     ap (λ rest. if channel_is_used systems first then standing_link first ∷ rest else rest) (used_bare systems channels)
 
-pub lane_bare : (port : PortIdentity) (channels : List Channel) → lane_of (map bare channels) port ≡ lane_of channels port
+pub lane_bare : (port : PortIdentity) (channels : List Channel)
+    → lane_of (map bare channels) port ≡ lane_of channels port
 lane_bare port [] = refl
 lane_bare port (first ∷ channels) =
     ap (λ rest. if has_port_id first.a port then lane_place 0 FromA

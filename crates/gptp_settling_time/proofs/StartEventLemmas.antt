@@ -322,7 +322,8 @@ module _ {F : Type 0} (answers : Bounds → ℕ → F → Option ℕ → F → T
     stood_then at stands =
         let (v, there, same) = alike (link_after more) channel_wire n.links w'.net.channels (sym after.stands.links)
         at.link stands.channel stands.here in
-        let (old, here, was) = alike channel_wire (link_after made) then.net.channels n.links before.stands.links at.link
+        let (old, here, was) =
+        alike channel_wire (link_after made) then.net.channels n.links before.stands.links at.link
         v there in
         let wire : channel_wire old ≡ channel_wire stands.channel =
         was ∙ sym (wires v (ap (λ (x : LinkSpec). x.up) same ∙ stands.up)) ∙ same in
@@ -500,7 +501,8 @@ module _ {F : Type 0} (answers : Bounds → ℕ → F → Option ℕ → F → T
                   at here brought)
               | inr apart ↦
                   goes (stood_in at (record then { last_change = then.time; net = brought_net }) then brought refl
-                  (sym (get-set_other then.net.channels came.1.place at.link (record came.1.channel { up = true }) apart)
+                  (sym (get-set_other then.net.channels came.1.place at.link (record came.1.channel { up = true })
+                  apart)
                   ∙ brought.here))
             ]
 

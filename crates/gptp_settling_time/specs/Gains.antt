@@ -175,7 +175,8 @@ UsesNoLink n events number = (place : ℕ) (v : LinkSpec) → slice_get n.links 
 
 -- These changes leave other ports as capable as they are: a link between live systems that comes up, whose own two
 -- ports ask then; a failed system that recovers, whose own ports ask then, and those beside it within a peer delay
--- interval, where it uses a link; and a priority1 that gets no worse. What a system that recovers sent before it failed is gone by then.
+-- interval, where it uses a link; and a priority1 that gets no worse. What a system that recovers sent before it failed
+-- is gone by then.
 -- Beside another that has failed its port doesn't become capable, which is known only once L + 5 announce intervals are
 -- over since the network began.
 abbrev pub LeavesCapable : NetworkState → List Timed → Timed → ℕ → Act → Type 0

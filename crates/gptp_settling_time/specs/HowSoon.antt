@@ -3,10 +3,10 @@
 -- What stands *before* a time stands after all earlier events, and what stands *at* it after those of that time too. A
 -- *choice bound* at a time says by how much later the choice and the roles stand. Where nothing lapses for want of Sync
 -- the span from any past (`settling_span_at_once`) always is one. A time by which the choice of the time before stands
--- has sharper ones, by its events. It is 0 where they make nothing of what stands. Where they are gains it is what ports
--- take to become capable, an announce interval, and the greatest delay for each system of a path but one. No announce
--- interval has to pass where what the first gain tells is heard at once, and after it links alone come up whose delay
--- varies little. Nor has one at the start where all delays vary little.
+-- has sharper ones, by its events. It is 0 where they make nothing of what stands. Where they are gains it is what
+-- ports take to become capable, an announce interval, and the greatest delay for each system of a path but one. No
+-- announce interval has to pass where what the first gain tells is heard at once, and after it links alone come up
+-- whose delay varies little. Nor has one at the start where all delays vary little.
 --
 -- Events that make nothing of what stands ask for no time: such that change nothing, and a link with a failed end that
 -- comes up or goes down. These gains are followed, at a time behind such events: a link that comes up between live

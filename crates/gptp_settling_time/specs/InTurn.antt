@@ -5,11 +5,11 @@
 -- so and all that is told over its links is *heard*, so that no announce interval has to pass. An event leads from one
 -- to another (`EventLeads`). It may always lead to any past. At time 0, as the network starts, it may take something
 -- away, since nothing is told yet. To a gain it leads where it takes nothing away, or changes nothing. To what is heard
--- it leads where the network has settled and it changes nothing, brings up a link between live systems, or sets a better
--- priority1. Where the delay of that link varies little the first Announce over it comes to a port that is capable
--- already, and a system that gets better tells so at once. What makes nothing of what stands leaves a network settled
--- that had settled, whatever it came from. Where all was heard before, links may also come up one after another at any
--- time, as several at once; and what changes nothing asks for no time at all.
+-- it leads where the network has settled and it changes nothing, brings up a link between live systems, or sets a
+-- better priority1. Where the delay of that link varies little the first Announce over it comes to a port that is
+-- capable already, and a system that gets better tells so at once. What makes nothing of what stands leaves a network
+-- settled that had settled, whatever it came from. Where all was heard before, links may also come up one after another
+-- at any time, as several at once; and what changes nothing asks for no time at all.
 use Rattle.std.specs.Prelude.{◌≡◌, ◌<◌, ◌≤◌, ◌⊎◌, ◌+◌, ◌*◌, ℕ, ⊤, pred, true, List, [], ◌∷◌, ◌++◌, Option, Some, slice_get}
 use Rattle.gptp_lists.specs.Members.{In}
 use Rattle.gptp_vector.specs.declared.port.PortId.{PortId}
@@ -55,7 +55,8 @@ TellsNothing act = ⊥
 
 -- after these events no link that is up joins a live system to one that has failed
 abbrev pub NoneUnanswered : NetworkState → List Timed → Type 0
-NoneUnanswered n events = (place : ℕ) (v : LinkSpec) → slice_get n.links place ≡ Some v → (link_after events v).up ≡ true
+NoneUnanswered n events = (place : ℕ) (v : LinkSpec) → slice_get n.links place ≡ Some v
+    → (link_after events v).up ≡ true
     → (IsLive n.systems events (link_after events v).a.clock → IsLive n.systems events (link_after events v).b.clock)
     × (IsLive n.systems events (link_after events v).b.clock → IsLive n.systems events (link_after events v).a.clock)
 
