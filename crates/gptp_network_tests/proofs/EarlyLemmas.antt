@@ -79,8 +79,13 @@ little (suc place) v there used = absurd (none-some v there)
 pub early_bound : IsChoiceBound early_document 0 1000002500
 early_bound = (
   [],
-  (refl, (record { links = links_rest; lapses = inl refl },
-  inr (refl, inr (((tt, tt), answered), (1000002000, inl ready, inl (little, is)))))),
+  (
+    refl,
+    (
+      record { links = links_rest; lapses = inl refl },
+      inr (refl, inr (((tt, tt), answered), (1000002000, inl ready, inl (little, is)))),
+    ),
+  ),
 )
   where
     ready : 1000002000 ≡ two_exchanges (pace_of pair_network) (sync_paths pair_network events)
