@@ -16,7 +16,7 @@ mod sums;
 mod text;
 mod ways;
 
-pub use errors::{SystemError, TimeErrors, time_errors};
+pub use errors::{SystemError, TimeErrors, exact_from, time_errors, time_errors_among};
 pub use options::AccuracyOptions;
 pub use reading::ReadingError;
 pub use text::{Thousandths, write_accuracy};
