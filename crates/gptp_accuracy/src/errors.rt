@@ -8,7 +8,7 @@ ghost use Rattle.gptp_scenario.specs.Calm.{last_change};
 ghost use Rattle.gptp_network.specs.Events.{AreInOrder};
 ghost use Rattle.gptp_network.specs.Snapshot.{events_by};
 ghost use Rattle.gptp_certificate_text.specs.Certificate.{line_of};
-ghost use Rattle.gptp_how_soon.specs.SettlingTimes.{settling_times};
+ghost use Rattle.gptp_how_soon.specs.Times.{settling_times};
 ghost use Rattle.gptp_accuracy.specs.Passing.{AreNearWithin};
 ghost use Rattle.gptp_accuracy.specs.Sums.{SumsAreWithin, terms_of};
 ghost use Rattle.gptp_accuracy.specs.TimeErrors.{AreEntries, AreTimeErrors, IsSystemOf, if_promised, exact_from, greatest_age};

@@ -44,7 +44,7 @@ use Rattle.gptp_commands.specs.Failure.{status_by}
 use Rattle.gptp_commands.specs.RunText.{draws, generator}
 use Rattle.gptp_commands.specs.TimelineText.{EndsAt, TellsTimeline, TimelineText}
 use Rattle.gptp_commands.proofs.DrawLemmas.{draws_answer_all}
-use Rattle.gptp_commands.proofs.EveryPassLemmas.{bound_at, document_passes}
+use Rattle.gptp_commands.proofs.EveryPassLemmas.{document_passes}
 use Rattle.gptp_commands.proofs.EveryQuestionLemmas.{each_has_text}
 use Rattle.gptp_commands.proofs.InjectLemmas.{meant_injects}
 
@@ -144,7 +144,7 @@ module _ (input : List ℕ) (d : DocumentState) (means : Means input d) where
   timeline_exists until seed options early =
       let (start, ts, w, run, goes_on) =
       documents_unfold draws draws_answer_all d until (generator seed) playable injects early in
-      let k = document_passes draws true d until (λ at. bound_at d at network) errors_at events ts run.started run.drawn
+      let k = document_passes draws true d until errors_at events ts run.started run.drawn
       start w run.courses in
       let passages : List StretchTrace = k.first ∷ k.others in
       let names : List ℕ = rising_clocks start in

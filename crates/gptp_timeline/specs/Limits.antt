@@ -1,7 +1,7 @@
 -- What is asked of stretches, and which of it isn't so (profile).
 use Rattle.std.specs.Prelude.{ℕ, ◌-◌, ◌*◌, ◌==◌, ◌&&◌, ◌||◌, nat_lt, Bool, true, false, if◌then◌else◌, List, [], ◌∷◌, ◌++◌, codes, Option, Some, None, is_some, slice_index_or}
 use Rattle.std.specs.Option.{option_and_then, option_map}
-use Rattle.gptp_how_soon.specs.declared.settling_times.Settling.{Settling}
+use Rattle.gptp_how_soon.specs.declared.bounds.Settling.{Settling}
 use Rattle.gptp_timeline.specs.declared.limits.Limit.{Limit}
 use Rattle.gptp_timeline.specs.declared.limits.Limit.TheVariants.{Alone, Apart, Bound, Choice, Error, First, Holdover, Roots, Step, Time, Without}
 use Rattle.gptp_timeline.specs.declared.limits.Limits.{Limits}

@@ -7,7 +7,7 @@ use Rattle.gptp_roles.specs.Selection.{clock_of}
 use Rattle.gptp_words.specs.Digits.{clock_text, or_none}
 use Rattle.gptp_accuracy.specs.AccuracyText.{error_text}
 use Rattle.gptp_accuracy.specs.declared.errors.SystemError.{SystemError}
-use Rattle.gptp_how_soon.specs.declared.settling_times.Settling.{Settling}
+use Rattle.gptp_how_soon.specs.declared.bounds.Settling.{Settling}
 use Rattle.gptp_timeline.specs.Amounts.{near_text}
 use Rattle.gptp_timeline.specs.Measures.{greatest_from, one_at}
 use Rattle.gptp_timeline.specs.Stretch.{counted, shown_of_all}

@@ -7,8 +7,8 @@ use Rattle.gptp_model.specs.World.{WorldState}
 use Rattle.gptp_links.specs.declared.bounds.Bounds.{Bounds}
 use Rattle.gptp_network.specs.Document.{DocumentState}
 use Rattle.gptp_network.specs.Snapshot.{events_by}
-use Rattle.gptp_how_soon.specs.SettlingTimes.{settling_of}
-use Rattle.gptp_how_soon.specs.declared.settling_times.Settling.{Settling}
+use Rattle.gptp_how_soon.specs.Times.{settling_of}
+use Rattle.gptp_how_soon.specs.declared.bounds.Settling.{Settling}
 use Rattle.gptp_scenario.specs.declared.change.Act.{Act}
 use Rattle.gptp_scenario.specs.declared.change.Act.TheVariants.{Change as Changing, Deliver, Expire}
 use Rattle.gptp_scenario.specs.declared.change.Timed.{Timed}
