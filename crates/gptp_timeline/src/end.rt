@@ -10,6 +10,7 @@ use gptp_network::Document;
 use std::alloc::{AllocError, Global};
 
 /// When the run of a document ends by default whose times these are, in ns.
+#[tactic(auto, using(crate::proofs::DefaultEndLemmas::end_by_last, crate::proofs::DefaultEndLemmas::end_of_none, crate::proofs::DefaultEndLemmas::end_in_time))]
 fn end_behind(times: &[SettlingTime]) -> u64
     requires { AllByRecursion IsWatchedShortly times.now }
     ensures is { result ≡ end_behind times.now }
