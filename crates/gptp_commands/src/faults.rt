@@ -88,8 +88,8 @@ fn output_of<P: Sink>(
 /// Reads a document, lets each link in use and each live system fail and come back, and writes what becomes of its
 /// network, the worst case first. A line is written to `progress` before each case, where that is asked for.
 ///
-/// Where faults stay by default, and the `down` line of a case has a bound, its `follow` lines are those of the settled
-/// choice of the network without what has failed.
+/// Where faults stay by default, and the network is calm without what fails in a case, its `follow` lines are those of the
+/// settled choice of the network without it.
 ///
 /// A document that is refused, also with the two events of some run, is the one line `refused` with the number and name
 /// of

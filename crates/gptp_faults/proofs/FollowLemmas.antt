@@ -9,9 +9,8 @@ use Rattle.gptp_lists.specs.Members.{In}
 use Rattle.gptp_network.specs.Adding.{with_event}
 use Rattle.gptp_network.specs.Document.{DocumentState}
 use Rattle.gptp_network.specs.Snapshot.{events_by, IsSnapshot, StandsAfter}
-use Rattle.gptp_network.specs.Span.{IsSpan}
-use Rattle.gptp_network.proofs.LawLemmas.{one_snapshot}
-use Rattle.gptp_scenario.specs.Calm.{last_change}
+use Rattle.gptp_network.specs.Span.{IsBound, IsCalmAt}
+use Rattle.gptp_scenario.specs.Calm.{IsCalm, last_change}
 use Rattle.gptp_scenario.specs.Network.{pace_of}
 use Rattle.gptp_scenario.specs.SettlingTime.{settling_span_with}
 use Rattle.gptp_scenario.specs.SyncWait.{sync_paths}
@@ -23,21 +22,18 @@ use Rattle.gptp_timeline.specs.Ends.{EndState}
 use Rattle.gptp_timeline.specs.LastTwo.{EndsOf}
 use Rattle.gptp_timeline.specs.Laws.{AreRoots}
 use Rattle.gptp_timeline.specs.Timeline.{none_carried}
-use Rattle.gptp_timeline.specs.declared.stretch.Stretch.{Stretch}
 use Rattle.gptp_timeline.proofs.FollowedLemmas.{follow_there}
 use Rattle.gptp_scenario.proofs.LogLemmas.{largest_log}
 use Rattle.gptp_timeline.proofs.PastLemmas.{all_past, by_past, past_later, PastBy}
 use Rattle.gptp_timeline.proofs.SettlingLemmas.{keeps_first}
 use Rattle.gptp_faults.specs.Cases.{fault_of, return_of}
-use Rattle.gptp_faults.specs.Extremes.{greatest_behind, greatest_of_two, of_one}
 use Rattle.gptp_faults.specs.Faults.{FaultsOf}
 use Rattle.gptp_faults.specs.Laws.{FollowSettled}
 use Rattle.gptp_faults.specs.Options.{tracks}
-use Rattle.gptp_faults.specs.Outcomes.{downs, IsOutcomeAt}
+use Rattle.gptp_faults.specs.Outcomes.{IsOutcomeAt}
 use Rattle.gptp_faults.specs.Runs.{draws, generator, CaseRunEnds, run_moment, runs_of, seed_of, with_case}
 use Rattle.gptp_faults.specs.Times.{IsHold, IsPlanned, moment}
 use Rattle.gptp_faults.specs.declared.cases.Planned.{Planned}
-use Rattle.gptp_faults.specs.declared.extremes.Extremes.{Extremes}
 use Rattle.gptp_faults.specs.declared.options.FaultsOptions.{FaultsOptions}
 use Rattle.gptp_faults.specs.declared.times.Times.{Times}
 use Rattle.gptp_faults.proofs.DownLemmas.{AreLast, last_but_one}
@@ -97,11 +93,6 @@ first_run : {Y : Type 0} (P : ℕ → Y → Type 0) (count : ℕ) (y : Y) (ys : 
 first_run P zero y ys each = absurd each
 first_run P (suc count) y ys each = each.0
 
--- the bound is that of the first
-bound_kept : (e : Extremes) (ss : List Stretch) → (greatest_behind e ss).bound ≡ e.bound
-bound_kept e [] = refl
-bound_kept e (s ∷ ss) = bound_kept (greatest_of_two e (of_one s)) ss
-
 -- ---- a run of a case
 
 module _ (asked : Bool) (d : DocumentState) (t : Times) (p : Planned) (playable : IsPlayable d)
@@ -156,26 +147,25 @@ module _ (asked : Bool) (d : DocumentState) (t : Times) (p : Planned) (playable 
         early = omega arith;
       }
 
-  -- so long as the stretch in which it is down has a bound, it lasts as long
-  lasts : (at bound : ℕ) → at ≡ t.from → IsSpan whole at bound → at + bound ≤ t.from + p.hold
-  lasts at bound is span =
-      let stands : IsSnapshot failed t.from span.snapshot =
-      subst (λ es. StandsAfter d.network es span.snapshot) (ap (λ time. events_by time whole.events) is ∙ by_fault)
-      span.stands in
-      let same = one_snapshot failed t.from span.snapshot hold.snapshot stands hold.stands in
-      let pace = pace_of d.network in
-      let made : events_by at whole.events ≡ events_by t.from failed.events =
-      ap (λ time. events_by time whole.events) is ∙ by_fault in
-      let equal : bound ≡ p.hold =
-      span.is ∙ ap (λ es. settling_span_with pace (sync_paths d.network es) (path_bound span.snapshot)) made
-      ∙ ap (λ g. settling_span_with pace (sync_paths d.network (events_by t.from failed.events)) (path_bound g)) same
-      ∙ sym hold.is in
-      omega (arith, is, equal)
+  -- where the network is calm then, the stretch in which it is down lasts as long as the span
+  spans : (at : ℕ) → at ≡ t.from → IsCalmAt failed t.from → IsBound whole at (Some p.hold)
+  spans at is calm =
+      let n = d.network in
+      let made : events_by t.from failed.events ≡ events_by at whole.events =
+      sym (ap (λ time. events_by time whole.events) is ∙ by_fault) in (
+        subst (IsCalm n) made calm,
+        record {
+          snapshot = hold.snapshot;
+          stands = subst (λ es. StandsAfter n es hold.snapshot) made hold.stands;
+          is = subst (λ es. p.hold ≡ settling_span_with (pace_of n) (sync_paths n es) (path_bound hold.snapshot)) made
+              hold.is;
+        },
+      )
 
   -- the roots where its first run ends to be down are those of the settled choice
-  roots_settle : (a b : EndState) (bound : ℕ) (g : Snapshot) → IsPlayable whole → CaseRunEnds asked d t p 0 (a, b)
-      → a.stretch.bound ≡ Some bound → IsSnapshot failed t.from g → AreRoots g a.roots
-  roots_settle a b bound g can run bounded stands =
+  roots_settle : (a b : EndState) (g : Snapshot) → IsPlayable whole → CaseRunEnds asked d t p 0 (a, b)
+      → IsCalmAt failed t.from → IsSnapshot failed t.from g → AreRoots g a.roots
+  roots_settle a b g can run calm stands =
       let until = t.from + p.hold + t.behind in
       let e : EndsOf draws asked whole until (generator (seed_of t 0)) (Some (a, b)) =
       subst (λ at. EndsOf draws asked (with_case at p d) (at + p.hold + t.behind) (generator (seed_of t 0))
@@ -184,22 +174,21 @@ module _ (asked : Bool) (d : DocumentState) (t : Times) (p : Planned) (playable 
       let k = last_but_one draws whole until names e.passages t.from (t.from + p.hold) 0 (events_by until whole.events)
       (none_carried asked names) e.started e.fate_after e.start e.after a b (both_last until (omega arith)) e.pass
       (sym e.are) in
-      let begins : k.passage.bound ≡ Some bound = ap (λ (x : EndState). x.stretch.bound) (sym k.ended) ∙ bounded in
-      let to = k.to_is in
+      let from = k.from_is in let to = k.to_is in
       let there : IsSnapshot whole k.passage.from g =
       subst (λ es. StandsAfter d.network es g)
       (sym (ap (λ time. events_by time whole.events) k.from_is ∙ by_fault)) stands in
       subst (AreRoots g) (ap (λ (x : EndState). x.roots) (sym k.ended))
       (follow_there draws whole can names false until e.passages e.started e.fate_after e.start e.after k.passage
-      bound g
+      p.hold g
       (keeps_first draws whole can names (generator (seed_of t 0)) e.started e.start refl e.begun) e.pass k.member
-      begins (λ span. let late = lasts k.passage.from bound k.from_is span in omega (arith, late, to)) there)
+      (spans k.passage.from from calm) (omega (arith, from, to)) there)
 
 -- ---- the law
 
 pub follow_settles : (d : DocumentState) (options : FaultsOptions) (lines : List (List ℕ)) (exceeded : Bool)
     (f : FaultsOf d options lines exceeded) → IsPlayable d → FollowSettled d options f.times.from f.outcomes
-follow_settles d options lines exceeded f playable o bound g default member bounded stands =
+follow_settles d options lines exceeded f playable o g default member calm stands =
     let t = f.times in
     let (number, of_part, (p, there, outcome)) =
     each_for (IsOutcomeAt (tracks options) d t f.planned) _ f.outcomes o f.are_outcomes member in
@@ -214,11 +203,9 @@ follow_settles d options lines exceeded f playable o bound g default member boun
     (subst (λ x. In x f.cases) (sym is_case) a_case) last (omega arith) early in
     let first = outcome.first in
     let run = first_run (CaseRunEnds (tracks options) d t p) (runs_of t) first outcome.others outcome.runs in
-    let kept : first.0.stretch.bound ≡ Some bound =
-    sym (bound_kept (of_one first.0.stretch) (downs outcome.others))
-    ∙ ap (λ (e : Extremes). e.bound) (sym outcome.down) ∙ bounded in
+    let is_calm = subst (λ x. IsCalmAt (with_event t.from (fault_of x) d) t.from) failing calm in
     let g_stands = subst (λ x. IsSnapshot (with_event t.from (fault_of x) d) t.from g) failing stands in (
       first.0.roots,
-      roots_settle (tracks options) d t p playable last hold first.0 first.1 bound g playable_whole run kept g_stands,
+      roots_settle (tracks options) d t p playable last hold first.0 first.1 g playable_whole run is_calm g_stands,
       outcome.follow,
     )

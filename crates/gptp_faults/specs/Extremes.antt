@@ -1,7 +1,7 @@
 -- The greatest of several stretches (profile).
 use Rattle.std.specs.Prelude.{ℕ, ◌-◌, max, nat_lt, if◌then◌else◌, List, [], ◌∷◌, Option, Some, None}
 use Rattle.std.specs.Option.{option_map}
-use Rattle.gptp_timeline.specs.Limits.{choice_after, first_amount}
+use Rattle.gptp_timeline.specs.Limits.{choice_after, choice_bound, first_amount}
 use Rattle.gptp_timeline.specs.Looks.{apart}
 use Rattle.gptp_timeline.specs.Measures.{better_if, one_at}
 use Rattle.gptp_timeline.specs.declared.counts.Counts.{Counts}
@@ -78,7 +78,7 @@ of_one s = record {
   holdover = s.measures.holdover;
   error = s.measures.error;
   counts = s.counts;
-  bound = s.bound;
+  bound = choice_bound s;
   times = times_by s s.times;
 }
 

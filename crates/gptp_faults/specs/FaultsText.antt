@@ -4,11 +4,11 @@ use Rattle.std.specs.Fmt.{decimal}
 use Rattle.std.specs.List.{flat_map}
 use Rattle.gptp_words.specs.Digits.{clock_text, identity_text, or_none}
 use Rattle.gptp_timeline.specs.Amounts.{near_text}
-use Rattle.gptp_timeline.specs.Limits.{all_limits, amount_of, first_exceeded, verdict_line}
+use Rattle.gptp_timeline.specs.Limits.{all_limits, amount_of, exceeds, first_exceeded, verdict_line}
 use Rattle.gptp_timeline.specs.StretchText.{longest_text, worst_text}
 use Rattle.gptp_timeline.specs.declared.counts.Counts.{Counts}
 use Rattle.gptp_timeline.specs.declared.limits.Limit.{Limit}
-use Rattle.gptp_timeline.specs.declared.limits.Limit.TheVariants.{Alone, Apart, Choice, Error, First, Holdover, Roots, Step, Time, Without}
+use Rattle.gptp_timeline.specs.declared.limits.Limit.TheVariants.{Alone, Apart, Bound, Choice, Error, First, Holdover, Roots, Step, Time, Without}
 use Rattle.gptp_timeline.specs.declared.limits.Limits.{Limits}
 use Rattle.gptp_vector.specs.declared.port.PortId.{PortId}
 use Rattle.gptp_faults.specs.Extremes.{greatest_of_two, of_none}
@@ -104,14 +104,18 @@ worst_amount e Error = amount_of e.error
 worst_amount e Without = Some e.counts.without
 worst_amount e Roots = Some e.counts.roots
 worst_amount e Alone = Some e.counts.alone
+worst_amount e Bound = e.bound
 worst_amount e Time = amount_of e.times.time
 worst_amount e Apart = Some e.times.apart.amount
 worst_amount e Step = amount_of e.times.step
 worst_amount e First = e.times.first_asked
 
+abbrev pub worst_exceeds : Limits → Extremes → Limit → Bool
+worst_exceeds limits e limit = exceeds limits limit (worst_amount e limit)
+
 -- the first limit that it exceeds
 abbrev pub exceeded_by : Limits → Extremes → Option Limit
-exceeded_by limits e = first_exceeded limits (worst_amount e) all_limits
+exceeded_by limits e = first_exceeded (worst_exceeds limits e) all_limits
 
 abbrev pub exceeds_limit : Limits → List OutcomeState → Bool
 exceeds_limit limits outcomes = is_some (exceeded_by limits (worst_of_all outcomes))

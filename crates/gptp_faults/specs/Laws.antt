@@ -6,6 +6,7 @@ use Rattle.rand_pcg.specs.Lcg.{Lcg}
 use Rattle.gptp_network.specs.Adding.{with_event}
 use Rattle.gptp_network.specs.Document.{DocumentState}
 use Rattle.gptp_network.specs.Snapshot.{IsSnapshot}
+use Rattle.gptp_network.specs.Span.{IsCalmAt}
 use Rattle.gptp_network.specs.declared.fault.DocumentFault.{DocumentFault}
 use Rattle.gptp_timeline.specs.Ends.{EndState}
 use Rattle.gptp_timeline.specs.LastTwo.{EndsOf}
@@ -27,11 +28,12 @@ StandsWithout d at o = IsSnapshot (with_event at (fault_of o.failing) d) at
 abbrev pub TellsSettled : Snapshot → OutcomeState → Type 0
 TellsSettled g o = (roots : List ℕ) × AreRoots g roots × AreFollows roots o.follow
 
--- Where faults stay by default, and the `down` line of a case that fails at this time has a bound, its `follow` lines
--- are those of the settled choice of the network without what has failed.
+-- Where faults stay by default, and the network is calm without what fails in a case at this time, its `follow` lines
+-- are those of the settled choice of the network without it.
 abbrev pub FollowSettled : DocumentState → FaultsOptions → ℕ → List OutcomeState → Type 0
-FollowSettled d options at outcomes = (o : OutcomeState) (bound : ℕ) (g : Snapshot)
-    → options.hold ≡ None → In o outcomes → o.down.bound ≡ Some bound → StandsWithout d at o g → TellsSettled g o
+FollowSettled d options at outcomes = (o : OutcomeState) (g : Snapshot)
+    → options.hold ≡ None → In o outcomes → IsCalmAt (with_event at (fault_of o.failing) d) at → StandsWithout d at o g
+    → TellsSettled g o
 
 -- The lines on followers are settled in every document that is playable.
 abbrev pub FollowLinesSettle : Type 0

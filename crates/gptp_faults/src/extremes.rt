@@ -40,8 +40,8 @@ pub(crate) struct Extremes {
     pub error: Option<Greatest>,
     /// What was counted where stretches ended.
     pub counts: Counts,
-    /// How long the network takes at most to settle, in the first, in ns.
-    pub bound: Option<u64>,
+    /// How soon the choice stands at most, in the first, in ns.
+    pub bound: Option<u128>,
     /// What systems read, where that is asked.
     pub times: TimeExtremes,
 }
@@ -120,7 +120,7 @@ pub(crate) fn of_one(stretch: &Stretch) -> Extremes
         holdover: stretch.measures.holdover,
         error: stretch.measures.error,
         counts: stretch.counts,
-        bound: stretch.bound,
+        bound: stretch.choice_bound(),
         times: times_of(stretch),
     }
 }

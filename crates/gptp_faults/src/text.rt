@@ -6,7 +6,7 @@ ghost use Rattle.std.specs.List.{flat_map};
 ghost use Rattle.gptp_words.specs.Lines.{text_of};
 ghost use Rattle.gptp_words.specs.Digits.{or_none};
 ghost use Rattle.gptp_timeline.specs.Limits.{first_exceeded};
-ghost use Rattle.gptp_faults.specs.FaultsText.{amounts_words, case_line, counts_text, exceeded_by, exceeds_limit, extremes_line, extremes_lines, follow_line, head_line, outcome_lines, table_lines, worst_amount, worst_line, worst_lines, worst_of_all, worst_words};
+ghost use Rattle.gptp_faults.specs.FaultsText.{amounts_words, case_line, counts_text, exceeded_by, exceeds_limit, extremes_line, extremes_lines, follow_line, head_line, outcome_lines, table_lines, worst_amount, worst_exceeds, worst_line, worst_lines, worst_of_all, worst_words};
 
 use crate::cases::Case;
 use crate::extremes::{Extremes, OF_NONE, joined};
@@ -17,7 +17,7 @@ use crate::ranking::amount_or_0;
 use crate::time_text::{write_times, write_worst_times};
 use crate::times::Times;
 use gptp_timeline::{
-    Counts, Limit, Limits, Longest, Near, TimeOrNone, Worst, amount_of, write_first_exceeded,
+    Counts, Limit, Limits, Longest, Near, Worst, amount_of, write_first_exceeded,
 };
 use gptp_vector::PortId;
 use gptp_words::{ClockDigits, IdentityDigits};
@@ -128,11 +128,11 @@ fn write_amounts(text: &mut String, word: &str, extremes: &Extremes) -> Result<(
 }
 
 /// Appends what was counted, and the bound.
-fn write_bound(text: &mut String, counts: Counts, bound: Option<u64>) -> Result<(), AllocError>
+fn write_bound(text: &mut String, counts: Counts, bound: Option<u128>) -> Result<(), AllocError>
     ensures { OnOk result (string_bytes text.new
         ≡ string_bytes text.old ++ ((counts_text counts ++ codes " bound " ++ or_none decimal bound) ++ 10 ∷ [])) }
 {
-    writeln!(text, "{} bound {}", CountsText(counts), TimeOrNone(bound))
+    writeln!(text, "{} bound {}", CountsText(counts), AmountOrNone(bound))
 }
 
 /// Appends the line of the greatest of all runs.
@@ -268,6 +268,7 @@ fn worst_amount(worst: &Extremes, limit: Limit) -> Option<u128>
         Limit::Without => Some(u128::from(worst.counts.without)),
         Limit::Roots => Some(u128::from(worst.counts.roots)),
         Limit::Alone => Some(u128::from(worst.counts.alone)),
+        Limit::Bound => worst.bound,
         Limit::Time => amount_of(worst.times.time),
         Limit::Apart => Some(worst.times.apart.amount),
         Limit::Step => amount_of(worst.times.step),
@@ -277,7 +278,7 @@ fn worst_amount(worst: &Extremes, limit: Limit) -> Option<u128>
 
 /// The first of several limits that it exceeds.
 fn first_exceeded(limits: &Limits, worst: &Extremes, among: &[Limit]) -> Option<Limit>
-    ensures { result ≡ first_exceeded limits.now (worst_amount worst.now) among.now }
+    ensures { result ≡ first_exceeded (worst_exceeds limits.now worst.now) among.now }
 {
     for limit in among {
         if limits.exceeds(*limit, worst_amount(worst, *limit)) {

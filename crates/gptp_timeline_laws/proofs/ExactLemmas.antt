@@ -26,11 +26,11 @@ use Rattle.gptp_scenario.specs.declared.change.Timed.{Timed}
 use Rattle.gptp_theorem.specs.PlayedLaws.{IsPlayable}
 use Rattle.gptp_reading.proofs.LastingLemmas.{error_grows}
 use Rattle.gptp_timeline.specs.ExactReads.{counts_new, ended_reads, greater_of, later_of, reads_among, reads_by, reads_ended, reads_next, reads_over, reads_with, unread}
-use Rattle.gptp_timeline.specs.Laws.{SayBound}
+use Rattle.gptp_timeline.specs.Laws.{IsExactBySpan, SayBound}
 use Rattle.gptp_timeline.specs.Jumps.{error_before}
 use Rattle.gptp_timeline.specs.Readings.{clock_time, new_in, put_reading, read_after, read_by, reading_among, reading_error, readings_after, readings_by}
 use Rattle.gptp_timeline.specs.Stretch.{at_of}
-use Rattle.gptp_timeline.specs.Timeline.{AreErrorsBy, exact_time, now_of}
+use Rattle.gptp_timeline.specs.Timeline.{AreErrorsBy, now_of}
 use Rattle.gptp_timeline.specs.declared.exact_reads.ExactReads.{ExactReads}
 use Rattle.gptp_timeline.specs.declared.exact_reads.SystemReads.{SystemReads}
 use Rattle.gptp_timeline.specs.declared.readings.KeptReading.{KeptReading}
@@ -377,12 +377,13 @@ module _ {F : Type 0} (answers : Bounds → ℕ → F → Option ℕ → F → T
   -- ---- what the errors say
 
   pub bound_is : (time later most : ℕ) (errors : TimeErrors) (name from bound : ℕ) (are : AreTimeErrors d time errors)
-      (says : SayBound errors name from bound) → reading_at says.system later ≡ Some most
+      (by_span : IsExactBySpan d time from) (says : SayBound errors name bound)
+      → reading_at says.system later ≡ Some most
       → most ≡ error_by_then answers d playable names (events_by time d.events) are.snapshot name from bound
-      (has_bound answers d playable names time errors name from bound are says) later
-  bound_is time later most errors name from bound are says is =
+      (has_bound answers d playable names time errors name from bound are by_span says) later
+  bound_is time later most errors name from bound are by_span says is =
       let n = d.network in let events = events_by time d.events in let g = are.snapshot in let s = says.system in
-      let has = has_bound answers d playable names time errors name from bound are says in
+      let has = has_bound answers d playable names time errors name from bound are by_span says in
       let by_way = subst (HasByWay n events g s (λ w. way_error w later)) is
       (reading_errors_are_of_ways n events g s later (are.systems.each s says.among)) in
       let (calm, near, capable, (way, leads, most_is)) = by_way in
@@ -393,7 +394,7 @@ module _ {F : Type 0} (answers : Bounds → ℕ → F → Option ℕ → F → T
 pub timelines_read_exactly : {F : Type 0} (answers : Bounds → ℕ → F → Option ℕ → F → Type 0)
     → TimelinesReadExactly answers
 timelines_read_exactly answers d until options fate lines exceeded t playable early p w c rs errors name from bound
-    worst most r says begins has_readings are reads worst_is most_is =
+    worst most r says begins has_readings are exact_is reads worst_is most_is =
     let names = rising_clocks t.start in
     let b = timeline_found answers d until options fate lines exceeded t playable p w c begins in
     let hold : AreErrorsBy d b.from p.to (Some errors) =
@@ -403,7 +404,8 @@ timelines_read_exactly answers d until options fate lines exceeded t playable ea
     b.is_left) in
     let events = events_by b.from d.events in
     let g = hold.0.snapshot in
-    let has = has_bound answers d playable names b.from errors name from bound hold.0 says in
+    let by_span = subst (λ time. IsExactBySpan d time from) b.passage.from_is exact_is in
+    let has = has_bound answers d playable names b.from errors name from bound hold.0 by_span says in
     let made = events_then answers d playable names until b.from b.before b.left b.is_left in
     let last = last_change events in
     let past = all_past last events
@@ -416,11 +418,9 @@ timelines_read_exactly answers d until options fate lines exceeded t playable ea
     b.keeps
     (subst (λ es. Courses answers p.to es p.acts b.fate b.fate_after w p.after) b.passage.events_are
     b.passage.courses) (unread_none names name) in
-    let exact : exact_time p.errors ≡ Some from = ap exact_time are ∙ says.from_is in
     let ended = ended_within answers d playable names events g name from bound has p.to p.after
-    (readings_after p.acts rs) (reads_over (Some from) rs (map unread names) p.acts) r on
-    (subst (λ f. ended_reads p.to p.after (readings_after p.acts rs) (reads_over f rs (map unread names) p.acts) name
-    ≡ Some r) exact reads) in
-    let is = bound_is answers d playable names b.from r.longest most errors name from bound hold.0 says most_is in
+    (readings_after p.acts rs) (reads_over (Some from) rs (map unread names) p.acts) r on reads in
+    let is = bound_is answers d playable names b.from r.longest most errors name from bound hold.0 by_span says most_is
+    in
     subst (λ m. worst ≤ m) (sym is)
     (subst (AtMost (error_by_then answers d playable names events g name from bound has r.longest)) worst_is ended)

@@ -15,6 +15,7 @@ use Rattle.gptp_report.specs.Transitions.{Courses, Passes}
 use Rattle.gptp_scenario.specs.Calm.{last_change}
 use Rattle.gptp_scenario.specs.declared.change.Timed.{Timed}
 use Rattle.gptp_theorem.specs.PlayedLaws.{IsPlayable}
+use Rattle.gptp_timeline.specs.Laws.{IsExactBySpan}
 use Rattle.gptp_timeline.specs.Looks.{events_left}
 use Rattle.gptp_timeline.specs.Readings.{new_in, put_reading, read_after, reading_among, readings_after, readings_by}
 use Rattle.gptp_timeline.specs.Stretch.{at_of, receives}
@@ -210,7 +211,7 @@ module _ {F : Type 0} (answers : Bounds → ℕ → F → Option ℕ → F → T
 pub timelines_bound_receipts : {F : Type 0} (answers : Bounds → ℕ → F → Option ℕ → F → Type 0)
     → TimelinesBoundReceipts answers
 timelines_bound_receipts answers d until options fate lines exceeded t playable early p w c rs errors name from bound
-    last time read source most moment says begins has_readings are received late r most_is =
+    last time read source most moment says begins has_readings are exact_is received late r most_is =
     let names = rising_clocks t.start in
     let b = timeline_found answers d until options fate lines exceeded t playable p w c begins in
     let hold : AreErrorsBy d b.from p.to (Some errors) =
@@ -220,7 +221,8 @@ timelines_bound_receipts answers d until options fate lines exceeded t playable 
     b.is_left) in
     let events = events_by b.from d.events in
     let g = hold.0.snapshot in
-    let has = has_bound answers d playable names b.from errors name from bound hold.0 says in
+    let by_span = subst (λ time. IsExactBySpan d time from) b.passage.from_is exact_is in
+    let has = has_bound answers d playable names b.from errors name from bound hold.0 by_span says in
     let made = events_then answers d playable names until b.from b.before b.left b.is_left in
     let change = last_change events in
     let past = all_past change events
@@ -240,4 +242,5 @@ timelines_bound_receipts answers d until options fate lines exceeded t playable 
     (error_read on.base (world_after moment.done w) on.clocks time (readings_after moment.done rs) name read source
     r) in
     subst (λ m. unsigned_abs (read -ℤ source) ≤ m)
-    (sym (bound_is answers d playable names b.from (time - last) most errors name from bound hold.0 says most_is)) small
+    (sym (bound_is answers d playable names b.from (time - last) most errors name from bound hold.0 by_span says
+    most_is)) small

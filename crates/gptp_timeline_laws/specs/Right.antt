@@ -30,8 +30,8 @@ pub record TimelineReadsRight {F : Type 0} (answers : Bounds → ℕ → F → O
   pub roots : RootsAreSources t.start (first_carried answers d until options fate lines exceeded t) t.passages
   pub bests : BestsAreSources d t.start (first_carried answers d until options fate lines exceeded t) t.passages
   pub ages : ReceiptsAreRecent d t.start (first_carried answers d until options fate lines exceeded t) t.passages
-  pub receipts : ReceiptsBoundMoments t.start (first_carried answers d until options fate lines exceeded t) t.passages
-  pub accuracy : ReadsAreWithin (rising_clocks t.start) t.start
+  pub receipts : ReceiptsBoundMoments d t.start (first_carried answers d until options fate lines exceeded t) t.passages
+  pub accuracy : ReadsAreWithin d (rising_clocks t.start) t.start
       (first_carried answers d until options fate lines exceeded t) t.passages
 
 -- So it is of every timeline of a document that is playable, as long as clocks can show the time.
