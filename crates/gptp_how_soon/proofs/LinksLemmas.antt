@@ -95,7 +95,8 @@ new_more start (r ∷ ss) (u ∷ us) zero s there =
 new_more start (r ∷ ss) [] (suc place) s there =
     let none : is_old_at start [] (suc place) ≡ is_old_at start [] place =
     ap (λ used. not start && used) (none_used (suc place) ∙ sym (none_used place)) in
-    ap (λ old. new_one s old ++ new_among start (drop (suc place + 1) (r ∷ ss)) (drop {A = Bool} (suc place + 1) [])) none
+    ap (λ old. new_one s old ++ new_among start (drop (suc place + 1) (r ∷ ss)) (drop {A = Bool} (suc place + 1) []))
+    none
     ∙ new_behind start r ss [] [] place (new_one s (is_old_at start [] place)) (new_more start ss [] place s there)
     (sym (drop_none (place + 1))) (sym (drop_none place))
 new_more start (r ∷ ss) (u ∷ us) (suc place) s there =

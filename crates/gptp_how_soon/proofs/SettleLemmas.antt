@@ -22,14 +22,14 @@ turned a true is = rw is refl
 turned a false is = rw is refl
 
 pub settled_so : (n : NetworkState) (w : Walk) (at : ℕ) (first followed from_rest calm sets : Bool) (paths : SyncPaths)
-    (told : List Told) (standings : List Standing) (used : List Bool) (new : List Cable) (soon heard way : ℕ) (row : Row)
-    (time : SettlingTime)
-    → time ≡ times_by n at paths calm sets row (soon + heard + way)
+    (told : List Told) (standings : List Standing) (used : List Bool) (new : List Cable) (soon heard way : ℕ)
+    (row : Row) (time : SettlingTime)
+    → time ≡ times_by n at w.last_set paths calm sets row (soon + heard + way)
     → row ≡ row_of from_rest first told
-    → from_rest ≡ is_from_rest n at told new soon w.before
+    → from_rest ≡ is_from_rest n at w.paths_before standings told new soon w.before
     → way ≡ way_span paths
     → heard ≡ heard_by n followed told new
-    → followed ≡ heard_at_once first w.systems_before standings told
+    → followed ≡ heard_at_once first w.paths_before told
     → soon ≡ ready n.params paths told new
     → sets ≡ sets_link told
     → calm ≡ are_calm n.params paths w.tables.marks.items
@@ -40,6 +40,6 @@ pub settled_so : (n : NetworkState) (w : Walk) (at : ℕ) (first followed from_r
     → paths ≡ marked_paths w.tables.marks.items w.tables.nodes.items
     → first ≡ not (is_some w.before)
     → time ≡ settling_time n (view_seen n w at)
-settled_so n w at first followed from_rest calm sets paths told standings used new soon heard way row time e0 e1 e2 e3 e4 e5
-    e6 e7 e8 e9 e10 e11 e12 e13 e14 =
+settled_so n w at first followed from_rest calm sets paths told standings used new soon heard way row time e0 e1 e2 e3
+    e4 e5 e6 e7 e8 e9 e10 e11 e12 e13 e14 =
     rw (e0, e1, e2, e3, e4, e5, e6, e7, e8, e9, e10, e11, e12, e13, e14) refl

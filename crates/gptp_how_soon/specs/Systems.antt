@@ -29,7 +29,8 @@ has_clock clock o = o.clock == clock
 
 -- what a change makes of the identity of the system with a clock, and an act of the system
 abbrev pub identity_changed : Change → ℕ → ℕ → ℕ
-identity_changed change own identity = (system_changed change own (record { identity = identity; live = true })).identity
+identity_changed change own identity =
+    (system_changed change own (record { identity = identity; live = true })).identity
 
 abbrev pub identity_acted : Act → ℕ → ℕ → ℕ
 identity_acted act own identity = (system_acted act own (record { identity = identity; live = true })).identity

@@ -1,7 +1,7 @@
 //! How soon after each time of a document all systems follow the right clock, in one pass over its events (profile).
 //!
-//! At a time the network either comes from any past, and the general bound stands; or it rested until then, and what its
-//! events do says how soon. [`settling_times`] tells both for all times, [`settling_at`] finds one of them.
+//! At a time the network either comes from any past, and the general bound stands; or it rested until then, and what
+//! its events do says how soon. [`settling_times`] tells both for all times, [`settling_at`] finds one of them.
 #![tactic(auto)]
 
 mod bounds;
@@ -14,5 +14,7 @@ mod tests;
 mod times;
 mod walk;
 
-pub use bounds::{Settling, SettlingTime};
+pub use bounds::{Row, Settling, SettlingTime};
+pub use kinds::{Kind, Told, What};
+pub use systems::System;
 pub use times::{settling_at, settling_times};
