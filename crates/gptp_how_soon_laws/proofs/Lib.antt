@@ -8,4 +8,5 @@ mod RowLemmas
 pub mod ChoiceLemmas
 pub mod StepLemmas
 mod SettledLemmas
+mod EndLemmas
 mod ExactLemmas

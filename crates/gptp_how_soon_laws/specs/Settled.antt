@@ -25,3 +25,12 @@ SettlesSoon {F} answers = (d : DocumentState) (time : SettlingTime) (s : Settlin
     → time.at + s.choice < t.told.timed.at → t.told.timed.at < next
     → IsSettledAs d t.told.timed.at t.after
     × (AllAreNear (snapshot_of t.after) → LeavesShown t.before t.after)
+
+-- So the world is settled with which a run ends that goes on for longer than that, and not to the next event.
+abbrev pub EndsSettled : {F : Type 0} → (Bounds → ℕ → F → Option ℕ → F → Type 0) → Type 0
+EndsSettled {F} answers = (d : DocumentState) (time : SettlingTime) (s : Settling) (next until : ℕ) (fate : F)
+    (first w : WorldState) (ts : List ActTrace)
+    → IsPlayable d → Unfolds answers d until fate first ts w
+    → In time (settling_times d) → time.settling ≡ Some s → NoneBetween d.events time.at next
+    → time.at + s.choice < until → until < next
+    → IsSettledAs d until w

@@ -14,4 +14,4 @@ mod settled;
 
 pub use choice::settlings_are_choice_bounds;
 pub use exact::exact_soon;
-pub use settled::settled_soon;
+pub use settled::{ends_settled, settled_soon};

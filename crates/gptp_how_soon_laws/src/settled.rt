@@ -1,6 +1,6 @@
 //! By when a run has settled after the events of each time of its document.
 
-ghost use Rattle.gptp_how_soon_laws.specs.Settled.{SettlesSoon};
+ghost use Rattle.gptp_how_soon_laws.specs.Settled.{EndsSettled, SettlesSoon};
 
 use gptp_links::Fate;
 
@@ -10,4 +10,10 @@ use gptp_links::Fate;
 /// port.
 pub fn settled_soon<F: Fate>()
     ensures { SettlesSoon F.answers }
+{}
+
+/// The world with which a run ends is settled, and its snapshot is that of the document, where the run goes on for longer
+/// than the computed choice after a time, and not to the next event.
+pub fn ends_settled<F: Fate>()
+    ensures { EndsSettled F.answers }
 {}
