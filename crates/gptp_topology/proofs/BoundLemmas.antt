@@ -93,7 +93,7 @@ module _ (marks : List Mark) where
 
 -- ---- systems that live
 
-lives_is : (members : List SystemSpec) (events : List Timed) (p : PortId) → IsPort members p
+pub lives_is : (members : List SystemSpec) (events : List Timed) (p : PortId) → IsPort members p
     → lives_after events p.clock true ≡ lives members events p.clock
 lives_is members events p port =
     same_tests (lives_after events p.clock true) (lives members events p.clock)
@@ -294,14 +294,14 @@ module _ (n : NetworkState) (network : IsNetwork n) (events : List Timed) (t : T
   -- ---- whether it is calm
 
   -- at each link
-  mark_rests : (w : LinkSpec) → In w n.links → (mark_of n.params (after events (first w))).troubled ≡ false
+  pub mark_rests : (w : LinkSpec) → In w n.links → (mark_of n.params (after events (first w))).troubled ≡ false
       → Rests n.params n.systems events w
   mark_rests w member none =
       let s = after events (first w) in
       let (long, lossy) = or_parts (is_long n.params s) (not (loss_in_use s == 0)) none in
       rests_from n.params n.systems events w long (eqb-true (loss_in_use s) 0 (not-false (loss_in_use s == 0) lossy))
 
-  rests_mark : (w : LinkSpec) → In w n.links → Rests n.params n.systems events w
+  pub rests_mark : (w : LinkSpec) → In w n.links → Rests n.params n.systems events w
       → (mark_of n.params (after events (first w))).troubled ≡ false
   rests_mark w member rests =
       let s = after events (first w) in

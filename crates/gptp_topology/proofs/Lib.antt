@@ -1,9 +1,9 @@
 pub mod SystemSpecLemmas
 pub mod PlaceLemmas
-mod LivesLemmas
+pub mod LivesLemmas
 pub mod NamedLemmas
 pub mod CourseLemmas
 pub mod RestLemmas
-mod StandingLemmas
-mod BoundLemmas
+pub mod StandingLemmas
+pub mod BoundLemmas
 pub mod PassedLemmas

@@ -39,7 +39,7 @@ changed_alike (changes.Recover clock) own s = set_alike (clock == own) true s
 changed_alike (changes.Priority1 clock value) own s = valued_alike (clock == own) value s
 changed_alike (changes.Inject clock port octets) own s = refl
 
-acted_alike : (act : Act) (own : ℕ) (s : _) → (system_acted act own s).live ≡ lives_acted act own s.live
+pub acted_alike : (act : Act) (own : ℕ) (s : _) → (system_acted act own s).live ≡ lives_acted act own s.live
 acted_alike (acts.Deliver link direction) own s = refl
 acted_alike (acts.Expire clock timer) own s = refl
 acted_alike (acts.Change change) own s = changed_alike change own s

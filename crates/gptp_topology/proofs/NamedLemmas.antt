@@ -30,7 +30,7 @@ lives_same (acts.Change change) own lives other = lives_changed change own lives
 
 -- ---- whether it is up, and its bounds
 
-not_at : (clock port : ℕ) (w : LinkSpec) → clock ≢ w.a.clock → clock ≢ w.b.clock → is_at clock port w ≡ false
+pub not_at : (clock port : ℕ) (w : LinkSpec) → clock ≢ w.a.clock → clock ≢ w.b.clock → is_at clock port w ≡ false
 not_at clock port w a b =
     or_from (same_port w.a (record { clock = clock; port = port }))
     (same_port w.b (record { clock = clock; port = port }))

@@ -149,7 +149,7 @@ same_heads x y xs ys e = cc
 same_tails : {X : Type 0} (x y : X) (xs ys : List X) → x ∷ xs ≡ y ∷ ys → xs ≡ ys
 same_tails x y xs ys e = cc
 
-maps_alike : {X Y : Type 0} (f g : X → Y) (xs : List X) → ((x : X) → f x ≡ g x) → map f xs ≡ map g xs
+pub maps_alike : {X Y : Type 0} (f g : X → Y) (xs : List X) → ((x : X) → f x ≡ g x) → map f xs ≡ map g xs
 maps_alike f g [] same = refl
 maps_alike f g (x ∷ xs) same = ap₂ (λ y ys. y ∷ ys) (same x) (maps_alike f g xs same)
 
@@ -252,10 +252,10 @@ nodes_more done t cables (o ∷ os) (own ∷ owns) are =
     (lives_more done t own true))
     (nodes_more done t cables os owns tail)
 
-ends_a : (events : List Timed) (w : LinkSpec) → (after events (first w)).cable.a ≡ w.a
+pub ends_a : (events : List Timed) (w : LinkSpec) → (after events (first w)).cable.a ≡ w.a
 ends_a events w = ap (λ (c : Cable). c.a) (cable_after events (first w)) ∙ same_a events w
 
-ends_b : (events : List Timed) (w : LinkSpec) → (after events (first w)).cable.b ≡ w.b
+pub ends_b : (events : List Timed) (w : LinkSpec) → (after events (first w)).cable.b ≡ w.b
 ends_b events w = ap (λ (c : Cable). c.b) (cable_after events (first w)) ∙ same_b events w
 
 pub stand_more : (n : NetworkState) → IsNetwork n → (done : List Timed) (t : Timed) (old new : Tables)

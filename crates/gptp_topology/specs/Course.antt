@@ -1,6 +1,6 @@
 -- How a link stands at each time of a document (profile).
-use Rattle.std.specs.Prelude.{ℕ, Bool, true, ◌&&◌, ◌||◌, ◌==◌, if◌then◌else◌, List, [], ◌∷◌, ◌++◌, filter, map}
-use Rattle.gptp_scenario.specs.Change.{link_acted, system_acted}
+use Rattle.std.specs.Prelude.{ℕ, Bool, true, false, ◌&&◌, ◌||◌, ◌==◌, if◌then◌else◌, List, [], ◌∷◌, ◌++◌, filter, map}
+use Rattle.gptp_scenario.specs.Change.{is_at, link_acted, system_acted}
 use Rattle.gptp_scenario.specs.declared.change.Act.{Act}
 use Rattle.gptp_scenario.specs.declared.change.Act.TheVariants as acts
 use Rattle.gptp_scenario.specs.declared.change.Change.{Change}
@@ -74,6 +74,21 @@ names_of = map (λ (t : Timed). named t.act)
 -- a system at one of the link's ends is named so
 abbrev pub is_cable_end : Cable → ℕ → Bool
 is_cable_end c clock = (clock == c.a.clock) || (clock == c.b.clock)
+
+-- the link is at the port that a change names, or an act
+abbrev pub names_link : Change → Cable → Bool
+names_link (changes.LinkDown clock port) c = is_at clock port (cable_wire c)
+names_link (changes.LinkUp clock port) c = is_at clock port (cable_wire c)
+names_link (changes.LinkSet clock port least greatest loss) c = is_at clock port (cable_wire c)
+names_link (changes.Fail clock) c = false
+names_link (changes.Recover clock) c = false
+names_link (changes.Priority1 clock value) c = false
+names_link (changes.Inject clock port octets) c = is_at clock port (cable_wire c)
+
+abbrev pub is_link_named : Act → Cable → Bool
+is_link_named (acts.Change change) c = names_link change c
+is_link_named (acts.Expire clock timer) c = false
+is_link_named (acts.Deliver link direction) c = false
 
 -- the events that name one of these systems: no other changes how the link stands
 abbrev pub naming : Cable → List Timed → List Timed

@@ -1,7 +1,7 @@
 -- How the systems and the links of a document stand, by place, and what bounds its settling then (profile).
 use Rattle.std.specs.Prelude.{◌≡◌, ℕ, zero, suc, ◌+◌, ◌==◌, ◌&&◌, ◌||◌, max, min, nat_le, not, Bool, true, false, if◌then◌else◌, List, [], ◌∷◌, ◌++◌, map, Option, Some, None, slice_get}
 use Rattle.std.specs.List.{count_by, flat_map, list_any}
-use Rattle.std.specs.Option.{is_some}
+use Rattle.std.specs.Option.{is_some, option_or}
 use Rattle.gptp_roles.specs.Selection.{clock_of}
 use Rattle.gptp_setup.specs.SettlingParams.{lapse_span}
 use Rattle.gptp_setup.specs.declared.setup.Params.{Params}
@@ -11,7 +11,7 @@ use Rattle.gptp_scenario.specs.SyncWait.{sync_wait}
 use Rattle.gptp_scenario.specs.declared.change.Act.{Act}
 use Rattle.gptp_scenario.specs.declared.network.SystemSpec.{SystemSpec}
 use Rattle.gptp_scenario.specs.declared.sync_wait.SyncPaths.{SyncPaths}
-use Rattle.gptp_topology.specs.Course.{acted, cable_of, first, cable_is_used, lives_acted, named}
+use Rattle.gptp_topology.specs.Course.{acted, cable_of, first, cable_is_used, is_link_named, lives_acted, named}
 use Rattle.gptp_topology.specs.Trouble.{is_long, loss_in_use}
 use Rattle.gptp_topology.specs.declared.course.Cable.{Cable}
 use Rattle.gptp_topology.specs.declared.course.Standing.{Standing}
@@ -138,6 +138,26 @@ abbrev pub bound_of : NetworkState → SyncPaths → List Mark → Option ℕ
 bound_of n paths marks =
     if is_some (late_of n.params paths) || list_any (λ (m : Mark). m.troubled) marks then None
     else Some (settling_span_with (pace_of n) paths paths.systems)
+
+-- neither is Sync late, nor is a link in use too long or loses frames
+abbrev pub are_calm : Params → SyncPaths → List Mark → Bool
+are_calm p paths marks = not (is_some (late_of p paths) || list_any (λ (m : Mark). m.troubled) marks)
+
+-- how many systems a path has at most, and the greatest delay of a link in use
+abbrev pub marked_paths : List Mark → List Node → SyncPaths
+marked_paths marks os = record { systems = marked_path_bound marks os; delay = greatest_used marks }
+
+-- how the link at a place stands, if an act names a port of it; and the first of these links of which it names one
+abbrev pub named_among : Act → Option Standing → Option Standing
+named_among act None = None
+named_among act (Some s) = if is_link_named act s.cable then Some s else None
+
+abbrev pub named_there : List Standing → Act → ℕ → Option Standing
+named_there ss act link = named_among act (slice_get ss link)
+
+abbrev pub link_named : List Standing → Act → List Neighbour → Option Standing
+link_named ss act [] = None
+link_named ss act (o ∷ os) = option_or (named_there ss act o.link) (link_named ss act os)
 
 -- what is told of a time
 abbrev pub time_of : NetworkState → List Mark → List Node → ℕ → CalmTime

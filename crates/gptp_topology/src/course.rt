@@ -1,8 +1,8 @@
 //! How one link stands at each time.
 
 ghost use Rattle.std.specs.Prelude.{◌≡◌, ◌++◌, ◌∷◌, ◌<◌, ◌+◌, [], IfOk, OnOk, drop, length, map, take};
-ghost use Rattle.gptp_scenario.specs.Change.{link_acted, link_changed, system_acted, system_changed};
-ghost use Rattle.gptp_topology.specs.Course.{acted, course_at_time, cable_of, course_from, first, is_cable_end, cable_is_used, lives_acted, named, named_by, names_of, naming, past, cable_wire};
+ghost use Rattle.gptp_scenario.specs.Change.{is_at, link_acted, link_changed, system_acted, system_changed};
+ghost use Rattle.gptp_topology.specs.Course.{acted, course_at_time, cable_of, course_from, first, is_cable_end, is_link_named, names_link, cable_is_used, lives_acted, named, named_by, names_of, naming, past, cable_wire};
 
 use gptp_links::Bounds;
 use gptp_scenario::{Act, Change, Network, Timed};
@@ -71,7 +71,7 @@ pub fn cables_of(alloc: Global, network: &Network) -> Result<Vec<Cable>, AllocEr
 }
 
 /// Whether a link is up between two live systems.
-pub(crate) fn is_used(standing: &Standing) -> bool
+pub fn is_used(standing: &Standing) -> bool
     ensures { result ≡ cable_is_used standing.now }
 {
     standing.cable.up && (standing.a_lives && standing.b_lives)
@@ -159,7 +159,7 @@ fn lives_changed(change: &Change, own: ClockId, lives: bool) -> bool
 }
 
 /// Whether the system with this clock lives after an act.
-pub(crate) fn lives_acted(act: &Act, own: ClockId, lives: bool) -> bool
+pub fn lives_acted(act: &Act, own: ClockId, lives: bool) -> bool
     ensures { result ≡ lives_acted act.now own lives }
 {
     match act {
@@ -219,7 +219,7 @@ fn named_by(change: &Change) -> ClockId
 }
 
 /// The system that an act names; of no document is one that names none, which gives 0.
-pub(crate) fn named(act: &Act) -> ClockId
+pub fn named(act: &Act) -> ClockId
     ensures { result ≡ named act.now }
 {
     match act {
@@ -241,6 +241,53 @@ pub fn names_of(alloc: Global, events: &[Timed]) -> Result<Vec<ClockId>, AllocEr
         names.push(named(&event.act))?;
     }
     Ok(names)
+}
+
+/// Whether a link is at this port.
+fn is_at(clock: ClockId, port: u16, cable: &Cable) -> bool
+    ensures { result ≡ is_at clock port (cable_wire cable.now) }
+{
+    let port = PortId { clock, port };
+    cable.a == port || cable.b == port
+}
+
+/// Whether a link is at the port that a change names.
+fn names_link(change: &Change, cable: &Cable) -> bool
+    ensures { result ≡ names_link change.now cable.now }
+{
+    match *change {
+        Change::LinkDown { clock, port } => is_at(clock, port, cable),
+        Change::LinkUp { clock, port } => is_at(clock, port, cable),
+        Change::LinkSet {
+            clock,
+            port,
+            min: _,
+            max: _,
+            loss: _,
+        } => is_at(clock, port, cable),
+        Change::Fail { clock: _ } => false,
+        Change::Recover { clock: _ } => false,
+        Change::Priority1 { clock: _, value: _ } => false,
+        Change::Inject {
+            clock,
+            port,
+            octets: _,
+        } => is_at(clock, port, cable),
+    }
+}
+
+/// Whether a link is at the port that an act names.
+pub(crate) fn is_link_named(act: &Act, cable: &Cable) -> bool
+    ensures { result ≡ is_link_named act.now cable.now }
+{
+    match act {
+        Act::Change(change) => names_link(change, cable),
+        Act::Deliver {
+            link: _,
+            direction: _,
+        } => false,
+        Act::Expire { clock: _, timer: _ } => false,
+    }
 }
 
 /// Whether a system at one of a link's ends has this clock.

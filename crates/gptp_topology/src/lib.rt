@@ -9,6 +9,8 @@ mod tables;
 mod times;
 mod trouble;
 
-pub use course::{Cable, Standing, cables_of, course_of, names_of};
+pub use course::{Cable, Standing, cables_of, course_of, is_used, lives_acted, named, names_of};
+pub use nodes::{Neighbour, Node};
+pub use tables::{Mark, Tables};
 pub use times::{CalmTime, bound_among, calm_times};
 pub use trouble::{is_long, loss_in_use, needed};

@@ -13,14 +13,14 @@ use std::alloc::{AllocError, Global};
 
 /// A link at a system, by its place, and the system at its other end.
 #[derive(Clone, Copy)]
-pub(crate) struct Neighbour {
+pub struct Neighbour {
     pub link: usize,
     pub clock: ClockId,
 }
 
 /// A system: its clock, whether it lives, and the links at it.
 #[derive(Drop)]
-pub(crate) struct Node {
+pub struct Node {
     pub clock: ClockId,
     pub lives: bool,
     pub neighbours: Vec<Neighbour>,

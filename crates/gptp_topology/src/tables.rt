@@ -3,10 +3,10 @@
 ghost use Rattle.std.specs.Prelude.{◌≡◌, ◌≤◌, ◌+◌, map, length, IfOk, OnOk};
 ghost use Rattle.std.specs.List.{count_by, list_any};
 ghost use Rattle.gptp_scenario.specs.Network.{NetworkState};
-ghost use Rattle.gptp_topology.specs.Course.{first, cable_wire};
-ghost use Rattle.gptp_topology.specs.Tables.{TablesActed, AreFirstTables, AreMarked, acted_along, acted_at, bound_of, cables_of, delay_in_use, crossing_delay, first_used, greatest_used, late_of, marked_elsewhere, leads_to_two, marked_between, mark_of, may_lapse, marked_path_bound, paths_of, used_at};
+ghost use Rattle.gptp_topology.specs.Course.{first, cable_wire, named};
+ghost use Rattle.gptp_topology.specs.Tables.{TablesActed, AreFirstTables, AreMarked, acted_along, acted_at, are_calm, bound_of, cables_of, delay_in_use, crossing_delay, first_used, greatest_used, late_of, link_named, marked_elsewhere, leads_to_two, marked_between, mark_of, may_lapse, marked_path_bound, marked_paths, named_there, neighbours_at, paths_of, used_at};
 
-use crate::course::{Cable, Standing, act, first, is_used, named};
+use crate::course::{Cable, Standing, act, first, is_link_named, is_used, named};
 use crate::nodes::{Neighbour, Node, act_on_nodes, live_nodes, neighbours_at, nodes_of};
 use crate::trouble::{is_long, loss_in_use};
 use gptp_scenario::{Act, Network, Params, SyncPaths};
@@ -16,7 +16,7 @@ use std::alloc::{AllocError, Global};
 
 /// Whether a link is in use, whether it then isn't good or loses frames, and its greatest delay then, in ns.
 #[derive(Clone, Copy)]
-pub(crate) struct Mark {
+pub struct Mark {
     pub used: bool,
     pub troubled: bool,
     pub delay: u64,
@@ -24,7 +24,7 @@ pub(crate) struct Mark {
 
 /// How the systems and the links of a network stand, by place.
 #[derive(Drop)]
-pub(crate) struct Tables {
+pub struct Tables {
     pub params: Params,
     pub nodes: Vec<Node>,
     pub standings: Vec<Standing>,
@@ -234,13 +234,38 @@ fn act_along(
     }
 }
 
+/// How the link at a place stands, if an act names a port of it.
+fn named_there(standings: &[Standing], done: &Act, link: usize) -> Option<Standing>
+    ensures { result ≡ named_there standings.now done.now link }
+{
+    match standings.get(link) {
+        Some(standing) => {
+            if is_link_named(done, &standing.cable) {
+                Some(*standing)
+            } else {
+                None
+            }
+        }
+        None => None,
+    }
+}
+
+/// How the first of these links stands of which an act names a port.
+fn link_named(standings: &[Standing], done: &Act, neighbours: &[Neighbour]) -> Option<Standing>
+    ensures { result ≡ link_named standings.now done.now neighbours.now }
+{
+    for neighbour in neighbours {
+        let standing = named_there(standings, done, neighbour.link);
+        if standing.is_some() {
+            return standing;
+        }
+    }
+    None
+}
+
 impl Tables {
-    /// The tables of a network with these links.
-    pub(crate) fn first(
-        alloc: Global,
-        network: &Network,
-        cables: &[Cable],
-    ) -> Result<Self, AllocError>
+    /// The tables of a network with these links, before all events. Refused for want of memory alone.
+    pub fn first(alloc: Global, network: &Network, cables: &[Cable]) -> Result<Self, AllocError>
         requires { cables.now ≡ cables_of network.now }
         ensures { IfOk result (AreFirstTables network.now) }
     {
@@ -257,7 +282,7 @@ impl Tables {
     }
 
     /// Does what an act does.
-    pub(crate) fn act(&mut self, done: &Act)
+    pub fn act(&mut self, done: &Act)
         requires { AreMarked self.old }
         ensures { TablesActed done.now self.old self.new }
     {
@@ -269,6 +294,40 @@ impl Tables {
             done,
         );
         act_on_nodes(self.nodes.as_mut_slice(), done);
+    }
+
+    /// How the link stands at the port that an act names, if it names one.
+    pub fn link_named(&self, done: &Act) -> Option<Standing>
+        ensures { result ≡ link_named self.now.standings.items done.now
+            (neighbours_at (named done.now) self.now.nodes.items) }
+    {
+        link_named(
+            &self.standings,
+            done,
+            neighbours_at(named(done), &self.nodes),
+        )
+    }
+
+    /// How many systems a path has at most, and the greatest delay of a link in use.
+    pub fn sync_paths(&self) -> SyncPaths
+        requires { length self.now.nodes.items ≤ 512 }
+        ensures is { result ≡ marked_paths self.now.marks.items self.now.nodes.items }
+        ensures few { result.systems ≤ 512 }
+    {
+        SyncPaths {
+            systems: path_bound(&self.marks, &self.nodes),
+            delay: greatest_used(&self.marks),
+        }
+    }
+
+    /// Whether the network is calm where Sync has these paths to cross: it isn't late, and no link in use is too long
+    /// or loses frames.
+    pub fn is_calm(&self, network: &Network, paths: SyncPaths) -> bool
+        requires few { paths.systems ≤ 512 }
+        requires short { paths.delay ≤ 16000000000 }
+        ensures { result ≡ are_calm network.now.params paths self.now.marks.items }
+    {
+        late_of(network, paths).is_none() && !is_troubled(&self.marks)
     }
 
     /// What Sync has to cross; where nothing may lapse for want of it delays don't count.

@@ -1,0 +1,230 @@
+-- The links of a network stand so after events, by the tables of gptp_topology.
+use Rattle.std.proofs.Common.{◌≡◌, ◌≢◌, ℕ, Bool, true, false, ◌==◌, ◌&&◌, ◌||◌, not, cond, List, [], ◌∷◌, ◌++◌, ◌+◌, zero, suc, drop, filter, map, Option, Some, None, slice_get, refl, sym, ap, ap₂, ◌∙◌, inl, inr, arith}
+use Rattle.std.specs.List.{find, list_any}
+use Rattle.std.specs.Option.{is_some, option_or}
+use Rattle.std.proofs.lemmas.Bool.{eqb-false}
+use Rattle.gptp_lists.specs.Members.{In}
+use Rattle.gptp_lists.proofs.MappedLemmas.{mapped_there, some_same}
+use Rattle.gptp_lists.proofs.SystemSpecLemmas.{slice_get-In}
+use Rattle.gptp_vector.specs.declared.port.PortId.{PortId}
+use Rattle.gptp_setup.specs.declared.setup.Params.{Params}
+use Rattle.gptp_scenario.specs.Change.{link_after}
+use Rattle.gptp_scenario.specs.InUse.{lives}
+use Rattle.gptp_scenario.specs.Network.{IsNetwork, NetworkState}
+use Rattle.gptp_scenario.specs.SyncWait.{sync_paths}
+use Rattle.gptp_scenario.specs.declared.change.Act.{Act}
+use Rattle.gptp_scenario.specs.declared.change.Act.TheVariants as acts
+use Rattle.gptp_scenario.specs.declared.change.Change.{Change}
+use Rattle.gptp_scenario.specs.declared.change.Change.TheVariants as changes
+use Rattle.gptp_scenario.specs.declared.change.Timed.{Timed}
+use Rattle.gptp_scenario.specs.declared.network.LinkSpec.{LinkSpec}
+use Rattle.gptp_scenario.specs.declared.sync_wait.SyncPaths.{SyncPaths}
+use Rattle.gptp_topology.specs.Course.{acted, cable_is_used, cable_of, cable_wire, first, is_link_named, named, named_by, names_link}
+use Rattle.gptp_topology.specs.Tables.{are_calm, cables_of, late_of, led, link_named, mark_of, marked_paths, named_among, named_there, neighbours_at, neighbours_of}
+use Rattle.gptp_topology.specs.declared.course.Cable.{Cable}
+use Rattle.gptp_topology.specs.declared.course.Standing.{Standing}
+use Rattle.gptp_topology.specs.declared.nodes.Neighbour.{Neighbour}
+use Rattle.gptp_topology.specs.declared.tables.Mark.{Mark}
+use Rattle.gptp_topology.specs.declared.tables.Tables.{Tables}
+use Rattle.gptp_topology.proofs.BoundLemmas.{greatest_is, lives_is, paths_is}
+use Rattle.gptp_topology.proofs.CourseLemmas.{a_after, after, b_after, cable_after, same_a, same_b}
+use Rattle.gptp_topology.proofs.NamedLemmas.{not_at}
+use Rattle.gptp_topology.proofs.StandingLemmas.{Stand, neighbours_are}
+use Rattle.gptp_how_soon.specs.Links.{is_new, is_old_at, is_used_at, new_among, new_links, new_one, standing_then, standings_after}
+use Rattle.gptp_how_soon.specs.Times.{is_calm, is_standing_named, is_troubled}
+
+maps_in : {X Y : Type 0} (f g : X → Y) (xs : List X) → ((x : X) → In x xs → f x ≡ g x) → map f xs ≡ map g xs
+maps_in f g [] same = refl
+maps_in f g (x ∷ xs) same =
+    ap₂ (λ y ys. y ∷ ys) (same x (inl refl)) (maps_in f g xs (λ y member. same y (inr member)))
+
+-- ---- new links
+
+-- those in use and not used before, by the standings of links now and then
+new_by : (first : Bool) (now before : LinkSpec → Standing) (ws : List LinkSpec)
+    → new_among first (map now ws) (map cable_is_used (map before ws))
+    ≡ map (λ w. (now w).cable)
+    (filter (λ w. cable_is_used (now w) && not (not first && cable_is_used (before w))) ws)
+new_by first now before [] = refl
+new_by first now before (w ∷ ws) =
+    by (cable_is_used (now w) && not (not first && cable_is_used (before w)))
+    (new_among first (map now ws) (map cable_is_used (map before ws)))
+    (filter (λ w. cable_is_used (now w) && not (not first && cable_is_used (before w))) ws)
+    (new_by first now before ws)
+  where
+    by : (test : Bool) (cs : List Cable) (vs : List LinkSpec) → cs ≡ map (λ w. (now w).cable) vs
+        → (cond test ((now w).cable ∷ []) []) ++ cs ≡ map (λ w. (now w).cable) (cond test (w ∷ vs) vs)
+    by true cs vs is = ap (λ ds. (now w).cable ∷ ds) is
+    by false cs vs is = is
+
+pub new_are : (n : NetworkState) (made events : List Timed) (first : Bool)
+    → new_among first (standings_after n events) (map cable_is_used (standings_after n made))
+    ≡ new_links n made events first
+new_are n made events first = new_by first (standing_then n events) (standing_then n made) n.links
+
+-- one link more is looked at
+drop_none : (place : ℕ) → drop {A = Bool} place [] ≡ []
+drop_none zero = refl
+drop_none (suc place) = refl
+
+none_used : (place : ℕ) → is_used_at [] place ≡ false
+none_used zero = refl
+none_used (suc place) = refl
+
+new_behind : (start : Bool) (r : Standing) (ss : List Standing) (us vs : List Bool) (place : ℕ) (new : List Cable)
+    → new ++ new_among start (drop (place + 1) ss) (drop (place + 1) vs)
+    ≡ new_among start (drop place ss) (drop place vs)
+    → drop (suc (place + 1)) us ≡ drop (place + 1) vs → drop (suc place) us ≡ drop place vs
+    → new ++ new_among start (drop (suc place + 1) (r ∷ ss)) (drop (suc place + 1) us)
+    ≡ new_among start (drop (suc place) (r ∷ ss)) (drop (suc place) us)
+new_behind start r ss us vs place new rest next this =
+    let step : suc place + 1 ≡ suc (place + 1) = omega arith in
+    ap (λ k. new ++ new_among start (drop k (r ∷ ss)) (drop k us)) step
+    ∙ ap (λ ws. new ++ new_among start (drop (place + 1) ss) ws) next
+    ∙ rest ∙ ap (new_among start (drop place ss)) (sym this)
+
+pub new_more : (start : Bool) (ss : List Standing) (us : List Bool) (place : ℕ) (s : Standing)
+    → slice_get ss place ≡ Some s
+    → new_one s (is_old_at start us place) ++ new_among start (drop (place + 1) ss) (drop (place + 1) us)
+    ≡ new_among start (drop place ss) (drop place us)
+new_more start [] us place s there = absurd cc
+new_more start (r ∷ ss) [] zero s there =
+    ap (λ v. new_one v (not start && false) ++ new_among start ss []) (sym (some_same r s there))
+new_more start (r ∷ ss) (u ∷ us) zero s there =
+    ap (λ v. new_one v (not start && u) ++ new_among start ss us) (sym (some_same r s there))
+new_more start (r ∷ ss) [] (suc place) s there =
+    let none : is_old_at start [] (suc place) ≡ is_old_at start [] place =
+    ap (λ used. not start && used) (none_used (suc place) ∙ sym (none_used place)) in
+    ap (λ old. new_one s old ++ new_among start (drop (suc place + 1) (r ∷ ss)) (drop {A = Bool} (suc place + 1) [])) none
+    ∙ new_behind start r ss [] [] place (new_one s (is_old_at start [] place)) (new_more start ss [] place s there)
+    (sym (drop_none (place + 1))) (sym (drop_none place))
+new_more start (r ∷ ss) (u ∷ us) (suc place) s there =
+    new_behind start r ss (u ∷ us) us place (new_one s (is_old_at start us place)) (new_more start ss us place s there)
+    refl refl
+
+-- ---- a link that an act names
+
+not_named_by : (change : Change) (c : Cable) → named_by change ≢ c.a.clock → named_by change ≢ c.b.clock
+    → names_link change c ≡ false
+not_named_by (changes.LinkDown clock port) c a b = not_at clock port (cable_wire c) a b
+not_named_by (changes.LinkUp clock port) c a b = not_at clock port (cable_wire c) a b
+not_named_by (changes.LinkSet clock port least greatest loss) c a b = not_at clock port (cable_wire c) a b
+not_named_by (changes.Fail clock) c a b = refl
+not_named_by (changes.Recover clock) c a b = refl
+not_named_by (changes.Priority1 clock value) c a b = refl
+not_named_by (changes.Inject clock port octets) c a b = not_at clock port (cable_wire c) a b
+
+not_named : (act : Act) (c : Cable) → named act ≢ c.a.clock → named act ≢ c.b.clock → is_link_named act c ≡ false
+not_named (acts.Deliver link direction) c a b = refl
+not_named (acts.Expire clock timer) c a b = refl
+not_named (acts.Change change) c a b = not_named_by change c a b
+
+module _ (n : NetworkState) (network : IsNetwork n) (events : List Timed) where
+  abbrev stood : LinkSpec → Standing
+  stood = standing_then n events
+
+  -- ---- how links stand
+
+  at_after : (ts : List Timed) (s : Standing) → (after ts s).at ≡ s.at
+  at_after [] s = refl
+  at_after (t ∷ ts) s = at_after ts (acted t.act s)
+
+  pub standing_is : (w : LinkSpec) → In w n.links → after events (first w) ≡ stood w
+  standing_is w member =
+      let (place, there) = slice_get-In w n.links member in
+      let wire = network.links place w there in
+      let a : (after events (first w)).a_lives ≡ lives n.systems events w.a.clock =
+      a_after events (first w) ∙ lives_is n.systems events w.a wire.a in
+      let b : (after events (first w)).b_lives ≡ lives n.systems events w.b.clock =
+      b_after events (first w) ∙ lives_is n.systems events w.b wire.b in
+      λ i. record {
+        at = at_after events (first w) i;
+        cable = cable_after events (first w) i;
+        a_lives = a i;
+        b_lives = b i;
+      }
+
+  pub standings_are : (t : Tables) → Stand n events t → t.standings.items ≡ standings_after n events
+  standings_are t stand =
+      stand.standings ∙ maps_in (λ w. after events (first w)) (standing_then n events) n.links standing_is
+
+  -- ---- the link that an act names
+
+  abbrev ss : List Standing
+  ss = standings_after n events
+
+  module _ (act : Act) where
+    abbrev near : List LinkSpec → List Neighbour
+    near ws = neighbours_of (named act) (map cable_of ws)
+
+    find_near : (ws : List LinkSpec) → ((w : LinkSpec) → In w ws → In w n.links)
+        → link_named (standings_after n events) act (neighbours_of (named act) (map cable_of ws))
+        ≡ find (is_standing_named act) (map stood ws)
+    find_near [] among = refl
+    find_near (w ∷ ws) among =
+        by (w.a.clock == named act) refl (w.b.clock == named act) refl
+        (find_near ws (λ x member. among x (inr member)))
+      where
+        there : slice_get ss w.bounds.link ≡ Some (stood w)
+        there =
+            let (place, at) = slice_get-In w n.links (among w (inl refl)) in
+            ap (slice_get ss) (network.links place w at).number ∙ mapped_there stood n.links place w at
+
+        or_is : (test : Bool) (one other : Option Standing) → one ≡ other
+            → option_or (cond test (Some (stood w)) None) one ≡ cond test (Some (stood w)) other
+        or_is true one other is = refl
+        or_is false one other is = is
+
+        met : link_named ss act (near ws) ≡ find (is_standing_named act) (map stood ws)
+            → option_or (named_there ss act w.bounds.link) (link_named ss act (near ws))
+            ≡ find (is_standing_named act) (map stood (w ∷ ws))
+        met rest =
+            ap (λ o. option_or (named_among act o) (link_named ss act (near ws))) there
+            ∙ or_is (is_link_named act (stood w).cable) (link_named ss act (near ws))
+            (find (is_standing_named act) (map stood ws)) rest
+
+        by : (one : Bool) → (w.a.clock == named act) ≡ one → (two : Bool) → (w.b.clock == named act) ≡ two
+            → link_named ss act (near ws) ≡ find (is_standing_named act) (map stood ws)
+            → link_named ss act (led (named act) (cable_of w) ++ near ws)
+            ≡ find (is_standing_named act) (map stood (w ∷ ws))
+        by true one two second rest = rw one (met rest)
+        by false one true two rest = rw (one, two) (met rest)
+        by false one false two rest =
+            let not_a : named act ≢ (link_after events w).a.clock =
+            λ same. eqb-false w.a.clock (named act) one
+            (sym (same ∙ ap (λ (p : PortId). p.clock) (same_a events w))) in
+            let not_b : named act ≢ (link_after events w).b.clock =
+            λ same. eqb-false w.b.clock (named act) two
+            (sym (same ∙ ap (λ (p : PortId). p.clock) (same_b events w))) in
+            let none : is_link_named act (stood w).cable ≡ false =
+            not_named act (stood w).cable not_a not_b in
+            rw (one, two, none) rest
+
+    pub link_is : (t : Tables) → Stand n events t
+        → link_named t.standings.items act (neighbours_at (named act) t.nodes.items)
+        ≡ find (is_standing_named act) (standings_after n events)
+    link_is t stand =
+        ap₂ (λ ss os. link_named ss act os) (standings_are t stand)
+        (neighbours_are n network events t (named act) stand)
+        ∙ find_near n.links (λ w member. member)
+
+  -- ---- what Sync has to cross, and whether the network is calm
+
+  pub crossed_is : (t : Tables) → Stand n events t → marked_paths t.marks.items t.nodes.items ≡ sync_paths n events
+  crossed_is t stand = ap₂ paths_with (paths_is n network events t stand) (greatest_is n network events t stand)
+    where
+      paths_with : ℕ → ℕ → SyncPaths
+      paths_with m most = record { systems = m; delay = most }
+
+  any_troubled : (p : Params) (ss : List Standing)
+      → list_any (λ (m : Mark). m.troubled) (map (mark_of p) ss) ≡ list_any (is_troubled p) ss
+  any_troubled p [] = refl
+  any_troubled p (s ∷ ss) = ap (λ b. is_troubled p s || b) (any_troubled p ss)
+
+  pub calm_is : (t : Tables) → Stand n events t
+      → are_calm n.params (marked_paths t.marks.items t.nodes.items) t.marks.items ≡ is_calm n events
+  calm_is t stand =
+      ap₂ (are_calm n.params) (crossed_is t stand)
+      (stand.marks ∙ ap₂ (λ p ss. map (mark_of p) ss) stand.params (standings_are t stand))
+      ∙ ap (λ b. not (is_some (late_of n.params (sync_paths n events)) || b))
+      (any_troubled n.params (standings_after n events))

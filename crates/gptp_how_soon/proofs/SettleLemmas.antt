@@ -1,0 +1,45 @@
+-- What is told of a time is what its view says.
+use Rattle.std.proofs.Common.{◌≡◌, ◌+◌, ℕ, Bool, true, false, not, List, refl}
+use Rattle.std.specs.Option.{is_some}
+use Rattle.gptp_scenario.specs.Network.{NetworkState}
+use Rattle.gptp_scenario.specs.declared.sync_wait.SyncPaths.{SyncPaths}
+use Rattle.gptp_topology.specs.Tables.{are_calm, marked_paths}
+use Rattle.gptp_topology.specs.declared.course.Cable.{Cable}
+use Rattle.gptp_topology.specs.declared.course.Standing.{Standing}
+use Rattle.gptp_how_soon.specs.Bounds.{heard_by, ready, times_by, way_span}
+use Rattle.gptp_how_soon.specs.Kinds.{sets_link}
+use Rattle.gptp_how_soon.specs.Links.{new_among}
+use Rattle.gptp_how_soon.specs.Rest.{heard_at_once, is_from_rest, row_of}
+use Rattle.gptp_how_soon.specs.Times.{settling_time}
+use Rattle.gptp_how_soon.specs.Walk.{view_seen}
+use Rattle.gptp_how_soon.specs.declared.bounds.Row.{Row}
+use Rattle.gptp_how_soon.specs.declared.bounds.SettlingTime.{SettlingTime}
+use Rattle.gptp_how_soon.specs.declared.kinds.Told.{Told}
+use Rattle.gptp_how_soon.specs.declared.walk.Walk.{Walk}
+
+pub turned : (a b : Bool) → a ≡ not b → b ≡ not a
+turned a true is = rw is refl
+turned a false is = rw is refl
+
+pub settled_so : (n : NetworkState) (w : Walk) (at : ℕ) (first followed from_rest calm sets : Bool) (paths : SyncPaths)
+    (told : List Told) (standings : List Standing) (used : List Bool) (new : List Cable) (soon heard way : ℕ) (row : Row)
+    (time : SettlingTime)
+    → time ≡ times_by n at paths calm sets row (soon + heard + way)
+    → row ≡ row_of from_rest first told
+    → from_rest ≡ is_from_rest n at told new soon w.before
+    → way ≡ way_span paths
+    → heard ≡ heard_by n followed told new
+    → followed ≡ heard_at_once first w.systems_before standings told
+    → soon ≡ ready n.params paths told new
+    → sets ≡ sets_link told
+    → calm ≡ are_calm n.params paths w.tables.marks.items
+    → new ≡ new_among first standings used
+    → told ≡ w.told.items
+    → standings ≡ w.tables.standings.items
+    → used ≡ w.used_before.items
+    → paths ≡ marked_paths w.tables.marks.items w.tables.nodes.items
+    → first ≡ not (is_some w.before)
+    → time ≡ settling_time n (view_seen n w at)
+settled_so n w at first followed from_rest calm sets paths told standings used new soon heard way row time e0 e1 e2 e3 e4 e5
+    e6 e7 e8 e9 e10 e11 e12 e13 e14 =
+    rw (e0, e1, e2, e3, e4, e5, e6, e7, e8, e9, e10, e11, e12, e13, e14) refl

@@ -1,0 +1,107 @@
+-- A walk stands as the events so far leave a document.
+use Rattle.std.proofs.Common.{◌≡◌, ℕ, List, [], ◌∷◌, ◌++◌, map, not, append_assoc, refl, sym, ap, ap₂, subst, ◌∙◌}
+use Rattle.std.specs.List.{find}
+use Rattle.std.specs.Option.{is_some}
+use Rattle.std.proofs.lemmas.List.{append-nil}
+use Rattle.gptp_scenario.specs.Network.{IsNetwork, NetworkState}
+use Rattle.gptp_scenario.specs.SyncWait.{sync_paths}
+use Rattle.gptp_scenario.specs.declared.change.Timed.{Timed}
+use Rattle.gptp_scenario.specs.declared.sync_wait.SyncPaths.{SyncPaths}
+use Rattle.gptp_topology.specs.Course.{cable_is_used, named}
+use Rattle.gptp_topology.proofs.StandingLemmas.{Stand, stand_first, stand_more}
+use Rattle.gptp_topology.specs.declared.course.Standing.{Standing}
+use Rattle.gptp_how_soon.specs.Kinds.{told_by}
+use Rattle.gptp_how_soon.specs.Links.{new_among, standings_after}
+use Rattle.gptp_how_soon.specs.Systems.{has_clock, system_done, systems_after}
+use Rattle.gptp_how_soon.specs.Times.{View, told_at, told_of, view_at}
+use Rattle.gptp_how_soon.specs.Walk.{IsFirstWalk, WalkGoesOn, WalkPasses, view_seen}
+use Rattle.gptp_how_soon.specs.declared.bounds.SettlingTime.{SettlingTime}
+use Rattle.gptp_how_soon.specs.declared.kinds.Told.{Told}
+use Rattle.gptp_how_soon.specs.declared.walk.Walk.{Walk}
+use Rattle.gptp_how_soon.proofs.LinksLemmas.{calm_is, crossed_is, link_is, new_are, standings_are}
+use Rattle.gptp_how_soon.proofs.SystemsLemmas.{systems_first, systems_more}
+
+-- after the events made before this time, and those of it so far
+pub record WalkStands (n : NetworkState) (made now : List Timed) (w : Walk) : Type 0 where
+  pub tables : Stand n (made ++ now) w.tables
+  pub systems : w.systems.items ≡ systems_after n (made ++ now)
+  pub told : w.told.items ≡ told_of n made now
+  pub used : w.used_before.items ≡ map cable_is_used (standings_after n made)
+  pub paths : w.systems_before ≡ (sync_paths n made).systems
+
+-- ---- what is seen
+
+told_more : (n : NetworkState) (made now : List Timed) (t : Timed)
+    → told_of n made (now ++ t ∷ []) ≡ told_of n made now ++ told_at n (made ++ now) t.act ∷ []
+told_more n made [] t = ap (λ events. told_at n events t.act ∷ []) (sym (append-nil made))
+told_more n made (u ∷ now) t =
+    ap (λ es. told_at n made u.act ∷ es)
+    (told_more n (made ++ u ∷ []) now t
+    ∙ ap (λ events. told_of n (made ++ u ∷ []) now ++ told_at n events t.act ∷ [])
+    (append_assoc made (u ∷ []) now))
+
+module _ (n : NetworkState) (network : IsNetwork n) where
+  pub view_is : (made now : List Timed) (w : Walk) (at : ℕ) → WalkStands n made now w
+      → view_seen n w at ≡ view_at n made now w.before at
+  view_is made now w at so =
+      let standings = standings_are n network (made ++ now) w.tables so.tables in
+      let first = not (is_some w.before) in
+      let new = ap₂ (new_among first) standings so.used ∙ new_are n made (made ++ now) first in
+      λ i. record {
+        at = at;
+        before = w.before;
+        systems_before = so.paths i;
+        standings = standings i;
+        new = new i;
+        told = so.told i;
+        paths = crossed_is n network (made ++ now) w.tables so.tables i;
+        calm = calm_is n network (made ++ now) w.tables so.tables i;
+      }
+
+  -- ---- before all events
+
+  pub stands_first : (w : Walk) → IsFirstWalk n w → WalkStands n [] [] w
+  stands_first w is =
+      let tables = stand_first n w.tables is.tables in record {
+        tables = tables;
+        systems = is.systems ∙ systems_first n;
+        told = is.told;
+        used = is.used ∙ ap (map cable_is_used) (standings_are n network [] w.tables tables);
+        paths = is.paths ∙ ap (λ (p : SyncPaths). p.systems) (crossed_is n network [] w.tables tables);
+      }
+
+  -- ---- one event more
+
+  pub stands_more : (made now : List Timed) (t : Timed) (old new : Walk) → WalkStands n made now old
+      → WalkPasses t.act old new
+      → WalkStands n made (now ++ t ∷ []) new
+  stands_more made now t old new so passes =
+      let joined : (made ++ now) ++ t ∷ [] ≡ made ++ (now ++ t ∷ []) = append_assoc made now (t ∷ []) in record {
+        tables = subst (λ events. Stand n events new.tables) joined
+            (stand_more n network (made ++ now) t old.tables new.tables so.tables passes.tables);
+        systems = passes.systems ∙ ap (map (system_done t.act)) so.systems ∙ systems_more n (made ++ now) t
+            ∙ ap (systems_after n) joined;
+        told = passes.told
+            ∙ ap₂ (λ es e. es ++ e ∷ []) so.told
+            (ap₂ (told_by t.act) (link_is n network (made ++ now) t.act old.tables so.tables)
+            (ap (find (has_clock (named t.act))) so.systems))
+            ∙ sym (told_more n made now t);
+        used = ap (λ (v : _). v.items) passes.used ∙ so.used;
+        paths = passes.paths ∙ so.paths;
+      }
+
+  -- ---- another time
+
+  pub stands_on : (made now : List Timed) (time : SettlingTime) (old new : Walk) → WalkStands n made now old
+      → WalkGoesOn time old new
+      → WalkStands n (made ++ now) [] new
+  stands_on made now time old new so on =
+      let none : made ++ now ≡ (made ++ now) ++ [] = sym (append-nil (made ++ now)) in record {
+        tables = subst (λ events. Stand n events new.tables) none
+            (subst (Stand n (made ++ now)) (sym on.tables) so.tables);
+        systems = ap (λ (v : _). v.items) on.systems ∙ so.systems ∙ ap (systems_after n) none;
+        told = on.told;
+        used = on.used ∙ ap (map cable_is_used) (standings_are n network (made ++ now) old.tables so.tables);
+        paths = on.paths
+            ∙ ap (λ (p : SyncPaths). p.systems) (crossed_is n network (made ++ now) old.tables so.tables);
+      }

@@ -1,0 +1,115 @@
+-- How soon the choice and the roles stand at a time, by whether it is from rest and what its events are (profile).
+use Rattle.std.specs.Prelude.{ℕ, ◌+◌, ◌-◌, ◌*◌, ◌==◌, ◌&&◌, ◌||◌, max, not, pred, Bool, if◌then◌else◌, List, length, Option, Some, None}
+use Rattle.std.specs.List.{list_any}
+use Rattle.gptp_setup.specs.Intervals.{interval_of}
+use Rattle.gptp_setup.specs.SettlingParams.{largest_interval}
+use Rattle.gptp_setup.specs.declared.setup.Params.{Params}
+use Rattle.gptp_scenario.specs.Network.{NetworkState, pace_of}
+use Rattle.gptp_scenario.specs.SettlingAtOnce.{settling_span_at_once}
+use Rattle.gptp_scenario.specs.SettlingTime.{settling_span_with}
+use Rattle.gptp_scenario.specs.declared.sync_wait.SyncPaths.{SyncPaths}
+use Rattle.gptp_topology.specs.declared.course.Cable.{Cable}
+use Rattle.gptp_how_soon.specs.Kinds.{recovers}
+use Rattle.gptp_how_soon.specs.Links.{varies}
+use Rattle.gptp_how_soon.specs.declared.bounds.Row.{Row}
+use Rattle.gptp_how_soon.specs.declared.bounds.Row.TheVariants.{AnyPast, Unchanged, Gained}
+use Rattle.gptp_how_soon.specs.declared.bounds.Settling.{Settling}
+use Rattle.gptp_how_soon.specs.declared.bounds.SettlingTime.{SettlingTime}
+use Rattle.gptp_how_soon.specs.declared.kinds.Told.{Told}
+
+-- ---- spans
+
+-- two exchanges, an interval between requests apart, over the slowest link
+abbrev pub two_exchanges : Params → SyncPaths → ℕ
+two_exchanges p paths = interval_of p.pdelay + (paths.delay + p.turnaround + paths.delay)
+
+-- the same, where a port first asks within an interval between requests
+abbrev pub asked_again : Params → SyncPaths → ℕ
+asked_again p paths = interval_of p.pdelay + two_exchanges p paths
+
+-- the greatest delay for each system of a path but one
+abbrev pub way_span : SyncPaths → ℕ
+way_span paths = pred paths.systems * paths.delay
+
+-- ---- after gains
+
+-- an end of the link recovers by these events
+abbrev pub is_again : List Told → Cable → Bool
+is_again told c = recovers told c.a.clock || recovers told c.b.clock
+
+-- From when on ports at new links are capable: after two exchanges, the first of which a port that stayed on asks for
+-- within an interval where a system recovers.
+abbrev pub ready : Params → SyncPaths → List Told → List Cable → ℕ
+ready p paths told new =
+    if length new == 0 then 0 else if list_any (is_again told) new then asked_again p paths else two_exchanges p paths
+
+-- What is told over a new link may not be heard at once: its delay varies, or an end recovers.
+abbrev pub is_hard_to_hear : List Told → Cable → Bool
+is_hard_to_hear told c = is_again told c || varies c
+
+-- An announce interval passes where something may not be heard at once, or where that isn't followed.
+abbrev pub heard_by : NetworkState → Bool → List Told → List Cable → ℕ
+heard_by n followed told new =
+    if followed && not (list_any (is_hard_to_hear told) new) then 0 else largest_interval (pace_of n)
+
+-- ---- bounds at a time
+
+-- The choice: where something may lapse for want of Sync it takes the span. Else it is as the row says, with so much
+-- after gains.
+abbrev pub choice_of_row : NetworkState → SyncPaths → Row → ℕ → ℕ
+choice_of_row n paths AnyPast gained = settling_span_at_once (pace_of n) paths
+choice_of_row n paths Unchanged gained = 0
+choice_of_row n paths Gained gained = gained
+
+abbrev pub choice_by : NetworkState → SyncPaths → Row → ℕ → ℕ
+choice_by n paths row gained =
+    if not (n.params.sync_timeout == 0) then settling_span_with (pace_of n) paths paths.systems
+    else choice_of_row n paths row gained
+
+-- a port at a link whose bounds are set measures it anew
+abbrev pub set_span : Params → SyncPaths → Bool → ℕ
+set_span p paths sets = if sets then asked_again p paths else 0
+
+-- rest: the choice stands, what was in flight is gone, and links are measured
+abbrev pub rest_by : Params → SyncPaths → Bool → ℕ → ℕ
+rest_by p paths sets choice = max (choice + paths.delay) (set_span p paths sets)
+
+-- What a system uses comes down the settled tree: a threshold and a residence for each system of a path.
+abbrev pub exact_span : Params → SyncPaths → ℕ
+exact_span p paths = paths.systems * (p.threshold + p.residence)
+
+-- From when on offsets are exact: the choice stands, links are measured, and not before an announce interval has
+-- passed; then what each system uses comes down the tree.
+abbrev pub exact_from : NetworkState → ℕ → SyncPaths → Bool → ℕ → ℕ
+exact_from n at paths sets choice =
+    at + max (max choice (set_span n.params paths sets)) (largest_interval (pace_of n)) + exact_span n.params paths
+
+-- roles stand as soon as the choice does
+abbrev pub settled : NetworkState → ℕ → SyncPaths → Bool → ℕ → Settling
+settled n at paths sets choice = record {
+  choice = choice;
+  roles = choice;
+  rest = rest_by n.params paths sets choice;
+  exact_from = exact_from n at paths sets choice;
+}
+
+-- A time is watched until the network rests and offsets are exact, and for eight Syncs more; where it isn't calm, for
+-- the span in place of that.
+abbrev pub needed_watch : NetworkState → ℕ → SyncPaths → Option Settling → ℕ
+needed_watch n at paths None = settling_span_with (pace_of n) paths paths.systems + exact_span n.params paths
+needed_watch n at paths (Some s) = max (s.rest + 1) (s.exact_from - at)
+
+abbrev pub watch : NetworkState → ℕ → SyncPaths → Option Settling → ℕ
+watch n at paths settling = needed_watch n at paths settling + 8 * interval_of n.params.sync
+
+-- what is told of a time
+abbrev pub settling_by : NetworkState → ℕ → SyncPaths → Bool → Bool → Row → ℕ → Option Settling
+settling_by n at paths calm sets row gained =
+    if calm then Some (settled n at paths sets (choice_by n paths row gained)) else None
+
+abbrev pub times_by : NetworkState → ℕ → SyncPaths → Bool → Bool → Row → ℕ → SettlingTime
+times_by n at paths calm sets row gained = record {
+  at = at;
+  settling = settling_by n at paths calm sets row gained;
+  watch = watch n at paths (settling_by n at paths calm sets row gained);
+}

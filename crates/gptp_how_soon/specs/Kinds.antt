@@ -1,0 +1,148 @@
+-- What each event of a time does, by what stands just before it (profile).
+use Rattle.std.specs.Prelude.{ℕ, ◌==◌, ◌&&◌, ◌||◌, nat_lt, not, Bool, true, false, if◌then◌else◌, List, [], ◌∷◌, Option, Some, None}
+use Rattle.std.specs.List.{list_any}
+use Rattle.gptp_scenario.specs.Change.{with_priority1}
+use Rattle.gptp_scenario.specs.declared.change.Act.{Act}
+use Rattle.gptp_scenario.specs.declared.change.Act.TheVariants as acts
+use Rattle.gptp_scenario.specs.declared.change.Change.{Change}
+use Rattle.gptp_scenario.specs.declared.change.Change.TheVariants as changes
+use Rattle.gptp_topology.specs.Course.{named}
+use Rattle.gptp_topology.specs.declared.course.Standing.{Standing}
+use Rattle.gptp_how_soon.specs.declared.kinds.Kind.{Kind}
+use Rattle.gptp_how_soon.specs.declared.kinds.Kind.TheVariants.{Idle, Loss, Gain, Other}
+use Rattle.gptp_how_soon.specs.declared.kinds.Told.{Told}
+use Rattle.gptp_how_soon.specs.declared.kinds.What.{What}
+use Rattle.gptp_how_soon.specs.declared.kinds.What.TheVariants as whats
+use Rattle.gptp_how_soon.specs.declared.systems.System.{System}
+
+-- ---- kinds
+
+-- A link that is down doesn't go down, and one that is up doesn't come up. Where an end has failed what happens isn't
+-- followed yet.
+abbrev pub kind_of_link_down : Option Standing → Kind
+kind_of_link_down None = Other
+kind_of_link_down (Some s) = if not s.cable.up then Idle else if s.a_lives && s.b_lives then Loss else Other
+
+abbrev pub kind_of_link_up : Option Standing → Kind
+kind_of_link_up None = Other
+kind_of_link_up (Some s) = if s.cable.up then Idle else if s.a_lives && s.b_lives then Gain else Other
+
+-- a failed system doesn't fail, and a live one doesn't recover
+abbrev pub kind_of_failure : Option System → Kind
+kind_of_failure None = Other
+kind_of_failure (Some o) = if o.lives then Loss else Idle
+
+abbrev pub kind_of_recovery : Option System → Kind
+kind_of_recovery None = Other
+kind_of_recovery (Some o) = if o.lives then Idle else Gain
+
+-- the identity that a system gets by a priority1
+abbrev pub identity_with : ℕ → System → ℕ
+identity_with value o = (with_priority1 value (record { identity = o.identity; live = o.lives })).identity
+
+-- a priority1 of a live system that isn't the one that it has is a gain where it is lower, else a loss
+abbrev pub kind_of_priority1 : ℕ → Option System → Kind
+kind_of_priority1 value None = Other
+kind_of_priority1 value (Some o) =
+    if not o.lives || (identity_with value o == o.identity) then Idle
+    else if nat_lt (identity_with value o) o.identity then Gain else Loss
+
+-- What a change does to the link and the system that it names. Bounds that are set aren't followed yet, nor are octets
+-- that are put onto a link.
+abbrev pub kind_of_change : Change → Option Standing → Option System → Kind
+kind_of_change (changes.LinkDown clock port) s o = kind_of_link_down s
+kind_of_change (changes.LinkUp clock port) s o = kind_of_link_up s
+kind_of_change (changes.LinkSet clock port least greatest loss) s o = Other
+kind_of_change (changes.Fail clock) s o = kind_of_failure o
+kind_of_change (changes.Recover clock) s o = kind_of_recovery o
+kind_of_change (changes.Priority1 clock value) s o = kind_of_priority1 value o
+kind_of_change (changes.Inject clock port octets) s o = Other
+
+abbrev pub kind_of : Act → Option Standing → Option System → Kind
+kind_of (acts.Change change) s o = kind_of_change change s o
+kind_of (acts.Deliver link direction) s o = Other
+kind_of (acts.Expire clock timer) s o = Other
+
+abbrev pub what_of_change : Change → What
+what_of_change (changes.LinkDown clock port) = whats.LinkDown
+what_of_change (changes.LinkUp clock port) = whats.LinkUp
+what_of_change (changes.LinkSet clock port least greatest loss) = whats.LinkSet
+what_of_change (changes.Fail clock) = whats.Fail
+what_of_change (changes.Recover clock) = whats.Recover
+what_of_change (changes.Priority1 clock value) = whats.Priority1
+what_of_change (changes.Inject clock port octets) = whats.Inject
+
+abbrev pub what_of : Act → What
+what_of (acts.Change change) = what_of_change change
+what_of (acts.Deliver link direction) = whats.NoChange
+what_of (acts.Expire clock timer) = whats.NoChange
+
+abbrev pub told_by : Act → Option Standing → Option System → Told
+told_by act s o = record { kind = kind_of act s o; what = what_of act; clock = named act }
+
+-- ---- one event
+
+abbrev pub is_idle : Told → Bool
+is_idle e = elim e.kind [ Idle ↦ true | _ ↦ false ]
+
+abbrev pub is_loss : Told → Bool
+is_loss e = elim e.kind [ Loss ↦ true | _ ↦ false ]
+
+abbrev pub is_gain : Told → Bool
+is_gain e = elim e.kind [ Gain ↦ true | _ ↦ false ]
+
+abbrev pub is_other : Told → Bool
+is_other e = elim e.kind [ Other ↦ true | _ ↦ false ]
+
+abbrev pub is_link_up : Told → Bool
+is_link_up e = elim e.what [ whats.LinkUp ↦ true | _ ↦ false ]
+
+abbrev pub is_priority1 : Told → Bool
+is_priority1 e = elim e.what [ whats.Priority1 ↦ true | _ ↦ false ]
+
+abbrev pub is_link_set : Told → Bool
+is_link_set e = elim e.what [ whats.LinkSet ↦ true | _ ↦ false ]
+
+abbrev pub is_fail : Told → Bool
+is_fail e = elim e.what [ whats.Fail ↦ true | _ ↦ false ]
+
+-- a live system gets better
+abbrev pub is_better : Told → Bool
+is_better e = is_gain e && is_priority1 e
+
+-- a failed system recovers; and the one with this clock does
+abbrev pub is_recover : Told → Bool
+is_recover e = elim e.what [ whats.Recover ↦ true | _ ↦ false ]
+
+abbrev pub is_recovery : Told → Bool
+is_recovery e = is_recover e && not (is_idle e)
+
+abbrev pub is_recovery_of : ℕ → Told → Bool
+is_recovery_of clock e = (e.clock == clock) && is_recovery e
+
+-- ---- the events of a time
+
+-- bounds are set, idly or not
+abbrev pub sets_link : List Told → Bool
+sets_link = list_any is_link_set
+
+-- the system with this clock recovers
+abbrev pub recovers : List Told → ℕ → Bool
+recovers told clock = list_any (is_recovery_of clock) told
+
+-- a system both fails and recovers
+abbrev pub is_failure_of_same : List Told → Told → Bool
+is_failure_of_same told e = is_fail e && not (is_idle e) && recovers told e.clock
+
+abbrev pub fails_and_recovers : List Told → Bool
+fails_and_recovers told = list_any (is_failure_of_same told) told
+
+-- What an event tells is heard at once: a link comes up, or, where nothing was heard before, a system gets better.
+abbrev pub is_heard_too : Bool → Told → Bool
+is_heard_too heard e = is_gain e && (is_link_up e || (is_priority1 e && not heard))
+
+-- There is such an event, or was one, and each that isn't idle is such a one.
+abbrev pub are_heard : Bool → List Told → Bool
+are_heard heard [] = heard
+are_heard heard (e ∷ es) =
+    if is_idle e then are_heard heard es else is_heard_too heard e && are_heard true es

@@ -1,0 +1,137 @@
+-- How soon the choice and the roles stand at each time of a document (profile).
+--
+-- What stands *before* a time stands after the events up to the time before, at 0 before all events; what stands *at* it
+-- after its own too.
+use Rattle.std.specs.Prelude.{ℕ, ◌+◌, ◌≤◌, ◌<◌, ⊤, ◌==◌, ◌||◌, not, Bool, List, [], ◌∷◌, ◌++◌, filter, Option, Some, None}
+use Rattle.std.specs.List.{AllByRecursion, find, list_any}
+use Rattle.std.specs.Option.{is_some}
+use Rattle.gptp_setup.specs.declared.setup.Params.{Params}
+use Rattle.gptp_scenario.specs.Network.{NetworkState}
+use Rattle.gptp_scenario.specs.SyncWait.{sync_paths}
+use Rattle.gptp_scenario.specs.declared.change.Act.{Act}
+use Rattle.gptp_scenario.specs.declared.change.Timed.{Timed}
+use Rattle.gptp_scenario.specs.declared.sync_wait.SyncPaths.{SyncPaths}
+use Rattle.gptp_network.specs.Document.{DocumentState}
+use Rattle.gptp_network.specs.Snapshot.{events_by}
+use Rattle.gptp_topology.specs.Course.{is_link_named, named}
+use Rattle.gptp_topology.specs.Tables.{late_of}
+use Rattle.gptp_topology.specs.Times.{times_of}
+use Rattle.gptp_topology.specs.Trouble.{is_long, loss_in_use}
+use Rattle.gptp_topology.specs.declared.course.Cable.{Cable}
+use Rattle.gptp_topology.specs.declared.course.Standing.{Standing}
+use Rattle.gptp_how_soon.specs.Bounds.{heard_by, ready, times_by, way_span}
+use Rattle.gptp_how_soon.specs.Kinds.{sets_link, told_by}
+use Rattle.gptp_how_soon.specs.Links.{new_links, standings_after}
+use Rattle.gptp_how_soon.specs.Rest.{heard_at_once, is_from_rest, row_of}
+use Rattle.gptp_how_soon.specs.Systems.{has_clock, systems_after}
+use Rattle.gptp_how_soon.specs.declared.bounds.SettlingTime.{SettlingTime}
+use Rattle.gptp_how_soon.specs.declared.bounds.Row.{Row}
+use Rattle.gptp_how_soon.specs.declared.kinds.Told.{Told}
+
+-- What is seen of a time: the time before, and how many systems a path had then; how links stand at it, and those that
+-- are new; its events; what Sync has to cross; and whether the network is calm.
+pub record View : Type 0 where
+  pub at : ℕ
+  pub before : Option SettlingTime
+  pub systems_before : ℕ
+  pub standings : List Standing
+  pub new : List Cable
+  pub told : List Told
+  pub paths : SyncPaths
+  pub calm : Bool
+
+-- ---- by what is seen
+
+abbrev pub is_first : View → Bool
+is_first v = not (is_some v.before)
+
+abbrev pub ready_at : NetworkState → View → ℕ
+ready_at n v = ready n.params v.paths v.told v.new
+
+abbrev pub heard_at : NetworkState → View → ℕ
+heard_at n v = heard_by n (heard_at_once (is_first v) v.systems_before v.standings v.told) v.told v.new
+
+-- After gains the choice stands once ports are capable, what they tell is heard, and the greatest delay has passed for
+-- each system of a path but one.
+abbrev pub gained_at : NetworkState → View → ℕ
+gained_at n v = ready_at n v + heard_at n v + way_span v.paths
+
+abbrev pub row_at : NetworkState → View → Row
+row_at n v = row_of (is_from_rest n v.at v.told v.new (ready_at n v) v.before) (is_first v) v.told
+
+abbrev pub settling_time : NetworkState → View → SettlingTime
+settling_time n v = times_by n v.at v.paths v.calm (sets_link v.told) (row_at n v) (gained_at n v)
+
+-- ---- what is seen
+
+-- an event, by what stands just before it; and the events of a time
+abbrev pub is_standing_named : Act → Standing → Bool
+is_standing_named act s = is_link_named act s.cable
+
+abbrev pub told_at : NetworkState → List Timed → Act → Told
+told_at n made act =
+    told_by act (find (is_standing_named act) (standings_after n made))
+    (find (has_clock (named act)) (systems_after n made))
+
+abbrev pub told_of : NetworkState → List Timed → List Timed → List Told
+told_of n made [] = []
+told_of n made (t ∷ ts) = told_at n made t.act ∷ told_of n (made ++ t ∷ []) ts
+
+-- A network is calm where Sync isn't late, and no link in use is too long or loses frames.
+abbrev pub is_troubled : Params → Standing → Bool
+is_troubled p s = is_long p s || not (loss_in_use s == 0)
+
+abbrev pub is_calm : NetworkState → List Timed → Bool
+is_calm n events =
+    not (is_some (late_of n.params (sync_paths n events)) || list_any (is_troubled n.params) (standings_after n events))
+
+-- at a time, after the events made before and those of that time now
+abbrev pub view_at : NetworkState → List Timed → List Timed → Option SettlingTime → ℕ → View
+view_at n made now before at = record {
+  at = at;
+  before = before;
+  systems_before = (sync_paths n made).systems;
+  standings = standings_after n (made ++ now);
+  new = new_links n made (made ++ now) (not (is_some before));
+  told = told_of n made now;
+  paths = sync_paths n (made ++ now);
+  calm = is_calm n (made ++ now);
+}
+
+-- ---- the times of a document
+
+abbrev pub events_at : ℕ → List Timed → List Timed
+events_at at = filter (λ (t : Timed). t.at == at)
+
+-- the events up to the time before
+abbrev pub events_before : Option SettlingTime → List Timed → List Timed
+events_before None events = []
+events_before (Some b) events = events_by b.at events
+
+abbrev pub time_at : DocumentState → Option SettlingTime → ℕ → SettlingTime
+time_at d before at =
+    settling_time d.network
+    (view_at d.network (events_before before d.events) (events_at at d.events) before at)
+
+-- each of these times, by the one before
+abbrev pub settling_times_from : DocumentState → Option SettlingTime → List ℕ → List SettlingTime
+settling_times_from d before [] = []
+settling_times_from d before (at ∷ ats) =
+    time_at d before at ∷ settling_times_from d (Some (time_at d before at)) ats
+
+abbrev pub settling_times : DocumentState → List SettlingTime
+settling_times d = settling_times_from d None (times_of d.events)
+
+-- each is later than those before it
+abbrev pub AreRising : List SettlingTime → Type 0
+AreRising [] = ⊤
+AreRising (t ∷ ts) = AllByRecursion (λ (u : SettlingTime). t.at < u.at) ts × AreRising ts
+
+-- the time at a moment, if there is one
+abbrev pub is_time_at : ℕ → SettlingTime → Bool
+is_time_at at t = t.at == at
+
+-- it is watched for at most 2 * 10^14 ns, and not beyond 10^15
+pub record IsWatchedShortly (t : SettlingTime) : Type 0 where
+  pub span : t.watch ≤ 200000000000000
+  pub until : t.at + t.watch ≤ 1000000000000000

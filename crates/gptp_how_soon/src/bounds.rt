@@ -1,0 +1,259 @@
+//! How soon the choice and the roles stand at a time, by whether it is from rest and what its events are.
+
+ghost use Rattle.std.specs.Prelude.{◌≡◌, ◌≤◌, ◌+◌, IfSome};
+ghost use Rattle.std.specs.List.{list_any};
+ghost use Rattle.gptp_scenario.specs.Network.{pace_of};
+ghost use Rattle.gptp_scenario.specs.SettlingAtOnce.{settling_span_at_once};
+ghost use Rattle.gptp_how_soon.specs.Bounds.{asked_again, choice_by, exact_from, exact_span, heard_by, is_again, is_hard_to_hear, ready, rest_by, set_span, settled, settling_by, times_by, two_exchanges, watch, way_span};
+
+use crate::kinds::{Told, recovers};
+use crate::links::varies;
+use gptp_scenario::{Network, SyncPaths};
+use gptp_setup::interval_of;
+use gptp_topology::Cable;
+
+/// Bounds at a time, in ns. The choice, the roles and rest count from that time on.
+#[derive(Clone, Copy, Debug, PartialEq, Eq)]
+pub struct Settling {
+    /// By how much later each system has the settled choice.
+    pub choice: u64,
+    /// By how much later each port has its settled role.
+    pub roles: u64,
+    /// How much later the network rests: events that come later still find nothing of what was before.
+    pub rest: u64,
+    /// The time from which on offsets are exact.
+    pub exact_from: u64,
+}
+
+/// A time of a document.
+#[derive(Clone, Copy, Debug, PartialEq, Eq)]
+pub struct SettlingTime {
+    /// In ns.
+    pub at: u64,
+    /// Its bounds; none where the network isn't calm then.
+    pub settling: Option<Settling>,
+    /// For how long at least it is to be watched from then on, in ns, to see all that is bounded.
+    pub watch: u64,
+}
+
+/// What is known of a time.
+#[derive(Clone, Copy)]
+pub(crate) enum Row {
+    /// The network may come from any past.
+    AnyPast,
+    /// It is from rest, and its events change nothing.
+    Unchanged,
+    /// It is from rest, and none of its events is a loss.
+    Gained,
+}
+
+/// Two exchanges over the slowest link, an interval between requests apart, in ns.
+fn two_exchanges(network: &Network, paths: SyncPaths) -> u64
+    requires { paths.delay ≤ 16000000000 }
+    ensures is { result ≡ two_exchanges network.now.params paths }
+    ensures bound { result ≤ 49000000000 }
+{
+    network.well_formed();
+    let params = network.params();
+    interval_of(params.pdelay) + (paths.delay + params.turnaround + paths.delay)
+}
+
+/// The same, where a port first asks within an interval between requests.
+pub(crate) fn asked_again(network: &Network, paths: SyncPaths) -> u64
+    requires { paths.delay ≤ 16000000000 }
+    ensures is { result ≡ asked_again network.now.params paths }
+    ensures bound { result ≤ 65000000000 }
+{
+    network.well_formed();
+    interval_of(network.params().pdelay) + two_exchanges(network, paths)
+}
+
+/// The greatest delay for each system of a path but one, in ns.
+pub(crate) fn way_span(paths: SyncPaths) -> u64
+    requires few { paths.systems ≤ 512 }
+    requires short { paths.delay ≤ 16000000000 }
+    ensures is { result ≡ way_span paths }
+    ensures bound { result ≤ 8192000000000 }
+{
+    (paths.systems as u64).saturating_sub(1) * paths.delay
+}
+
+/// Whether a system at an end of a link recovers by these events.
+fn is_again(told: &[Told], cable: &Cable) -> bool
+    ensures { result ≡ is_again told.now cable.now }
+{
+    recovers(told, cable.a.clock) || recovers(told, cable.b.clock)
+}
+
+/// Whether it does at one of these links.
+pub(crate) fn any_again(told: &[Told], new: &[Cable]) -> bool
+    ensures { result ≡ list_any (is_again told.now) new.now }
+{
+    new.iter().any(|cable| is_again(told, cable))
+}
+
+/// From when on ports at new links are capable, in ns after their time.
+pub(crate) fn ready(network: &Network, paths: SyncPaths, told: &[Told], new: &[Cable]) -> u64
+    requires { paths.delay ≤ 16000000000 }
+    ensures is { result ≡ ready network.now.params paths told.now new.now }
+    ensures bound { result ≤ 65000000000 }
+{
+    if new.is_empty() {
+        0
+    } else if any_again(told, new) {
+        asked_again(network, paths)
+    } else {
+        two_exchanges(network, paths)
+    }
+}
+
+/// Whether what is told over a link that is new may not be heard at once.
+fn is_hard_to_hear(told: &[Told], cable: &Cable) -> bool
+    ensures { result ≡ is_hard_to_hear told.now cable.now }
+{
+    is_again(told, cable) || varies(cable)
+}
+
+/// Whether it may not be over one of these links.
+fn any_hard_to_hear(told: &[Told], new: &[Cable]) -> bool
+    ensures { result ≡ list_any (is_hard_to_hear told.now) new.now }
+{
+    new.iter().any(|cable| is_hard_to_hear(told, cable))
+}
+
+/// How much longer it takes where something may not be heard at once, in ns: an announce interval.
+pub(crate) fn heard(network: &Network, followed: bool, told: &[Told], new: &[Cable]) -> u64
+    ensures is { result ≡ heard_by network.now followed told.now new.now }
+    ensures bound { result ≤ 16000000000 }
+{
+    network.well_formed();
+    if followed && !any_hard_to_hear(told, new) {
+        0
+    } else {
+        interval_of(network.largest())
+    }
+}
+
+/// How long the network takes at most to settle from any past where nothing lapses for want of Sync, in ns.
+#[tactic(auto, using(gptp_scenario::proofs::SpanLemmas::few_spans, gptp_scenario::proofs::SpanLemmas::few_steps))]
+fn settling_span_at_once(network: &Network, paths: SyncPaths) -> u64
+    requires few { paths.systems ≤ 512 }
+    requires short { paths.delay ≤ 16000000000 }
+    ensures is { result ≡ settling_span_at_once (pace_of network.now) paths }
+    ensures bound { result ≤ 110000000000000 }
+{
+    network.well_formed();
+    let params = network.params();
+    let interval = interval_of(network.largest());
+    let capable = (u64::from(params.lost) + 5) * interval;
+    let turn = u64::from(params.timeout) * interval + paths.delay;
+    let clean = 2 * interval + paths.systems as u64 * turn;
+    let further = paths.systems.saturating_sub(1) as u64;
+    capable.max(clean) + interval + further * paths.delay
+}
+
+/// The bound of the choice, in ns, where that from rest after gains is so much.
+fn choice_by(network: &Network, paths: SyncPaths, row: Row, gained: u64) -> u64
+    requires few { paths.systems ≤ 512 }
+    requires short { paths.delay ≤ 16000000000 }
+    requires gained { gained ≤ 195000000000000 }
+    ensures is { result ≡ choice_by network.now paths row gained }
+    ensures bound { result ≤ 195000000000000 }
+{
+    if network.params().sync_timeout != 0 {
+        return network.settling_span_with(paths);
+    }
+    match row {
+        Row::AnyPast => settling_span_at_once(network, paths),
+        Row::Unchanged => 0,
+        Row::Gained => gained,
+    }
+}
+
+/// What bounds that are set take, in ns.
+fn set_span(network: &Network, paths: SyncPaths, sets: bool) -> u64
+    requires { paths.delay ≤ 16000000000 }
+    ensures is { result ≡ set_span network.now.params paths sets }
+    ensures bound { result ≤ 65000000000 }
+{
+    if sets { asked_again(network, paths) } else { 0 }
+}
+
+/// How long what a system uses takes to come down the settled tree, in ns.
+fn exact_span(network: &Network, paths: SyncPaths) -> u64
+    requires { paths.systems ≤ 512 }
+    ensures is { result ≡ exact_span network.now.params paths }
+    ensures bound { result ≤ 1024000000000 }
+{
+    network.well_formed();
+    let params = network.params();
+    paths.systems as u64 * (params.threshold + params.residence)
+}
+
+/// The bounds at a time, by that of the choice.
+fn settled(network: &Network, at: u64, paths: SyncPaths, sets: bool, choice: u64) -> Settling
+    requires few { paths.systems ≤ 512 }
+    requires short { paths.delay ≤ 16000000000 }
+    requires early { at ≤ 800000000000000 }
+    requires choice { choice ≤ 195000000000000 }
+    ensures is { result ≡ settled network.now at paths sets choice }
+    ensures rest { result.rest ≤ 195016000000000 }
+    ensures exact { result.exact_from ≤ at + 196024000000000 }
+{
+    network.well_formed();
+    let set = set_span(network, paths, sets);
+    let interval = interval_of(network.largest());
+    Settling {
+        choice,
+        roles: choice,
+        rest: (choice + paths.delay).max(set),
+        exact_from: at + choice.max(set).max(interval) + exact_span(network, paths),
+    }
+}
+
+/// For how long a time is to be watched, in ns.
+fn watch(network: &Network, at: u64, paths: SyncPaths, settling: Option<Settling>) -> u64
+    requires few { paths.systems ≤ 512 }
+    requires short { paths.delay ≤ 16000000000 }
+    requires rest { IfSome settling (λ s. s.rest ≤ 195016000000000) }
+    requires exact { IfSome settling (λ s. s.exact_from ≤ at + 196024000000000) }
+    ensures is { result ≡ watch network.now at paths settling }
+    ensures bound { result ≤ 200000000000000 }
+{
+    network.well_formed();
+    let needed = match settling {
+        Some(settling) => (settling.rest + 1).max(settling.exact_from.saturating_sub(at)),
+        None => network.settling_span_with(paths) + exact_span(network, paths),
+    };
+    needed + 8 * interval_of(network.params().sync)
+}
+
+/// What is told of a time.
+pub(crate) fn times_by(
+    network: &Network,
+    at: u64,
+    paths: SyncPaths,
+    calm: bool,
+    sets: bool,
+    row: Row,
+    gained: u64,
+) -> SettlingTime
+    requires few { paths.systems ≤ 512 }
+    requires short { paths.delay ≤ 16000000000 }
+    requires early { at ≤ 800000000000000 }
+    requires gained { gained ≤ 195000000000000 }
+    ensures is { result ≡ times_by network.now at paths calm sets row gained }
+    ensures bound { result.watch ≤ 200000000000000 }
+{
+    let settling = if calm {
+        let choice = choice_by(network, paths, row, gained);
+        Some(settled(network, at, paths, sets, choice))
+    } else {
+        None
+    };
+    SettlingTime {
+        at,
+        settling,
+        watch: watch(network, at, paths, settling),
+    }
+}

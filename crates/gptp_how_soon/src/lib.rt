@@ -1,0 +1,18 @@
+//! How soon after each time of a document all systems follow the right clock, in one pass over its events (profile).
+//!
+//! At a time the network either comes from any past, and the general bound stands; or it rested until then, and what its
+//! events do says how soon. [`settling_times`] tells both for all times, [`settling_at`] finds one of them.
+#![tactic(auto)]
+
+mod bounds;
+mod kinds;
+mod links;
+mod rest;
+mod systems;
+#[cfg(test)]
+mod tests;
+mod times;
+mod walk;
+
+pub use bounds::{Settling, SettlingTime};
+pub use times::{settling_at, settling_times};

@@ -1,0 +1,50 @@
+//! Worked times of documents; what they expect was counted by hand.
+
+use crate::{Settling, SettlingTime, settling_at, settling_times};
+use gptp_network::Document;
+use std::alloc::Global;
+use std::test::Fail;
+
+/// Four systems in a ring, whose frames take 390 to 410 ns; a link goes down at 30 s.
+const RING: &str =
+    "version = 1\n[[system]]\nclock = \"000000000000000a\"\npriority1 = 128\nports = 2\n[[system]]\nclock = \"000000000000000b\"\nports = 2\n[[system]]\nclock = \"000000000000000c\"\nports = 2\n[[system]]\nclock = \"000000000000000d\"\nports = 2\n[[link]]\na = \"000000000000000a\"\na_port = 1\nb = \"000000000000000b\"\nb_port = 1\nmin = 390\nmax = 410\n[[link]]\na = \"000000000000000b\"\na_port = 2\nb = \"000000000000000c\"\nb_port = 1\nmin = 390\nmax = 410\n[[link]]\na = \"000000000000000c\"\na_port = 2\nb = \"000000000000000d\"\nb_port = 1\nmin = 390\nmax = 410\n[[link]]\na = \"000000000000000d\"\na_port = 2\nb = \"000000000000000a\"\nb_port = 2\nmin = 390\nmax = 410\n[[event]]\nat = 30000000000\nkind = \"link_down\"\nclock = \"000000000000000a\"\nport = 1\n";
+
+/// The times of the document of a text.
+fn times_of(alloc: Global, text: &str) -> Result<Vec<SettlingTime>, Fail> {
+    let document = Document::read(alloc, text.as_bytes())?;
+    Ok(settling_times(alloc, &document)?)
+}
+
+#[test]
+fn a_ring_settles_after_its_start_and_after_a_loss(rt: HostRuntime) -> Result<(), Fail> {
+    let times = times_of(rt.alloc(), RING)?;
+    assert_eq!(rt; times.len(), 2);
+    assert_eq!(rt;
+        settling_at(&times, 0),
+        Some(SettlingTime {
+            at: 0,
+            settling: Some(Settling {
+                choice: 1_000_003_050,
+                roles: 1_000_003_050,
+                rest: 1_000_003_460,
+                exact_from: 1_000_010_250,
+            }),
+            watch: 2_000_010_250,
+        })
+    );
+    assert_eq!(rt;
+        settling_at(&times, 30_000_000_000),
+        Some(SettlingTime {
+            at: 30_000_000_000,
+            settling: Some(Settling {
+                choice: 15_000_002_870,
+                roles: 15_000_002_870,
+                rest: 15_000_003_280,
+                exact_from: 45_000_010_070,
+            }),
+            watch: 16_000_010_070,
+        })
+    );
+    assert_eq!(rt; settling_at(&times, 1), None);
+    Ok(())
+}

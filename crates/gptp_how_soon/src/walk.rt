@@ -1,0 +1,116 @@
+//! How a document stands at each time, as its events come.
+
+ghost use Rattle.std.specs.Prelude.{◌≡◌, ◌≤◌, IfOk, OnOk, length, map};
+ghost use Rattle.gptp_scenario.specs.Network.{NetworkState};
+ghost use Rattle.gptp_topology.specs.Tables.{AreMarked, cables_of, greatest_used};
+ghost use Rattle.gptp_how_soon.specs.Times.{settling_time};
+ghost use Rattle.gptp_how_soon.specs.Walk.{IsFirstWalk, WalkGoesOn, WalkPasses, view_seen};
+
+use crate::bounds::{SettlingTime, heard, ready, times_by, way_span};
+use crate::kinds::{Told, sets_link, tell};
+use crate::links::{new_links, used_links};
+use crate::rest::{heard_at_once, is_from_rest, row_of};
+use crate::systems::{System, act_on_systems, first_systems, system_at};
+use gptp_scenario::{Act, Network};
+use gptp_topology::{Cable, Tables, named};
+use std::alloc::{AllocError, Global};
+
+/// How a document stands after its events so far, of which some have this time.
+#[derive(Drop)]
+pub(crate) struct Walk {
+    pub tables: Tables,
+    pub systems: Vec<System>,
+    /// The events of this time.
+    pub told: Vec<Told>,
+    /// The time before, if there is one.
+    pub before: Option<SettlingTime>,
+    /// Which links were in use then, and how many systems a path had.
+    pub used_before: Vec<bool>,
+    pub systems_before: usize,
+}
+
+impl Walk {
+    /// How it stands before all events.
+    pub(crate) fn first(
+        alloc: Global,
+        network: &Network,
+        cables: &[Cable],
+    ) -> Result<Self, AllocError>
+        requires { cables.now ≡ cables_of network.now }
+        ensures { IfOk result (IsFirstWalk network.now) }
+    {
+        network.well_formed();
+        let tables = Tables::first(alloc, network, cables)?;
+        let systems = first_systems(alloc, network)?;
+        let used_before = used_links(alloc, &tables.standings)?;
+        let systems_before = tables.sync_paths().systems;
+        Ok(Walk {
+            tables,
+            systems,
+            told: Vec::new(alloc),
+            before: None,
+            used_before,
+            systems_before,
+        })
+    }
+
+    /// Passes an event of this time.
+    pub(crate) fn pass(&mut self, act: &Act) -> Result<(), AllocError>
+        requires { AreMarked self.old.tables }
+        ensures { OnOk result (WalkPasses act.now self.old self.new) }
+    {
+        let link = self.tables.link_named(act);
+        let system = system_at(&self.systems, named(act));
+        tell(&mut self.told, act, link, system)?;
+        self.tables.act(act);
+        act_on_systems(self.systems.as_mut_slice(), act);
+        Ok(())
+    }
+
+    /// Goes on to another time, where this is what is told of the one so far.
+    pub(crate) fn go_on(&mut self, alloc: Global, time: SettlingTime) -> Result<(), AllocError>
+        requires { length self.old.tables.nodes.items ≤ 512 }
+        ensures { OnOk result (WalkGoesOn time self.old self.new) }
+    {
+        self.used_before = used_links(alloc, &self.tables.standings)?;
+        self.systems_before = self.tables.sync_paths().systems;
+        self.told = Vec::new(alloc);
+        self.before = Some(time);
+        Ok(())
+    }
+
+    /// What is told of this time.
+    pub(crate) fn settle(
+        &self,
+        alloc: Global,
+        network: &Network,
+        at: u64,
+    ) -> Result<SettlingTime, AllocError>
+        requires few { length self.now.tables.nodes.items ≤ 512 }
+        requires short { greatest_used self.now.tables.marks.items ≤ 16000000000 }
+        requires early { at ≤ 800000000000000 }
+        ensures is { IfOk result (λ time. time ≡ settling_time network.now (view_seen network.now self.now at)) }
+        ensures bound { IfOk result (λ time. time.watch ≤ 200000000000000) }
+    {
+        let first = self.before.is_none();
+        let standings = self.tables.standings.as_slice();
+        let told = self.told.as_slice();
+        let used = self.used_before.as_slice();
+        let paths = self.tables.sync_paths();
+        let new = new_links(alloc, first, standings, used)?;
+        let new = new.as_slice();
+        let ready = ready(network, paths, told, new);
+        let followed = heard_at_once(first, self.systems_before, standings, told);
+        let gained = ready + heard(network, followed, told, new) + way_span(paths);
+        let from_rest = is_from_rest(network, at, told, new, ready, self.before);
+        Ok(times_by(
+            network,
+            at,
+            paths,
+            self.tables.is_calm(network, paths),
+            sets_link(told),
+            row_of(from_rest, first, told),
+            gained,
+        ))
+    }
+}
