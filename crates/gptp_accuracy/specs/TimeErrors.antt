@@ -13,9 +13,9 @@ use Rattle.gptp_scenario.specs.declared.change.Timed.{Timed}
 use Rattle.gptp_network.specs.Document.{DocumentState}
 use Rattle.gptp_network.specs.Snapshot.{IsSnapshot, events_by}
 use Rattle.gptp_error_laws.specs.TimeError.{Way, time_error}
-use Rattle.gptp_how_soon.specs.Times.{settling_of}
 use Rattle.gptp_how_soon.specs.declared.bounds.Settling.{Settling}
 use Rattle.gptp_accuracy.specs.Readings.{ReadingTerms, reading_terms}
+use Rattle.gptp_accuracy.specs.Settlings.{settling_of}
 use Rattle.gptp_accuracy.specs.Sums.{terms_of}
 use Rattle.gptp_accuracy.specs.Ways.{IsWay}
 use Rattle.gptp_accuracy.specs.declared.errors.SystemError.{SystemError}

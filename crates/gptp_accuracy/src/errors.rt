@@ -8,17 +8,18 @@ ghost use Rattle.gptp_scenario.specs.Calm.{last_change};
 ghost use Rattle.gptp_network.specs.Events.{AreInOrder};
 ghost use Rattle.gptp_network.specs.Snapshot.{events_by};
 ghost use Rattle.gptp_certificate_text.specs.Certificate.{line_of};
-ghost use Rattle.gptp_how_soon.specs.Times.{settling_times};
 ghost use Rattle.gptp_accuracy.specs.Passing.{AreNearWithin};
+ghost use Rattle.gptp_accuracy.specs.Settlings.{AreTimesOf};
 ghost use Rattle.gptp_accuracy.specs.Sums.{SumsAreWithin, terms_of};
 ghost use Rattle.gptp_accuracy.specs.TimeErrors.{AreEntries, AreTimeErrors, IsSystemOf, if_promised, exact_from, greatest_age};
 
 use crate::reading::ReadingError;
+use crate::settlings::settling_of;
 use crate::sums::Sums;
 use crate::ways::sums_of_all;
 use gptp_certificate_text::{Certificate, SystemLine};
 use gptp_choice::settled_choice;
-use gptp_how_soon::{SettlingTime, settling_of, settling_times};
+use gptp_how_soon::{SettlingTime, settling_times};
 use gptp_network::Document;
 use gptp_scenario::{Network, Timed};
 use gptp_vector::{ClockId, Identity};
@@ -97,7 +98,7 @@ fn last_change(events: &[Timed]) -> u64
 /// From when on time errors hold of a document whose times these are, after all events with time up to `until`, in ns;
 /// `None` where the network isn't calm then.
 pub fn exact_from(document: &Document, times: &[SettlingTime], until: u64) -> Option<u64>
-    requires { times.now ≡ settling_times document.now }
+    requires { AreTimesOf document.now times.now }
     ensures { result ≡ exact_from document.now until }
 {
     document.well_formed();
@@ -207,7 +208,7 @@ pub fn time_errors_among(
     times: &[SettlingTime],
     until: u64,
 ) -> Result<TimeErrors, AllocError>
-    requires { times.now ≡ settling_times document.now }
+    requires { AreTimesOf document.now times.now }
     ensures { IfOk result (AreTimeErrors document.now until) }
 {
     document.well_formed();

@@ -11,7 +11,7 @@ use Rattle.gptp_scenario.specs.declared.change.Timed.{Timed}
 use Rattle.gptp_world.specs.Transitions.{PassesTo, ActTrace, transition}
 use Rattle.gptp_report.specs.Transitions.{Courses, Makes}
 use Rattle.gptp_accuracy.specs.declared.errors.TimeErrors.{TimeErrors}
-use Rattle.gptp_how_soon.specs.Times.{settling_of}
+use Rattle.gptp_accuracy.specs.Settlings.{settling_of}
 use Rattle.gptp_timeline.specs.Timeline.{AllPass, AreErrorsIf, StretchTrace, end_before, later_than, now_of}
 use Rattle.gptp_timeline.proofs.EventLemmas.{all_now, fewer_later, filter_in_order}
 use Rattle.gptp_timeline.proofs.UnfoldLemmas.{now_and_later}

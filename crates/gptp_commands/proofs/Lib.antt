@@ -37,3 +37,4 @@ pub mod RunLemmas
 pub mod RunSoFarLemmas
 pub mod DocumentLemmas
 pub mod WhereLemmas
+pub mod WatchLemmas

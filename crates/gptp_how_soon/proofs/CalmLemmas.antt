@@ -1,5 +1,5 @@
 -- A network is calm exactly where its test says so.
-use Rattle.std.proofs.Common.{◌≡◌, ℕ, Bool, true, false, ◌==◌, ◌||◌, not, List, map, Option, Some, None, refl, sym, ap, subst, ◌∙◌}
+use Rattle.std.proofs.Common.{◌≡◌, ℕ, Bool, true, false, ◌==◌, ◌||◌, not, List, Option, Some, None, refl, sym, ap, ◌∙◌}
 use Rattle.std.specs.List.{list_any}
 use Rattle.std.specs.Option.{is_some}
 use Rattle.std.proofs.lemmas.Bool.{eq-eqb, eqb-true, false_from_ne_true, not-false, or_from, or_parts}
@@ -11,7 +11,6 @@ use Rattle.gptp_scenario.specs.SyncWait.{sync_paths}
 use Rattle.gptp_scenario.specs.declared.change.Timed.{Timed}
 use Rattle.gptp_scenario.specs.declared.network.LinkSpec.{LinkSpec}
 use Rattle.gptp_network.proofs.PassLemmas.{passes, passes_at}
-use Rattle.gptp_topology.specs.Course.{first}
 use Rattle.gptp_topology.specs.Tables.{late_of}
 use Rattle.gptp_topology.specs.Trouble.{is_long, loss_in_use}
 use Rattle.gptp_topology.specs.declared.course.Standing.{Standing}

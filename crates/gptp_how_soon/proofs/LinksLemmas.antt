@@ -20,7 +20,7 @@ use Rattle.gptp_scenario.specs.declared.change.Timed.{Timed}
 use Rattle.gptp_scenario.specs.declared.network.LinkSpec.{LinkSpec}
 use Rattle.gptp_scenario.specs.declared.sync_wait.SyncPaths.{SyncPaths}
 use Rattle.gptp_topology.specs.Course.{acted, cable_is_used, cable_of, cable_wire, first, is_link_named, named, named_by, names_link}
-use Rattle.gptp_topology.specs.Tables.{are_calm, cables_of, late_of, led, link_named, mark_of, marked_paths, named_among, named_there, neighbours_at, neighbours_of}
+use Rattle.gptp_topology.specs.Tables.{are_calm, late_of, led, link_named, mark_of, marked_paths, named_among, named_there, neighbours_at, neighbours_of}
 use Rattle.gptp_topology.specs.declared.course.Cable.{Cable}
 use Rattle.gptp_topology.specs.declared.course.Standing.{Standing}
 use Rattle.gptp_topology.specs.declared.nodes.Neighbour.{Neighbour}
@@ -30,7 +30,7 @@ use Rattle.gptp_topology.proofs.BoundLemmas.{greatest_is, lives_is, paths_is}
 use Rattle.gptp_topology.proofs.CourseLemmas.{a_after, after, b_after, cable_after, same_a, same_b}
 use Rattle.gptp_topology.proofs.NamedLemmas.{not_at}
 use Rattle.gptp_topology.proofs.StandingLemmas.{Stand, neighbours_are}
-use Rattle.gptp_how_soon.specs.Links.{is_new, is_old_at, is_used_at, new_among, new_links, new_one, standing_then, standings_after}
+use Rattle.gptp_how_soon.specs.Links.{is_old_at, is_used_at, new_among, new_links, new_one, standing_then, standings_after}
 use Rattle.gptp_how_soon.specs.Times.{is_calm, is_standing_named, is_troubled}
 
 maps_in : {X Y : Type 0} (f g : X → Y) (xs : List X) → ((x : X) → In x xs → f x ≡ g x) → map f xs ≡ map g xs

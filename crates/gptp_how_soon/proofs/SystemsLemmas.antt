@@ -1,5 +1,5 @@
 -- The systems of a network stand so after events, one event after another.
-use Rattle.std.proofs.Common.{◌≡◌, ℕ, Bool, true, false, ◌==◌, cond, List, [], ◌∷◌, ◌++◌, map, refl, sym, ap, ap₂, ◌∙◌}
+use Rattle.std.proofs.Common.{◌≡◌, ℕ, Bool, true, false, ◌==◌, cond, List, [], ◌∷◌, ◌++◌, map, refl, sym, ap₂}
 use Rattle.gptp_roles.specs.Selection.{clock_of}
 use Rattle.gptp_scenario.specs.Change.{standing, system_acted, system_changed, system_stands, with_live, with_priority1}
 use Rattle.gptp_scenario.specs.Network.{NetworkState}
@@ -9,7 +9,6 @@ use Rattle.gptp_scenario.specs.declared.change.Change.{Change}
 use Rattle.gptp_scenario.specs.declared.change.Change.TheVariants as changes
 use Rattle.gptp_scenario.specs.declared.change.Timed.{Timed}
 use Rattle.gptp_scenario.specs.declared.network.SystemSpec.{SystemSpec}
-use Rattle.gptp_topology.specs.Course.{lives_acted}
 use Rattle.gptp_topology.proofs.LivesLemmas.{acted_alike}
 use Rattle.gptp_topology.proofs.StandingLemmas.{maps_alike}
 use Rattle.gptp_how_soon.specs.Systems.{first_system, identity_acted, identity_changed, system_done, system_then, systems_after}

@@ -1,14 +1,14 @@
 -- Each time of a document is told, by the one before, as its events are passed.
-use Rattle.std.proofs.Common.{◌≡◌, ◌≤◌, ◌<◌, ◌+◌, ℕ, Bool, true, false, ◌==◌, cond, List, [], ◌∷◌, ◌++◌, IsTrue, Option, Some, None, append_assoc, refl, sym, ap, ap₂, subst, ◌∙◌, arith}
+use Rattle.std.proofs.Common.{◌≡◌, ◌≤◌, ◌<◌, ℕ, Bool, true, false, ◌==◌, cond, List, [], ◌∷◌, ◌++◌, Option, Some, None, append_assoc, refl, sym, ap, ap₂, subst, ◌∙◌, arith}
 use Rattle.std.specs.List.{AllByRecursion}
 use Rattle.std.proofs.lemmas.Bool.{eq-eqb, eqb-true, eqb-false, ne_eqb}
 use Rattle.std.proofs.lemmas.List.{append-nil}
-use Rattle.gptp_scenario.specs.Network.{IsNetwork, NetworkState}
+use Rattle.gptp_scenario.specs.Network.{IsNetwork}
 use Rattle.gptp_scenario.specs.declared.change.Timed.{Timed}
 use Rattle.gptp_network.specs.Document.{DocumentState}
 use Rattle.gptp_network.specs.Events.{AreEvents, AreInOrder, IsEvent}
 use Rattle.gptp_network.specs.Snapshot.{events_by}
-use Rattle.gptp_topology.specs.Times.{times_from, times_of}
+use Rattle.gptp_topology.specs.Times.{times_from}
 use Rattle.gptp_topology.proofs.CourseLemmas.{all_from_0, behind, not_before, order_behind, past_by, until_now}
 use Rattle.gptp_how_soon.specs.Times.{AreRising, IsWatchedShortly, events_at, events_before, settling_time, settling_times, settling_times_from, time_at, view_at}
 use Rattle.gptp_how_soon.specs.Walk.{IsFirstWalk, WalkPasses, WalkTells, view_seen}

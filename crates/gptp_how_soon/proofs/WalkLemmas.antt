@@ -1,5 +1,5 @@
 -- A walk stands as the events so far leave a document.
-use Rattle.std.proofs.Common.{◌≡◌, ℕ, List, [], ◌∷◌, ◌++◌, map, not, append_assoc, refl, sym, ap, ap₂, subst, ◌∙◌}
+use Rattle.std.proofs.Common.{◌≡◌, ℕ, List, [], ◌∷◌, ◌++◌, map, not, append_assoc, sym, ap, ap₂, subst, ◌∙◌}
 use Rattle.std.specs.List.{find}
 use Rattle.std.specs.Option.{is_some}
 use Rattle.std.proofs.lemmas.List.{append-nil}
@@ -9,14 +9,12 @@ use Rattle.gptp_scenario.specs.declared.change.Timed.{Timed}
 use Rattle.gptp_scenario.specs.declared.sync_wait.SyncPaths.{SyncPaths}
 use Rattle.gptp_topology.specs.Course.{cable_is_used, named}
 use Rattle.gptp_topology.proofs.StandingLemmas.{Stand, stand_first, stand_more}
-use Rattle.gptp_topology.specs.declared.course.Standing.{Standing}
 use Rattle.gptp_how_soon.specs.Kinds.{told_by}
 use Rattle.gptp_how_soon.specs.Links.{new_among, standings_after}
 use Rattle.gptp_how_soon.specs.Systems.{has_clock, system_done, systems_after}
-use Rattle.gptp_how_soon.specs.Times.{View, told_at, told_of, view_at}
+use Rattle.gptp_how_soon.specs.Times.{told_at, told_of, view_at}
 use Rattle.gptp_how_soon.specs.Walk.{IsFirstWalk, WalkGoesOn, WalkPasses, view_seen}
 use Rattle.gptp_how_soon.specs.declared.bounds.SettlingTime.{SettlingTime}
-use Rattle.gptp_how_soon.specs.declared.kinds.Told.{Told}
 use Rattle.gptp_how_soon.specs.declared.walk.Walk.{Walk}
 use Rattle.gptp_how_soon.proofs.LinksLemmas.{calm_is, crossed_is, link_is, new_are, standings_are}
 use Rattle.gptp_how_soon.proofs.SystemsLemmas.{systems_first, systems_more}

@@ -1,5 +1,8 @@
 //! Worked times of documents; what they expect was counted by hand.
 
+ghost use Rattle.std.specs.Prelude.{IfOk};
+ghost use Rattle.gptp_how_soon.specs.Times.{AreRising};
+
 use crate::{Settling, SettlingTime, settling_at, settling_times};
 use gptp_network::Document;
 use std::alloc::Global;
@@ -9,8 +12,24 @@ use std::test::Fail;
 const RING: &str =
     "version = 1\n[[system]]\nclock = \"000000000000000a\"\npriority1 = 128\nports = 2\n[[system]]\nclock = \"000000000000000b\"\nports = 2\n[[system]]\nclock = \"000000000000000c\"\nports = 2\n[[system]]\nclock = \"000000000000000d\"\nports = 2\n[[link]]\na = \"000000000000000a\"\na_port = 1\nb = \"000000000000000b\"\nb_port = 1\nmin = 390\nmax = 410\n[[link]]\na = \"000000000000000b\"\na_port = 2\nb = \"000000000000000c\"\nb_port = 1\nmin = 390\nmax = 410\n[[link]]\na = \"000000000000000c\"\na_port = 2\nb = \"000000000000000d\"\nb_port = 1\nmin = 390\nmax = 410\n[[link]]\na = \"000000000000000d\"\na_port = 2\nb = \"000000000000000a\"\nb_port = 2\nmin = 390\nmax = 410\n[[event]]\nat = 30000000000\nkind = \"link_down\"\nclock = \"000000000000000a\"\nport = 1\n";
 
+/// A document of two end stations and the link between them, without its delays.
+const PAIR: &str =
+    "version = 1\n[[system]]\nclock = \"000000000000000a\"\n[[system]]\nclock = \"000000000000000b\"\n[[link]]\na = \"000000000000000a\"\na_port = 1\nb = \"000000000000000b\"\nb_port = 1\n";
+
+/// The one time of a document of two end stations with these delays and this section `[network]`.
+fn pair(alloc: Global, delays: &str, network: &str) -> Result<Option<SettlingTime>, Fail> {
+    let mut text = String::new(alloc);
+    text.push_str(PAIR)?;
+    text.push_str(delays)?;
+    text.push_str(network)?;
+    let times = times_of(alloc, text.as_str())?;
+    Ok(settling_at(&times, 0))
+}
+
 /// The times of the document of a text.
-fn times_of(alloc: Global, text: &str) -> Result<Vec<SettlingTime>, Fail> {
+fn times_of(alloc: Global, text: &str) -> Result<Vec<SettlingTime>, Fail>
+    ensures { IfOk result (λ times. AreRising times.items) }
+{
     let document = Document::read(alloc, text.as_bytes())?;
     Ok(settling_times(alloc, &document)?)
 }
@@ -46,5 +65,57 @@ fn a_ring_settles_after_its_start_and_after_a_loss(rt: HostRuntime) -> Result<()
         })
     );
     assert_eq!(rt; settling_at(&times, 1), None);
+    Ok(())
+}
+
+/// What is told of the start, with a bound of the choice and the roles.
+fn start(choice: u64, rest: u64, exact_from: u64, watch: u64) -> Option<SettlingTime> {
+    Some(SettlingTime {
+        at: 0,
+        settling: Some(Settling {
+            choice,
+            roles: choice,
+            rest,
+            exact_from,
+        }),
+        watch,
+    })
+}
+
+#[test]
+fn two_end_stations_settle(rt: HostRuntime) -> Result<(), Fail> {
+    // Two exchanges, and the delay.
+    assert_eq!(rt;
+        pair(rt.alloc(), "min = 500\nmax = 500\n", "")?,
+        start(1_000_002_500, 1_000_003_000, 1_000_006_100, 2_000_006_100)
+    );
+    // An announce interval more.
+    assert_eq!(rt;
+        pair(rt.alloc(), "min = 250\nmax = 500\n", "")?,
+        start(2_000_002_500, 2_000_003_000, 2_000_006_100, 3_000_006_100)
+    );
+    // The span.
+    assert_eq!(rt;
+        pair(
+            rt.alloc(),
+            "min = 500\nmax = 500\n",
+            "[network]\nsync_timeout = 3\n"
+        )?,
+        start(
+            26_000_000_000,
+            26_000_000_500,
+            26_000_003_600,
+            27_000_003_600
+        )
+    );
+    // Too long a link.
+    assert_eq!(rt;
+        pair(rt.alloc(), "min = 900\nmax = 900\n", "")?,
+        Some(SettlingTime {
+            at: 0,
+            settling: None,
+            watch: 27_000_003_600
+        })
+    );
     Ok(())
 }

@@ -1,5 +1,5 @@
 -- The text of a timeline: its start, its stretches and its verdict.
-use Rattle.std.proofs.Common.{◌≡◌, ℕ, Bool, List, [], ◌++◌, Option, None, inl, inr, refl, sym, ap, subst, ◌∙◌, append-nil, append_assoc, true}
+use Rattle.std.proofs.Common.{◌≡◌, ◌≢◌, ℕ, Bool, List, [], ◌++◌, Option, None, Result, Ok, Err, inl, inr, refl, sym, ap, subst, ◌∙◌, append-nil, append_assoc, true}
 use Rattle.std.specs.Io.KnownBytes.{Appends}
 use Rattle.gptp_model.specs.Course.{Begun}
 use Rattle.gptp_model.specs.Views.{rising_clocks}
@@ -8,6 +8,8 @@ use Rattle.gptp_links.specs.declared.bounds.Bounds.{Bounds}
 use Rattle.gptp_network.specs.Document.{DocumentState}
 use Rattle.gptp_network.specs.Snapshot.{events_by}
 use Rattle.gptp_sink.specs.Sink.{AppendsSome}
+use Rattle.gptp_sink.specs.declared.cut.Cut.{Cut}
+use Rattle.gptp_sink.specs.declared.cut.Cut.TheVariants.{Write}
 use Rattle.gptp_world.specs.Transitions.{ActTrace}
 use Rattle.gptp_world.proofs.FollowLemmas.{text_append}
 use Rattle.gptp_sink.proofs.SinkLemmas.{appends_both, none_of, some_behind}
@@ -17,6 +19,10 @@ use Rattle.gptp_timeline.specs.Timeline.{all_exceeded, all_lines, AllPass, Begin
 use Rattle.gptp_timeline.specs.declared.limits.Limit.{Limit}
 use Rattle.gptp_timeline.specs.declared.timeline.TimelineOptions.{TimelineOptions}
 use Rattle.gptp_timeline.proofs.PassLemmas.{none_done}
+
+-- a call that gave a value failed by no write
+pub no_failed_write : {A : Type 0} (a : A) → ◌≢◌ {A = Result A Cut} (Ok a) (Err Write)
+no_failed_write a same = absurd cc
 
 -- nothing is written yet
 pub nothing_begun : {F : Type 0} (answers : Bounds → ℕ → F → Option ℕ → F → Type 0) (d : DocumentState) (until : ℕ)

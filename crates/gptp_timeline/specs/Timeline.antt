@@ -7,7 +7,6 @@ use Rattle.gptp_model.specs.World.{WorldState}
 use Rattle.gptp_links.specs.declared.bounds.Bounds.{Bounds}
 use Rattle.gptp_network.specs.Document.{DocumentState}
 use Rattle.gptp_network.specs.Snapshot.{events_by}
-use Rattle.gptp_how_soon.specs.Times.{settling_of}
 use Rattle.gptp_how_soon.specs.declared.bounds.Settling.{Settling}
 use Rattle.gptp_scenario.specs.declared.change.Act.{Act}
 use Rattle.gptp_scenario.specs.declared.change.Act.TheVariants.{Change as Changing, Deliver, Expire}
@@ -16,6 +15,7 @@ use Rattle.gptp_world.specs.Transitions.{ActTrace}
 use Rattle.gptp_report.specs.Transitions.{Courses, CoursesSoFar}
 use Rattle.gptp_model.specs.Course.{Begun}
 use Rattle.gptp_system.specs.State.{SystemState}
+use Rattle.gptp_accuracy.specs.Settlings.{settling_of}
 use Rattle.gptp_accuracy.specs.TimeErrors.{AreTimeErrors}
 use Rattle.gptp_accuracy.specs.declared.errors.SystemError.{SystemError}
 use Rattle.gptp_accuracy.specs.declared.errors.TimeErrors.{TimeErrors}

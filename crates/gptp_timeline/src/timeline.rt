@@ -11,7 +11,7 @@ ghost use Rattle.gptp_scenario.specs.Allowed.{AreAllowed};
 ghost use Rattle.gptp_sink.specs.Sink.{AppendsSome};
 ghost use Rattle.gptp_world.specs.Transitions.{ActTrace};
 ghost use Rattle.gptp_words.specs.Lines.{text_of};
-ghost use Rattle.gptp_how_soon.specs.Times.{settling_times};
+ghost use Rattle.gptp_accuracy.specs.Settlings.{AreTimesOf};
 ghost use Rattle.gptp_timeline.specs.LastTwo.{EndsOf, all_kept, end_of, kept_after, none_kept};
 ghost use Rattle.gptp_timeline.specs.Limits.{is_exceeded, verdict_lines};
 ghost use Rattle.gptp_timeline.specs.Passing.{StretchBreaksOff, StretchIsSeen, StopsSeen, first_time, times_before, watch_at_start, watch_before};
@@ -27,8 +27,8 @@ use crate::stretch::{Stretch, ended, write_accuracies, write_after};
 use crate::time_lines::write_times;
 use crate::time_watch::TimeWatch;
 use crate::watch::Watch;
-use gptp_accuracy::{TimeErrors, exact_from, time_errors_among};
-use gptp_how_soon::{Settling, SettlingTime, settling_of, settling_times};
+use gptp_accuracy::{TimeErrors, exact_from, settling_of, time_errors_among};
+use gptp_how_soon::{Settling, SettlingTime, settling_times};
 use gptp_links::Fate;
 use gptp_network::Document;
 use gptp_report::sink::Sink;
@@ -106,7 +106,7 @@ fn errors_by(
     from: u64,
     to: u64,
 ) -> Result<Option<TimeErrors>, Cut>
-    requires { times.now ≡ settling_times document.now }
+    requires { AreTimesOf document.now times.now }
     ensures errors { IfOk result (AreErrorsBy document.now from to) }
     ensures memory { IfErr result (λ e. e ≡ Cut.Memory) }
 {
@@ -125,7 +125,7 @@ fn errors_asked(
     from: u64,
     to: u64,
 ) -> Result<Option<TimeErrors>, Cut>
-    requires { times.now ≡ settling_times document.now }
+    requires { AreTimesOf document.now times.now }
     ensures errors { IfOk result (AreErrorsIf exact document.now from to) }
     ensures memory { IfErr result (λ e. e ≡ Cut.Memory) }
 {
@@ -145,7 +145,7 @@ fn plan_of(
     to: u64,
     begins_with_event: bool,
 ) -> Result<Plan, Cut>
-    requires { times.now ≡ settling_times document.now }
+    requires { AreTimesOf document.now times.now }
     ensures plan { IfOk result (IsTimelinePlan exact document.now from to begins_with_event) }
     ensures memory { IfErr result (λ e. e ≡ Cut.Memory) }
 {
@@ -349,7 +349,7 @@ fn next_stretch<F: Fate + Drop, K: Sink>(
     requires prompt { AllDelaysFitIntervals world.old.world_core events.now }
     requires due { events_by to events.now ≡ events.now }
     requires moment { to ≤ 1000000000000000 }
-    requires times { times.now ≡ settling_times document.now }
+    requires times { AreTimesOf document.now times.now }
     ensures passed { IfOk result (λ kept. (plan : Plan) × (told : List (List ℕ))
         × IsTimelinePlan exact document.now from to (is_begun events.now) plan
         × StretchIsSeen F.answers plan events.now world.old.fate world.new.fate world.old.world_core world.new.world_core
@@ -384,7 +384,7 @@ fn all_stretches<F: Fate + Drop, K: Sink>(
     requires begun { (fate : F) × Begun F.answers document.now.network fate world.old.fate world.old.world_core }
     requires prompt { AllDelaysFitIntervals world.old.world_core document.now.events }
     requires starts { watch.old ≡ watch_at_start options.now world.old.world_core }
-    requires times { times.now ≡ settling_times document.now }
+    requires times { AreTimesOf document.now times.now }
     ensures passed { IfOk result (λ kept. (passages : List StretchTrace)
         × AllPass F.answers exact document.now until 0 (events_by until document.now.events) world.old.fate world.new.fate
         world.old.world_core world.new.world_core passages

@@ -1,5 +1,5 @@
 -- One link more is looked at.
-use Rattle.std.proofs.Common.{◌≡◌, ◌++◌, ◌+◌, drop, append_assoc, Some, ap, sym, ◌∙◌}
+use Rattle.std.proofs.Common.{◌++◌, ◌+◌, drop, append_assoc, Some, ap, sym, ◌∙◌}
 use Rattle.std.proofs.lemmas.Option.{slice_get-get_or}
 use Rattle.gptp_how_soon.specs.Links.{is_old_at, new_among, new_one}
 use Rattle.gptp_how_soon.proofs.LinksLemmas.{new_more}

@@ -6,7 +6,6 @@ use Rattle.gptp_scenario.specs.declared.network.SystemSpec.{SystemSpec}
 use Rattle.gptp_topology.proofs.PlaceLemmas.{none_there, system_there}
 use Rattle.gptp_topology.proofs.SystemSpecLemmas.{mapped_more}
 use Rattle.gptp_how_soon.specs.Systems.{first_system}
-use Rattle.gptp_how_soon.specs.declared.systems.System.{System}
 use Rattle.gptp_how_soon.proofs.systems.push_system_at.Goals as goal
 
 pub returns-in-Some : goal.returns-in-Some

@@ -1,9 +1,8 @@
 -- One event more is passed, and in the end all are.
-use Rattle.std.proofs.Common.{◌≡◌, ◌≤◌, ◌++◌, ◌∷◌, ◌+◌, [], List, drop, ap, sym, subst, ◌∙◌}
+use Rattle.std.proofs.Common.{◌≡◌, ◌++◌, ◌∷◌, ◌+◌, [], List, drop, ap, sym, subst, ◌∙◌}
 use Rattle.std.proofs.lemmas.List.{drop_all, drop_more}
 use Rattle.gptp_scenario.specs.Network.{IsNetwork, NetworkState}
 use Rattle.gptp_scenario.specs.declared.change.Timed.{Timed}
-use Rattle.gptp_topology.specs.Tables.{greatest_used}
 use Rattle.gptp_topology.proofs.BoundLemmas.{short_marks}
 use Rattle.gptp_topology.proofs.PassedLemmas.{allowed_before}
 use Rattle.gptp_topology.proofs.StandingLemmas.{few_nodes}

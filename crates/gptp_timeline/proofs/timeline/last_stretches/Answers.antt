@@ -21,6 +21,11 @@ memory_alone : (e : Cut) → (e ≡ Write → ⊥) → e ≡ Memory
 memory_alone Memory no_write = refl
 memory_alone Write no_write = absurd (no_write refl)
 
+pub returns-in_err-watch-clause-memory : goal.returns-in_err-watch-clause-memory
+returns-in_err-watch-clause-memory g c =
+    let passed = err_from_is_err_and c.from_residual-in_err-watch.result c.from_residual-in_err-watch.ensures.1 in
+    rw (passed.1 ∙ ap Err passed.2) refl
+
 pub returns-in_err-write_start-clause-memory : goal.returns-in_err-write_start-clause-memory
 returns-in_err-write_start-clause-memory g c =
     let passed = err_from_is_err_and c.from_residual-in_err-write_start.result

@@ -11,7 +11,7 @@ use Rattle.gptp_timeline.specs.Watch.{event_look, see_all}
 use Rattle.gptp_timeline.proofs.StretchesSoFarLemmas.{exceeded_is}
 use Rattle.gptp_timeline.proofs.ObservedLemmas.{start_told}
 use Rattle.gptp_timeline.proofs.PassLemmas.{if_ok_both}
-use Rattle.gptp_timeline.proofs.TimelineLemmas.{all_written, nothing_begun, start_begun, stretches_begun, verdict_begun}
+use Rattle.gptp_timeline.proofs.TimelineLemmas.{all_written, no_failed_write, nothing_begun, start_begun, stretches_begun, verdict_begun}
 use Rattle.gptp_timeline.proofs.timeline.write_timeline.Goals as goal
 
 pub all_stretches-requires-clause-begun : goal.all_stretches-requires-clause-begun
@@ -23,8 +23,8 @@ all_stretches-requires-clause-starts g c =
 
 -- ---- it breaks off
 
-pub returns-in_err-calm-clause-some : goal.returns-in_err-calm-clause-some
-returns-in_err-calm-clause-some g c =
+pub returns-in_err-settling-clause-some : goal.returns-in_err-settling-clause-some
+returns-in_err-settling-clause-some g c =
     after_error c.from_residual.result
     (nothing_begun g.F.Fate.answers c.args.document.now c.args.until c.args.options.now c.args.fate
     (g.K.Sink.written c.args.sink.now))
@@ -80,12 +80,12 @@ returns-in_err-kept-clause-works g c = λ other.
     c.in_err-kept.ensures.works (λ same.
     let is : c.in_err-kept.field-0.0 ≡ Write = cc in
     other (passed.1 ∙ ap Err (passed.2 ∙ is)))
-    ∙ c.in_ok-write_start.ensures.works (λ same. absurd cc)
+    ∙ c.in_ok-write_start.ensures.works (no_failed_write _)
 
 pub returns-clause-works : goal.returns-clause-works
 returns-clause-works g c = λ other.
-    c.end_verdict.ensures.works other ∙ c.in_ok-kept.ensures.works (λ same. absurd cc)
-    ∙ c.in_ok-write_start.ensures.works (λ same. absurd cc)
+    c.end_verdict.ensures.works other ∙ c.in_ok-kept.ensures.works (no_failed_write _)
+    ∙ c.in_ok-write_start.ensures.works (no_failed_write _)
 
 pub returns-clause-some : goal.returns-clause-some
 returns-clause-some g c =
