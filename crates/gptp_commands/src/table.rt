@@ -65,9 +65,9 @@ pub(crate) mod rows {
     pub(crate) const MOMENTS: Row = ("moments", (Form::Number(1, 1000), &["8"], "N"),
         "At how many moments each case is tried, within an announce and a Sync interval");
     pub(crate) const AT: Row = ("at", NANOSECONDS,
-        "The first moment, in ns; by default when the network has settled behind the last event");
+        "The first moment, in ns; by default when the network rests behind the last event");
     pub(crate) const HOLD: Row = ("hold", (Form::Number(1, 1_000_000_000_000_000), &[], "NS"),
-        "How long a fault stays, and each run goes on behind it, in ns; by default until it has settled");
+        "How long a fault stays, and each run goes on behind it, in ns; by default until the network rests");
     pub(crate) const ONLY: Row = ("only", (Form::Word, &[], "KIND"), "Let nothing but 'links' fail, or 'systems'");
     pub(crate) const PARTS: Row = ("parts", PARTED, "In how many parts the cases are dealt out, one after another");
     pub(crate) const PART: Row = ("part", PARTED, "The part that is tried");
