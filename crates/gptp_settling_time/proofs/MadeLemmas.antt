@@ -7,7 +7,7 @@ use Rattle.gptp_links.specs.declared.link.Direction.TheVariants.{FromA, FromB}
 use Rattle.gptp_setup.specs.Intervals.{interval_of}
 use Rattle.gptp_setup.specs.SettlingParams.{SettlingParams, largest_interval}
 use Rattle.gptp_setup.proofs.IntervalLemmas.{interval_positive}
-use Rattle.gptp_scenario.specs.Calm.{IsLive, last_change}
+use Rattle.gptp_scenario.specs.Calm.{IsLive, IsUsed, last_change}
 use Rattle.gptp_scenario.specs.Change.{link_after}
 use Rattle.gptp_scenario.specs.Network.{IsEnd, NetworkState, pace_of}
 use Rattle.gptp_scenario.specs.SyncWait.{sync_paths}
@@ -36,6 +36,8 @@ use Rattle.gptp_invariants.specs.FailedUnanswered.{IsFailedAmong, StandsUnanswer
 use Rattle.gptp_invariants.proofs.WorldClaimLemmas.{claim_kept, claim_later}
 use Rattle.gptp_invariants.proofs.WorldLinkUpNewsLemmas.{link_up_news}
 use Rattle.gptp_invariants.proofs.WorldNewsActLemmas.{gain_news, ready_later, unanswered_silent, watched_ready}
+use Rattle.gptp_invariants.specs.DelayMeasured.{LinkStandsAt}
+use Rattle.gptp_invariants.proofs.DelayClaimedCapableLemmas.{clock_has, used_if}
 use Rattle.gptp_invariants.proofs.WorldNewsLemmas.{none_silent}
 use Rattle.gptp_invariants.proofs.WorldOutlineLemmas.{change_is_last, change_time}
 use Rattle.gptp_invariants.proofs.WorldSoundLemmas.{sound_later}
@@ -46,9 +48,9 @@ use Rattle.gptp_theorem.proofs.SettlingInvariantLemmas.{IsFitEvent, least_of}
 use Rattle.gptp_theorem.proofs.KeptLemmas.{time_stands}
 use Rattle.gptp_theorem.proofs.SyncPathLemmas.{paths_stand}
 use Rattle.gptp_settling_time.specs.ExactInTurn.{last_set}
-use Rattle.gptp_settling_time.specs.Gains.{AreCapableAnyway, AreCapableNext, AreCapableStill, AreSparedBy, ChangesNothing, IsGainAfter, IsIdleAfter, IsSparedBy, JoinsLive, LeadsToLive, LeavesCapable, SparesFailed, TakesNothing}
+use Rattle.gptp_settling_time.specs.Gains.{AreCapableAnyway, AreCapableNext, AreCapableStill, AreSparedBy, ChangesNothing, IsGainAfter, IsIdleAfter, IsSparedBy, JoinsLive, LeadsToLive, LeavesCapable, SparesFailed, TakesNothing, UsesNoLink}
 use Rattle.gptp_settling_time.specs.Idle.{Lives}
-use Rattle.gptp_settling_time.proofs.GainLemmas.{all_live, better_lives, failed_so, gain_so, idle_so, lives_so}
+use Rattle.gptp_settling_time.proofs.GainLemmas.{all_live, better_lives, failed_so, gain_so, idle_so, lives_so, used_as}
 use Rattle.gptp_settling_time.proofs.IdleLemmas.{idle_still}
 use Rattle.gptp_settling_time.proofs.AskedElsewhereLemmas.{up_gone_still, up_in_time_still}
 use Rattle.gptp_settling_time.proofs.AskedInTimeLemmas.{AreAskedInTime, are_asked_begin, are_asked_later}
@@ -73,6 +75,12 @@ end_is : (number : ℕ) (direction : Direction) (channel : Channel) → (sender 
     → (channel.a.clock ≡ number) ⊎ (channel.b.clock ≡ number)
 end_is number FromA channel same = inl same
 end_is number FromB channel same = inr same
+
+-- so is where it ends
+end_to : (number : ℕ) (direction : Direction) (channel : Channel) → (receiver direction channel).clock ≡ number
+    → (channel.a.clock ≡ number) ⊎ (channel.b.clock ≡ number)
+end_to number FromA channel same = inr same
+end_to number FromB channel same = inl same
 
 -- ---- from when ports are capable by what every world keeps
 
@@ -186,6 +194,25 @@ module _ {F : Type 0} (answers : Bounds → ℕ → F → Option ℕ → F → T
         (record { here = s.answering.here; named = s.answering.named }) in
         let both = sym on ∙ s.answering.failed in
         cc
+
+    -- no link stands at a system that uses none
+    none_stands : (number : ℕ) → UsesNoLink n more number → (place : LinkPlace) → (s : LinkStandsAt place w')
+        → (clock s.asking.station.system ≡ number) ⊎ (clock s.answering.station.system ≡ number)
+        → ⊥
+    none_stands number unused place s ends =
+        let (v, there, wire) = alike (link_after more) channel_wire n.links w'.net.channels (sym stands_after.links)
+        place.link s.channel s.here in
+        unused place.link v there
+        (subst (IsUsed n.systems more) (sym wire)
+        (used_as n more w' stands_after claim_after.world.sound s.channel
+        (used_if w'.stations place.direction s.channel s.up
+        (clock_has w'.stations place.asking s.asking.station _ s.asking.here s.asking.live s.asking.named)
+        (clock_has w'.stations place.answering s.answering.station _ s.answering.here s.answering.live
+        s.answering.named))))
+        (subst (λ (x : LinkSpec). (x.a.clock ≡ number) ⊎ (x.b.clock ≡ number)) (sym wire) (elim ends [
+          | inl asks ↦ end_is number place.direction s.channel (sym s.asking.named ∙ asks)
+          | inr answers ↦ end_to number place.direction s.channel (sym s.answering.named ∙ answers)
+        ]))
 
     -- a link between live systems isn't one that leads to a failed one
     apart_from : (number port : ℕ) → JoinsLive n more (port_id number port) → (place : LinkPlace) (now : Channel)
@@ -373,13 +400,11 @@ module _ {F : Type 0} (answers : Bounds → ℕ → F → Option ℕ → F → T
         (subst (λ change. IsGain change then) same gain)
         (subst (λ change. SetsAnOctet (Changing change)) same octet) (acts_as keeps (Priority1 number value) same) by
         coming early before
-    soon_change next by silent early before coming (Recover number) same (failed, live, alone, late) =
-        let delay = delay_is keeps in
+    soon_change next by silent early before coming (Recover number) same (failed, live, alone, ready) =
         let (gone, past, asked, all) = keeps.asked event.at alone in
         let came = acts_as keeps (Recover number) same in
-        let asks : ℕ = max by (event.at + interval_of p.params.pdelay) in
-        recover_soon p asks next number then k.draws done w' claim_then.pace claim_then.world after.claim.world
-        claim_then.measured after.claim.measured came
+        let recovers = λ (asks : ℕ). recover_soon p asks next number then k.draws done w' claim_then.pace
+        claim_then.world after.claim.world claim_then.measured after.claim.measured came
         (failed_so n made then stands_then claim_then.world.sound number failed came.1.place came.1.station
         (record { here = came.1.is.here; named = came.1.is.named }))
         sound_then gone past (asked_now keeps gone asked)
@@ -387,8 +412,16 @@ module _ {F : Type 0} (answers : Bounds → ℕ → F → Option ℕ → F → T
         (λ place s same_clock. elim live [
           | inl leads ↦ absurd (beside_live keeps number leads place s same_clock)
           | inr long ↦ long
-        ]) (omega arith) (omega (arith, before, late)) (omega (arith, late, delay)) silent
-        (λ at stands. coming_later p by next at asks next then (omega arith) (omega arith) (coming at stands))
+        ]) in
+        elim ready [
+          | inl late ↦
+              let delay = delay_is keeps in
+              let asks : ℕ = max by (event.at + interval_of p.params.pdelay) in
+              recovers asks (omega arith) (omega (arith, before, late))
+              (inl (omega arith, omega (arith, late, delay))) silent
+              (λ at stands. coming_later p by next at asks next then (omega arith) (omega arith) (coming at stands))
+          | inr (unused, some) ↦ recovers by early before (inr (none_stands keeps number unused)) silent coming
+        ]
     soon_change next by silent early before coming (LinkDown number port) same none = absurd none
     soon_change next by silent early before coming (LinkSet number port min max loss) same none = absurd none
     soon_change next by silent early before coming (Fail number) same none = absurd none
@@ -398,7 +431,8 @@ module _ {F : Type 0} (answers : Bounds → ℕ → F → Option ℕ → F → T
     event_before : (next : ℕ) (change : Change) → LeavesCapable n made event next (Changing change) → event.at < next
     event_before next (LinkUp number port) (live, late) = omega (arith, late)
     event_before next (Priority1 number value) late = late
-    event_before next (Recover number) (failed, live, alone, late) = omega (arith, late)
+    event_before next (Recover number) (failed, live, alone, inl late) = omega (arith, late)
+    event_before next (Recover number) (failed, live, alone, inr (unused, late)) = late
     event_before next (LinkDown number port) none = absurd none
     event_before next (LinkSet number port min max loss) none = absurd none
     event_before next (Fail number) none = absurd none

@@ -1,6 +1,6 @@
 -- A failed system recovers, whose links that are up lead to live systems: its ports ask at once, and those at their
 -- other ends an interval between requests later at most.
-use Rattle.std.proofs.Common.{◌≡◌, ◌≢◌, ◌<◌, ◌≤◌, ◌+◌, ◌*◌, ℕ, zero, suc, Bool, true, false, List, [], ◌∷◌, map, Some, None, slice_get, refl, sym, ap, subst, ◌∙◌, inl, inr, arith}
+use Rattle.std.proofs.Common.{◌≡◌, ◌⊎◌, ◌≢◌, ◌<◌, ◌≤◌, ◌+◌, ◌*◌, ℕ, zero, suc, Bool, true, false, List, [], ◌∷◌, map, Some, None, slice_get, refl, sym, ap, subst, ◌∙◌, inl, inr, arith}
 use Rattle.std.proofs.lemmas.Option.{none-some, same_Some}
 use Rattle.gptp_lists.specs.Members.{In}
 use Rattle.gptp_lists.proofs.MappedLemmas.{same_there, some_same}
@@ -409,6 +409,32 @@ module _ (p : SettlingParams) (by next number : ℕ) (w : WorldState) (draws : L
 
     -- ---- each link
 
+    -- another link stood
+    stood_there : (at : LinkPlace) → at.asking ≢ k.place → at.answering ≢ k.place → LinkStandsAt at begun
+        → LinkStandsAt at w
+    stood_there at asking answering s = record {
+      channel = s.channel;
+      here = s.here;
+      up = s.up;
+      lossless = s.lossless;
+      asking = lived at.asking (sender at.direction s.channel).clock asking s.asking;
+      answering = lived at.answering (receiver at.direction s.channel).clock answering s.answering;
+      apart = s.apart;
+      good = s.good;
+    }
+
+    -- where none stands at the system, links are as they were
+    others_coming : ((at : LinkPlace) → LinkStandsAt at w' → (at.asking ≡ k.place) ⊎ (at.answering ≡ k.place) → ⊥)
+        → AreComing p by next w → AreComing p by next w'
+    others_coming unused coming at stands = elim (same_place at.asking k.place) [
+      | inl here ↦ absurd (unused at stands (inl here))
+      | inr asking ↦ elim (same_place at.answering k.place) [
+        | inl here ↦ absurd (unused at stands (inr here))
+        | inr answering ↦ coming_goes_through p by next at (Changing (Recover number)) w w' draws done is.sound
+            measured tt acts (coming at (stood_there at asking answering (before at stands)))
+      ]
+    ]
+
     module _ (gone : ℕ) (past : gone < w.time) (asked : AreAskedInTime gone w)
         (reach : w.time + interval_of p.params.pdelay ≤ by)
         (soon : w.time + 2 * interval_of p.params.pdelay + (delay_in w' + p.params.turnaround + delay_in w') < next)
@@ -448,20 +474,6 @@ module _ (p : SettlingParams) (by next number : ℕ) (w : WorldState) (draws : L
           (alone_asks p next n at w' pace is' measured' then.prompt soon_then
           (λ f r member says. (let due = then.requests f r member says in omega (arith, due, same)))
           then.waits then.mute)
-
-      -- another link stood
-      stood_there : (at : LinkPlace) → at.asking ≢ k.place → at.answering ≢ k.place → LinkStandsAt at begun
-          → LinkStandsAt at w
-      stood_there at asking answering s = record {
-        channel = s.channel;
-        here = s.here;
-        up = s.up;
-        lossless = s.lossless;
-        asking = lived at.asking (sender at.direction s.channel).clock asking s.asking;
-        answering = lived at.answering (receiver at.direction s.channel).clock answering s.answering;
-        apart = s.apart;
-        good = s.good;
-      }
 
       -- what is in flight at its own port is seen from the other end
       own_dues : (at : LinkPlace) (stands : LinkStandsAt at w') → at.asking ≡ k.place → AreDueSoon at (before at stands)
@@ -682,12 +694,11 @@ module _ (p : SettlingParams) (by next number : ℕ) (w : WorldState) (draws : L
           named = e.named;
         }
 
-    -- where it asks beside a failed system it is the one that recovers
-    is_own : (at : LinkPlace) → (s : StandsUnanswered at w') → at.asking ≡ k.place
-        → clock s.asking.station.system ≡ number
-    is_own at s same =
-        let near = (starts_stays k.place now draws w' is.sound.wired.setups starts).stations at.asking
-        s.asking.station s.asking.here in
+    -- what stands at its place is the system that recovers
+    is_own : (place : ℕ) (station : Station) → slice_get w'.stations place ≡ Some station → place ≡ k.place
+        → clock station.system ≡ number
+    is_own place station here same =
+        let near = (starts_stays k.place now draws w' is.sound.wired.setups starts).stations place station here in
         let one : near.old ≡ k.station =
         same_there w.stations k.place near.old k.station (ap (slice_get w.stations) (sym same) ∙ near.here) k.is.here in
         near.same.named ∙ ap (λ (x : Station). clock x.system) one ∙ k.is.named
@@ -698,21 +709,33 @@ module _ (p : SettlingParams) (by next number : ℕ) (w : WorldState) (draws : L
       → AreGoneBetween gone w
       → ((at : LinkPlace) → (s : StandsUnanswered at w') → clock s.asking.station.system ≡ number
       → capability_span p ≤ next)
-      → w.time + interval_of p.params.pdelay ≤ by → by < next
-      → w.time + 2 * interval_of p.params.pdelay + (delay_in w' + p.params.turnaround + delay_in w') < next
+      → w.time ≤ by → by < next
+      → ((w.time + interval_of p.params.pdelay ≤ by)
+      × (w.time + 2 * interval_of p.params.pdelay + (delay_in w' + p.params.turnaround + delay_in w') < next))
+      ⊎ ((at : LinkPlace) → (s : LinkStandsAt at w')
+      → (clock s.asking.station.system ≡ number) ⊎ (clock s.answering.station.system ≡ number)
+      → ⊥)
       → AreSilentBy p next w → AreComing p by next w → IsNewsSoon p next w'
-  recover_soon dead sound gone past asked all led reach soon_by soon silent coming =
+  recover_soon dead sound gone past asked all led early soon_by how silent coming =
       let time = same_time dead in
       record {
         by = by;
-        early = omega (arith, time, reach);
+        early = omega (arith, time, early);
         soon = soon_by;
         pace = pace;
         world = is';
         measured = measured';
-        silent = recovers_silent dead gone past all (λ at s here. led at s (is_own dead at s here)) silent;
+        silent = recovers_silent dead gone past all
+            (λ at s here. led at s (is_own dead at.asking s.asking.station s.asking.here here)) silent;
         sound = sound_gains p (Recover number) w draws done w' tt tt acts is is' sound;
-        coming = recovers_coming dead gone past asked reach soon coming;
+        coming = elim how [
+          | inl (reach, soon) ↦ recovers_coming dead gone past asked reach soon coming
+          | inr unused ↦ others_coming dead
+              (λ at s place. unused at s (elim place [
+                | inl here ↦ inl (is_own dead at.asking s.asking.station s.asking.here here)
+                | inr here ↦ inr (is_own dead at.answering s.answering.station s.answering.here here)
+              ])) coming
+        ];
       }
 
   -- and beside failed systems requests are in time still

@@ -5,7 +5,7 @@ use Rattle.gptp_vector.specs.declared.port.PortId.{PortId}
 use Rattle.gptp_roles.specs.Selection.{clock_of}
 use Rattle.gptp_setup.specs.Intervals.{interval_of}
 use Rattle.gptp_setup.specs.SettlingParams.{SettlingParams, largest_interval, longest_span}
-use Rattle.gptp_scenario.specs.Calm.{IsCalm, IsLive, last_change}
+use Rattle.gptp_scenario.specs.Calm.{IsCalm, IsLive, IsUsed, last_change}
 use Rattle.gptp_scenario.specs.Change.{link_after, system_after}
 use Rattle.gptp_scenario.specs.Network.{IsEnd, NetworkState, pace_of}
 use Rattle.gptp_scenario.specs.SettlingTime.{capability_span}
@@ -166,9 +166,16 @@ AreSparedBy n before [] time = 0 < time
 AreSparedBy n before (event ∷ events) time =
     IsSparedBy n before event time × AreSparedBy n (before ++ event ∷ []) events time
 
+-- no link that ends at the system with this clock is in use after these events
+abbrev pub UsesNoLink : NetworkState → List Timed → ℕ → Type 0
+UsesNoLink n events number = (place : ℕ) (v : LinkSpec) → slice_get n.links place ≡ Some v
+    → IsUsed n.systems events (link_after events v)
+    → ((link_after events v).a.clock ≡ number) ⊎ ((link_after events v).b.clock ≡ number)
+    → ⊥
+
 -- These changes leave other ports as capable as they are: a link between live systems that comes up, whose own two
 -- ports ask then; a failed system that recovers, whose own ports ask then, and those beside it within a peer delay
--- interval; and a priority1 that gets no worse. What a system that recovers sent before it failed is gone by then.
+-- interval, where it uses a link; and a priority1 that gets no worse. What a system that recovers sent before it failed is gone by then.
 -- Beside another that has failed its port doesn't become capable, which is known only once L + 5 announce intervals are
 -- over since the network began.
 abbrev pub LeavesCapable : NetworkState → List Timed → Timed → ℕ → Act → Type 0
@@ -179,7 +186,8 @@ LeavesCapable n before event next (Changing (Recover number)) =
     (IsLive n.systems before number → ⊥)
     × (LeadsToLive n (before ++ event ∷ []) number ⊎ (capability_span (pace_of n) ≤ next))
     × AreSparedBy n [] before event.at
-    × (exchanged_again_from (pace_of n) (sync_paths n (before ++ event ∷ [])) event.at ≤ next)
+    × ((exchanged_again_from (pace_of n) (sync_paths n (before ++ event ∷ [])) event.at ≤ next)
+    ⊎ (UsesNoLink n (before ++ event ∷ []) number × (event.at < next)))
 LeavesCapable n before event next (Changing (Priority1 number value)) = event.at < next
 LeavesCapable n before event next act = ⊥
 

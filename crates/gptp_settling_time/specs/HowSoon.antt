@@ -131,8 +131,8 @@ BoundsStart n now choice =
     × ((UsedVaryLittle n now × (choice ≡ ready + way_span (sync_paths n now)))
     ⊎ (choice ≡ ready + largest_interval (pace_of n) + way_span (sync_paths n now))))
 
--- At a time with gains. Ports are capable so much later as `ready` says: at once after a priority1, by two exchanges
--- after a link, and a peer delay interval later after a system that recovers.
+-- At a time with gains. Ports are capable so much later as `ready` says: at once after a priority1 and a system that
+-- recovers without a link in use, by two exchanges after a link, and a peer delay interval later after another system.
 abbrev pub BoundsGains : NetworkState → List Timed → List Timed → ℕ → ℕ → ℕ → Type 0
 BoundsGains n made now time ready choice =
     (AfterIdleEvents n (AreHeardEvents n (suc (time + ready))) made now
